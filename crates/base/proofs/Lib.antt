@@ -1,3 +1,3 @@
-pub mod Refusals
+pub mod RefusalWeakening
 pub mod ListLemmas
 pub mod CallerLemmas

@@ -23,9 +23,9 @@ use Rattle.ternary.specs.Meets.{agrees_at, exact_word, is_fixed_of, free_of, mee
 use Rattle.policy_rules.specs.declared.rules.Rule.{Rule}
 use Rattle.cache_maker.specs.Independent.{IsIndependent, is_apart, is_independent, widening_of}
 use Rattle.cache_maker.specs.Differing.{IsWithout, differing_bits, rule_is_met}
-use Rattle.cache_maker.proofs.Independence.{true_not}
-use Rattle.cache_maker.proofs.Widening.{widened_independent, widened_word}
-use Rattle.cache_maker.proofs.Differing.{as_header, differs_at, past_header, same_at, still_fixed, test_parts}
+use Rattle.cache_maker.proofs.IndependentWords.{true_not}
+use Rattle.cache_maker.proofs.WidenedWords.{widened_independent, widened_word}
+use Rattle.cache_maker.proofs.DifferingBits.{as_header, differs_at, past_header, same_at, still_fixed, test_parts}
 
 -- what `widen` is given: `closed` has the bits that the region or the rule fixes
 pub record IsGiven (h : ℕ) (region : WordValue) (rules : List Rule) (index closed : ℕ) : Type 0 where

@@ -1,5 +1,5 @@
-pub mod Differing
+pub mod DifferingBits
 pub mod FixedBits
-pub mod Independence
-pub mod Searching
-pub mod Widening
+pub mod IndependentWords
+pub mod PlaceSearch
+pub mod WidenedWords

@@ -11,7 +11,7 @@ use Rattle.clap.proofs.WalkLemmas.{both}
 use Rattle.command_line.specs.Line.{line_app, net_and, none, options_of}
 use Rattle.command_line.specs.Named.{command_in, kind_name}
 use Rattle.command_line.specs.Grammar.{StatedLine, audit_from, audit_of, command_by, line_of, load_from, load_number, load_of, play_from, print_of}
-use Rattle.command_line.proofs.Parses.{Found, IsWithin, WalksTo, matches_found, reads, taken}
+use Rattle.command_line.proofs.ClapParses.{Found, IsWithin, WalksTo, matches_found, reads, taken}
 use Rattle.command_line.specs.declared.grammar.CommandKind.{CommandKind}
 use Rattle.command_line.specs.Commands.{Command}
 use Rattle.command_line.specs.declared.grammar.CommandKind.TheVariants as kind

@@ -1,5 +1,5 @@
-pub mod Shapes
-pub mod Walks
-pub mod Parses
+pub mod ArgumentShapes
+pub mod ClapWalks
+pub mod ClapParses
 pub mod CommandLines
-mod Tried
+mod GrammarTrials

@@ -9,11 +9,11 @@ use Rattle.update_machine.specs.Marks.{has_acked, installed_in, known_boot}
 use Rattle.update_machine.specs.Setting.{Setting}
 use Rattle.update_machine.specs.Versions.{installs_version}
 use Rattle.control_laws.specs.ItemCauses.{HasItemCause}
-use Rattle.control_laws.proofs.Facts.{AreKept, FromCauses, from_causes}
-use Rattle.control_laws.proofs.Openings.{IsKnown, known_at_first, known_kept}
+use Rattle.control_laws.proofs.ItemFacts.{AreKept, FromCauses, from_causes}
+use Rattle.control_laws.proofs.SwitchOpenings.{IsKnown, known_at_first, known_kept}
 use Rattle.control_laws.specs.Heard.{HasTables, AcksHold}
-use Rattle.control_laws.proofs.Acks.{AreTrue, of_stamps, of_tables, true_at_first, true_on}
-use Rattle.control_laws.proofs.Told.{each_at, told_by}
+use Rattle.control_laws.proofs.AcknowledgementKinds.{AreTrue, of_stamps, of_tables, true_at_first, true_on}
+use Rattle.control_laws.proofs.ToldToController.{each_at, told_by}
 
 -- what is known of boots, and acknowledgements that are true
 pub record IsTold (journal : List Item) : Type 0 where

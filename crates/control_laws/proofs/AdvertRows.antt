@@ -22,12 +22,12 @@ use Rattle.update_machine.specs.Pieces.{crash_items, link_items, piece, restart_
 use Rattle.update_machine.specs.Setting.{Setting}
 use Rattle.update_machine.specs.Steps.{steps_in}
 use Rattle.update_machine.specs.LinkMasks.{near}
-use Rattle.update_machine.proofs.Examples.{advert, at, open_net, to, to_controller, two_switches}
+use Rattle.update_machine.proofs.ExampleNetworks.{advert, at, open_net, to, to_controller, two_switches}
 use Rattle.control_laws.specs.Adverts.{AdvertsAreOfSwitches, IsNoNewer, IsOverLinks, LinksAreThere, NamesLinks, OwnAreNewest}
 use Rattle.control_laws.proofs.BothCauses.{behind_both}
 use Rattle.control_laws.proofs.NetLinks.{linked_by_mask, links_there}
-use Rattle.control_laws.proofs.Newest.{own_newest}
-use Rattle.control_laws.proofs.Origins.{of_switches}
+use Rattle.control_laws.proofs.NewestAdverts.{own_newest}
+use Rattle.control_laws.proofs.AdvertOrigins.{of_switches}
 
 -- ---- links of the network: switches a and b, and their link
 

@@ -15,7 +15,7 @@ use Rattle.failover.specs.Adverts.{first_advert, first_adverts, held_advert, no_
 use Rattle.base.specs.Masks.{has}
 use Rattle.failover.specs.declared.advert.Advert.{Advert}
 use Rattle.failover.specs.Newest.{IsNewest}
-use Rattle.failover.proofs.Adverts.{held-first}
+use Rattle.failover.proofs.HeldAdverts.{held-first}
 use Rattle.net_file.specs.Owners.{links_of}
 use Rattle.steps.specs.Steps.{HasSwitch}
 use Rattle.journal.specs.declared.item.Item.{Item}
@@ -30,10 +30,10 @@ use Rattle.update_machine.specs.SwitchNumbers.{switches_of}
 use Rattle.update_machine.specs.Settling.{to_switch}
 use Rattle.update_machine.specs.Links.{message_of}
 use Rattle.update_machine.proofs.CallerLemmas.{known_link_laws, start_laws}
-use Rattle.control_laws.proofs.Boots.{by_number}
-use Rattle.control_laws.proofs.Facts.{AreKept, fact_on}
-use Rattle.control_laws.proofs.Grown.{heard_more}
-use Rattle.control_laws.proofs.Sends.{each_append}
+use Rattle.control_laws.proofs.BootsKnown.{by_number}
+use Rattle.control_laws.proofs.ItemFacts.{AreKept, fact_on}
+use Rattle.control_laws.proofs.FactsGrown.{heard_more}
+use Rattle.control_laws.proofs.MessageSends.{each_append}
 use Rattle.control_laws.proofs.SwitchBlocks.{said_parts}
 use Rattle.control_laws.specs.Adverts.{AllAdverts}
 use Rattle.control_laws.proofs.BothCauses.{HasBothCauses}

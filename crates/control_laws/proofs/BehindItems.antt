@@ -6,7 +6,7 @@ use Rattle.update_machine.specs.Causes.{HaveCauses}
 use Rattle.update_machine.specs.Setting.{Setting}
 use Rattle.update_machine.proofs.CallerLemmas.{PiecesHave, have_take}
 use Rattle.control_laws.specs.Always.{HoldsAtEnds, HoldsBehindItems}
-use Rattle.control_laws.proofs.Facts.{steps_have}
+use Rattle.control_laws.proofs.ItemFacts.{steps_have}
 
 -- what holds behind any steps holds in answers to schedules
 pub at_ends : (Holds : Setting → List Item → Type 0)

@@ -8,10 +8,10 @@ use Rattle.update_machine.proofs.CallerLemmas.{PiecesHave}
 use Rattle.control_laws.specs.Always.{HoldsBehindItems}
 use Rattle.control_laws.specs.ItemCauses.{HasItemCause}
 use Rattle.control_laws.proofs.BehindItems.{behind_items}
-use Rattle.control_laws.proofs.Facts.{Both, have_both}
-use Rattle.control_laws.proofs.Pieces.{pieces_have}
+use Rattle.control_laws.proofs.ItemFacts.{Both, have_both}
+use Rattle.control_laws.proofs.PieceCauses.{pieces_have}
 use Rattle.control_laws.proofs.LinkCauses.{HasLinkCause}
-use Rattle.control_laws.proofs.Stepping.{pieces_caused}
+use Rattle.control_laws.proofs.AdvertStepCauses.{pieces_caused}
 
 abbrev pub HasBothCauses : Setting → List Item → Item → Type 0
 HasBothCauses setting = Both (HasItemCause setting) (HasLinkCause setting)

@@ -10,7 +10,7 @@ use Rattle.update_machine.specs.Answers.{StepOfRow}
 use Rattle.update_machine.specs.Marks.{retired_mark}
 use Rattle.update_machine.specs.Pieces.{piece}
 use Rattle.update_machine.specs.Versions.{next_policy, version_count}
-use Rattle.update_machine.proofs.Examples.{all_to, at, open_net, versions}
+use Rattle.update_machine.proofs.ExampleNetworks.{all_to, at, open_net, versions}
 use Rattle.control_laws.specs.Always.{HoldsAtEnds, HoldsBehindItems, HoldsReached}
 use Rattle.control_laws.specs.ItemCauses.{SubmitsRightly}
 

@@ -14,10 +14,10 @@ use Rattle.update_machine.specs.Settling.{install_for, installs_to, installs_to_
 use Rattle.update_machine.specs.Versions.{version_count}
 use Rattle.update_machine.proofs.CallerLemmas.{have_in_turn, policies_keep}
 use Rattle.control_laws.specs.ItemCauses.{HasItemCause}
-use Rattle.control_laws.proofs.Facts.{Has}
-use Rattle.control_laws.proofs.Grown.{current_more, retired_more}
-use Rattle.control_laws.proofs.Settling.{SettlingHas, parts_have, settling_has}
-use Rattle.control_laws.proofs.Sends.{IsRight, each_filter, each_map, each_range, sends_have}
+use Rattle.control_laws.proofs.ItemFacts.{Has}
+use Rattle.control_laws.proofs.FactsGrown.{current_more, retired_more}
+use Rattle.control_laws.proofs.SettlingCauses.{SettlingHas, parts_have, settling_has}
+use Rattle.control_laws.proofs.MessageSends.{IsRight, each_filter, each_map, each_range, sends_have}
 
 -- ---- how far current may rise
 

@@ -14,8 +14,8 @@ use Rattle.update_machine.specs.Marks.{known_boot}
 use Rattle.update_machine.specs.Settling.{to_switch}
 use Rattle.update_machine.specs.Versions.{installs_version}
 use Rattle.control_laws.specs.BootLaws.{BootsAreKnown}
-use Rattle.control_laws.proofs.Boots.{known_rises}
-use Rattle.control_laws.proofs.Grown.{boot_more, heard_more}
+use Rattle.control_laws.proofs.BootsKnown.{known_rises}
+use Rattle.control_laws.proofs.FactsGrown.{boot_more, heard_more}
 use Rattle.control_laws.proofs.SwitchBlocks.{said_parts}
 
 abbrev pub HeardAreKnown : List Item → Type 0

@@ -17,10 +17,10 @@ use Rattle.update_machine.specs.Links.{is_link_up, is_usable, gives_link, serves
 use Rattle.update_machine.specs.Setting.{Setting}
 use Rattle.update_machine.specs.LinkMasks.{near}
 use Rattle.update_machine.proofs.CallerLemmas.{last_given_append, links_keep, stays}
-use Rattle.control_laws.proofs.Grown.{boot_more, serving_more, up_more}
+use Rattle.control_laws.proofs.FactsGrown.{boot_more, serving_more, up_more}
 use Rattle.control_laws.proofs.LinkCauses.{ChangedNoLinks, HasLinkCause}
 use Rattle.control_laws.proofs.OwnAdverts.{AdvertGoesOn, advert_on, same_boot, same_near, same_seq}
-use Rattle.control_laws.proofs.Counts.{sent}
+use Rattle.control_laws.proofs.MessageCounts.{sent}
 use Rattle.control_laws.proofs.LinkSends.{ChangesAt}
 
 -- ---- what items do to links

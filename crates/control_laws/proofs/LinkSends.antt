@@ -17,7 +17,7 @@ use Rattle.net_file.specs.Net.{IsNet}
 use Rattle.net_file.specs.declared.net.LinkRow.{LinkRow}
 use Rattle.net_file.specs.Joins.{are_linked, joins}
 use Rattle.net_file.specs.Owners.{links_of}
-use Rattle.net_file.proofs.Masks.{in_mask_of, in_mask_past}
+use Rattle.net_file.proofs.MaskBits.{in_mask_of, in_mask_past}
 use Rattle.journal.specs.declared.item.Item.{Item}
 use Rattle.update_machine.specs.Adverts.{adverts_known, held_adverts, own_advert}
 use Rattle.update_machine.specs.Deliveries.{advert_to, has_changed, messages_of, messages_over}
@@ -26,7 +26,7 @@ use Rattle.update_machine.specs.Setting.{Setting}
 use Rattle.update_machine.specs.SwitchNumbers.{switches_of}
 use Rattle.update_machine.specs.LinkMasks.{near, usable_links}
 use Rattle.control_laws.proofs.NetLinks.{linked_by_mask}
-use Rattle.control_laws.proofs.Sums.{length_filter_less, met_once, once, pairs_few, sum_each, sum_filter, sum_plus, sum_some, sum_times}
+use Rattle.control_laws.proofs.PairSums.{length_filter_less, met_once, once, pairs_few, sum_each, sum_filter, sum_plus, sum_some, sum_times}
 
 -- ---- which links change
 

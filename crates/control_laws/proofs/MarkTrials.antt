@@ -10,7 +10,7 @@ use Rattle.update_machine.specs.Marks.{all_acked, current_mark, controller_heard
 use Rattle.update_machine.specs.Links.{message_of}
 use Rattle.update_machine.specs.Settling.{to_switch}
 use Rattle.update_machine.specs.Versions.{version_count}
-use Rattle.update_machine.proofs.Examples.{open_net}
+use Rattle.update_machine.proofs.ExampleNetworks.{open_net}
 use Rattle.control_laws.specs.Rises.{RisesRightly}
 use Rattle.control_laws.specs.Steps.{asks_controller}
 use Rattle.control_laws.proofs.VersionTrials.{second}

@@ -16,7 +16,7 @@ use Rattle.update_machine.specs.Marks.{controller_heard}
 use Rattle.update_machine.specs.Settling.{to_switch}
 use Rattle.update_machine.specs.Versions.{version_count}
 use Rattle.update_machine.specs.Links.{message_of}
-use Rattle.update_machine.proofs.Examples.{open_net}
+use Rattle.update_machine.proofs.ExampleNetworks.{open_net}
 use Rattle.control_laws.specs.Named.{BodiesNameThere, IsAddressed, NamesOnlyThere}
 
 to_second : NamesOnlyThere open_net [] (to_switch 1 (Stamp 1 1 []))

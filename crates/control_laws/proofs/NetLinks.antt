@@ -15,7 +15,7 @@ use Rattle.net_file.specs.Joins.{are_linked, joins}
 use Rattle.net_file.specs.declared.net.LinkRow.{LinkRow}
 use Rattle.net_file.specs.declared.net.Net.{Net}
 use Rattle.net_file.specs.Owners.{links_of}
-use Rattle.net_file.proofs.Masks.{in_mask, in_mask_of, in_mask_past}
+use Rattle.net_file.proofs.MaskBits.{in_mask, in_mask_of, in_mask_past}
 use Rattle.steps.specs.Steps.{HasLink}
 use Rattle.journal.specs.declared.item.Item.{Item}
 use Rattle.update_machine.specs.Adverts.{advert_known, adverts_known, own_advert, own_if_sent}

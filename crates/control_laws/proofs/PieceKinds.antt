@@ -23,15 +23,15 @@ use Rattle.update_machine.specs.Pieces.{crash_items, deliver_items, hello_of, li
 use Rattle.update_machine.specs.Setting.{Setting}
 use Rattle.update_machine.specs.Versions.{stamp_of, version_count}
 use Rattle.update_machine.specs.Travels.{packets_at}
-use Rattle.control_laws.proofs.Commands.{confirm_control, controller_control, update_has}
-use Rattle.control_laws.proofs.Crashes.{losts_have}
-use Rattle.control_laws.proofs.Grown.{count_more}
-use Rattle.control_laws.proofs.Sent.{resends_any}
+use Rattle.control_laws.proofs.ControllerCommands.{confirm_control, controller_control, update_has}
+use Rattle.control_laws.proofs.CrashedSwitches.{losts_have}
+use Rattle.control_laws.proofs.FactsGrown.{count_more}
+use Rattle.control_laws.proofs.ResentBySwitches.{resends_any}
 use Rattle.control_laws.proofs.LinkCauses.{ChangedNoLinks}
-use Rattle.control_laws.proofs.Plain.{IsPlain, control_is_plain, control_plain, packet_plain, step_plain, plain_keeps_links, sends_silent}
-use Rattle.control_laws.proofs.Stepping.{delivered_first, row_first}
+use Rattle.control_laws.proofs.BlocksWithoutLinks.{IsPlain, control_is_plain, control_plain, packet_plain, step_plain, plain_keeps_links, sends_silent}
+use Rattle.control_laws.proofs.AdvertStepCauses.{delivered_first, row_first}
 use Rattle.control_laws.proofs.SwitchCases.{opening_items, switch_cases}
-use Rattle.control_laws.proofs.Counts.{confirm_few, controller_few, packet_few, passed_few, put_few, resend_few, sends_count, sent, sent_more, step_few, update_few}
+use Rattle.control_laws.proofs.MessageCounts.{confirm_few, controller_few, packet_few, passed_few, put_few, resend_few, sends_count, sent, sent_more, step_few, update_few}
 use Rattle.control_laws.proofs.LinkSends.{all_adverts_sent, changes_few}
 use Rattle.control_laws.proofs.LinkPieces.{IsLinkPiece, link_piece}
 

@@ -9,11 +9,11 @@ use Rattle.update_machine.specs.Marks.{has_acked}
 use Rattle.update_machine.specs.Pieces.{resend_items}
 use Rattle.update_machine.specs.Setting.{Setting}
 use Rattle.update_machine.specs.Settling.{install_for, unacked_installs, versions_from_current}
-use Rattle.control_laws.proofs.Resent.{each_by_controller, each_to_member, later_versions, resent_has}
-use Rattle.control_laws.proofs.Sends.{each, each_map}
-use Rattle.control_laws.proofs.Sent.{each_by_switch}
+use Rattle.control_laws.proofs.ResentParts.{each_by_controller, each_to_member, later_versions, resent_has}
+use Rattle.control_laws.proofs.MessageSends.{each, each_map}
+use Rattle.control_laws.proofs.ResentBySwitches.{each_by_switch}
 use Rattle.control_laws.proofs.LinkCauses.{HasLinkCause, HaveLinkCauses}
-use Rattle.control_laws.proofs.Telling.{Tells, each_neighbour, held_told, sends_told}
+use Rattle.control_laws.proofs.AdvertTelling.{Tells, each_neighbour, held_told, sends_told}
 
 unacked_told : (setting : Setting) (journal : List Item) (s : ℕ) (versions : List ℕ)
     → AllByRecursion (Tells setting journal) (unacked_installs setting journal s versions)

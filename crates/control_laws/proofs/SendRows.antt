@@ -15,10 +15,10 @@ use Rattle.update_machine.specs.Pieces.{crash_items, link_items, piece, restart_
 use Rattle.update_machine.specs.Steps.{steps_in}
 use Rattle.update_machine.specs.Versions.{version_count}
 use Rattle.update_machine.specs.LinkMasks.{near}
-use Rattle.update_machine.proofs.Examples.{open_net}
+use Rattle.update_machine.proofs.ExampleNetworks.{open_net}
 use Rattle.control_laws.proofs.AdvertRows.{is_net, restart, restarted, solo}
 use Rattle.control_laws.specs.Sends.{NumbersAreFew, NumbersFit, StepsSendAtMost, StepsSendFew, sent_count}
-use Rattle.control_laws.proofs.Fitting.{fit_behind_room, numbers_few}
+use Rattle.control_laws.proofs.NumbersFit.{fit_behind_room, numbers_few}
 use Rattle.control_laws.proofs.PieceKinds.{piece_few}
 
 -- ---- a link comes back: each end tells the other both adverts

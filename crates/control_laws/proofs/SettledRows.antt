@@ -6,7 +6,7 @@ use Rattle.journal.specs.declared.item.Item.{Item}
 use Rattle.journal.specs.declared.item.Item.TheVariants as item
 use Rattle.update_machine.specs.Marks.{AreSettled, acked_stamp, controller_heard, current_mark, has_acked, is_member, is_over, known_boot, next_retired, opened_at, retired_mark}
 use Rattle.update_machine.specs.Links.{message_of}
-use Rattle.update_machine.proofs.Examples.{open_net}
+use Rattle.update_machine.proofs.ExampleNetworks.{open_net}
 
 -- in its second boot switch 0 acknowledged the current version, and isn't opened
 abbrev joining : List Item

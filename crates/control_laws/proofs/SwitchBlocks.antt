@@ -22,12 +22,12 @@ use Rattle.update_machine.specs.Versions.{installs_version, stamp_in, stamp_of}
 use Rattle.update_machine.specs.Links.{message_of}
 use Rattle.control_laws.specs.ItemCauses.{HasItemCause, OpensRightly}
 use Rattle.control_laws.proofs.ControllerBlocks.{installs_have, settling_have}
-use Rattle.control_laws.proofs.Delivered.{row_delivers}
-use Rattle.control_laws.proofs.Facts.{Has}
-use Rattle.control_laws.proofs.Grown.{boot_more, heard_more, message_more, over_more, raised, stamp_told, up_more}
-use Rattle.control_laws.proofs.Traffic.{links_have, passed_traffic, traffic_has}
-use Rattle.control_laws.proofs.Sends.{sends_have}
-use Rattle.control_laws.proofs.Commands.{grows, settling_settles}
+use Rattle.control_laws.proofs.DeliveryCauses.{row_delivers}
+use Rattle.control_laws.proofs.ItemFacts.{Has}
+use Rattle.control_laws.proofs.FactsGrown.{boot_more, heard_more, message_more, over_more, raised, stamp_told, up_more}
+use Rattle.control_laws.proofs.TrafficItems.{links_have, passed_traffic, traffic_has}
+use Rattle.control_laws.proofs.MessageSends.{sends_have}
+use Rattle.control_laws.proofs.ControllerCommands.{grows, settling_settles}
 
 -- ---- what is said to a switch
 

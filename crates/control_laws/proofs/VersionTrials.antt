@@ -13,14 +13,14 @@ use Rattle.update_machine.specs.Marks.{controller_heard, current_mark, is_over, 
 use Rattle.update_machine.specs.Settling.{to_switch}
 use Rattle.update_machine.specs.Versions.{HasPlan, holds_version, next_policy, stamp_of, tables_at, version_count}
 use Rattle.update_machine.specs.Links.{serves, message_of}
-use Rattle.update_machine.proofs.Examples.{open_net, plan_q, tables_of, versions}
+use Rattle.update_machine.proofs.ExampleNetworks.{open_net, plan_q, tables_of, versions}
 use Rattle.update_machine.proofs.ExampleVersions.{first_planned, none_of_7, second_plan, second_planned}
 use Rattle.control_laws.specs.ItemCauses.{HasItemCause}
 use Rattle.control_laws.specs.Planned.{AreTablesOf, BringsTables, TablesArePlanned, VersionsArePlanned}
 use Rattle.control_laws.specs.Serving.{HoldsStamp, ServingHold}
 use Rattle.control_laws.proofs.CauseRows.{second_file}
-use Rattle.control_laws.proofs.Planned.{tables_planned}
-use Rattle.control_laws.proofs.Serving.{serving_hold}
+use Rattle.control_laws.proofs.PlannedTables.{tables_planned}
+use Rattle.control_laws.proofs.ServingSwitches.{serving_hold}
 
 abbrev pub second : Tables
 second = record { version = 2; parts = []; auth = [] }

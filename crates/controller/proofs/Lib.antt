@@ -1,8 +1,8 @@
 pub mod PlanLemmas
-mod Picking
-mod Telling
-mod Versions
-mod Listing
-mod Unheard
+mod PickedSwitches
+mod MaskTelling
+mod KeptPlanVersions
+mod TouchedWords
+mod UnheardMarks
 mod KeptPlans
-pub mod Newest
+pub mod NewestPolicy

@@ -17,17 +17,17 @@ use Rattle.update_machine.specs.Links.{serves}
 use Rattle.control_laws.specs.Acknowledged.{MembersAcknowledged}
 use Rattle.control_laws.specs.Bounds.{MarksAreBounded}
 use Rattle.control_laws.specs.ItemCauses.{HasItemCause}
-use Rattle.control_laws.proofs.Facts.{have_weaker}
-use Rattle.control_laws.proofs.Marks.{acknowledged}
-use Rattle.control_laws.proofs.Openings.{member_parts}
-use Rattle.control_laws.proofs.Sends.{each_map, each_range}
+use Rattle.control_laws.proofs.ItemFacts.{have_weaker}
+use Rattle.control_laws.proofs.MarkLaws.{acknowledged}
+use Rattle.control_laws.proofs.SwitchOpenings.{member_parts}
+use Rattle.control_laws.proofs.MessageSends.{each_map, each_range}
 use Rattle.convergence_laws.specs.Updated.{IsUpdated}
-use Rattle.convergence_laws.proofs.Answered.{HaveSpoken}
-use Rattle.convergence_laws.proofs.Downs.{AreRecorded}
-use Rattle.convergence_laws.proofs.Installs.{AllInstalled}
-use Rattle.convergence_laws.proofs.Lists.{IsIn, all_in, each_of_in, in_range, of_filter, of_range}
-use Rattle.convergence_laws.proofs.Sendings.{IsInOrder}
-use Rattle.convergence_laws.proofs.Stamps.{HaveStamps}
+use Rattle.convergence_laws.proofs.AnsweredMessages.{HaveSpoken}
+use Rattle.convergence_laws.proofs.DownSwitches.{AreRecorded}
+use Rattle.convergence_laws.proofs.InstalledTables.{AllInstalled}
+use Rattle.convergence_laws.proofs.ListElements.{IsIn, all_in, each_of_in, in_range, of_filter, of_range}
+use Rattle.convergence_laws.proofs.MessageCourses.{IsInOrder}
+use Rattle.convergence_laws.proofs.StampOrders.{HaveStamps}
 
 -- ---- least numbers, and tests of all
 

@@ -7,10 +7,10 @@ use Rattle.std.proofs.lemmas.List.{length-map}
 use Rattle.std.proofs.lemmas.List.Elements.{All-from_recursion}
 use Rattle.policy_rules.proofs.CallerLemmas.{each_weaker}
 use Rattle.failover.specs.Links.{is_link, neighbours_named, named_links, has_link, AreJoined, IsReachable, LinksLead}
-use Rattle.failover.proofs.Searching.{length-known_links, straight_path}
+use Rattle.failover.proofs.RouteSearch.{length-known_links, straight_path}
 use Rattle.base.specs.Masks.{has}
 use Rattle.net_file.specs.Joins.{are_linked}
-use Rattle.net_file.proofs.Places.{links}
+use Rattle.net_file.proofs.RowPlaces.{links}
 use Rattle.journal.specs.declared.item.Item.{Item}
 use Rattle.steps.specs.Steps.{HasSwitch}
 use Rattle.update_machine.specs.Adverts.{adverts_known, own_advert, route_from}
@@ -19,9 +19,9 @@ use Rattle.update_machine.specs.Setting.{Setting}
 use Rattle.update_machine.proofs.CallerLemmas.{has_known_link, known_places, unreached}
 use Rattle.control_laws.proofs.NetLinks.{ends_serve, near_linked, second, claimed_mask}
 use Rattle.convergence_laws.specs.Converged.{AreUnusable, HasConverged, LeadsOver, Reaches}
-use Rattle.convergence_laws.proofs.Changed.{ends_there}
-use Rattle.convergence_laws.proofs.Converged.{AreAgreed, HoldsOwn, IsThere, adverts_reach, reached_holds, small_of, serving_up}
-use Rattle.convergence_laws.proofs.Near.{near_both}
+use Rattle.convergence_laws.proofs.ChangedLinksTold.{ends_there}
+use Rattle.convergence_laws.proofs.ConvergedLinks.{AreAgreed, HoldsOwn, IsThere, adverts_reach, reached_holds, small_of, serving_up}
+use Rattle.convergence_laws.proofs.UsableNeighbours.{near_both}
 
 -- ---- what a switch is told of one that it reaches
 

@@ -1,2 +1,2 @@
-mod Taking
+mod RecordTaking
 pub mod CallerLemmas

@@ -6,7 +6,7 @@ use Rattle.ternary.specs.Meets.{any_word, fix_of}
 use Rattle.ternary.proofs.CallerLemmas.{any_covers, any_unfixed, fix_word, free_bits_shorter}
 use Rattle.base.specs.Refusals.{IfRefused}
 use Rattle.base.specs.declared.error.Failure.{Failure}
-use Rattle.base.proofs.Refusals.{IfRefused-weaker}
+use Rattle.base.proofs.RefusalWeakening.{IfRefused-weaker}
 use Rattle.policy_rules.specs.declared.rules.Rule.{Rule}
 use Rattle.cut_tree.specs.Cuts.{IsLeastCut, least_below, side_of}
 use Rattle.cut_tree.specs.DefinedTree.{IsTreeOf, IsDefinedTree, free_count, cut_by, tree_within, tree_at, tree_of}

@@ -6,7 +6,7 @@ use Rattle.shelf.specs.declared.output.SinkError.{SinkError}
 use Rattle.shelf.specs.SinkWrites.{IsAfterWrite}
 use Rattle.shelf.specs.declared.output.SinkError.TheVariants as sink
 use Rattle.difane_cli.specs.Prints.{IsAfterText}
-use Rattle.difane_cli.proofs.Gains.{some_on_err}
+use Rattle.difane_cli.proofs.SinkGains.{some_on_err}
 
 -- a text that was made was written, or not
 pub text_written : (text : List ℕ) (in_memory takes_memory : Bool) (before now : SinkState)

@@ -8,7 +8,7 @@ use Rattle.difane_cli.specs.Ending.{IsCalmRead, MayFollowFault, NamesOneOf, Read
 use Rattle.difane_cli.specs.declared.status.Refusal.{Refusal}
 use Rattle.difane_cli.specs.declared.status.Stop.{Stop}
 use Rattle.difane_cli.specs.declared.status.Stop.TheVariants as stop
-use Rattle.difane_cli.proofs.Named.{AreAmong, among}
+use Rattle.difane_cli.proofs.RefusedNames.{AreAmong, among}
 
 -- no fault was counted, unless the stop is one that may follow a fault
 abbrev pub IsCalmStop : (old new : ShelfState) → Stop → Type 0

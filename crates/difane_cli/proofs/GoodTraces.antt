@@ -15,7 +15,7 @@ use Rattle.steps.specs.Steps.{max_number}
 use Rattle.steps.specs.declared.step.Event.{Event}
 use Rattle.trace_audit.specs.Reading.{AreGood, lines_of}
 use Rattle.trace_texts.specs.Texts.{IsAnsweredTo, IsLastLine, TextsAreGood, with_line_feeds}
-use Rattle.trace_texts.proofs.Pieces.{IsOneLine, joined, number_line, tested}
+use Rattle.trace_texts.proofs.LinePieces.{IsOneLine, joined, number_line, tested}
 use Rattle.update_machine.specs.Full.{IsPlay}
 use Rattle.update_machine.specs.Setting.{IsSetting, Setting}
 use Rattle.command_line.specs.Commands.{Command}

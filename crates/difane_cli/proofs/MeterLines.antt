@@ -4,7 +4,7 @@ use Rattle.std.proofs.Common.{ℕ, ◌≡◌, ◌≢◌, Option, Some, None, Res
 use Rattle.std.specs.List.{flat_map}
 use Rattle.journal.specs.declared.item.Item.{Item}
 use Rattle.journal_text.specs.Lines.{journal_text}
-use Rattle.journal_text.proofs.Gains.{nothing_gained}
+use Rattle.journal_text.proofs.LineGains.{nothing_gained}
 use Rattle.meters.specs.Seen.{Seen}
 use Rattle.net_file.specs.declared.net.Net.{Net}
 use Rattle.policy_rules.specs.declared.packet.Leaving.{Leaving}
@@ -12,7 +12,7 @@ use Rattle.shelf.specs.Sink.{with_gained, GainedPart, SinkState}
 use Rattle.shelf.specs.declared.output.SinkError.{SinkError}
 use Rattle.shelf.specs.SinkWrites.{gained-gained, IsAfterWrite}
 use Rattle.difane_cli.specs.Texts.{last_lines, line_by, meter_line, meter_lines, notes_line, replay_text}
-use Rattle.difane_cli.proofs.Gains.{GainedPart-behind}
+use Rattle.difane_cli.proofs.SinkGains.{GainedPart-behind}
 
 -- ---- one line
 

@@ -7,7 +7,7 @@ use Rattle.failover.specs.Paths.{IsAtMost}
 use Rattle.failover.specs.Routes.{ball, path_after}
 use Rattle.failover.specs.Search.{IsAway}
 use Rattle.failover.specs.Links.{LinksLead}
-use Rattle.failover.proofs.Balls.{false_of, apart_tests, ball_grows, ball_gains, at_target, has_target, next_step}
+use Rattle.failover.proofs.LinkBalls.{false_of, apart_tests, ball_grows, ball_gains, at_target, has_target, next_step}
 
 -- ---- the route leads to the target
 

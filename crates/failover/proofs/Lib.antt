@@ -1,10 +1,10 @@
-pub mod Balls
+pub mod LinkBalls
 pub mod LeastPaths
-pub mod Searching
-pub mod Adverts
+pub mod RouteSearch
+pub mod HeldAdverts
 pub mod LinkSets
-pub mod Walking
-pub mod Rows
-pub mod Newest
+pub mod RouteWriting
+pub mod KnownLinkRows
+pub mod NewestAdvert
 pub mod RowLoop
 pub mod WiderLoop

@@ -7,7 +7,7 @@ use Rattle.std.proofs.Math.Bool.{or-false}
 use Rattle.base.specs.Masks.{has}
 use Rattle.failover.specs.DownSet.{is_link_of, IsLinkSet}
 use Rattle.failover.specs.Links.{has_link, no_links, with_link}
-use Rattle.failover.proofs.Balls.{and_both, or_left, or_right, or_cases, apart_tests, false_of}
+use Rattle.failover.proofs.LinkBalls.{and_both, or_left, or_right, or_cases, apart_tests, false_of}
 use Rattle.base.proofs.CallerLemmas.{has-or, has-zero, has-pow_same, has-pow_other, same_sets}
 
 no_row : (k : ℕ) → get_or no_links k 0 ≡ 0

@@ -11,7 +11,7 @@ use Rattle.base.specs.Masks.{has}
 use Rattle.base.specs.ComputedMasks.{only_if, least_in}
 use Rattle.failover.specs.Links.{is_link, links_at}
 use Rattle.base.proofs.CallerLemmas.{has-or, has-and, has-zero, has_only_same, has_only_other, has_least, same_masks, only_if_lt, has_mask, has-xor_other}
-use Rattle.failover.proofs.Balls.{apart_tests}
+use Rattle.failover.proofs.LinkBalls.{apart_tests}
 
 -- the row has the links to the switches within a set that are not left
 pub record IsRowSoFar (neighbours down : List ℕ) (one within row rest : ℕ) : Type 0 where

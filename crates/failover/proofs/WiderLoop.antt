@@ -8,7 +8,7 @@ use Rattle.base.specs.Masks.{has}
 use Rattle.failover.specs.Routes.{grown_ball, least_neighbour_in}
 use Rattle.failover.specs.Search.{IsEdge}
 use Rattle.base.proofs.CallerLemmas.{has-or, has-zero, same_masks, has-xor_other}
-use Rattle.failover.proofs.Balls.{added_is_nearer, apart_tests, or_cases, or_left, or_right, true_of, wider_gains, wider_keeps, wider_lt}
+use Rattle.failover.proofs.LinkBalls.{added_is_nearer, apart_tests, or_cases, or_left, or_right, true_of, wider_gains, wider_keeps, wider_lt}
 use Rattle.failover.proofs.RowLoop.{has_less-same, has_both, has_first}
 
 -- each link is known from both its ends

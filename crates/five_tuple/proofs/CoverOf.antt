@@ -10,7 +10,7 @@ use Rattle.five_tuple.specs.Cover.{Block, IsBlock, IsLargestBlock, IsCover, fits
 use Rattle.five_tuple.specs.Laws.{IsCoverOf}
 use Rattle.five_tuple.specs.Header.{PortRangeValue}
 use Rattle.five_tuple.specs.SoundFields.{IsPortRange}
-use Rattle.five_tuple.proofs.Covers.{exponent_small, aligned_down, exact, disjoint, ascending, masked, few, same_cover}
+use Rattle.five_tuple.proofs.PortCovers.{exponent_small, aligned_down, exact, disjoint, ascending, masked, few, same_cover}
 
 -- ---- the function and the relation
 

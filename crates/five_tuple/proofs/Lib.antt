@@ -1,10 +1,10 @@
 mod BitFields
-mod Parts
-mod Numbers
-mod Readings
+mod SplitParts
+mod WrittenNumbers
+mod PartReadings
 mod RoundTrip
-mod Covers
-mod Dots
+mod PortCovers
+mod DottedParts
 mod CoverOf
 mod PlainTexts
 pub mod CallerLemmas

@@ -22,9 +22,9 @@ use Rattle.five_tuple.specs.SoundFields.{IsAddressBlock, IsPortRange, IsProtocol
 use Rattle.five_tuple.specs.Printing.{address_text, proto_number_text}
 use Rattle.five_tuple.specs.Texts.{has_leading_zero, number_up_to, address_of, prefix_of, range_of, proto_number_of, proto_of, parts_round, block_round}
 use Rattle.five_tuple.specs.RowPrinting.{prefix_text, range_text, proto_text}
-use Rattle.five_tuple.proofs.Numbers.{accepted}
-use Rattle.five_tuple.proofs.Parts.{digits_lack, digits_are_one_part}
-use Rattle.five_tuple.proofs.Readings.{address_reads, block_reads, range_reads}
+use Rattle.five_tuple.proofs.WrittenNumbers.{accepted}
+use Rattle.five_tuple.proofs.SplitParts.{digits_lack, digits_are_one_part}
+use Rattle.five_tuple.proofs.PartReadings.{address_reads, block_reads, range_reads}
 
 own : IsNumeralModel (λ ds. list_all is_ascii_digit ds ≡ true) (digits_value 10)
 own = numerals_by_value _ (search rules)

@@ -119,7 +119,7 @@ pub fn read_address(text: &[u8]) -> Option<u32>
 ///
 /// `any` is every address, an address stands for itself alone, and after a slash comes the block's
 /// length, at most 32 (RFC 4632, section 3.1). The address's bits past the length are cleared.
-#[tactic(auto, using(crate::proofs::Readings::block_reads), unfolding(crate::specs::Texts::prefix_of))]
+#[tactic(auto, using(crate::proofs::PartReadings::block_reads), unfolding(crate::specs::Texts::prefix_of))]
 pub fn read_prefix(text: &[u8]) -> Option<Prefix>
     ensures value { result ≡ prefix_of text.now }
     ensures valid { IfSome result IsAddressBlock }

@@ -13,7 +13,7 @@ use Rattle.meters.specs.Gone.{gone_after, gone_records, leaves_with, leaving_rec
 use Rattle.meters.specs.Meters.{PortLeavings, has_ended, is_ended_within, kept_meters, leavings_of, meter_with, meters_after, flow_records_of}
 use Rattle.meters.specs.Seen.{Seen}
 use Rattle.meters.specs.declared.flows.FlowRecord.{FlowRecord}
-use Rattle.meters.proofs.Keeping.{kept-append, kept-nothing, kept-one, kept_on}
+use Rattle.meters.proofs.MetersKept.{kept-append, kept-nothing, kept-one, kept_on}
 use Rattle.policy_rules.specs.declared.packet.Leaving.{Leaving}
 use Rattle.flow_export.specs.Counted.{FlowLaws, IsCounted, IsNewMeter, NoneLeaves, left_with}
 use Rattle.flow_export.specs.Flows.{flows, headers_of, packets_of}

@@ -1,2 +1,2 @@
-mod Counting
+mod FlowCounts
 mod CountedLaws

@@ -1,5 +1,5 @@
-mod Passing
-mod Walking
-mod Following
-mod Forwarding
-mod Resting
+mod PassingSteps
+mod UsableWalks
+mod FollowedPacket
+mod ForwardedPacket
+mod QuietJournals

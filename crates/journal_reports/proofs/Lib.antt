@@ -1,6 +1,6 @@
-pub mod Counts
+pub mod SummaryCounts
 mod SayingAsMuch
-mod Lives
-mod Buckets
-mod Reading
-mod Judging
+mod SwitchStatus
+mod MessageBuckets
+mod ReadItems
+mod QuietJudge

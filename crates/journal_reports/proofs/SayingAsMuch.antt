@@ -3,7 +3,7 @@ use Rattle.std.proofs.Common.{ℕ, ◌≡◌, ◌⊎◌, Some, ◌&&◌, ◌||�
 use Rattle.std.specs.Prelude.{IsTrue, IsFalse}
 use Rattle.std.proofs.lemmas.Bool.{and_parts, eq-eqb, eqb-true, or_right}
 use Rattle.std.proofs.lemmas.Bool.Decides.{nat_tests}
-use Rattle.control_laws.proofs.Facts.{own}
+use Rattle.control_laws.proofs.ItemFacts.{own}
 use Rattle.ctrl_msg.specs.Bodies.{body_boot}
 use Rattle.ctrl_msg.specs.declared.message.Body.{Body}
 use Rattle.ctrl_msg.specs.declared.message.Body.TheVariants.{Install, OpenAt, Stamp, Collect, CacheRule, Advertise, Hello, Installed, Stamped}
@@ -12,7 +12,7 @@ use Rattle.ctrl_msg.specs.declared.message.Place.{Place}
 use Rattle.ctrl_msg.specs.declared.message.Place.TheVariants as receiver
 use Rattle.failover.specs.Adverts.{is_newer}
 use Rattle.failover.specs.declared.advert.Advert.{Advert}
-use Rattle.failover.proofs.Newest.{newer_through}
+use Rattle.failover.proofs.NewestAdvert.{newer_through}
 use Rattle.update_machine.specs.Quiet.{Replaces, are_old_tables, is_advert, is_later_body, is_old_answer, speaker}
 use Rattle.journal_reports.specs.declared.status.SwitchStatus.{SwitchStatus}
 use Rattle.journal_reports.specs.Buckets.{subject}

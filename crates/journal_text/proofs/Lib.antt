@@ -1,3 +1,3 @@
-pub mod Gains
+pub mod LineGains
 pub mod MaskLemmas
 pub mod LineLengths

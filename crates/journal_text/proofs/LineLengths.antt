@@ -21,7 +21,7 @@ use Rattle.journal.specs.declared.item.Item.{Item}
 use Rattle.journal.specs.declared.item.Item.TheVariants as item
 use Rattle.journal_text.specs.Lines.{advert_text, body_text, boot_text, cause_text, how_text, item_line, mask_text, with_name, with_number, packet_at, pair_text, receiver_text, ruled_text, state_text, step_text, two_text, version_text, via_text}
 use Rattle.journal_text.specs.Sizes.{IsBodyOfType, IsHow, IsItemOfType, IsShortRoute, IsStepOfType, LinesFit}
-use Rattle.lines.proofs.Lengths.{IsWithin, all_of, joined_within, with_text, widened, number, rule_within, action_within, fields_within, word_within, name_within, names_within}
+use Rattle.lines.proofs.PrintedLengths.{IsWithin, all_of, joined_within, with_text, widened, number, rule_within, action_within, fields_within, word_within, name_within, names_within}
 use Rattle.lines.specs.Sizes.{IsAction, IsNumber, IsRule}
 use Rattle.steps.specs.declared.step.Step.{Step}
 use Rattle.steps.specs.declared.step.Step.TheVariants.{Packet, Hop, Lose, Deliver, Forget, Expire, Update, LinkDown, LinkUp, Crash, Restart, Confirm, Resend}

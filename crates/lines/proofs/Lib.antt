@@ -2,4 +2,4 @@ pub mod CallerLemmas
 mod PieceLemmas
 mod ShortNumbers
 mod HexPairs
-pub mod Lengths
+pub mod PrintedLengths

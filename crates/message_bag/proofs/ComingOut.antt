@@ -8,11 +8,11 @@ use Rattle.ctrl_msg.specs.declared.message.Message.{Message}
 use Rattle.wire.specs.Assembly.{AreAllHeld, IsRefusedFrame, with_frame}
 use Rattle.wire.specs.Frames.{AreFrames, count_in_frame, frames, chunk_of}
 use Rattle.wire.specs.Messages.{IsSpelling}
-use Rattle.wire.proofs.Assembling.{spelled_by}
-use Rattle.wire.proofs.Decoding.{one_message}
+use Rattle.wire.proofs.FrameAssembly.{spelled_by}
+use Rattle.wire.proofs.MessageDecoding.{one_message}
 use Rattle.message_bag.specs.Feeding.{HasFrames}
 use Rattle.message_bag.proofs.InOrder.{all_before, comes_next, frames_before, none_before}
-use Rattle.message_bag.proofs.Sized.{IsSized, few_frames, frames_sized, length_frames}
+use Rattle.message_bag.proofs.FrameSizes.{IsSized, few_frames, frames_sized, length_frames}
 use Rattle.message_bag.specs.KeptFrames.{AreOfMessage}
 
 pub are_frames : (m : Message) (fs : List (List ℕ)) → HasFrames m → fs ≡ frames m → AreFrames m fs

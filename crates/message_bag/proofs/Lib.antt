@@ -1,16 +1,16 @@
-pub mod Lengths
-pub mod Sized
-mod Parts
-pub mod Coming
+pub mod SpellingLengths
+pub mod FrameSizes
+mod HeldFrames
+pub mod FrameArrivals
 pub mod InOrder
-pub mod Installing
-pub mod Versions
-mod Spans
-mod Installs
-mod Posting
+pub mod InstallationSpelling
+pub mod TablesRestamped
+mod FirstFrameSpans
+mod InstallationFrames
+mod PostedMessages
 mod ComingOut
-pub mod Framed
-pub mod Numbered
-mod Taken
-pub mod Waiting
-pub mod Zipped
+pub mod FramedMessages
+pub mod NumberedPosts
+mod TakenMessages
+pub mod WaitingStatuses
+pub mod FramesByStatus

@@ -1,4 +1,4 @@
-#![tactic(auto, using(crate::proofs::Waiting::changed_from))]
+#![tactic(auto, using(crate::proofs::WaitingStatuses::changed_from))]
 
 ghost use Rattle.std.specs.Prelude.{◌≡◌, ◌<◌, ◌+◌, ◌-◌, ◌^◌, [], ◌∷◌, ◌++◌, List, length, IsTrue, OnOk, OnErr};
 ghost use Rattle.message_bag.specs.Deliveries.{delivered_status, forgotten_status, is_deliverable, may_be_delivered, next_waiting, waiting_status, waits, IsFirstWaiting};

@@ -112,7 +112,7 @@ impl PostBag {
     }
 
     /// Whether a message of this number was posted and isn't forgotten.
-    #[tactic(auto, using(crate::proofs::Zipped::deliverable_same))]
+    #[tactic(auto, using(crate::proofs::FramesByStatus::deliverable_same))]
     pub fn may_be_delivered(&self, number: u32) -> bool
         ensures { result ≡ is_post_deliverable self.now number }
     {
@@ -120,7 +120,7 @@ impl PostBag {
     }
 
     /// The message of this number was delivered, perhaps once more.
-    #[tactic(auto, using(crate::proofs::Zipped::deliverable_same))]
+    #[tactic(auto, using(crate::proofs::FramesByStatus::deliverable_same))]
     pub fn deliver(&mut self, number: u32)
         requires { IsTrue (is_post_deliverable self.old number) }
         ensures { self.new ≡ with_delivered self.old number }
@@ -129,7 +129,7 @@ impl PostBag {
     }
 
     /// The message of this number is never delivered again.
-    #[tactic(auto, using(crate::proofs::Zipped::deliverable_same))]
+    #[tactic(auto, using(crate::proofs::FramesByStatus::deliverable_same))]
     pub fn forget(&mut self, number: u32)
         requires { IsTrue (is_post_deliverable self.old number) }
         ensures { self.new ≡ with_forgotten self.old number }

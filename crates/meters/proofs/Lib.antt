@@ -1,2 +1,2 @@
-pub mod Keeping
-mod Telling
+pub mod MetersKept
+mod MeterRecords

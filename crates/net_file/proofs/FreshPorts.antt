@@ -15,7 +15,7 @@ use Rattle.net_file.specs.declared.net.SwitchRow.{SwitchRow}
 use Rattle.net_file.specs.Owners.{have_port}
 use Rattle.net_file.specs.Laws.{IsMask}
 use Rattle.net_file.specs.declared.error.NetRefusal.TheVariants as refusal
-use Rattle.net_file.proofs.Masks.{in_mask, in_mask_with}
+use Rattle.net_file.proofs.MaskBits.{in_mask, in_mask_with}
 
 -- no port is in the mask, nor is it one that stands before
 abbrev pub are_fresh : ℕ → List ℕ → Bool

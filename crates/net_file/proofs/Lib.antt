@@ -1,7 +1,7 @@
-pub mod Values
-pub mod Masks
+pub mod ValueItems
+pub mod MaskBits
 pub mod FreshPorts
-pub mod Steps
-pub mod Sound
-pub mod Places
+pub mod RowRefusals
+pub mod SoundNetworks
+pub mod RowPlaces
 pub mod NameLemmas

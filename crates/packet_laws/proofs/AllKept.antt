@@ -25,16 +25,16 @@ use Rattle.update_machine.specs.Versions.{policy_at, plan_at, HasPlan}
 use Rattle.update_machine.specs.Travels.{leg_of, travels}
 use Rattle.update_machine.specs.PacketRoutes.{found_down}
 use Rattle.update_machine.proofs.CallerLemmas.{step_stays, begins_planned}
-use Rattle.control_laws.proofs.Facts.{AreKept, Behind, fact_on, have_weaker, with_fact}
-use Rattle.control_laws.proofs.Grown.{message_more}
-use Rattle.control_laws.proofs.Reached.{NamesOwn}
+use Rattle.control_laws.proofs.ItemFacts.{AreKept, Behind, fact_on, have_weaker, with_fact}
+use Rattle.control_laws.proofs.FactsGrown.{message_more}
+use Rattle.control_laws.proofs.ReachedCauses.{NamesOwn}
 use Rattle.control_laws.proofs.SwitchBlocks.{said_parts}
 use Rattle.control_laws.proofs.BothCauses.{HasBothCauses}
 use Rattle.control_laws.proofs.NetLinks.{links_there}
 use Rattle.control_laws.specs.ItemCauses.{HasItemCause}
-use Rattle.control_laws.proofs.Current.{StampsAreCurrent, current_at_first, current_kept}
-use Rattle.control_laws.proofs.Planned.{versions_planned}
-use Rattle.control_laws.proofs.Touched.{stamps_touched}
+use Rattle.control_laws.proofs.CurrentVersions.{StampsAreCurrent, current_at_first, current_kept}
+use Rattle.control_laws.proofs.PlannedTables.{versions_planned}
+use Rattle.control_laws.proofs.TouchedStamps.{stamps_touched}
 use Rattle.control_laws.specs.Touched.{stamp_to}
 use Rattle.packet_laws.specs.Rules.{IsRightEntry, IsRightRule}
 use Rattle.packet_laws.specs.OnWay.{IsUnknown}
@@ -44,16 +44,16 @@ use Rattle.packet_laws.specs.KeptFacts.{AllKept, BringsRight, IsRightlyDecided, 
 use Rattle.packet_laws.specs.Stages.{Blocked, CameIn, Judged, OnWay, Stage, stage_of, gives_stage}
 use Rattle.packet_laws.specs.PacketCauses.{SendsRightRule, SendsRule, PacketCause}
 use Rattle.packet_laws.proofs.CacheRules.{cache_rule_right}
-use Rattle.packet_laws.proofs.Caches.{cache_holds}
-use Rattle.packet_laws.proofs.Growing.{Grows, grows, kept_on, right_on}
-use Rattle.packet_laws.proofs.Here.{IsHere, Rules, here_of, rules_of, some_same}
+use Rattle.packet_laws.proofs.CachedEntries.{cache_holds}
+use Rattle.packet_laws.proofs.GrowingFacts.{Grows, grows, kept_on, right_on}
+use Rattle.packet_laws.proofs.PacketsHere.{IsHere, Rules, here_of, rules_of, some_same}
 use Rattle.packet_laws.proofs.KeptFacts.{Knows, decided_after, entered_after, exiting_after, found_after, gone, hopped_after, rerouted_after, seeking_after}
-use Rattle.packet_laws.proofs.Lookups.{deciding}
+use Rattle.packet_laws.proofs.HeaderLookups.{deciding}
 use Rattle.packet_laws.proofs.PacketBlocks.{stage_more, stage_stays}
-use Rattle.packet_laws.proofs.Rests.{IsAsked, IsWayItem, Past, numbered, switches_of_all, ways_of_all, with_past}
-use Rattle.packet_laws.proofs.Served.{packet_more}
-use Rattle.packet_laws.proofs.Pieces.{step_now}
-use Rattle.packet_laws.proofs.Carried.{carried_right}
+use Rattle.packet_laws.proofs.RestingPackets.{IsAsked, IsWayItem, Past, numbered, switches_of_all, ways_of_all, with_past}
+use Rattle.packet_laws.proofs.ServedPackets.{packet_more}
+use Rattle.packet_laws.proofs.PacketPieceCauses.{step_now}
+use Rattle.packet_laws.proofs.CarriedRules.{carried_right}
 use Rattle.ternary.specs.Word.{WordValue}
 
 -- ---- steps that were asked for

@@ -6,7 +6,7 @@ use Rattle.journal.specs.declared.item.Item.TheVariants as item
 use Rattle.update_machine.specs.Packets.{header_in, standing}
 use Rattle.update_machine.specs.Travels.{leg_of, travels}
 use Rattle.update_machine.specs.PacketRoutes.{next_switch, route_in, route_place}
-use Rattle.update_machine.proofs.Examples.{one}
+use Rattle.update_machine.proofs.ExampleNetworks.{one}
 use Rattle.packet_laws.specs.Arriving.{IsAtEnd}
 use Rattle.packet_laws.specs.Stages.{stage_of}
 

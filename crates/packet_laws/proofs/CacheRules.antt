@@ -8,7 +8,7 @@ use Rattle.std.proofs.lemmas.List.Elements.{All-tail}
 use Rattle.std.proofs.lemmas.Nat.{and_mask}
 use Rattle.std.proofs.lemmas.Option.{get_or_from_slice_get, slice_get-map, slice_get_within, same_Some}
 use Rattle.cache_maker.specs.Independent.{IsIndependent, is_independent, widen, widening_of}
-use Rattle.cache_maker.proofs.Independence.{test_true}
+use Rattle.cache_maker.proofs.IndependentWords.{test_true}
 use Rattle.five_tuple.specs.Header.{IsHeader, number_of}
 use Rattle.five_tuple.specs.declared.header.Header.{Header}
 use Rattle.policy_rules.specs.Hosted.{is_in}
@@ -24,7 +24,7 @@ use Rattle.ternary.specs.Word.{WordValue, holds}
 use Rattle.ternary.specs.Meets.{covers_of, exact_word, free_of, meet_of}
 use Rattle.ternary.proofs.CallerLemmas.{covers_held, meet_disjoint}
 use Rattle.update_machine.specs.Setting.{Setting}
-use Rattle.packet_laws.proofs.Plans.{Finds, IsPlanned}
+use Rattle.packet_laws.proofs.PlanLookups.{Finds, IsPlanned}
 
 -- ---- headers of a word
 

@@ -16,7 +16,7 @@ use Rattle.update_machine.specs.Versions.{stamp_of}
 use Rattle.update_machine.specs.Travels.{leg_of, travels}
 use Rattle.update_machine.specs.PacketRoutes.{found_down}
 use Rattle.update_machine.specs.Links.{serves}
-use Rattle.update_machine.proofs.Examples.{one, open_net}
+use Rattle.update_machine.proofs.ExampleNetworks.{one, open_net}
 use Rattle.packet_laws.specs.Rest.{AreResting}
 use Rattle.packet_laws.specs.Stages.{stage_of}
 use Rattle.packet_laws.specs.StrongCauses.{StrongCause}

@@ -16,12 +16,12 @@ use Rattle.update_machine.specs.Pieces.{crash_items, nothing}
 use Rattle.update_machine.specs.Setting.{Setting}
 use Rattle.update_machine.specs.Travels.{packets_at, travels, travels_at}
 use Rattle.update_machine.specs.Links.{serves}
-use Rattle.control_laws.proofs.Crashes.{losts_keep}
-use Rattle.control_laws.proofs.Grown.{serving_more}
-use Rattle.control_laws.proofs.Picked.{any_picked}
+use Rattle.control_laws.proofs.CrashedSwitches.{losts_keep}
+use Rattle.control_laws.proofs.FactsGrown.{serving_more}
+use Rattle.control_laws.proofs.PickedNumbers.{any_picked}
 use Rattle.packet_laws.specs.Rest.{AreServed, IsServed}
 use Rattle.packet_laws.proofs.PacketBlocks.{standing_more, travels_more}
-use Rattle.packet_laws.proofs.Served.{AreNumbered, stays_served, still_serves}
+use Rattle.packet_laws.proofs.ServedPackets.{AreNumbered, stays_served, still_serves}
 
 -- ---- what is sent leaves packets as they are
 

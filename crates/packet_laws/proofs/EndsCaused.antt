@@ -3,12 +3,12 @@ use Rattle.std.proofs.Common.{List, []}
 use Rattle.journal.specs.declared.item.Item.{Item}
 use Rattle.update_machine.specs.Causes.{HasCause, HaveCauses}
 use Rattle.update_machine.specs.Setting.{Setting, IsSetting}
-use Rattle.control_laws.proofs.Facts.{Behind, have_weaker}
-use Rattle.control_laws.proofs.Openings.{caused_known}
+use Rattle.control_laws.proofs.ItemFacts.{Behind, have_weaker}
+use Rattle.control_laws.proofs.SwitchOpenings.{caused_known}
 use Rattle.packet_laws.specs.KeptFacts.{AllKept}
 use Rattle.packet_laws.proofs.AllKept.{kept_before, known_before, knows}
-use Rattle.packet_laws.proofs.Ends.{end_caused}
-use Rattle.packet_laws.proofs.Rests.{IsWayItem, Past, switches_of_all}
+use Rattle.packet_laws.proofs.PacketEnds.{end_caused}
+use Rattle.packet_laws.proofs.RestingPackets.{IsWayItem, Past, switches_of_all}
 
 pub ends_caused : (setting : Setting) (journal : List Item) → IsSetting setting
     → HaveCauses (IsWayItem setting) [] journal → HaveCauses (HasCause setting) [] journal

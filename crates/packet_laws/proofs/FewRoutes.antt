@@ -17,10 +17,10 @@ use Rattle.update_machine.specs.Setting.{Setting, IsSetting}
 use Rattle.update_machine.specs.Travels.{leg_of}
 use Rattle.update_machine.specs.PacketRoutes.{found_down}
 use Rattle.control_laws.specs.ItemCauses.{HasItemCause}
-use Rattle.control_laws.proofs.Facts.{Behind, Both, fact_on, have_both}
-use Rattle.control_laws.proofs.Marks.{bounded}
-use Rattle.control_laws.proofs.Bounded.{current_rises}
-use Rattle.control_laws.proofs.Planned.{versions_planned}
+use Rattle.control_laws.proofs.ItemFacts.{Behind, Both, fact_on, have_both}
+use Rattle.control_laws.proofs.MarkLaws.{bounded}
+use Rattle.control_laws.proofs.BoundedVersions.{current_rises}
+use Rattle.control_laws.proofs.PlannedTables.{versions_planned}
 use Rattle.packet_laws.specs.OnWay.{IsOnWay, IsOnLeg}
 use Rattle.packet_laws.specs.Facts.{PacketFacts, is_of_packet, facts_after, what_is_known}
 use Rattle.packet_laws.proofs.PacketFacts.{facts_grow}
@@ -30,14 +30,14 @@ use Rattle.packet_laws.specs.Stages.{Blocked, Judged, Stage, stage_of, gives_sta
 use Rattle.packet_laws.specs.StrongCauses.{FindsLinkDown, FurtherCause, StrongCause}
 use Rattle.packet_laws.specs.PacketCauses.{IsLookedUp, MeetsDown, TakesRoute, PacketCause}
 use Rattle.packet_laws.proofs.AllKept.{Before, kept_before, known_before, knows}
-use Rattle.packet_laws.proofs.Here.{IsHere, decision_in, here_of, leg_in, next_in, seeking_of, some_same}
+use Rattle.packet_laws.proofs.PacketsHere.{IsHere, decision_in, here_of, leg_in, next_in, seeking_of, some_same}
 use Rattle.packet_laws.proofs.KeptFacts.{Knows, seeking_after}
-use Rattle.packet_laws.proofs.Rests.{IsWayItem, Past, switches_of_all}
-use Rattle.packet_laws.proofs.Strong.{strongly_caused}
+use Rattle.packet_laws.proofs.RestingPackets.{IsWayItem, Past, switches_of_all}
+use Rattle.packet_laws.proofs.StronglyCaused.{strongly_caused}
 use Rattle.packet_laws.proofs.PacketBlocks.{stage_next}
 use Rattle.packet_laws.specs.Routes.{finding_count, is_finding, most_routes}
-use Rattle.packet_laws.proofs.Links.{FindsOne, few_unfound, finds_one, unfound}
-use Rattle.packet_laws.proofs.Counts.{count_more, one_more}
+use Rattle.packet_laws.proofs.UnfoundLinks.{FindsOne, few_unfound, finds_one, unfound}
+use Rattle.packet_laws.proofs.ItemCounts.{count_more, one_more}
 
 -- ---- what is kept of a packet's routes
 

@@ -8,7 +8,7 @@ use Rattle.five_tuple.specs.Header.{IsHeader, number_of}
 use Rattle.five_tuple.specs.declared.header.Header.{Header}
 use Rattle.net_file.specs.Net.{IsLink, IsNet}
 use Rattle.net_file.specs.Joins.{are_linked, joins, owner_of}
-use Rattle.net_file.proofs.Places.{joined_below}
+use Rattle.net_file.proofs.RowPlaces.{joined_below}
 use Rattle.std.specs.List.{Any}
 use Rattle.std.proofs.lemmas.List.Folds.{Any-from_list_any}
 use Rattle.policy_rules.specs.Hosted.{is_in}
@@ -48,11 +48,11 @@ use Rattle.packet_laws.specs.Facts.{PacketFacts, facts_after, what_is_known}
 use Rattle.packet_laws.specs.KeptFacts.{Avoids, IsRightlyDecided, HasKeptFacts}
 use Rattle.packet_laws.specs.Stages.{Blocked, CameIn, Judged, OnWay, Stage, stage_of}
 use Rattle.packet_laws.specs.PacketCauses.{AuthorityDecides, CacheDecides, DecidesBy, IsAt, IsDecided, IsLookedUp, IsRedirected, MeetsDown, MovesOver, TakesDetour, TakesExit, TakesRoute}
-use Rattle.packet_laws.proofs.Here.{IsHere, Rules, found_in, here_of, leg_in, next_in, decision_in, rules_of, seeking_of, some_same}
-use Rattle.packet_laws.proofs.Lookups.{FindsTargets, redirect_found}
+use Rattle.packet_laws.proofs.PacketsHere.{IsHere, Rules, found_in, here_of, leg_in, next_in, decision_in, rules_of, seeking_of, some_same}
+use Rattle.packet_laws.proofs.HeaderLookups.{FindsTargets, redirect_found}
 use Rattle.packet_laws.proofs.PacketBlocks.{WhenDecided}
-use Rattle.packet_laws.proofs.Plans.{scan_named}
-use Rattle.packet_laws.proofs.Routes.{IsWay, route_way}
+use Rattle.packet_laws.proofs.PlanLookups.{scan_named}
+use Rattle.packet_laws.proofs.KnownRoutes.{IsWay, route_way}
 
 -- what is known of the journal before an item, and kept of its packet
 pub record Knows (setting : Setting) (before : List Item) (i : ℕ) (stage : Option Stage) : Type 0

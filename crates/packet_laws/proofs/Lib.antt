@@ -2,54 +2,54 @@ pub mod PacketFacts
 pub mod FirstLinks
 pub mod PacketBlocks
 pub mod OtherBlocks
-pub mod Pieces
-pub mod Plans
+pub mod PacketPieceCauses
+pub mod PlanLookups
 pub mod CacheRules
-pub mod Done
-pub mod Others
-pub mod Served
+pub mod DonePackets
+pub mod SparedPackets
+pub mod ServedPackets
 pub mod CrashServed
-pub mod Lookups
-pub mod Rests
+pub mod HeaderLookups
+pub mod RestingPackets
 pub mod StepsOfPlays
-pub mod Reached
-pub mod Caches
-pub mod Carried
-pub mod Routes
-pub mod Growing
-pub mod Here
+pub mod ReachedJournals
+pub mod CachedEntries
+pub mod CarriedRules
+pub mod KnownRoutes
+pub mod GrowingFacts
+pub mod PacketsHere
 pub mod KeptFacts
 pub mod AllKept
-pub mod Travelling
-pub mod Untouched
+pub mod TravellingPackets
+pub mod UntouchedRules
 pub mod OpenWays
-pub mod Ends
+pub mod PacketEnds
 pub mod EndsCaused
-pub mod Arriving
-pub mod Runs
-pub mod Amended
+pub mod LegEnds
+pub mod MachineRuns
+pub mod AmendedPolicies
 mod CauseTrials
-mod Broken
+mod BrokenJournals
 mod ArrivingRows
 mod RunRows
 mod StepRows
-pub mod Strong
-mod Links
-mod Counts
+pub mod StronglyCaused
+mod UnfoundLinks
+mod ItemCounts
 mod FewRoutes
-mod Waiting
-mod Flushing
-mod Asked
-mod Acts
-mod Within
-mod Ready
-mod Draining
-mod Playing
+mod WaitingMessages
+mod FlushEnds
+mod AskedHops
+mod HopAnswers
+mod RouteHops
+mod ReadySteps
+mod DrainHops
+mod PlayExistence
 mod RouteRows
 mod RowPieces
-mod Rows
-mod Plays
+mod PacketRows
+mod PlayPackets
 mod EntryTrials
 mod StepEnds
-mod Together
+mod AlwaysReached
 mod OnTheWay

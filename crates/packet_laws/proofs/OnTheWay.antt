@@ -20,7 +20,7 @@ use Rattle.packet_laws.specs.Travelling.{PacketsTravel}
 use Rattle.packet_laws.specs.Whole.{KeepVersionsWhole}
 use Rattle.packet_laws.proofs.StepEnds.{ends_at}
 use Rattle.packet_laws.proofs.StepsOfPlays.{play_begins}
-use Rattle.packet_laws.proofs.Together.{OfReached, always_reached}
+use Rattle.packet_laws.proofs.AlwaysReached.{OfReached, always_reached}
 
 -- the laws of journals that may end within a step
 pub record Laws : Type 0 where

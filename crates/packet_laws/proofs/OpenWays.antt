@@ -9,8 +9,8 @@ use Rattle.failover.specs.Adverts.{held_advert}
 use Rattle.failover.specs.Links.{is_link, neighbours_named, named_links, has_link, AreJoined, IsReachable, LinksLead}
 use Rattle.failover.specs.declared.advert.Advert.{Advert}
 use Rattle.failover.specs.Isolated.{names_neighbour}
-use Rattle.failover.proofs.Rows.{has_known}
-use Rattle.failover.proofs.Searching.{straight_path}
+use Rattle.failover.proofs.KnownLinkRows.{has_known}
+use Rattle.failover.proofs.RouteSearch.{straight_path}
 use Rattle.base.specs.Masks.{has}
 use Rattle.net_file.specs.Net.{IsNet}
 use Rattle.journal.specs.declared.item.Item.{Item}
@@ -21,7 +21,7 @@ use Rattle.update_machine.specs.Setting.{Setting}
 use Rattle.update_machine.specs.PacketRoutes.{found_down}
 use Rattle.update_machine.proofs.CallerLemmas.{heard_by_origin, link_not_found}
 use Rattle.control_laws.proofs.BothCauses.{HasBothCauses}
-use Rattle.control_laws.proofs.Claims.{IsNamed, names_end, own_end}
+use Rattle.control_laws.proofs.LinkClaims.{IsNamed, names_end, own_end}
 
 -- ---- ways
 

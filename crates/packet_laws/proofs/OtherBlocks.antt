@@ -20,12 +20,12 @@ use Rattle.update_machine.specs.Setting.{Setting}
 use Rattle.update_machine.specs.SwitchNumbers.{switches_of}
 use Rattle.update_machine.specs.Settling.{install_for, unacked_installs, versions_from_current}
 use Rattle.update_machine.proofs.CallerLemmas.{have_first}
-use Rattle.control_laws.proofs.Commands.{Control, IsCommand, IsControl, controller_control, update_has}
-use Rattle.control_laws.proofs.Delivered.{deliver_has}
-use Rattle.control_laws.proofs.Facts.{have_weaker}
-use Rattle.control_laws.proofs.Resent.{each_by_controller, each_to_member, later_versions, resent_has}
-use Rattle.control_laws.proofs.Sends.{each, each_flat_map, each_map}
-use Rattle.control_laws.proofs.Sent.{each_by_switch, sends_each}
+use Rattle.control_laws.proofs.ControllerCommands.{Control, IsCommand, IsControl, controller_control, update_has}
+use Rattle.control_laws.proofs.DeliveryCauses.{deliver_has}
+use Rattle.control_laws.proofs.ItemFacts.{have_weaker}
+use Rattle.control_laws.proofs.ResentParts.{each_by_controller, each_to_member, later_versions, resent_has}
+use Rattle.control_laws.proofs.MessageSends.{each, each_flat_map, each_map}
+use Rattle.control_laws.proofs.ResentBySwitches.{each_by_switch, sends_each}
 use Rattle.control_laws.proofs.SwitchCases.{switch_cases}
 use Rattle.packet_laws.specs.PacketCauses.{PacketCause}
 

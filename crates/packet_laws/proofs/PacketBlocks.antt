@@ -31,8 +31,8 @@ use Rattle.update_machine.specs.Versions.{holds_version, stamp_of, plan_at}
 use Rattle.update_machine.specs.Travels.{ingress_of, is_at, leg_of, gives_travelling, travels}
 use Rattle.update_machine.specs.PacketRoutes.{changes_hops, found_down, next_switch, owner, route_in, route_place, targets_of, gives_route}
 use Rattle.update_machine.proofs.CallerLemmas.{folded_append, have_append, have_first, last_given_append, lookup_stays, near_stays, policies_keep, switch_keeps}
-use Rattle.control_laws.proofs.Grown.{last_more, serving_more}
-use Rattle.control_laws.proofs.Facts.{own}
+use Rattle.control_laws.proofs.FactsGrown.{last_more, serving_more}
+use Rattle.control_laws.proofs.ItemFacts.{own}
 use Rattle.packet_laws.specs.Stages.{Stage, Blocked, CameIn, Judged, OnWay, stage_of, gives_stage}
 use Rattle.packet_laws.specs.Rest.{AreResting, IsServed}
 use Rattle.packet_laws.specs.PacketCauses.{Arrives, AuthorityFinds, IsAt, IsLookedUp, IsLookedUpBy, IsOfRow, ReachesAuthority, TakesLeg, PacketCause}

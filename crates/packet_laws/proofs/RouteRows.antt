@@ -5,7 +5,7 @@ use Rattle.journal.specs.declared.item.Item.{Item}
 use Rattle.journal.specs.declared.item.Item.TheVariants as item
 use Rattle.steps.specs.declared.step.Step.TheVariants.{Hop}
 use Rattle.update_machine.specs.Travels.{travels}
-use Rattle.update_machine.proofs.Examples.{one}
+use Rattle.update_machine.proofs.ExampleNetworks.{one}
 use Rattle.packet_laws.specs.Hops.{hops_taken, most_switches}
 use Rattle.packet_laws.specs.Routes.{finding_count, hops_on_route}
 

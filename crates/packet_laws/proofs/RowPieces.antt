@@ -13,8 +13,8 @@ use Rattle.update_machine.specs.Packets.{next_packet}
 use Rattle.update_machine.specs.Pieces.{packet_items, piece}
 use Rattle.update_machine.specs.Setting.{Setting}
 use Rattle.update_machine.proofs.CallerLemmas.{all_given_append}
-use Rattle.packet_laws.proofs.Others.{IsInStep, IsNoRow, lookup_in_step}
-use Rattle.packet_laws.proofs.Rests.{no_entries, no_rows}
+use Rattle.packet_laws.proofs.SparedPackets.{IsInStep, IsNoRow, lookup_in_step}
+use Rattle.packet_laws.proofs.RestingPackets.{no_entries, no_rows}
 use Rattle.packet_laws.specs.Entries.{EachEnters, StepRow, gives_row, step_row, step_rows_in}
 
 -- none of the items is a row

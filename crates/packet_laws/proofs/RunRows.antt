@@ -8,7 +8,7 @@ use Rattle.policy_rules.specs.declared.policy.Action.TheVariants.{Drop, Out}
 use Rattle.policy_rules.specs.declared.policy.Hit.{Hit}
 use Rattle.policy_rules.specs.declared.policy.Row.{Row}
 use Rattle.update_machine.specs.Machine.{Decides, Dropped, End, Ends, Enters, LeftBy, Machine, Packet, Retires, Submits}
-use Rattle.packet_laws.proofs.Here.{some_same}
+use Rattle.packet_laws.proofs.PacketsHere.{some_same}
 
 -- ---- policies and the mark
 

@@ -9,8 +9,8 @@ use Rattle.update_machine.specs.Causes.{HaveCauses}
 use Rattle.update_machine.specs.Pieces.{piece, step_items}
 use Rattle.update_machine.specs.Setting.{Setting}
 use Rattle.packet_laws.specs.OnTheWay.{BeginStep, EndsStep}
-use Rattle.packet_laws.proofs.Others.{IsNoRow}
-use Rattle.packet_laws.proofs.Rests.{no_rows}
+use Rattle.packet_laws.proofs.SparedPackets.{IsNoRow}
+use Rattle.packet_laws.proofs.RestingPackets.{no_rows}
 
 -- what the steps write behind the journal
 abbrev written : Setting → List Item → List StepOfRow → List Item

@@ -9,7 +9,7 @@ use Rattle.update_machine.specs.Packets.{next_packet, standing}
 use Rattle.update_machine.specs.Causes.{present_step}
 use Rattle.update_machine.specs.Travels.{travels}
 use Rattle.update_machine.specs.Links.{serves}
-use Rattle.update_machine.proofs.Examples.{one, open_net}
+use Rattle.update_machine.proofs.ExampleNetworks.{one, open_net}
 use Rattle.packet_laws.specs.PacketCauses.{IsLostInCrash, PacketCause, ends_with_row, fallen_switch}
 
 in_by_its_row : PacketCause open_net (item.Row 1 (Packet 0 one) ∷ []) (item.Entered 1 0 one)

@@ -9,7 +9,7 @@ use Rattle.update_machine.specs.Full.{IsPlay}
 use Rattle.update_machine.specs.Setting.{Setting}
 use Rattle.update_machine.proofs.CallerLemmas.{AreOf, HasNexts, IsEventOf, answers_so_far, begins_itself, event_steps_are, first_steps_are, stop_begins}
 use Rattle.control_laws.specs.Always.{AreEvents}
-use Rattle.control_laws.proofs.Reached.{IsCarried, NamesOwn, carried_on, has_nexts, own_event}
+use Rattle.control_laws.proofs.ReachedCauses.{IsCarried, NamesOwn, carried_on, has_nexts, own_event}
 use Rattle.packet_laws.specs.Between.{steps_played}
 
 are_front : (Is : Step → Type 0) (xs ys : List StepOfRow) → AreOf Is (xs ++ ys) → AreOf Is xs

@@ -1,6 +1,6 @@
-mod Fields
-mod Edits
-mod Rows
-mod Plain
-mod Lines
-mod Adding
+mod RowFields
+mod EditFields
+mod StatedRows
+mod PlainFields
+mod StatedLines
+mod AddedPorts

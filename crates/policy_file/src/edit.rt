@@ -17,7 +17,7 @@ pub const REMOVE: &str = "remove";
 pub const ADD: &str = "add";
 
 /// Whether the record is the heading of a change.
-#[tactic(auto, using(crate::proofs::Edits::edits))]
+#[tactic(auto, using(crate::proofs::EditFields::edits))]
 pub fn is_change_heading(fields: &ByteRecord) -> bool
     ensures { result ≡ is_heading change_heading (fields_of fields.now) }
 {
@@ -30,7 +30,7 @@ pub fn is_change_heading(fields: &ByteRecord) -> bool
 /// # Errors
 /// `Op` where the first field is another one, `Width` where another number of fields stands behind
 /// it; else the first field that is none of its kind.
-#[tactic(auto, using(crate::proofs::Edits::edits))]
+#[tactic(auto, using(crate::proofs::EditFields::edits))]
 pub fn read_edit(fields: &ByteRecord) -> Result<Edit, PolicyRefusal>
     ensures edit { result ≡ edit_read (fields_of fields.now) }
     ensures small_port { IfOk result (AddsOnly (λ row. HasSmallPort row.action)) }
@@ -45,7 +45,7 @@ pub fn read_edit(fields: &ByteRecord) -> Result<Edit, PolicyRefusal>
 }
 
 // The edit that removes the row of the priority that the second field, the last one, has.
-#[tactic(auto, using(crate::proofs::Edits::edits))]
+#[tactic(auto, using(crate::proofs::EditFields::edits))]
 fn read_removal(fields: &ByteRecord) -> Result<Edit, PolicyRefusal>
     ensures edit { result ≡ removal_read (drop 1 (fields_of fields.now)) }
     ensures small_port { IfOk result (AddsOnly (λ row. HasSmallPort row.action)) }

@@ -39,7 +39,7 @@ fn has_texts(fields: &ByteRecord, place: usize, one: &str, next: &str) -> bool
 
 /// Whether the record's fields from this place on are the names of a row's fields: from the first
 /// one on, whether it is the heading of a policy.
-#[tactic(auto, using(crate::proofs::Fields::sevens))]
+#[tactic(auto, using(crate::proofs::RowFields::sevens))]
 pub fn is_heading(fields: &ByteRecord, from: usize) -> bool
     ensures { result ≡ is_heading policy_heading (drop from (fields_of fields.now)) }
 {
@@ -65,7 +65,7 @@ pub fn read_priority(text: &[u8]) -> Option<u32>
 /// # Errors
 /// `Width` where there are other than seven fields from there on; else the first field that is none
 /// of its kind.
-#[tactic(auto, using(crate::proofs::Fields::sevens))]
+#[tactic(auto, using(crate::proofs::RowFields::sevens))]
 pub fn read_row(fields: &ByteRecord, from: usize) -> Result<Row, PolicyRefusal>
     ensures row { result ≡ row_read (drop from (fields_of fields.now)) }
     ensures small_port { IfOk result (λ row. HasSmallPort row.action) }

@@ -1,14 +1,14 @@
 -- What proofs above cite.
 pub use Rattle.base.proofs.ListLemmas.{append_not_nil, count-filter-le, count_by-cons, each_weaker, find_same, none_from_not_some}
 pub use Rattle.policy_rules.proofs.FirstMatch.{first_match-only, first_match-scan, highest_is, one_of_priority}
-pub use Rattle.policy_rules.proofs.Changes.{All-additions, All-applied, IsPolicy-applied, additions_sound}
-pub use Rattle.policy_rules.proofs.Counting.{filter_more, range_more}
-pub use Rattle.policy_rules.proofs.Distinct.{distinct_push}
-pub use Rattle.policy_rules.proofs.Editing.{fresh_edits}
-pub use Rattle.policy_rules.proofs.Finding.{at_item, find-position}
+pub use Rattle.policy_rules.proofs.AmendmentCases.{All-additions, All-applied, IsPolicy-applied, additions_sound}
+pub use Rattle.policy_rules.proofs.CountedRanges.{filter_more, range_more}
+pub use Rattle.policy_rules.proofs.DistinctRows.{distinct_push}
+pub use Rattle.policy_rules.proofs.EditLists.{fresh_edits}
+pub use Rattle.policy_rules.proofs.FirstPassing.{at_item, find-position}
 pub use Rattle.policy_rules.proofs.RowWords.{IsWord-word_of_row, holds-word_of_row}
-pub use Rattle.policy_rules.proofs.Ranks.{length-words_of_row}
+pub use Rattle.policy_rules.proofs.RuleRanks.{length-words_of_row}
 pub use Rattle.policy_rules.proofs.RuleLaw.{first_rule-rules_of, holds-words_of_row}
 pub use Rattle.policy_rules.proofs.RuleShape.{IsRuleList-rules_of, IsWord-words_of_row, length-rules_of}
-pub use Rattle.policy_rules.proofs.Touched.{scan-apart}
-pub use Rattle.policy_rules.proofs.Sorting.{IsFalling-by_falling_priority, IsPermutation-by_falling_priority, find-by_falling_priority, same_sorted}
+pub use Rattle.policy_rules.proofs.TouchedHeaders.{scan-apart}
+pub use Rattle.policy_rules.proofs.FallingRows.{IsFalling-by_falling_priority, IsPermutation-by_falling_priority, find-by_falling_priority, same_sorted}

@@ -1,14 +1,14 @@
 mod FirstMatch
-mod Distinct
-mod Finding
+mod DistinctRows
+mod FirstPassing
 mod RowWords
-mod Ranks
+mod RuleRanks
 mod BlockLoops
-mod Sorting
+mod FallingRows
 mod RuleLaw
 mod RuleShape
 pub mod CallerLemmas
-mod Counting
-mod Editing
-mod Changes
-mod Touched
+mod CountedRanges
+mod EditLists
+mod AmendmentCases
+mod TouchedHeaders

@@ -21,7 +21,7 @@ use Rattle.policy_rules.specs.Words.{word_of_row, words_of_row}
 use Rattle.policy_rules.specs.RuleList.{entries_of, with_hit, ranked_rule, ranked_from, with_default, by_falling_priority, rules_of, hit_of_rule}
 use Rattle.policy_rules.specs.Scan.{hit_of, scan}
 use Rattle.policy_rules.proofs.RowWords.{holds-word_of_row}
-use Rattle.policy_rules.proofs.Sorting.{IsPermutation-by_falling_priority, find-by_falling_priority}
+use Rattle.policy_rules.proofs.FallingRows.{IsPermutation-by_falling_priority, find-by_falling_priority}
 
 -- what the first word that holds a number says
 abbrev pub found : ℕ → List (WordValue × Hit) → Option Hit

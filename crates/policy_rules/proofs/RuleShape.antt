@@ -19,8 +19,8 @@ use Rattle.policy_rules.specs.Words.{word_of_row, words_of_row}
 use Rattle.policy_rules.specs.RuleList.{entries_of, ranked_rule, ranked_from, with_default, by_falling_priority, rules_of, word_count, word_total, default_rule, IsRuleList}
 use Rattle.policy_rules.specs.Scan.{hit_of}
 use Rattle.policy_rules.proofs.RowWords.{IsWord-word_of_row}
-use Rattle.policy_rules.proofs.Ranks.{length-ranked_from, ranked_from-append, length-entries}
-use Rattle.policy_rules.proofs.Sorting.{IsPermutation-by_falling_priority}
+use Rattle.policy_rules.proofs.RuleRanks.{length-ranked_from, ranked_from-append, length-entries}
+use Rattle.policy_rules.proofs.FallingRows.{IsPermutation-by_falling_priority}
 
 HasWord : WordValue × Hit → Type 0
 HasWord entry = IsWord entry.0

@@ -1,4 +1,4 @@
-mod Sums
+mod LoadSums
 mod LoadLemmas
 mod WeightLemmas
 mod SpreadLemmas

@@ -14,7 +14,7 @@ use Rattle.policy_rules.proofs.CallerLemmas.{range_more}
 use Rattle.placement.specs.Placement.{is_target, targets_at}
 use Rattle.placement.proofs.CallerLemmas.{each_by_count, range-within, sum-filter, sum_none}
 use Rattle.rebalance.specs.Loads.{Fits, bound, greatest, greatest_traffic, is_primary, traffic, usable_rooms}
-use Rattle.rebalance.proofs.Sums.{most-each, most-le, passing-le, places-le, share-le, shared-le, sum-le, sum-places, sum-scaled, term-le}
+use Rattle.rebalance.proofs.LoadSums.{most-each, most-le, passing-le, places-le, share-le, shared-le, sum-le, sum-places, sum-scaled, term-le}
 
 -- ---- the traffic of a switch
 

@@ -9,8 +9,8 @@ use Rattle.update_machine.specs.Setting.{IsSetting, Setting}
 use Rattle.update_machine.specs.SwitchNumbers.{switches_of}
 use Rattle.control_laws.specs.Always.{AreEvents, HoldsAtEnds, HoldsReached}
 use Rattle.control_laws.specs.ItemCauses.{HasItemCause}
-use Rattle.control_laws.proofs.Facts.{steps_have}
-use Rattle.control_laws.proofs.Pieces.{pieces_have}
+use Rattle.control_laws.proofs.ItemFacts.{steps_have}
+use Rattle.control_laws.proofs.PieceCauses.{pieces_have}
 use Rattle.convergence_laws.specs.Converged.{HasConverged}
 use Rattle.convergence_laws.specs.Stuck.{GetStuckApart}
 use Rattle.convergence_laws.specs.Updated.{IsUpdated}
@@ -18,9 +18,9 @@ use Rattle.packet_laws.specs.Between.{HoldsBetween}
 use Rattle.packet_laws.specs.Travelling.{RulesAreRight}
 use Rattle.recovery_laws.specs.NothingOld.{CacheNewestAlone, EndsInTwoRounds, LeavesNothingOld}
 use Rattle.recovery_laws.specs.Recovery.{EndsInRecovery}
-use Rattle.recovery_laws.proofs.Recovers.{Agrees, ForwardsBy, calm_recovers, ends_calm, ends_recovered, ends_updated, recovered_updated}
-use Rattle.recovery_laws.proofs.Rounds.{cache_newest, hold_newest}
-use Rattle.recovery_laws.proofs.Rows.{EndsCalmly, IsConfirmed, all_confirmed_on, ends_by, ends_calmly}
+use Rattle.recovery_laws.proofs.RecoveredJournals.{Agrees, ForwardsBy, calm_recovers, ends_calm, ends_recovered, ends_updated, recovered_updated}
+use Rattle.recovery_laws.proofs.LastRounds.{cache_newest, hold_newest}
+use Rattle.recovery_laws.proofs.RecoveryRows.{EndsCalmly, IsConfirmed, all_confirmed_on, ends_by, ends_calmly}
 
 -- what holds of cache rules, of each journal of the network
 abbrev pub RulesLaw : Type 0

@@ -14,8 +14,8 @@ use Rattle.update_machine.specs.Folds.{count_of}
 use Rattle.update_machine.specs.Messages.{is_sending, next_message}
 use Rattle.update_machine.proofs.CallerLemmas.{messages_keep, next_sent}
 use Rattle.world_log.specs.Sending.{act_items, act_posts, act_item, number_after}
-use Rattle.refinement.proofs.Others.{NoneName}
-use Rattle.refinement.proofs.Posting.{SendFrom, posts_in}
+use Rattle.refinement.proofs.OtherPackets.{NoneName}
+use Rattle.refinement.proofs.PostedFrames.{SendFrom, posts_in}
 use Rattle.update_machine.specs.Packets.{is_packet}
 
 -- what marks and messages concern not

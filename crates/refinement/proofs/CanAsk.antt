@@ -12,7 +12,7 @@ use Rattle.switch_core.specs.State.{SwitchValue, serves}
 use Rattle.switch_core.specs.Moving.{StandsAt, hop_answer}
 use Rattle.switch_core.specs.declared.answers.HopEnd.TheVariants as hop
 use Rattle.refinement.specs.SwitchOf.{switch_of}
-use Rattle.refinement.proofs.Asked.{requirements_hold}
+use Rattle.refinement.proofs.AskedRequirements.{requirements_hold}
 use Rattle.tunnel.specs.Moves.{here}
 use Rattle.update_machine.specs.LinkMasks.{near}
 use Rattle.update_machine.specs.Setting.{Setting}
@@ -20,11 +20,11 @@ use Rattle.update_machine.specs.Versions.{plan_at}
 use Rattle.control_laws.specs.Authorities.{EndsAt}
 use Rattle.packet_laws.specs.Facts.{what_is_known}
 use Rattle.travelling.specs.Travelling.{Flight}
-use Rattle.refinement.proofs.Arrivals.{IsAtEnd}
-use Rattle.refinement.proofs.Known.{Known}
-use Rattle.refinement.proofs.Moving.{Hops, arrives_at_end}
+use Rattle.refinement.proofs.ArrivedPackets.{IsAtEnd}
+use Rattle.refinement.proofs.JournalLaws.{Known}
+use Rattle.refinement.proofs.MovedPacket.{Hops, arrives_at_end}
 use Rattle.refinement.proofs.OnWay.{IsStanding, got}
-use Rattle.refinement.proofs.Seeing.{Sees, sees}
+use Rattle.refinement.proofs.SeenWithinStep.{Sees, sees}
 use Rattle.refinement.proofs.SwitchFacts.{number_shown}
 
 -- the switch and its usable links are as the journal says

@@ -22,11 +22,11 @@ use Rattle.packet_laws.specs.Facts.{what_is_known}
 use Rattle.world_log.specs.Writing.{answer_items, entered_items, entered_flight}
 use Rattle.travelling.specs.Travelling.{Flight, Standing}
 use Rattle.refinement.specs.Flights.{flight_in}
-use Rattle.refinement.proofs.Goings.{GoesIn, entered_goes}
-use Rattle.refinement.proofs.Known.{Known, flight_stays}
-use Rattle.refinement.proofs.Later.{answer_later, later_packets}
-use Rattle.refinement.proofs.Others.{entered_other}
-use Rattle.refinement.proofs.Posting.{SendFrom, are_apart}
+use Rattle.refinement.proofs.OnwardPackets.{GoesIn, entered_goes}
+use Rattle.refinement.proofs.JournalLaws.{Known, flight_stays}
+use Rattle.refinement.proofs.AnswerItems.{answer_later, later_packets}
+use Rattle.refinement.proofs.OtherPackets.{entered_other}
+use Rattle.refinement.proofs.PostedFrames.{SendFrom, are_apart}
 use Rattle.refinement.proofs.FactsAlong.{Targets, by_targets, flight_along, facts_along}
 
 -- ---- one packet comes in, and then none

@@ -26,7 +26,7 @@ use Rattle.update_machine.specs.Versions.{next_policy, policy_at, version_count}
 use Rattle.update_machine.specs.Links.{message_of}
 use Rattle.update_machine.proofs.CallerLemmas.{first_touched}
 use Rattle.update_machine.proofs.ExampleVersions.{first_plan, first_policy, second_plan, second_policy}
-use Rattle.update_machine.proofs.Examples.{all_to, open_net, plan_p, plan_q, to, versions}
+use Rattle.update_machine.proofs.ExampleNetworks.{all_to, open_net, plan_p, plan_q, to, versions}
 use Rattle.version_update.specs.Record.{first_record}
 use Rattle.controller.specs.Controller.{KeptPlan, first_controller}
 use Rattle.controller.specs.Plan.{PlanValue}
@@ -36,7 +36,7 @@ use Rattle.ternary.specs.Word.{WordValue}
 use Rattle.refinement.specs.Controller.{IsControllerOf, IsPlanOfNext, plan_to_keep}
 use Rattle.refinement.specs.Marks.{IsKnown}
 use Rattle.refinement.specs.Written.{written_items}
-use Rattle.refinement.proofs.Calls.{begins}
+use Rattle.refinement.proofs.ControllerCalls.{begins}
 
 -- ---- acts
 

@@ -2,7 +2,7 @@
 -- behind it.
 use Rattle.std.proofs.Common.{ℕ, ◌≡◌, ◌+◌, ◌<◌, true, false, List, [], ◌∷◌, ◌++◌, refl, ap, sym, ◌∙◌, length, get_or, rules}
 use Rattle.refinement.specs.Written.{AreWritten}
-use Rattle.refinement.proofs.Calls.{confirms}
+use Rattle.refinement.proofs.ControllerCalls.{confirms}
 use Rattle.controller.specs.Controller.{ControllerValue, SettlesWith, current_touched}
 use Rattle.controller.specs.Sends.{settling_acts}
 use Rattle.controller.specs.declared.sends.Act.{Act}
@@ -24,14 +24,14 @@ use Rattle.world_log.specs.Sending.{MayNote, act_items, act_posts}
 use Rattle.refinement.specs.Refinement.{RefineJournal, NetworkState}
 use Rattle.refinement.specs.Bags.{IsBagOf}
 use Rattle.refinement.proofs.ActItems.{written_is}
-use Rattle.refinement.proofs.Delivering.{nothing_happens}
-use Rattle.refinement.proofs.Known.{reached_known}
+use Rattle.refinement.proofs.BagDeliveries.{nothing_happens}
+use Rattle.refinement.proofs.JournalLaws.{reached_known}
 use Rattle.refinement.proofs.OneItem.{WroteOne}
-use Rattle.refinement.proofs.Posting.{bag_on}
-use Rattle.refinement.proofs.Switches.{switch_is, switch_known}
-use Rattle.refinement.proofs.Told.{refines_told}
-use Rattle.refinement.proofs.Refining.{links_stay, switches_stay, up_stay}
-use Rattle.refinement.proofs.Sendable.{may_note}
+use Rattle.refinement.proofs.PostedFrames.{bag_on}
+use Rattle.refinement.proofs.NetworkSwitches.{switch_is, switch_known}
+use Rattle.refinement.proofs.ToldSteps.{refines_told}
+use Rattle.refinement.proofs.StepRefines.{links_stay, switches_stay, up_stay}
+use Rattle.refinement.proofs.SendableMessages.{may_note}
 
 -- a switch is up as the journal says
 pub up_as : (setting : Setting) (journal : List Item) (s : ℕ)

@@ -5,18 +5,18 @@ use Rattle.ctrl_msg.specs.declared.message.Message.{Message}
 use Rattle.ctrl_msg.specs.declared.message.Place.TheVariants as receiver
 use Rattle.journal.specs.declared.item.Item.{Item}
 use Rattle.control_laws.specs.Sends.{StepsSendFew}
-use Rattle.control_laws.proofs.Fitting.{versions_few}
+use Rattle.control_laws.proofs.NumbersFit.{versions_few}
 use Rattle.control_laws.proofs.PieceKinds.{piece_few}
 use Rattle.switch_core.specs.Hearing.{IsSoundBody}
 use Rattle.refinement.specs.Knowing.{TablesAreKnown}
-use Rattle.refinement.proofs.Asked.{requirements_hold}
+use Rattle.refinement.proofs.AskedRequirements.{requirements_hold}
 use Rattle.update_machine.specs.LinkMasks.{near}
 use Rattle.update_machine.specs.Links.{message_of}
 use Rattle.update_machine.specs.Setting.{Setting}
 use Rattle.update_machine.specs.Settling.{to_switch}
 use Rattle.refinement.specs.Refinement.{RefineJournal, NetworkState}
-use Rattle.refinement.proofs.Delivering.{sent_as}
-use Rattle.refinement.proofs.Known.{Known, reached_known}
+use Rattle.refinement.proofs.BagDeliveries.{sent_as}
+use Rattle.refinement.proofs.JournalLaws.{Known, reached_known}
 
 pub sends_few : (setting : Setting) (journal : List Item) → Known setting journal
     → StepsSendFew setting journal

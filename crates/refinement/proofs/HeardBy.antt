@@ -5,11 +5,11 @@ use Rattle.std.specs.Option.{option_map_or}
 use Rattle.std.proofs.lemmas.List.{length-set}
 use Rattle.message_bag.specs.Posts.{IsMessageOf, Post, is_post_deliverable, new_post, with_delivered, with_status}
 use Rattle.message_bag.specs.Deliveries.{delivered_status}
-use Rattle.message_bag.proofs.Numbered.{length_changed}
+use Rattle.message_bag.proofs.NumberedPosts.{length_changed}
 use Rattle.refinement.specs.Written.{AreWritten}
-use Rattle.refinement.proofs.Calls.{hears}
-use Rattle.refinement.proofs.Resends.{names_there}
-use Rattle.refinement.proofs.Steps.{steps_leave}
+use Rattle.refinement.proofs.ControllerCalls.{hears}
+use Rattle.refinement.proofs.ControllerResends.{names_there}
+use Rattle.refinement.proofs.ControllerUntouched.{steps_leave}
 use Rattle.controller.specs.Controller.{ControllerValue, SettlesWith}
 use Rattle.controller.specs.Sends.{NamesThere, marks_after, hear_acts}
 use Rattle.controller.specs.declared.sends.Act.{Act}
@@ -24,8 +24,8 @@ use Rattle.switch_core.specs.Hearing.{with_message, opening_stamp, replies}
 use Rattle.switch_core.specs.State.{SwitchValue}
 use Rattle.refinement.specs.Hearing.{HearsShut}
 use Rattle.refinement.specs.SwitchOf.{switch_of}
-use Rattle.refinement.proofs.Delivered.{hearing_refines}
-use Rattle.refinement.proofs.Links.{kept_is}
+use Rattle.refinement.proofs.DeliveredRecords.{hearing_refines}
+use Rattle.refinement.proofs.SwitchLinkChanges.{kept_is}
 use Rattle.update_machine.specs.Concerns.{is_message_to, is_message_to_controller}
 use Rattle.update_machine.specs.Deliveries.{delivery_items}
 use Rattle.update_machine.specs.LinkMasks.{near}
@@ -40,15 +40,15 @@ use Rattle.update_machine.proofs.CallerLemmas.{message_keeps}
 use Rattle.world_log.specs.Sending.{MayNote, MaySend, act_items, act_posts}
 use Rattle.refinement.specs.Refinement.{RefineJournal, NetworkState}
 use Rattle.refinement.specs.Bags.{IsBagOf}
-use Rattle.world_log.proofs.Sends.{posts_as_acts, sent_as_acts}
+use Rattle.world_log.proofs.MessageLogs.{posts_as_acts, sent_as_acts}
 use Rattle.refinement.proofs.ActItems.{written_is}
-use Rattle.refinement.proofs.Delivering.{deliverable_as, nothing_happens, sent_as}
-use Rattle.refinement.proofs.Known.{reached_known}
+use Rattle.refinement.proofs.BagDeliveries.{deliverable_as, nothing_happens, sent_as}
+use Rattle.refinement.proofs.JournalLaws.{reached_known}
 use Rattle.refinement.proofs.OneItem.{WroteOne, grown}
-use Rattle.refinement.proofs.Posting.{bag_delivered, bag_on, within_posts}
-use Rattle.refinement.proofs.Told.{IsTold, refines_told}
-use Rattle.refinement.proofs.Refining.{links_stay, one_changes, up_stay}
-use Rattle.refinement.proofs.Sendable.{may_note, may_send}
+use Rattle.refinement.proofs.PostedFrames.{bag_delivered, bag_on, within_posts}
+use Rattle.refinement.proofs.ToldSteps.{IsTold, refines_told}
+use Rattle.refinement.proofs.StepRefines.{links_stay, one_changes, up_stay}
+use Rattle.refinement.proofs.SendableMessages.{may_note, may_send}
 
 -- ---- what a delivery writes
 

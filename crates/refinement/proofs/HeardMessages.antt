@@ -22,9 +22,9 @@ use Rattle.update_machine.specs.Settling.{to_switch}
 use Rattle.update_machine.specs.Links.{message_of}
 use Rattle.update_machine.specs.Touched.{touched_by}
 use Rattle.refinement.specs.SwitchOf.{switch_of}
-use Rattle.refinement.proofs.Hearing.{SaysTouched, hears_facts}
-use Rattle.refinement.proofs.Items.{facts_delivered}
-use Rattle.refinement.proofs.Tables.{AreVersioned, IsVersioned}
+use Rattle.refinement.proofs.SwitchHears.{SaysTouched, hears_facts}
+use Rattle.refinement.proofs.SwitchFactItems.{facts_delivered}
+use Rattle.refinement.proofs.HeldTables.{AreVersioned, IsVersioned}
 use Rattle.refinement.proofs.SwitchFacts.{SwitchFacts, by_facts, switch_by, switch_is, facts_of}
 
 -- ---- what is obeyed

@@ -30,15 +30,15 @@ use Rattle.packet_laws.specs.Facts.{PacketFacts, what_is_known}
 use Rattle.packet_laws.proofs.PacketFacts.{facts_grow}
 use Rattle.world_log.specs.Packets.{arrival_items, ended_items, ended_switch, hop_written, hop_flight, hopped_flight, turned_items}
 use Rattle.travelling.specs.Travelling.{Flight, standing_at}
-use Rattle.world_log.proofs.Hopping.{hopped_same}
+use Rattle.world_log.proofs.HoppedPacket.{hopped_same}
 use Rattle.refinement.specs.Flights.{flight_in}
 use Rattle.refinement.proofs.CanAsk.{CanAsk}
-use Rattle.refinement.proofs.Known.{Known, flight_stays}
-use Rattle.refinement.proofs.Later.{arrived_later, hop_sends, later_packets}
-use Rattle.refinement.proofs.Moving.{hop_goes, hop_law, hop_stays, stays_by}
+use Rattle.refinement.proofs.JournalLaws.{Known, flight_stays}
+use Rattle.refinement.proofs.AnswerItems.{arrived_later, hop_sends, later_packets}
+use Rattle.refinement.proofs.MovedPacket.{hop_goes, hop_law, hop_stays, stays_by}
 use Rattle.refinement.proofs.OnWay.{IsStanding, on_leg}
-use Rattle.refinement.proofs.Others.{NoneName, arrived_other, none_more}
-use Rattle.refinement.proofs.Posting.{are_apart}
+use Rattle.refinement.proofs.OtherPackets.{NoneName, arrived_other, none_more}
+use Rattle.refinement.proofs.PostedFrames.{are_apart}
 use Rattle.refinement.proofs.FactsAlong.{flight_along}
 
 -- ---- what it writes

@@ -23,14 +23,14 @@ use Rattle.refinement.specs.Flights.{flight_in}
 use Rattle.travelling.specs.Travelling.{Flight, Flights, WithOne, flight}
 use Rattle.refinement.proofs.CanAsk.{CanAsk}
 use Rattle.refinement.proofs.HopPieces.{hop_called, hop_later, hop_others, hop_own, hop_packets, hop_piece, left_piece}
-use Rattle.refinement.proofs.Asking.{known_of}
-use Rattle.refinement.proofs.Known.{Known}
-use Rattle.refinement.proofs.Later.{hop_sends}
-use Rattle.refinement.proofs.Delivering.{nothing_happens}
+use Rattle.refinement.proofs.AskingSwitch.{known_of}
+use Rattle.refinement.proofs.JournalLaws.{Known}
+use Rattle.refinement.proofs.AnswerItems.{hop_sends}
+use Rattle.refinement.proofs.BagDeliveries.{nothing_happens}
 use Rattle.refinement.proofs.OneItem.{WroteOne}
-use Rattle.refinement.proofs.Losing.{travels_as}
-use Rattle.refinement.proofs.Posting.{SendFrom, posts_in}
-use Rattle.refinement.proofs.Refining.{Steps, numbered, one_changes, packets_are, switches_are, refines_more}
+use Rattle.refinement.proofs.LostPacket.{travels_as}
+use Rattle.refinement.proofs.PostedFrames.{SendFrom, posts_in}
+use Rattle.refinement.proofs.StepRefines.{Steps, numbered, one_changes, packets_are, switches_are, refines_more}
 
 -- ---- the tie
 

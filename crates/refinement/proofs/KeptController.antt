@@ -10,14 +10,14 @@ use Rattle.update_machine.specs.Marks.{acked_stamp, controller_heard, current_ma
 use Rattle.update_machine.specs.Setting.{Setting}
 use Rattle.update_machine.specs.Versions.{version_count}
 use Rattle.update_machine.proofs.CallerLemmas.{start_laws}
-use Rattle.control_laws.proofs.Grown.{count_more, current_more, known_more, over_more, retired_more, told_more}
-use Rattle.control_laws.proofs.Sends.{acked_same}
-use Rattle.control_laws.proofs.Members.{opened_same}
-use Rattle.control_laws.proofs.Leaves.{member_same, stamp_same}
+use Rattle.control_laws.proofs.FactsGrown.{count_more, current_more, known_more, over_more, retired_more, told_more}
+use Rattle.control_laws.proofs.MessageSends.{acked_same}
+use Rattle.control_laws.proofs.MemberFacts.{opened_same}
+use Rattle.control_laws.proofs.ControllerLeft.{member_same, stamp_same}
 use Rattle.version_update.specs.Marks.{MarksValue, at_switch, first_marks, record_of}
 use Rattle.version_update.specs.Record.{first_record, unknown_switch}
 use Rattle.version_update.specs.declared.record.SwitchRecord.{SwitchRecord}
-use Rattle.version_update.proofs.Acknowledged.{first_acked}
+use Rattle.version_update.proofs.AcknowledgedVersions.{first_acked}
 use Rattle.refinement.specs.Marks.{AreMarksOf, IsKnown}
 
 -- ---- one switch

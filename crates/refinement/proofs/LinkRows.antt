@@ -15,14 +15,14 @@ use Rattle.base.proofs.CallerLemmas.{has_mask, mask_of_is}
 use Rattle.net_file.specs.Joins.{are_linked, joins}
 use Rattle.net_file.specs.declared.net.LinkRow.{LinkRow}
 use Rattle.net_file.specs.declared.net.Net.{Net}
-use Rattle.net_file.proofs.Places.{links as link_laws}
+use Rattle.net_file.proofs.RowPlaces.{links as link_laws}
 use Rattle.control_laws.specs.Steps.{asks_controller}
 use Rattle.steps.specs.Steps.{HasLink, IsStep}
 use Rattle.steps.specs.declared.step.Step.{Step}
 use Rattle.switch_core.specs.Life.{next_advert}
 use Rattle.switch_core.specs.State.{SwitchValue}
 use Rattle.refinement.specs.Links.{LeavesSwitch, relinked_switch}
-use Rattle.refinement.proofs.Links.{links_refine}
+use Rattle.refinement.proofs.SwitchLinkChanges.{links_refine}
 use Rattle.update_machine.specs.Concerns.{concerns_calls}
 use Rattle.update_machine.specs.Deliveries.{link_changes}
 use Rattle.update_machine.specs.Links.{is_link_up, gives_link}
@@ -36,9 +36,9 @@ use Rattle.update_machine.proofs.CallerLemmas.{last_given_append}
 use Rattle.refinement.specs.Links.{link_step}
 use Rattle.world_log.specs.Linking.{AreRelinked, SetsLink, all_adverts_sent, near_all}
 use Rattle.refinement.specs.Refinement.{RefineJournal, NetworkState, is_up_link, up_links}
-use Rattle.refinement.proofs.Delivering.{nothing_happens}
+use Rattle.refinement.proofs.BagDeliveries.{nothing_happens}
 use Rattle.refinement.proofs.OneItem.{WroteOne}
-use Rattle.refinement.proofs.Posting.{bag_on}
+use Rattle.refinement.proofs.PostedFrames.{bag_on}
 use Rattle.refinement.proofs.LinksChange.{relinked_state, LinksChange, change_piece, change_may, unmoved, change_refines}
 use Rattle.world_log.specs.Sending.{MaySend}
 

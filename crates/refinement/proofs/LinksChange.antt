@@ -5,9 +5,9 @@ use Rattle.std.specs.Prelude.{IsFalse, All}
 use Rattle.std.specs.List.{flat_map}
 use Rattle.std.proofs.lemmas.List.{get_or-set_other, get_or-set_same, length-set}
 use Rattle.message_bag.specs.Posts.{Post, new_post}
-use Rattle.control_laws.proofs.Openings.{caused_known, serving_known}
+use Rattle.control_laws.proofs.SwitchOpenings.{caused_known, serving_known}
 use Rattle.control_laws.specs.ItemCauses.{HasItemCause}
-use Rattle.control_laws.proofs.Facts.{have_front}
+use Rattle.control_laws.proofs.ItemFacts.{have_front}
 use Rattle.controller.specs.declared.sends.Act.{Act}
 use Rattle.controller.specs.declared.sends.Act.TheVariants.{Post as PostAct}
 use Rattle.ctrl_msg.specs.declared.message.Message.{Message}
@@ -15,14 +15,14 @@ use Rattle.journal.specs.declared.item.Item.{Item}
 use Rattle.journal.specs.declared.item.Item.TheVariants as item
 use Rattle.refinement.specs.Bags.{IsBagOf}
 use Rattle.refinement.specs.Flights.{flight_in}
-use Rattle.refinement.proofs.Known.{reached_known, reached_more, flight_stays}
-use Rattle.refinement.proofs.Others.{NoneName, none_more}
-use Rattle.refinement.proofs.Posting.{bag_sends}
+use Rattle.refinement.proofs.JournalLaws.{reached_known, reached_more, flight_stays}
+use Rattle.refinement.proofs.OtherPackets.{NoneName, none_more}
+use Rattle.refinement.proofs.PostedFrames.{bag_sends}
 use Rattle.base.specs.Masks.{has}
 use Rattle.base.proofs.CallerLemmas.{has_mask}
 use Rattle.net_file.specs.Joins.{are_linked}
 use Rattle.control_laws.specs.Sends.{NumbersFit}
-use Rattle.control_laws.proofs.Fitting.{fit_in_room}
+use Rattle.control_laws.proofs.NumbersFit.{fit_in_room}
 use Rattle.control_laws.specs.Steps.{asks_controller}
 use Rattle.steps.specs.Steps.{IsStep}
 use Rattle.steps.specs.declared.step.Step.{Step}
@@ -31,8 +31,8 @@ use Rattle.switch_core.specs.State.{SwitchValue}
 use Rattle.refinement.specs.Asked.{HasNextSeq}
 use Rattle.refinement.specs.Links.{LeavesSwitch, relinked_switch}
 use Rattle.refinement.specs.SwitchOf.{switch_of}
-use Rattle.refinement.proofs.Asked.{requirements_hold}
-use Rattle.refinement.proofs.Links.{links_refine}
+use Rattle.refinement.proofs.AskedRequirements.{requirements_hold}
+use Rattle.refinement.proofs.SwitchLinkChanges.{links_refine}
 use Rattle.travelling.specs.Travelling.{Flights, flight}
 use Rattle.update_machine.specs.Adverts.{own_advert}
 use Rattle.update_machine.specs.Causes.{HaveCauses}
@@ -48,13 +48,13 @@ use Rattle.update_machine.specs.SwitchNumbers.{switches_of}
 use Rattle.update_machine.proofs.CallerLemmas.{count_of_append}
 use Rattle.world_log.specs.Linking.{AreRelinked, all_adverts_sent, near_all}
 use Rattle.world_log.specs.Sending.{MaySend, act_items, act_posts}
-use Rattle.world_log.proofs.Sends.{posts_as_acts, sent_as_acts}
+use Rattle.world_log.proofs.MessageLogs.{posts_as_acts, sent_as_acts}
 use Rattle.refinement.specs.Refinement.{RefineJournal, AreUp, AreUsable, NetworkState, up_links}
 use Rattle.refinement.proofs.ActItems.{acts_bring_none, acts_posted, acts_send, acts_unnamed}
-use Rattle.refinement.proofs.Relinked.{CanRelink, near_now, switches_now, told_now, up_ends}
-use Rattle.refinement.proofs.Told.{acts_leave, links_left}
-use Rattle.refinement.proofs.Refining.{controller_stays, refines_taken}
-use Rattle.refinement.proofs.Sendable.{may_note, may_send}
+use Rattle.refinement.proofs.RelinkedItems.{CanRelink, near_now, switches_now, told_now, up_ends}
+use Rattle.refinement.proofs.ToldSteps.{acts_leave, links_left}
+use Rattle.refinement.proofs.StepRefines.{controller_stays, refines_taken}
+use Rattle.refinement.proofs.SendableMessages.{may_note, may_send}
 
 module _ {setting : Setting} {journal : List Item} {state : NetworkState}
     (refines : RefineJournal setting journal state) where

@@ -13,9 +13,9 @@ use Rattle.update_machine.specs.Setting.{Setting}
 use Rattle.packet_laws.specs.OnWay.{IsOnLeg, IsOnWay}
 use Rattle.packet_laws.specs.Facts.{PacketFacts, what_is_known}
 use Rattle.packet_laws.specs.Rest.{IsServed}
-use Rattle.packet_laws.proofs.Here.{some_same}
+use Rattle.packet_laws.proofs.PacketsHere.{some_same}
 use Rattle.travelling.specs.Travelling.{Flight}
-use Rattle.refinement.proofs.Known.{Known, Travels, travels_known}
+use Rattle.refinement.proofs.JournalLaws.{Known, Travels, travels_known}
 use Rattle.refinement.proofs.FactsAlong.{Targets, flight_by}
 
 -- its tunnel, at this place of this route, with these links found down

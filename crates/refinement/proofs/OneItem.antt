@@ -1,7 +1,7 @@
 -- A step that writes one item, by which no packet moves and no switch answers a call.
 use Rattle.std.proofs.Common.{ℕ, ◌≡◌, ◌<◌, List, [], ◌∷◌, ◌++◌, sym, ◌∙◌, length, get_or, arith}
 use Rattle.message_bag.specs.Posts.{Post}
-use Rattle.refinement.proofs.Steps.{items_leave}
+use Rattle.refinement.proofs.ControllerUntouched.{items_leave}
 use Rattle.journal.specs.declared.item.Item.{Item}
 use Rattle.journal.specs.declared.item.Item.TheVariants as item
 use Rattle.steps.specs.declared.step.Step.{Step}
@@ -15,9 +15,9 @@ use Rattle.steps.specs.Steps.{IsStep}
 use Rattle.update_machine.specs.Setting.{Setting}
 use Rattle.refinement.specs.Refinement.{RefineJournal, NetworkState}
 use Rattle.refinement.specs.Bags.{IsBagOf}
-use Rattle.refinement.proofs.Known.{reached_known, flight_stays}
-use Rattle.refinement.proofs.Others.{NoneName}
-use Rattle.refinement.proofs.Refining.{links_stay, refines_taken, up_stay}
+use Rattle.refinement.proofs.JournalLaws.{reached_known, flight_stays}
+use Rattle.refinement.proofs.OtherPackets.{NoneName}
+use Rattle.refinement.proofs.StepRefines.{links_stay, refines_taken, up_stay}
 
 -- the journal behind the step
 abbrev pub grown : List Item → ℕ → Step → Item → List Item

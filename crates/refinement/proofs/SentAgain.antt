@@ -5,7 +5,7 @@ use Rattle.std.specs.Prelude.{if◌then◌else◌}
 use Rattle.std.specs.List.{flat_map}
 use Rattle.message_bag.specs.Posts.{Post as BagPost}
 use Rattle.refinement.specs.Written.{AreWritten, acts_of_resend}
-use Rattle.refinement.proofs.Steps.{resends_nothing, resends_some}
+use Rattle.refinement.proofs.ControllerUntouched.{resends_nothing, resends_some}
 use Rattle.controller.specs.Controller.{ControllerValue}
 use Rattle.controller.specs.Sends.{resend_acts}
 use Rattle.controller.specs.declared.sends.Act.{Act}
@@ -19,7 +19,7 @@ use Rattle.journal.specs.declared.item.Item.TheVariants as item
 use Rattle.steps.specs.declared.step.Step.TheVariants.{Resend}
 use Rattle.switch_core.specs.State.{SwitchValue}
 use Rattle.refinement.specs.SwitchOf.{switch_of}
-use Rattle.refinement.proofs.Links.{kept_is, links_refine}
+use Rattle.refinement.proofs.SwitchLinkChanges.{kept_is, links_refine}
 use Rattle.update_machine.specs.Adverts.{held_adverts}
 use Rattle.update_machine.specs.Boots.{boot_of, is_up}
 use Rattle.update_machine.specs.Deliveries.{advert_to, switches_in}
@@ -34,14 +34,14 @@ use Rattle.refinement.specs.Refinement.{RefineJournal, NetworkState}
 use Rattle.refinement.specs.Bags.{IsBagOf}
 use Rattle.travelling.specs.Travelling.{Flights}
 use Rattle.refinement.proofs.ActItems.{written_is}
-use Rattle.refinement.proofs.Delivering.{nothing_happens}
-use Rattle.refinement.proofs.Known.{reached_known}
+use Rattle.refinement.proofs.BagDeliveries.{nothing_happens}
+use Rattle.refinement.proofs.JournalLaws.{reached_known}
 use Rattle.refinement.proofs.OneItem.{WroteOne}
-use Rattle.refinement.proofs.Posting.{bag_on}
-use Rattle.refinement.proofs.Switches.{switch_is, switch_known}
-use Rattle.refinement.proofs.Told.{refines_told}
-use Rattle.refinement.proofs.Refining.{links_stay, up_stay}
-use Rattle.refinement.proofs.Sendable.{may_note}
+use Rattle.refinement.proofs.PostedFrames.{bag_on}
+use Rattle.refinement.proofs.NetworkSwitches.{switch_is, switch_known}
+use Rattle.refinement.proofs.ToldSteps.{refines_told}
+use Rattle.refinement.proofs.StepRefines.{links_stay, up_stay}
+use Rattle.refinement.proofs.SendableMessages.{may_note}
 
 -- nothing is there to send, or something
 none_there : (acts : List Act) → (length acts == 0) ≡ true → acts ≡ []

@@ -25,13 +25,13 @@ use Rattle.refinement.specs.PacketSteps.{BagsRefine, EntriesRefine, Comes, HopsR
 use Rattle.refinement.specs.Flights.{flight_in}
 use Rattle.refinement.proofs.CanAsk.{CanAsk, can_be_asked, looks_up_as}
 use Rattle.refinement.proofs.ComePieces.{come_along}
-use Rattle.refinement.proofs.Coming.{ComesTo, come_goes, come_law, looking}
+use Rattle.refinement.proofs.IncomingWrites.{ComesTo, come_goes, come_law, looking}
 use Rattle.refinement.proofs.HopPieces.{hop_others, hop_own, hop_piece}
-use Rattle.refinement.proofs.Known.{Known, reached_known}
-use Rattle.refinement.proofs.Later.{entered_sends}
+use Rattle.refinement.proofs.JournalLaws.{Known, reached_known}
+use Rattle.refinement.proofs.AnswerItems.{entered_sends}
 use Rattle.refinement.proofs.OnWay.{IsStanding, standing_by}
-use Rattle.refinement.proofs.Posting.{are_apart, bag_begun, bag_delivered, bag_forgotten, bag_on, bag_sent}
-use Rattle.refinement.proofs.Seeing.{sees}
+use Rattle.refinement.proofs.PostedFrames.{are_apart, bag_begun, bag_delivered, bag_forgotten, bag_on, bag_sent}
+use Rattle.refinement.proofs.SeenWithinStep.{sees}
 use Rattle.refinement.proofs.FactsAlong.{same_targets, flight_now}
 
 module _ (setting : Setting) (journal : List Item) (row s : ℕ) (header : Header) (ports : Ports)

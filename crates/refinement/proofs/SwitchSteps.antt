@@ -16,7 +16,7 @@ use Rattle.update_machine.specs.Steps.{StepItems, changes_steps, steps_in}
 use Rattle.update_machine.proofs.CallerLemmas.{count_of_append, folded_append}
 use Rattle.refinement.specs.Calls.{AreInStep, CallsRefine, IsInStep, NoRow, NoRows}
 use Rattle.refinement.specs.SwitchOf.{switch_of}
-use Rattle.refinement.proofs.Items.{facts_kept}
+use Rattle.refinement.proofs.SwitchFactItems.{facts_kept}
 use Rattle.refinement.proofs.SwitchFacts.{by_facts, switch_by, switch_is, facts_of}
 
 -- ---- steps

@@ -22,7 +22,7 @@ use Rattle.update_machine.specs.Steps.{steps_in}
 use Rattle.update_machine.specs.Versions.{holds_version, stamp_of}
 use Rattle.update_machine.specs.LinkMasks.{near}
 use Rattle.update_machine.proofs.ExampleVersions.{first_plan}
-use Rattle.update_machine.proofs.Examples.{any_word, one, open_net, plan_p, rule, tables_of, to}
+use Rattle.update_machine.proofs.ExampleNetworks.{any_word, one, open_net, plan_p, rule, tables_of, to}
 use Rattle.control_laws.specs.Authorities.{EndsAt}
 use Rattle.refinement.specs.Asked.{CanRestart}
 use Rattle.refinement.specs.Calls.{AreInStep}

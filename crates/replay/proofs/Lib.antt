@@ -1,7 +1,7 @@
-mod Asked
-pub mod Events
-mod Keeping
-mod Small
-mod Stepping
-mod Refining
-mod Planned
+mod AskedStep
+pub mod EventPlays
+mod BoardKept
+mod SmallNumbers
+mod EventStepping
+mod WorldRefines
+mod PlanInForce

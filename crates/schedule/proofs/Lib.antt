@@ -1,7 +1,7 @@
-pub mod Fields
-pub mod Rows
-pub mod Headers
-pub mod Sound
-pub mod Keywords
-pub mod Nets
-pub mod Cases
+pub mod EventFields
+pub mod RowsInTurn
+pub mod HeaderFields
+pub mod SoundEvents
+pub mod KindKeywords
+pub mod CaseNetworks
+pub mod LoadCases

@@ -26,7 +26,7 @@ pub fn events(alloc: Global, draws: &mut Draws, half: u32) -> Result<Vec<Event>,
 }
 
 // Adds so many packets, each of which goes its way before the next one comes in.
-#[tactic(auto, using(crate::proofs::Cases::groups_more))]
+#[tactic(auto, using(crate::proofs::LoadCases::groups_more))]
 fn push_groups(events: &mut Vec<Event>, draws: &mut Draws, count: u32) -> Result<(), AllocError>
     ensures { OnOk result (
         (events.new.items ≡ events.old.items ++ (groups_from count draws.old.state).0)

@@ -17,7 +17,7 @@ pub fn net(alloc: Global) -> Result<Net, AllocError>
     Ok(net)
 }
 
-#[tactic(auto, using(crate::proofs::Nets::switches_more))]
+#[tactic(auto, using(crate::proofs::CaseNetworks::switches_more))]
 fn ring(alloc: Global) -> Result<Net, AllocError>
     ensures { IfOk result (λ net. net ≡ load_net) }
 {

@@ -26,7 +26,7 @@ pub fn policy(alloc: Global, draws: &mut Draws, rows: u32) -> Result<Policy, All
     }
 }
 
-#[tactic(auto, using(crate::proofs::Cases::rows_more))]
+#[tactic(auto, using(crate::proofs::LoadCases::rows_more))]
 fn draw_rows(alloc: Global, draws: &mut Draws, count: u32) -> Result<Vec<Row>, AllocError>
     ensures { IfOk result (λ rows.
         (rows.items ≡ (rows_drawn count draws.old.state).0)

@@ -13,7 +13,7 @@ use net_file::{LinkRow, Net};
 use steps::{Event, MAX_NUMBER, Step};
 
 /// Whether the record is the heading.
-#[tactic(auto, using(crate::proofs::Fields::heading))]
+#[tactic(auto, using(crate::proofs::EventFields::heading))]
 pub fn is_heading(fields: &ByteRecord) -> bool
     ensures { result ≡ is_heading schedule_heading (fields_of fields.now) }
 {
@@ -168,7 +168,7 @@ fn read_two(
 }
 
 // The step of a kind and the six fields behind it.
-#[tactic(auto, using(crate::proofs::Fields::six_behind))]
+#[tactic(auto, using(crate::proofs::EventFields::six_behind))]
 fn read_six(
     net: &Net,
     files: u32,
@@ -197,7 +197,7 @@ fn read_six(
 ///
 /// # Errors
 /// The first thing wrong: the kind, then the number of fields, then the fields from left to right.
-#[tactic(auto, using(crate::proofs::Fields::counted))]
+#[tactic(auto, using(crate::proofs::EventFields::counted))]
 pub fn read_event(fields: &ByteRecord, net: &Net, files: u32) -> Result<Event, ScheduleRefusal>
     requires { IsNet net.now }
     ensures { result ≡ event_of net.now files (fields_of fields.now) }

@@ -1,3 +1,3 @@
-mod Gathers
-mod Lookups
-mod Writes
+mod BlockWrites
+mod FileLookups
+mod PieceWrites

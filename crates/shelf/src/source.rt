@@ -119,7 +119,7 @@ fn find_named<'a>(files: &'a [(String, Vec<u8>)], name: &str) -> Option<&'a (Str
 }
 
 /// The content of the first of these files with this name.
-#[tactic(auto, using(crate::proofs::Lookups::file_named_kept))]
+#[tactic(auto, using(crate::proofs::FileLookups::file_named_kept))]
 fn content_of<'a>(files: &'a [(String, Vec<u8>)], name: &str) -> Option<&'a [u8]>
     ensures { option_copied result ≡ file_named (files_of files.now) name.now }
 {

@@ -68,7 +68,7 @@ fn text_of_tables(alloc: Global, net: &Net, s: u32, tables: &Tables) -> Result<V
 }
 
 // Makes the line that of a switch and a version.
-#[tactic(auto, using(lines::proofs::CallerLemmas::pushed_append, lines::proofs::CallerLemmas::pushed_whole, crate::proofs::Sizes::switch_fits))]
+#[tactic(auto, using(lines::proofs::CallerLemmas::pushed_append, lines::proofs::CallerLemmas::pushed_whole, crate::proofs::LineSizes::switch_fits))]
 fn set_switch(entry: &mut Line, net: &Net, s: u32, version: u32)
     requires { IsNet net.now }
     ensures { entry.new
@@ -84,7 +84,7 @@ fn set_switch(entry: &mut Line, net: &Net, s: u32, version: u32)
 }
 
 // Makes the line that of a number behind its title.
-#[tactic(auto, using(lines::proofs::CallerLemmas::pushed_append, lines::proofs::CallerLemmas::pushed_whole, crate::proofs::Sizes::count_fits))]
+#[tactic(auto, using(lines::proofs::CallerLemmas::pushed_append, lines::proofs::CallerLemmas::pushed_whole, crate::proofs::LineSizes::count_fits))]
 fn set_count(entry: &mut Line, title: &str, count: u64)
     requires { length title.now ≤ 100 }
     ensures { entry.new ≡ with_line_feed (title.now ++ decimal count) }
@@ -109,7 +109,7 @@ fn add_count(
 }
 
 // Makes the line that of a partition with its targets.
-#[tactic(auto, using(lines::proofs::CallerLemmas::pushed_append, lines::proofs::CallerLemmas::pushed_whole, crate::proofs::Sizes::hosted_fits))]
+#[tactic(auto, using(lines::proofs::CallerLemmas::pushed_append, lines::proofs::CallerLemmas::pushed_whole, crate::proofs::LineSizes::hosted_fits))]
 fn set_hosted(entry: &mut Line, net: &Net, part: &Partition, targets: &Targets)
     requires { IsNet net.now }
     ensures { entry.new ≡ with_line_feed (part_text part.now ++ targets_text net.now targets.now) }
@@ -140,7 +140,7 @@ fn add_hosted(
 }
 
 // Makes the line that of a partition.
-#[tactic(auto, using(lines::proofs::CallerLemmas::pushed_append, lines::proofs::CallerLemmas::pushed_whole, crate::proofs::Sizes::part_fits))]
+#[tactic(auto, using(lines::proofs::CallerLemmas::pushed_append, lines::proofs::CallerLemmas::pushed_whole, crate::proofs::LineSizes::part_fits))]
 fn set_part(entry: &mut Line, part: &Partition)
     ensures { entry.new ≡ with_line_feed (part_text part.now) }
 {
@@ -161,7 +161,7 @@ fn add_own(text: &mut Vec<u8>, entry: &mut Line, parts: &[Partition]) -> Result<
 }
 
 // Makes the line that of the partition rule of a region.
-#[tactic(auto, using(lines::proofs::CallerLemmas::pushed_append, lines::proofs::CallerLemmas::pushed_whole, crate::proofs::Sizes::row_fits))]
+#[tactic(auto, using(lines::proofs::CallerLemmas::pushed_append, lines::proofs::CallerLemmas::pushed_whole, crate::proofs::LineSizes::row_fits))]
 fn set_row(entry: &mut Line, net: &Net, number: u64, row: &PartRow)
     requires { IsNet net.now }
     ensures { entry.new ≡ row_line net.now (number, row.now) }

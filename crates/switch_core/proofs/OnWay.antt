@@ -8,8 +8,8 @@ use Rattle.std.specs.Option.{MatchOption}
 use Rattle.std.proofs.lemmas.Option.{get_or_from_slice_get}
 use Rattle.policy_rules.specs.declared.packet.Cause.{Cause}
 use Rattle.base.proofs.CallerLemmas.{has-zero}
-use Rattle.failover.proofs.Rows.{has_known}
-use Rattle.failover.proofs.Searching.{known_route_is_route}
+use Rattle.failover.proofs.KnownLinkRows.{has_known}
+use Rattle.failover.proofs.RouteSearch.{known_route_is_route}
 use Rattle.failover.specs.Links.{is_link, known_links, neighbours_named, named_links, IsPath}
 use Rattle.base.specs.Masks.{has}
 use Rattle.failover.specs.Paths.{IsRoute}

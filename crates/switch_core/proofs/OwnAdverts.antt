@@ -6,8 +6,8 @@ use Rattle.std.proofs.lemmas.Bool.Decides.{nat_tests}
 use Rattle.std.proofs.lemmas.List.{get_or_past, get_or-replicate}
 use Rattle.failover.specs.declared.advert.Advert.{Advert}
 use Rattle.failover.specs.Adverts.{held_advert, is_newer, is_news, after_hearing, no_adverts}
-use Rattle.failover.proofs.Adverts.{held_others}
-use Rattle.failover.proofs.Newest.{not_newer}
+use Rattle.failover.proofs.HeldAdverts.{held_others}
+use Rattle.failover.proofs.NewestAdvert.{not_newer}
 use Rattle.switch_core.specs.Hearing.{is_news_here}
 use Rattle.switch_core.specs.State.{HasOwnUpTo, SwitchValue, own_advert}
 

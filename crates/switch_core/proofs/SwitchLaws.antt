@@ -10,7 +10,7 @@ use Rattle.failover.specs.declared.advert.Advert.{Advert}
 use Rattle.failover.specs.Adverts.{after_hearing, first_advert, first_adverts, is_newer}
 use Rattle.failover.specs.Isolated.{is_isolated}
 use Rattle.failover.specs.Routes.{route_of}
-use Rattle.failover.proofs.Adverts.{held-first}
+use Rattle.failover.proofs.HeldAdverts.{held-first}
 use Rattle.policy_rules.specs.declared.packet.Leg.{Leg}
 use Rattle.policy_rules.specs.declared.packet.Cause.{Cause}
 use Rattle.policy_rules.specs.declared.packet.Cause.TheVariants.{NoAuthority, NoRoute}

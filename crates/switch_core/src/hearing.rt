@@ -225,7 +225,7 @@ fn one_reply(alloc: Global, message: Message) -> Result<Replies, AllocError>
 }
 
 // The advert for each neighbour, ascending.
-#[tactic(auto, using(crate::proofs::Flooding::told_none, crate::proofs::Flooding::adverts_near, crate::proofs::Flooding::told_far))]
+#[tactic(auto, using(crate::proofs::NeighbourBodies::told_none, crate::proofs::NeighbourBodies::adverts_near, crate::proofs::NeighbourBodies::told_far))]
 fn flood(alloc: Global, near: u64, advert: &Advert) -> Result<Replies, AllocError>
     ensures { IfOk result (λ list. list ≡ flood near (Advertise advert.now)) }
 {

@@ -29,7 +29,7 @@ pub(crate) struct Auditor {
 }
 
 /// The policy that a file has, or makes of the newest one, if there is one.
-#[tactic(auto, using(crate::proofs::Made::policy_of, crate::proofs::Made::no_policy))]
+#[tactic(auto, using(crate::proofs::PoliciesMade::policy_of, crate::proofs::PoliciesMade::no_policy))]
 fn made_policy(
     alloc: Global,
     files: &[PolicyFile],
@@ -73,7 +73,7 @@ fn made_by(
 }
 
 // The policy with the change applied to it, if it can be.
-#[tactic(auto, using(crate::proofs::Made::some_made, crate::proofs::Made::none_made))]
+#[tactic(auto, using(crate::proofs::PoliciesMade::some_made, crate::proofs::PoliciesMade::none_made))]
 fn changed(alloc: Global, policy: &Policy, change: &Amendment) -> Result<Option<Policy>, AllocError>
     ensures { IfOk result (λ made. made ≡ result_ok (applied policy.now change.now)) }
 {

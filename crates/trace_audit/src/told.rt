@@ -63,7 +63,7 @@ fn version(word: &[u8]) -> Option<u32>
 }
 
 // Whether the word is the number of a row and a colon.
-#[tactic(auto, using(crate::proofs::Lines::row_number_rest))]
+#[tactic(auto, using(crate::proofs::TraceLines::row_number_rest))]
 fn is_row_number(word: &[u8]) -> bool
     ensures { result ≡ is_row_number (parts_round 58 word.now) }
 {

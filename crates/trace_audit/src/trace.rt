@@ -81,7 +81,7 @@ fn file_is_sound(file: &PolicyFile)
 }
 
 // Reads a line, and says whether it is good.
-#[tactic(auto, using(crate::proofs::Lines::line_read, crate::proofs::Lines::line_unread))]
+#[tactic(auto, using(crate::proofs::TraceLines::line_read, crate::proofs::TraceLines::line_unread))]
 fn take_line(
     auditor: &mut Auditor,
     alloc: Global,

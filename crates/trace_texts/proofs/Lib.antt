@@ -1,6 +1,6 @@
-pub mod Pieces
+pub mod LinePieces
 mod OneLine
-mod Told
-mod Lines
-mod Reading
-mod Plays
+mod ToldItems
+mod WholeLines
+mod GoodLines
+mod ScheduleAnswers

@@ -1,4 +1,4 @@
-pub mod Tables
-pub mod Marked
-pub mod Blocks
-pub mod Numbers
+pub mod PacketTable
+pub mod StandingMasks
+pub mod MarkBlocks
+pub mod SlotNumbers

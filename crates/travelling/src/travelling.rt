@@ -138,7 +138,7 @@ impl Travelling {
 }
 
 // There is a slot of this number. Each new one is pushed, so that n of them take O(n) in all.
-#[tactic(auto, using(crate::proofs::Tables::pushed_same))]
+#[tactic(auto, using(crate::proofs::PacketTable::pushed_same))]
 fn make_room(slots: &mut Vec<Option<HeldFlight>>, number: usize) -> Result<(), AllocError>
     ensures room { OnOk result (number < length slots.new.items) }
     ensures few { length slots.new.items ≤ max (length slots.old.items) (number + 1) }

@@ -6,8 +6,8 @@ use Rattle.steps.specs.declared.step.Step.TheVariants as step
 use Rattle.journal.specs.declared.item.Item.{Item}
 use Rattle.update_machine.specs.Answers.{Answers, StepOfRow}
 use Rattle.update_machine.specs.Handled.{handled_count}
-use Rattle.update_machine.proofs.Computed.{left_by}
-use Rattle.update_machine.proofs.Examples.{at, one, shielded}
+use Rattle.update_machine.proofs.ComputedSteps.{left_by}
+use Rattle.update_machine.proofs.ExampleNetworks.{at, one, shielded}
 
 -- a packet comes in and is drained; then the cache rule that it brought is delivered
 abbrev entering : List StepOfRow

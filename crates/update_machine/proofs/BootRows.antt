@@ -4,8 +4,8 @@ use Rattle.switch_table.specs.Carried.{all_touched}
 use Rattle.ctrl_msg.specs.declared.message.Body.TheVariants as body
 use Rattle.steps.specs.declared.step.Step.TheVariants as step
 use Rattle.journal.specs.declared.item.Item.TheVariants as item
-use Rattle.update_machine.proofs.Computed.{left_by}
-use Rattle.update_machine.proofs.Examples.{advert, answered, at, delivered, open_net, plan_p, rebooted, rebooting, tables_of, to}
+use Rattle.update_machine.proofs.ComputedSteps.{left_by}
+use Rattle.update_machine.proofs.ExampleNetworks.{advert, answered, at, delivered, open_net, plan_p, rebooted, rebooting, tables_of, to}
 
 -- a crashes and begins boot 2; it opens at version 2, which became current before its opening came
 pub boot_rows :

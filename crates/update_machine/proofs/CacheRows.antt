@@ -6,8 +6,8 @@ use Rattle.policy_rules.specs.declared.packet.How.TheVariants as how
 use Rattle.ctrl_msg.specs.declared.message.Body.TheVariants as body
 use Rattle.steps.specs.declared.step.Step.TheVariants as step
 use Rattle.journal.specs.declared.item.Item.TheVariants as item
-use Rattle.update_machine.proofs.Computed.{left_by}
-use Rattle.update_machine.proofs.Examples.{at, cached, denied, leaving, one, other, shielded, to}
+use Rattle.update_machine.proofs.ComputedSteps.{left_by}
+use Rattle.update_machine.proofs.ExampleNetworks.{at, cached, denied, leaving, one, other, shielded, to}
 
 -- two switches, whose authority is b; three packets to 10.2.0.1, 10.3.9.9 and 10.1.5.5
 pub cache_rows :

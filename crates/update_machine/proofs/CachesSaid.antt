@@ -23,7 +23,7 @@ use Rattle.update_machine.specs.Setting.{Setting, file_of, policy_in}
 use Rattle.update_machine.specs.Touched.{touched_by}
 use Rattle.update_machine.specs.Versions.{stamp_of, plan_at}
 use Rattle.update_machine.specs.Links.{message_of}
-use Rattle.update_machine.proofs.Examples.{all_dropped, all_to, any_word, by_action, cached as apart, denied, on, one, out_or_drop, plan_p, to, two_switches, web}
+use Rattle.update_machine.proofs.ExampleNetworks.{all_dropped, all_to, any_word, by_action, cached as apart, denied, on, one, out_or_drop, plan_p, to, two_switches, web}
 
 -- a and b; the plan of the first policy is on b, that of the second on a
 abbrev moved : Setting

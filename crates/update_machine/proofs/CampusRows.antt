@@ -7,8 +7,8 @@ use Rattle.switch_table.specs.Carried.{all_touched}
 use Rattle.ctrl_msg.specs.declared.message.Body.TheVariants as body
 use Rattle.steps.specs.declared.step.Step.TheVariants as step
 use Rattle.journal.specs.declared.item.Item.TheVariants as item
-use Rattle.update_machine.proofs.Computed.{left_by}
-use Rattle.update_machine.proofs.Examples.{advert, answered, any_word, at, by_action, delivered, leaving, link, on, out_or_drop, rule, switch, tables_of, to}
+use Rattle.update_machine.proofs.ComputedSteps.{left_by}
+use Rattle.update_machine.proofs.ExampleNetworks.{advert, answered, any_word, at, by_action, delivered, leaving, link, on, out_or_drop, rule, switch, tables_of, to}
 use Rattle.std.proofs.Common.{ℕ, List}
 use Rattle.std.specs.Prelude.{Ok, codes}
 use Rattle.five_tuple.specs.HeaderNumbers.{header_of}

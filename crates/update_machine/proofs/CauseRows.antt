@@ -10,8 +10,8 @@ use Rattle.steps.specs.declared.step.Step.TheVariants as step
 use Rattle.journal.specs.declared.item.Item.{Item}
 use Rattle.journal.specs.declared.item.Item.TheVariants as item
 use Rattle.update_machine.specs.Causes.{AreTargets, HasCause, HaveCauses, Leads, is_open, present_step}
-use Rattle.update_machine.proofs.Enclosed.{ends_within}
-use Rattle.update_machine.proofs.Examples.{all_dropped, all_to, any_word, on, one, open_net, ring}
+use Rattle.update_machine.proofs.EnclosedWalks.{ends_within}
+use Rattle.update_machine.proofs.ExampleNetworks.{all_dropped, all_to, any_word, on, one, open_net, ring}
 use Rattle.update_machine.proofs.LinkRows.{round}
 use Rattle.update_machine.specs.Links.{claim_of, is_link_up, serves, message_of}
 use Rattle.update_machine.specs.Setting.{file_of, policy_in}

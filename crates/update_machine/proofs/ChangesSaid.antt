@@ -14,7 +14,7 @@ use Rattle.update_machine.specs.Marks.{retired_mark}
 use Rattle.update_machine.specs.Pieces.{update_code}
 use Rattle.update_machine.specs.Setting.{Setting, file_of, policy_in}
 use Rattle.update_machine.specs.Versions.{next_policy, version_count}
-use Rattle.update_machine.proofs.Examples.{all_to, by_action, plan_p, plan_q, two_switches}
+use Rattle.update_machine.proofs.ExampleNetworks.{all_to, by_action, plan_p, plan_q, two_switches}
 
 -- `100,any,any,any,any,any,out:2` and `50,any,any,any,any,any,drop`
 abbrev out : Row

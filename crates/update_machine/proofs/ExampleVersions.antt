@@ -13,8 +13,8 @@ use Rattle.journal.specs.declared.item.Item.TheVariants as item
 use Rattle.update_machine.specs.Concerns.{NoneConcern, concerns_policies}
 use Rattle.update_machine.specs.Setting.{IsPlanOf, file_of, policy_by, policy_in}
 use Rattle.update_machine.specs.Versions.{HasPlan, hosted_in, plan_at, policy_at}
-use Rattle.update_machine.proofs.Examples.{all_to, open_net, plan_p, plan_q}
-use Rattle.update_machine.proofs.Policies.{file_append}
+use Rattle.update_machine.proofs.ExampleNetworks.{all_to, open_net, plan_p, plan_q}
+use Rattle.update_machine.proofs.VersionPolicies.{file_append}
 use Rattle.update_machine.proofs.SilentLinks.{policies_keep}
 
 -- ---- the first version

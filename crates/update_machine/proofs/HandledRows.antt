@@ -10,8 +10,8 @@ use Rattle.update_machine.specs.Handled.{handled_count}
 use Rattle.update_machine.specs.Packets.{standing}
 use Rattle.update_machine.specs.Steps.{steps_in}
 use Rattle.update_machine.specs.Travels.{travels}
-use Rattle.update_machine.proofs.Computed.{left_by}
-use Rattle.update_machine.proofs.Examples.{advert, any_word, at, one, line_of_three, to}
+use Rattle.update_machine.proofs.ComputedSteps.{left_by}
+use Rattle.update_machine.proofs.ExampleNetworks.{advert, any_word, at, one, line_of_three, to}
 use Rattle.update_machine.proofs.LinkRows.{round}
 
 -- in the ring a takes the packet in and moves it on, b sends it back, and at a it is stuck

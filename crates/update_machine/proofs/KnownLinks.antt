@@ -9,10 +9,10 @@ use Rattle.failover.specs.Links.{is_link, known_links, links_at, neighbours_name
 use Rattle.failover.specs.Paths.{IsIsolated, IsRoute}
 use Rattle.failover.specs.declared.advert.Advert.{Advert}
 use Rattle.failover.specs.Newest.{AreByOrigin, IsNewest}
-use Rattle.failover.proofs.Adverts.{by_origin-first, by_origin-hearing, by_origin-none}
-use Rattle.failover.proofs.Newest.{held_newest}
-use Rattle.failover.proofs.Rows.{has_known, isolated_tells}
-use Rattle.failover.proofs.Searching.{known_route_is_route}
+use Rattle.failover.proofs.HeldAdverts.{by_origin-first, by_origin-hearing, by_origin-none}
+use Rattle.failover.proofs.NewestAdvert.{held_newest}
+use Rattle.failover.proofs.KnownLinkRows.{has_known, isolated_tells}
+use Rattle.failover.proofs.RouteSearch.{known_route_is_route}
 use Rattle.base.specs.Masks.{has, switches}
 use Rattle.net_file.specs.Joins.{owner_of}
 use Rattle.net_file.specs.Owners.{links_of}

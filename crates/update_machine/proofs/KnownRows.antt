@@ -5,7 +5,7 @@ use Rattle.journal.specs.declared.item.Item.{Item}
 use Rattle.journal.specs.declared.item.Item.TheVariants as item
 use Rattle.update_machine.specs.Causes.{finds_down}
 use Rattle.update_machine.specs.Links.{can_use, claim_of, is_link_up, knows_link, message_of, serves}
-use Rattle.update_machine.proofs.Examples.{advert, ring, to}
+use Rattle.update_machine.proofs.ExampleNetworks.{advert, ring, to}
 use Rattle.update_machine.proofs.LinkRows.{round}
 
 -- at first, behind the round, once switch a heard b's advert, and in its next boot; there it hears

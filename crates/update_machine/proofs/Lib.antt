@@ -1,5 +1,5 @@
-pub mod Examples
-mod Computed
+pub mod ExampleNetworks
+mod ComputedSteps
 mod CacheRows
 mod BootRows
 mod OverRows
@@ -11,7 +11,7 @@ mod CampusRows
 mod AnswerRows
 mod QuietRows
 mod HandledRows
-pub mod Enclosed
+pub mod EnclosedWalks
 mod CauseRows
 mod MachineRows
 mod MarkRows
@@ -21,31 +21,31 @@ mod VersionsSaid
 mod ChangesSaid
 mod CachesSaid
 mod FoldLemmas
-mod Policies
-mod Settings
+mod VersionPolicies
+mod PolicySettings
 mod TouchedLemmas
 mod MachinePolicies
 mod OneAnswer
-mod Existence
+mod AnswerExistence
 mod CauseLemmas
 mod NumberBlocks
 mod NumberPieces
 mod AnswerCauses
-mod Numbering
-mod Silent
+mod PacketNumbering
+mod SilentItems
 mod SilentSwitches
 mod SilentSteps
 mod SilentLinks
 mod SilentMessages
 mod SilentPackets
 mod SilentController
-mod Start
+mod EmptyJournal
 mod KnownLinks
-mod Beginnings
+mod FirstSteps
 mod WholeAnswers
 mod EventSteps
 mod OnePlay
 mod SomePlay
-mod Claims
+mod UsableClaims
 pub mod ExampleVersions
 pub mod CallerLemmas

@@ -6,8 +6,8 @@ use Rattle.policy_rules.specs.declared.packet.Leg.TheVariants as leg
 use Rattle.steps.specs.declared.step.Step.TheVariants as step
 use Rattle.journal.specs.declared.item.Item.{Item}
 use Rattle.journal.specs.declared.item.Item.TheVariants as item
-use Rattle.update_machine.proofs.Computed.{left_by}
-use Rattle.update_machine.proofs.Examples.{advert, at, one, open_net, ring, to}
+use Rattle.update_machine.proofs.ComputedSteps.{left_by}
+use Rattle.update_machine.proofs.ExampleNetworks.{advert, at, one, open_net, ring, to}
 
 -- what becomes of a packet in a ring whose links fail
 abbrev pub round : List Item

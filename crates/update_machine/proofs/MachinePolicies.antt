@@ -11,7 +11,7 @@ use Rattle.update_machine.specs.Machine.{Machine, Takes, first_machine, submitte
 use Rattle.update_machine.specs.Numbers.{VersionsAreNumbered}
 use Rattle.update_machine.specs.Setting.{IsSetting, Setting, made_by, policy_by, policy_in}
 use Rattle.update_machine.specs.Versions.{next_policy, policy_at, version_count}
-use Rattle.update_machine.proofs.Policies.{count_above, count_submitted, first_in, next_policy_in, policy_in_stays}
+use Rattle.update_machine.proofs.VersionPolicies.{count_above, count_submitted, first_in, next_policy_in, policy_in_stays}
 
 -- as many as there are versions, and of each its own
 pub record ArePolicies (setting : Setting) (policies : List (List Row)) (journal : List Item)

@@ -11,7 +11,7 @@ use Rattle.steps.specs.declared.step.Step.TheVariants as step
 use Rattle.policy_rules.specs.declared.packet.How.TheVariants as how
 use Rattle.journal.specs.declared.item.Item.TheVariants as item
 use Rattle.update_machine.specs.Machine.{Decides, IsRun, Machine, Packet}
-use Rattle.update_machine.proofs.Examples.{all_to, leaving, one, open_net}
+use Rattle.update_machine.proofs.ExampleNetworks.{all_to, leaving, one, open_net}
 
 first_match_of : (action : Action)
     → IsFirstMatch (all_to action ∷ []) one (record { rule = Some 100; action = action })

@@ -8,7 +8,7 @@ use Rattle.journal.specs.declared.item.Item.{Item}
 use Rattle.journal.specs.declared.item.Item.TheVariants as item
 use Rattle.update_machine.specs.Marks.{AreSettled, MayRise, all_acked, is_joining}
 use Rattle.update_machine.specs.SwitchNumbers.{switches_of}
-use Rattle.update_machine.proofs.Examples.{open_net, plan_q, tables_of, to, to_controller}
+use Rattle.update_machine.proofs.ExampleNetworks.{open_net, plan_q, tables_of, to, to_controller}
 use Rattle.update_machine.specs.Marks.{controller_heard, known_boot, is_over, opened_at, is_member, has_acked, acked_stamp, current_mark, retired_mark, next_current, next_retired}
 use Rattle.update_machine.specs.Links.{message_of}
 use Rattle.update_machine.specs.Versions.{version_count}

@@ -7,7 +7,7 @@ use Rattle.journal.specs.declared.item.Item.TheVariants as item
 use Rattle.update_machine.specs.Marks.{acked_stamp, controller_heard, current_mark, has_acked, is_joining, is_member, is_over, known_boot, next_current, next_retired, opened_at}
 use Rattle.update_machine.specs.Links.{message_of}
 use Rattle.update_machine.specs.Versions.{version_count}
-use Rattle.update_machine.proofs.Examples.{open_net, to, to_controller}
+use Rattle.update_machine.proofs.ExampleNetworks.{open_net, to, to_controller}
 
 -- the controller is told this
 abbrev told : ℕ → Body → List Item

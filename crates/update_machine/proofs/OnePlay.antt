@@ -10,7 +10,7 @@ use Rattle.update_machine.specs.Full.{AnswersWithRoom, HasRoom, HaveRoom, IsFull
 use Rattle.update_machine.specs.Messages.{is_sending, next_message}
 use Rattle.update_machine.specs.Pieces.{piece}
 use Rattle.update_machine.specs.Setting.{Setting}
-use Rattle.update_machine.proofs.Beginnings.{Begins, begins_cons, begins_nil, first_begin_all, first_steps_either}
+use Rattle.update_machine.proofs.FirstSteps.{Begins, begins_cons, begins_nil, first_begin_all, first_steps_either}
 use Rattle.update_machine.proofs.OneAnswer.{one_answer}
 
 pub full_by_count : (journal : List Item)

@@ -5,8 +5,8 @@ use Rattle.policy_rules.specs.declared.packet.How.TheVariants as how
 use Rattle.ctrl_msg.specs.declared.message.Body.TheVariants as body
 use Rattle.steps.specs.declared.step.Step.TheVariants as step
 use Rattle.journal.specs.declared.item.Item.TheVariants as item
-use Rattle.update_machine.proofs.Computed.{left_by}
-use Rattle.update_machine.proofs.Examples.{advert, at, one, open_net, plan_s, solo, tables_of, to, to_controller}
+use Rattle.update_machine.proofs.ComputedSteps.{left_by}
+use Rattle.update_machine.proofs.ExampleNetworks.{advert, at, one, open_net, plan_s, solo, tables_of, to, to_controller}
 
 -- b and the controller send again what a network that has just begun holds
 pub resend_rows :

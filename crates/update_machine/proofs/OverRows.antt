@@ -4,8 +4,8 @@ use Rattle.switch_table.specs.Carried.{all_touched}
 use Rattle.ctrl_msg.specs.declared.message.Body.TheVariants as body
 use Rattle.steps.specs.declared.step.Step.TheVariants as step
 use Rattle.journal.specs.declared.item.Item.TheVariants as item
-use Rattle.update_machine.proofs.Computed.{left_by}
-use Rattle.update_machine.proofs.Examples.{answered, at, delivered, one, open_net, plan_p, rebooted, rebooting, tables_of, to, to_controller}
+use Rattle.update_machine.proofs.ComputedSteps.{left_by}
+use Rattle.update_machine.proofs.ExampleNetworks.{answered, at, delivered, one, open_net, plan_p, rebooted, rebooting, tables_of, to, to_controller}
 
 -- a crashes twice; once it is over, the update goes on without it, and its new boot does not open
 -- by an old message

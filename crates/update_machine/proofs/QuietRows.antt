@@ -14,7 +14,7 @@ use Rattle.update_machine.specs.Marks.{current_mark}
 use Rattle.update_machine.specs.Messages.{was_delivered}
 use Rattle.update_machine.specs.Quiet.{AreReceived, IsQuiet, is_waited_for}
 use Rattle.update_machine.specs.SwitchNumbers.{switches_of}
-use Rattle.update_machine.proofs.Examples.{advert, open_net, plan_q, tables_of, to, to_controller}
+use Rattle.update_machine.proofs.ExampleNetworks.{advert, open_net, plan_q, tables_of, to, to_controller}
 use Rattle.update_machine.proofs.UpdateRows.{updated}
 
 by_parts : (journal : List Item)

@@ -10,7 +10,7 @@ use Rattle.update_machine.specs.Laws.{ControllerKeeps}
 use Rattle.update_machine.specs.Marks.{acked_stamp, changes_over, changes_controller_heard, controller_heard, current_mark, has_acked, is_member, is_over, known_boot, open_in, open_sent, opened_at, retired_mark, body_to_controller, gives_current, gives_retired}
 use Rattle.update_machine.specs.Folds.{all_given}
 use Rattle.update_machine.specs.Versions.{is_submission, version_count}
-use Rattle.update_machine.proofs.Silent.{Keeps, Silent, Stays, count_stays, folded_stays, given_stays, last_or_stays}
+use Rattle.update_machine.proofs.SilentItems.{Keeps, Silent, Stays, count_stays, folded_stays, given_stays, last_or_stays}
 
 -- a message for a switch says nothing to the controller
 told_nothing : (before : List Item) (number : ℕ) → IsFalse (is_message_to_controller before number)

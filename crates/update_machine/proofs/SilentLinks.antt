@@ -18,7 +18,7 @@ use Rattle.update_machine.specs.LinkMasks.{near}
 use Rattle.update_machine.specs.Quiet.{is_waited_for, gives_waited_for}
 use Rattle.update_machine.specs.Setting.{Setting, file_of, first_given, gives_file, policy_by, policy_in, file_at}
 use Rattle.update_machine.specs.Steps.{StepItems, steps_in}
-use Rattle.update_machine.proofs.Silent.{Silent, Stays, count_stays, fewer, first_stays, last_or_stays, neither_left, neither_right, stays}
+use Rattle.update_machine.proofs.SilentItems.{Silent, Stays, count_stays, fewer, first_stays, last_or_stays, neither_left, neither_right, stays}
 use Rattle.update_machine.proofs.SilentSteps.{weight_stays}
 use Rattle.update_machine.proofs.SilentSwitches.{link_stays, near_stays, switch_keeps}
 use Rattle.update_machine.specs.Touched.{touched_by, touched_of}

@@ -15,7 +15,7 @@ use Rattle.update_machine.specs.Sendings.{changes_sendings, sendings}
 use Rattle.update_machine.specs.Causes.{present_step, gives_step}
 use Rattle.update_machine.specs.Links.{message_of, gives_message}
 use Rattle.update_machine.specs.Travels.{next_travelling, gives_travelling, travels}
-use Rattle.update_machine.proofs.Silent.{Keeps, Silent, Stays, count_stays, fewer, folded_stays, last_or_stays, last_stays}
+use Rattle.update_machine.proofs.SilentItems.{Keeps, Silent, Stays, count_stays, fewer, folded_stays, last_or_stays, last_stays}
 
 -- ---- a message
 

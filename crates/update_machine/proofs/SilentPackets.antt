@@ -8,7 +8,7 @@ use Rattle.update_machine.specs.Laws.{PacketKeeps}
 use Rattle.update_machine.specs.Packets.{decision_of, header_in, standing, gives_decision, gives_header, gives_standing}
 use Rattle.update_machine.specs.Travels.{changes_leg, ingress_of, leg_of, gives_ingress, gives_travelling, travels}
 use Rattle.update_machine.specs.PacketRoutes.{changes_found, changes_hops, found_down, next_switch, route_in, route_place, gives_route}
-use Rattle.update_machine.proofs.Silent.{Keeps, Silent, folded_stays, last_or_stays, last_stays}
+use Rattle.update_machine.proofs.SilentItems.{Keeps, Silent, folded_stays, last_or_stays, last_stays}
 
 header_silent : (i : ℕ) → Silent (concerns_packet i) (gives_header i) None
 header_silent i before (item.Entered packet switch header) apart = rw apart refl

@@ -12,7 +12,7 @@ use Rattle.update_machine.specs.Handled.{handled_count, hop_calls, is_entry_at, 
 use Rattle.update_machine.specs.Travels.{travels_at}
 use Rattle.update_machine.specs.Steps.{StepItems, changes_steps, steps_in, with_item}
 use Rattle.update_machine.proofs.FoldLemmas.{folded_append}
-use Rattle.update_machine.proofs.Silent.{Silent, Stays, count_stays, stays}
+use Rattle.update_machine.proofs.SilentItems.{Silent, Stays, count_stays, stays}
 
 -- ---- the newest step ends where the journal does
 

@@ -14,7 +14,7 @@ use Rattle.update_machine.specs.Links.{is_link_up, is_usable, gives_link, serves
 use Rattle.update_machine.specs.Setting.{Setting}
 use Rattle.update_machine.specs.Versions.{holds_version, stamp_of}
 use Rattle.update_machine.specs.LinkMasks.{near}
-use Rattle.update_machine.proofs.Silent.{Keeps, Silent, Stays, folded_stays, last_or_stays}
+use Rattle.update_machine.proofs.SilentItems.{Keeps, Silent, Stays, folded_stays, last_or_stays}
 
 boot_silent : (s : ℕ) → Silent (concerns_switch s) (gives_boot s) None
 boot_silent s before (item.Booted switch boot) apart = rw apart refl

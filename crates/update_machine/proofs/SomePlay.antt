@@ -11,7 +11,7 @@ use Rattle.update_machine.specs.Full.{HasPlay, HaveRoom, IsFull, StopsFull, full
 use Rattle.update_machine.specs.Messages.{next_message}
 use Rattle.update_machine.specs.Pieces.{piece}
 use Rattle.update_machine.specs.Setting.{Setting}
-use Rattle.update_machine.proofs.Beginnings.{Begins, begins_cons, begins_nil}
+use Rattle.update_machine.proofs.FirstSteps.{Begins, begins_cons, begins_nil}
 use Rattle.update_machine.proofs.EventSteps.{all_first}
 use Rattle.update_machine.proofs.OnePlay.{nil_front}
 use Rattle.update_machine.proofs.WholeAnswers.{all_are_first, begins_itself}

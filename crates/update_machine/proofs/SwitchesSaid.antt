@@ -16,7 +16,7 @@ use Rattle.update_machine.specs.Travels.{next_travelling, travels}
 use Rattle.update_machine.specs.Steps.{steps_in}
 use Rattle.update_machine.specs.Versions.{holds_version, stamp_of}
 use Rattle.update_machine.specs.LinkMasks.{near}
-use Rattle.update_machine.proofs.Examples.{advert, one, open_net, plan_p, ring, tables_of, to}
+use Rattle.update_machine.proofs.ExampleNetworks.{advert, one, open_net, plan_p, ring, tables_of, to}
 
 -- switch a is told this
 abbrev told : ℕ → Body → List Item

@@ -27,8 +27,8 @@ use Rattle.update_machine.specs.Numbers.{VersionsAreNumbered}
 use Rattle.update_machine.specs.Setting.{IsSetting, Setting, file_at, file_of, made_by, policy_by, policy_in}
 use Rattle.update_machine.specs.Touched.{next_touched, touched_by, touched_of}
 use Rattle.update_machine.specs.Versions.{policy_at, version_count}
-use Rattle.update_machine.proofs.Policies.{file_kept, next_file, of_its_policy, policy_in_stays}
-use Rattle.update_machine.proofs.Settings.{file_is_sound, versions_own}
+use Rattle.update_machine.proofs.VersionPolicies.{file_kept, next_file, of_its_policy, policy_in_stays}
+use Rattle.update_machine.proofs.PolicySettings.{file_is_sound, versions_own}
 
 -- where all versions before it are there
 pub touched_stays : (setting : Setting) (before items : List Item) (v : ℕ)

@@ -7,8 +7,8 @@ use Rattle.ctrl_msg.specs.declared.message.Body.TheVariants as body
 use Rattle.steps.specs.declared.step.Step.TheVariants as step
 use Rattle.journal.specs.declared.item.Item.{Item}
 use Rattle.journal.specs.declared.item.Item.TheVariants as item
-use Rattle.update_machine.proofs.Computed.{left_by}
-use Rattle.update_machine.proofs.Examples.{answered, any_word, at, delivered, one, open_net, plan_q, tables_of, to}
+use Rattle.update_machine.proofs.ComputedSteps.{left_by}
+use Rattle.update_machine.proofs.ExampleNetworks.{answered, any_word, at, delivered, one, open_net, plan_q, tables_of, to}
 
 -- what becomes of a packet and of an update
 abbrev pub updated : List Item

@@ -19,7 +19,7 @@ use Rattle.update_machine.specs.Pieces.{forget_items, piece, update_code}
 use Rattle.update_machine.specs.Setting.{Setting, file_at, file_of, policy_by, policy_in}
 use Rattle.update_machine.specs.Versions.{HasPlan, is_version, next_policy, policy_at, version_count, plan_at}
 use Rattle.update_machine.specs.Links.{message_of}
-use Rattle.update_machine.proofs.Examples.{all_to, at, by_action, open_net, out_or_drop, plan_p, two_switches, versions}
+use Rattle.update_machine.proofs.ExampleNetworks.{all_to, at, by_action, open_net, out_or_drop, plan_p, two_switches, versions}
 
 -- ---- files
 

@@ -1,6 +1,6 @@
-pub mod Masks
-pub mod Mapping
-pub mod Stamps
-pub mod Opening
+pub mod TestMasks
+pub mod ReplacedItems
+pub mod LeastStamp
+pub mod OpenedSwitches
 pub mod OneResult
-pub mod Acknowledged
+pub mod AcknowledgedVersions

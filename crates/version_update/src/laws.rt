@@ -6,7 +6,7 @@ pub fn settling_laws()
 {}
 
 /// What is known of a switch has the versions of the messages that were taken, and no other.
-#[tactic(auto, using(crate::proofs::Acknowledged::first_acked, crate::proofs::Acknowledged::hello_acked, crate::proofs::Acknowledged::installed_acked, crate::proofs::Acknowledged::past_acked))]
+#[tactic(auto, using(crate::proofs::AcknowledgedVersions::first_acked, crate::proofs::AcknowledgedVersions::hello_acked, crate::proofs::AcknowledgedVersions::installed_acked, crate::proofs::AcknowledgedVersions::past_acked))]
 pub fn record_laws()
     ensures { RecordLaws }
 {}

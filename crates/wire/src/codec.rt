@@ -361,7 +361,7 @@ pub fn encode(alloc: Global, message: &Message) -> Result<Vec<u8>, AllocError>
 ///
 /// # Errors
 /// `Malformed` exactly where they are the spelling of no message.
-#[tactic(auto, using(crate::proofs::Decoding::found, crate::proofs::Decoding::only, crate::proofs::Decoding::malformed))]
+#[tactic(auto, using(crate::proofs::MessageDecoding::found, crate::proofs::MessageDecoding::only, crate::proofs::MessageDecoding::malformed))]
 pub fn decode(alloc: Global, bytes: &[u8]) -> Result<Message, WireError>
     ensures found { IfOk result (λ message. IsSpelling message bytes.now) }
     ensures only { IfOk result (λ message.

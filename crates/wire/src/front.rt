@@ -48,7 +48,7 @@ fn read(reader: &mut ByteReader) -> Result<(Place, u32), WireError>
 ///
 /// # Errors
 /// `Malformed` exactly where they are the front of no installation.
-#[tactic(auto, using(crate::proofs::Fronts::front_found, crate::proofs::Fronts::no_front))]
+#[tactic(auto, using(crate::proofs::InstallationFronts::front_found, crate::proofs::InstallationFronts::no_front))]
 pub fn decode_front(alloc: Global, bytes: &[u8]) -> Result<(Place, u32), WireError>
     ensures found { IfOk result (λ front. IsFront front.0 front.1 bytes.now) }
     ensures malformed { IfErr result (IfRefused (λ _.

@@ -17,8 +17,8 @@ use Rattle.world_log.specs.Sending.{act_items, act_posts}
 use Rattle.world_log.specs.Writing.{IsPart}
 use Rattle.world_log.specs.declared.log.Log.{Log}
 use Rattle.world.specs.declared.parts.Parts.{Parts}
-use Rattle.world.proofs.Frame.{Follows, goes, part_goes}
-use Rattle.world_log.proofs.Writing.{both_ok, step_part, step_written}
+use Rattle.world.proofs.StepFrame.{Follows, goes, part_goes}
+use Rattle.world_log.proofs.StepWrites.{both_ok, step_part, step_written}
 
 -- the journal behind the first item, what is written then, under which number the messages are,
 -- and what they post behind these posts

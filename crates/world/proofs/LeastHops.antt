@@ -13,7 +13,7 @@ use Rattle.world.specs.Least.{IsLeastFrom}
 use Rattle.world.specs.State.{RefinesJournal, WorldValue, setting_at}
 use Rattle.refinement.specs.Flights.{flight_in, flight_of}
 use Rattle.travelling.specs.Travelling.{IsNextFrom, Flights, flight}
-use Rattle.refinement.proofs.Known.{reached_known}
+use Rattle.refinement.proofs.JournalLaws.{reached_known}
 
 differ : {X : Type 0} (b : Bool) → b ≡ true → b ≡ false → X
 differ true holds fails = cc fails

@@ -9,7 +9,7 @@ use Rattle.std.proofs.lemmas.Option.{slice_get_past}
 use Rattle.policy_rules.proofs.CallerLemmas.{find_same}
 use Rattle.message_bag.specs.Deliveries as statuses
 use Rattle.message_bag.specs.Posts as bag
-use Rattle.message_bag.proofs.Numbered.{numbered_map}
+use Rattle.message_bag.proofs.NumberedPosts.{numbered_map}
 use Rattle.message_bag.specs.declared.deliveries.MessageState.{MessageState}
 use Rattle.ctrl_msg.specs.declared.message.Message.{Message}
 use Rattle.journal.specs.declared.item.Item.{Item}

@@ -1,11 +1,11 @@
 pub mod OverParts
 pub mod OverSwitches
 pub mod KeptFiles
-pub mod Begun
-pub mod Frame
+pub mod BegunWorld
+pub mod StepFrame
 pub mod GoesTold
-pub mod Filling
+pub mod JournalRoom
 pub mod LeastHops
 pub mod LeastWaiting
 pub mod SoFar
-pub mod Viewed
+pub mod ViewedParts

@@ -15,12 +15,12 @@ use Rattle.refinement.specs.Refinement.{RefineJournal}
 use Rattle.travelling.specs.Travelling.{Flight, Flights, WithOne, flight}
 use Rattle.world_log.specs.Writing.{entered_items, entered_posts, entered_flight}
 use Rattle.world.specs.declared.parts.Parts.{Parts}
-use Rattle.refinement.proofs.Asking.{can_ask, within_here}
+use Rattle.refinement.proofs.AskingSwitch.{can_ask, within_here}
 use Rattle.refinement.proofs.CanAsk.{CanAsk}
 use Rattle.refinement.proofs.HopRefines.{hop_piece_of, hop_refines}
-use Rattle.refinement.proofs.Incoming.{come_piece, come_refines}
-use Rattle.refinement.proofs.Switches.{switch_is, switch_there}
-use Rattle.world_log.proofs.Writing.{both_ok, three_ok}
+use Rattle.refinement.proofs.IncomingTie.{come_piece, come_refines}
+use Rattle.refinement.proofs.NetworkSwitches.{switch_is, switch_there}
+use Rattle.world_log.proofs.StepWrites.{both_ok, three_ok}
 
 -- ---- a packet that comes in
 

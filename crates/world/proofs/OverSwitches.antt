@@ -4,7 +4,7 @@ use Rattle.steps.specs.Steps.{HasSwitch}
 use Rattle.steps.specs.declared.step.Step.{Step}
 use Rattle.world.specs.Parts.{HasBegun}
 use Rattle.world.specs.declared.parts.Parts.{Parts}
-use Rattle.refinement.proofs.Switches.{few_switches, switch_known, switch_there}
+use Rattle.refinement.proofs.NetworkSwitches.{few_switches, switch_known, switch_there}
 
 -- a switch that the step names is there
 pub switch_in : {step : Step} {self : Parts} (s : ℕ) → HasBegun step self

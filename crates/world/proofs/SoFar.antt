@@ -4,7 +4,7 @@ use Rattle.journal.specs.declared.item.Item.{Item}
 use Rattle.packet_laws.specs.OnTheWay.{HoldsSoFar, IsKeptBehind}
 use Rattle.packet_laws.specs.Between.{HoldsBetween}
 use Rattle.control_laws.specs.Always.{HoldsReached}
-use Rattle.refinement.proofs.Known.{reached_more}
+use Rattle.refinement.proofs.JournalLaws.{reached_more}
 use Rattle.steps.specs.Steps.{IsStep}
 use Rattle.steps.specs.declared.step.Step.{Step}
 use Rattle.update_machine.specs.Pieces.{piece}

@@ -1,8 +1,8 @@
-pub mod Writing
-pub mod Logs
-pub mod Going
-pub mod Sends
-pub mod Hopping
+pub mod StepWrites
+pub mod LogCalls
+pub mod WrittenGoing
+pub mod MessageLogs
+pub mod HoppedPacket
 pub mod LosingAt
-pub mod Passing
-pub mod Relinking
+pub mod HopLogs
+pub mod RelinkingAdverts

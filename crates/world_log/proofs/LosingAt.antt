@@ -9,7 +9,7 @@ use Rattle.policy_rules.proofs.CallerLemmas.{filter_more}
 use Rattle.travelling.specs.Travelling.{IsNextAt, Flights, WithOne, WithoutAt, numbers_at, stands_at, flight}
 use Rattle.world_log.specs.Losing.{AreLostBelow, numbers_below}
 use Rattle.world_log.specs.Writing.{IsPart}
-use Rattle.travelling.proofs.Numbers.{beyond, filter_on, none_between}
+use Rattle.travelling.proofs.SlotNumbers.{beyond, filter_on, none_between}
 
 pub none_lost : (before : Flights) (switch : ℕ) (journal : List Item)
     → AreLostBelow before switch 0 journal journal before

@@ -15,7 +15,7 @@ use switch_core::Switch;
 ///
 /// # Errors
 /// Want of memory alone.
-#[tactic(auto, using(crate::proofs::Relinking::near_steps))]
+#[tactic(auto, using(crate::proofs::RelinkingAdverts::near_steps))]
 pub fn adverts_again(
     alloc: Global,
     switch: &Switch,

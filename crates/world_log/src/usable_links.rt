@@ -71,7 +71,7 @@ pub fn relink(
 }
 
 // The switch had these usable links, and has these now.
-#[tactic(auto, using(crate::proofs::Relinking::near_steps))]
+#[tactic(auto, using(crate::proofs::RelinkingAdverts::near_steps))]
 fn relink_one(
     messages: &mut Vec<Message>,
     switch: &mut Switch,
@@ -136,7 +136,7 @@ fn send_adverts(
 ///
 /// # Errors
 /// Want of memory alone.
-#[tactic(auto, using(crate::proofs::Relinking::held_steps))]
+#[tactic(auto, using(crate::proofs::RelinkingAdverts::held_steps))]
 pub fn send_all_held(
     messages: &mut Vec<Message>,
     switch: &Switch,

@@ -1,6 +1,6 @@
-pub mod Following
+pub mod MachineFollowing
 pub mod FirstMatches
-pub mod Moves
+pub mod PacketMoves
 pub mod NoRuns
-pub mod Causes
-pub mod Runs
+pub mod WrongCauses
+pub mod ComputedRuns

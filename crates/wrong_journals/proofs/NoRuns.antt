@@ -12,8 +12,8 @@ use Rattle.wrong_journals.specs.Office.{allowed, denied, office_policy, gets, in
 use Rattle.wrong_journals.specs.Right.{decided_rightly}
 use Rattle.wrong_journals.specs.Wrong.{another_row, decided_twice, dropped_undecided, half_and_half, other_port, retired_version, unknown_version}
 use Rattle.wrong_journals.proofs.FirstMatches.{by_100, no_first_of_denied, no_second_of_allowed}
-use Rattle.wrong_journals.proofs.Following.{move_at}
-use Rattle.wrong_journals.proofs.Moves.{comer, let_out}
+use Rattle.wrong_journals.proofs.MachineFollowing.{move_at}
+use Rattle.wrong_journals.proofs.PacketMoves.{comer, let_out}
 
 -- ---- what a decision and an end say of a packet that is known
 

@@ -30,7 +30,7 @@ const REST: &str = "row 3: deliver 1\n\
     \x20 forgotten 1\n";
 
 // Takes the step of the row.
-#[tactic(auto, using(crate::proofs::Few::few_packets))]
+#[tactic(auto, using(crate::proofs::FewPackets::few_packets))]
 fn take(rt: &impl Abort, world: &mut World, row: u32, step: &Step) -> Result<(), Fail>
     requires { IsStep world.old.net (length world.old.files) step.now }
     ensures { setting_at world.new ≡ setting_at world.old }

@@ -1,5 +1,5 @@
 use Rattle.std.proofs.Common.{◌∙◌, ne_eqb, sym}
-use Rattle.cache_maker.proofs.Differing.{lower_tells, upper_tells}
+use Rattle.cache_maker.proofs.DifferingBits.{lower_tells, upper_tells}
 use Rattle.cache_maker.proofs.cache_word.is_met.Goals as goal
 
 pub returns-else-upper-upper_half-eq0 : goal.returns-else-upper-upper_half-eq0

@@ -1,6 +1,6 @@
 use Rattle.std.proofs.Common.{◌∙◌, ap, position, sym}
 use Rattle.cache_maker.specs.Differing.{rule_is_met}
-use Rattle.cache_maker.proofs.Searching.{found_before, found_from, if_some, not_found_on_both_sides}
+use Rattle.cache_maker.proofs.PlaceSearch.{found_before, found_from, if_some, not_found_on_both_sides}
 use Rattle.policy_rules.proofs.CallerLemmas.{none_from_not_some}
 use Rattle.cache_maker.proofs.cache_word.next_met.Goals as goal
 

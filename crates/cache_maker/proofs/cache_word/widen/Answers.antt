@@ -9,9 +9,9 @@ use Rattle.ternary.specs.Word.{WordValue, holds}
 use Rattle.ternary.specs.WordBits.{IsWord}
 use Rattle.ternary.specs.Meets.{exact_word, free_of, is_fixed_of}
 use Rattle.cache_maker.specs.Independent.{IsIndependent, widen, widening_of}
-use Rattle.cache_maker.proofs.Independence.{exact_independent}
+use Rattle.cache_maker.proofs.IndependentWords.{exact_independent}
 use Rattle.cache_maker.proofs.FixedBits.{AreFixed, IsGiven, IsNewReason, closes_both, differs_somewhere, fixed_at_first, fixed_next, independent_at, is_new_reason, left_less, left_over, word_at_last, word_is_sound}
-use Rattle.cache_maker.proofs.Widening.{widened_holds, widest}
+use Rattle.cache_maker.proofs.WidenedWords.{widened_holds, widest}
 use Rattle.cache_maker.proofs.cache_word.widen.Goals as goal
 
 pub loop-place-init : goal.loop-place-init

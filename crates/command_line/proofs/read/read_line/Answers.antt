@@ -5,7 +5,7 @@ use Rattle.clap.proofs.WalkLemmas.{IfOk-both}
 use Rattle.clap.specs.Matches.{found_of}
 use Rattle.command_line.specs.Line.{options_of}
 use Rattle.command_line.proofs.CommandLines.{finds_line, line_walked, takes_line}
-use Rattle.command_line.proofs.Parses.{flag_there, line_is, names_there}
+use Rattle.command_line.proofs.ClapParses.{flag_there, line_is, names_there}
 use Rattle.command_line.proofs.read.read_line.Goals as goal
 
 pub line_in-requires : goal.line_in-requires

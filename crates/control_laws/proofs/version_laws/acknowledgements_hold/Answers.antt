@@ -1,4 +1,4 @@
-use Rattle.control_laws.proofs.Pieces.{always}
+use Rattle.control_laws.proofs.PieceCauses.{always}
 use Rattle.control_laws.proofs.AcksHeld.{acks_held}
 use Rattle.control_laws.proofs.version_laws.acknowledgements_hold.Goals as goal
 

@@ -1,5 +1,5 @@
-use Rattle.control_laws.proofs.Pieces.{always}
-use Rattle.control_laws.proofs.Marks.{acked_first, acknowledged}
+use Rattle.control_laws.proofs.PieceCauses.{always}
+use Rattle.control_laws.proofs.MarkLaws.{acked_first, acknowledged}
 use Rattle.control_laws.proofs.version_laws.stamps_are_acked_first.Goals as goal
 
 pub returns : goal.returns

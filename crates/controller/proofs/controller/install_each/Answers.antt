@@ -3,7 +3,7 @@ use Rattle.std.specs.Prelude.{false, not, slice_get}
 use Rattle.std.specs.Option.{option_map_or}
 use Rattle.version_update.specs.Record.{is_over}
 use Rattle.controller.specs.Sends.{boot_recorded, install_act}
-use Rattle.controller.proofs.Picking.{picked_add, picked_skip, passes_there}
+use Rattle.controller.proofs.PickedSwitches.{picked_add, picked_skip, passes_there}
 use Rattle.controller.proofs.controller.install_each.Goals as goal
 use Rattle.controller.proofs.controller.install_each.Goals.{then-is_there+in_ok-install+in_ok-push, else-is_there}
 

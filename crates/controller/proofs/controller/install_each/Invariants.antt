@@ -2,7 +2,7 @@ use Rattle.std.proofs.Common.{◌≡◌, map}
 use Rattle.version_update.specs.Record.{is_over}
 use Rattle.std.specs.Prelude.{not}
 use Rattle.controller.specs.Sends.{boot_recorded, install_act}
-use Rattle.controller.proofs.Picking.{those_below}
+use Rattle.controller.proofs.PickedSwitches.{those_below}
 use Rattle.controller.proofs.controller.install_each.Given as goal
 
 -- the version for those of the switches so far that aren't over

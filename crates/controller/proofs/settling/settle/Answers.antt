@@ -8,7 +8,7 @@ use Rattle.controller.specs.Controller.{kept_touched}
 use Rattle.controller.specs.News.{switches_named}
 use Rattle.controller.specs.Sends.{posts_to, rising_acts, stamp_acts}
 use Rattle.controller.specs.declared.sends.Act.TheVariants.{Current, Retired}
-use Rattle.controller.proofs.Telling.{opens_told, rising_none, rising_told, same_number, settling_told, told_current}
+use Rattle.controller.proofs.MaskTelling.{opens_told, rising_none, rising_told, same_number, settling_told, told_current}
 use Rattle.controller.proofs.settling.settle.Goals as goal
 use Rattle.controller.proofs.settling.settle.Goals.{After-send_to_each, in-Some+in_ok-tell_current, in_default}
 

@@ -5,7 +5,7 @@ use Rattle.std.proofs.lemmas.List.{take_all}
 use Rattle.policy_rules.specs.Words.{words_of_row}
 use Rattle.policy_rules.specs.declared.policy.Row.{Row}
 use Rattle.controller.specs.Touching.{ListsMore}
-use Rattle.controller.proofs.Listing.{found_more, lists_then}
+use Rattle.controller.proofs.TouchedWords.{found_more, lists_then}
 use Rattle.controller.proofs.touching.list_removed.Goals as goal
 
 pub loop-priority-preserved : goal.loop-priority-preserved

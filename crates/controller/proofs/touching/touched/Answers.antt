@@ -11,7 +11,7 @@ use Rattle.policy_rules.specs.declared.policy.Row.{Row}
 use Rattle.policy_rules.proofs.CallerLemmas.{additions_sound}
 use Rattle.switch_table.specs.Carried.{few_touched}
 use Rattle.controller.specs.Touching.{ListsMore}
-use Rattle.controller.proofs.Listing.{lists_then, told_alike}
+use Rattle.controller.proofs.TouchedWords.{lists_then, told_alike}
 use Rattle.controller.proofs.touching.touched.Goals as goal
 
 pub list_added-requires : goal.list_added-requires

@@ -15,7 +15,7 @@ use Rattle.difane_cli.specs.Inputs.{read_file}
 use Rattle.difane_cli.specs.declared.status.Stop.TheVariants as stop
 use Rattle.difane_cli.proofs.CalmReads.{stops_behind, stops_with}
 use Rattle.difane_cli.proofs.FileReads.{HasRead, at_next, first_behind, is_none, name_there, one_read, reads_at, stops_at}
-use Rattle.difane_cli.proofs.Named.{among_there}
+use Rattle.difane_cli.proofs.RefusedNames.{among_there}
 use Rattle.difane_cli.proofs.inputs.read_files.Goals as goal
 
 -- a vector counts its elements

@@ -8,9 +8,9 @@ use Rattle.shelf.specs.Shelf.{IsAfterReads}
 use Rattle.command_line.specs.Commands.{Replay}
 use Rattle.command_line.specs.Named.{replay_named}
 use Rattle.difane_cli.specs.Inputs.{inputs_of, most_reads, net_reads}
-use Rattle.difane_cli.proofs.Begun.{all_are_events, as_many, asked_for, ends_in_check, few_named, inputs_are, inputs_then, plan_accounts, planned_inputs}
+use Rattle.difane_cli.proofs.BegunNetwork.{all_are_events, as_many, asked_for, ends_in_check, few_named, inputs_are, inputs_then, plan_accounts, planned_inputs}
 use Rattle.difane_cli.proofs.CalmReads.{stops_behind, stops_with}
-use Rattle.difane_cli.proofs.Named.{among_behind, among_front, among_last, first_check}
+use Rattle.difane_cli.proofs.RefusedNames.{among_behind, among_front, among_last, first_check}
 use Rattle.difane_cli.proofs.ShelfReads.{all_reads, fewer_reads, net_read, reads_then, schedule_read}
 use Rattle.difane_cli.proofs.inputs.read_inputs.Goals as goal
 use Rattle.difane_cli.proofs.inputs.read_inputs.Goals.{In_ok-files}

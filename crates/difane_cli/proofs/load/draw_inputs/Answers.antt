@@ -1,6 +1,6 @@
 use Rattle.std.proofs.Common.{◌≤◌, length, sym, subst, arith}
 use Rattle.schedule.specs.Case.{LoadCase, case_seen}
-use Rattle.difane_cli.proofs.Begun.{AreDrawn, are_drawn}
+use Rattle.difane_cli.proofs.BegunNetwork.{AreDrawn, are_drawn}
 use Rattle.difane_cli.proofs.load.draw_inputs.Goals as goal
 use Rattle.difane_cli.proofs.load.draw_inputs.Goals.{In_ok-files}
 

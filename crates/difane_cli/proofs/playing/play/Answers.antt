@@ -12,8 +12,8 @@ use Rattle.difane_cli.specs.Texts.{play_text}
 use Rattle.difane_cli.specs.Prints.{IsAfterText}
 use Rattle.difane_cli.specs.Verdict.{is_asked}
 use Rattle.difane_cli.specs.Run.{is_made}
-use Rattle.difane_cli.proofs.Plays.{judged, played, told, unjudged}
-use Rattle.difane_cli.proofs.Worked.{after_work, by_failed, by_memory, of_failed, on_err, out_of_judging, out_of_writing}
+use Rattle.difane_cli.proofs.PlayOutcomes.{judged, played, told, unjudged}
+use Rattle.difane_cli.proofs.WorkStatus.{after_work, by_failed, by_memory, of_failed, on_err, out_of_judging, out_of_writing}
 use Rattle.difane_cli.proofs.playing.play.Goals as goal
 
 pub returns-clause-outcome : goal.returns-clause-outcome

@@ -4,9 +4,9 @@ use Rattle.std.proofs.lemmas.List.{get_or-map}
 use Rattle.command_line.specs.Named.{names_seen}
 use Rattle.difane_cli.specs.Ending.{StopsCheck}
 use Rattle.difane_cli.specs.Inputs.{plan_on}
-use Rattle.difane_cli.proofs.Begun.{has_plan, sound_by_tie}
+use Rattle.difane_cli.proofs.BegunNetwork.{has_plan, sound_by_tie}
 use Rattle.update_machine.specs.Setting.{IsSetting}
-use Rattle.world.proofs.Begun.{first_plans}
+use Rattle.world.proofs.BegunWorld.{first_plans}
 use Rattle.world.specs.Files.{first_policy}
 use Rattle.difane_cli.proofs.policies.begin_world.Goals as goal
 

@@ -1,4 +1,4 @@
-use Rattle.difane_cli.proofs.Named.{plan_check}
+use Rattle.difane_cli.proofs.RefusedNames.{plan_check}
 use Rattle.difane_cli.proofs.policies.plan_policy.Goals as goal
 
 pub returns-in-Err-clause-stopped : goal.returns-in-Err-clause-stopped

@@ -3,7 +3,7 @@ use Rattle.std.proofs.Common.{◌∙◌, [], ◌∷◌}
 use Rattle.command_line.specs.Named.{print_named}
 use Rattle.difane_cli.specs.Inputs.{net_reads}
 use Rattle.difane_cli.proofs.CalmReads.{stops_behind, stops_with}
-use Rattle.difane_cli.proofs.Named.{among_behind, among_front, among_last}
+use Rattle.difane_cli.proofs.RefusedNames.{among_behind, among_front, among_last}
 use Rattle.difane_cli.proofs.ShelfReads.{both_reads, fewer_reads, net_asked_read}
 use Rattle.difane_cli.proofs.printing.read_printing.Goals as goal
 

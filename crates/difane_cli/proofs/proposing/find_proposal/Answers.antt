@@ -4,7 +4,7 @@ use Rattle.partition.specs.Plan.{Hosted}
 use Rattle.rebalance.specs.Loads.{weights_of}
 use Rattle.rebalance.specs.Spread.{IsProposal}
 use Rattle.difane_cli.specs.Proposals.{sizes_in, targets_by_partition}
-use Rattle.difane_cli.proofs.Proposals.{AreMeasured, as_many_asked, as_many_sizes, as_many_targets, few_rooms, found_for, proposal_number}
+use Rattle.difane_cli.proofs.ProposedPlans.{AreMeasured, as_many_asked, as_many_sizes, as_many_targets, few_rooms, found_for, proposal_number}
 use Rattle.difane_cli.proofs.proposing.find_proposal.Goals as goal
 use Rattle.difane_cli.proofs.proposing.find_proposal.Goals.{In_ok-new, In_ok-old}
 

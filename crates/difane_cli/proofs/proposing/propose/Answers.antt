@@ -8,9 +8,9 @@ use Rattle.update_machine.specs.Full.{IsPlay}
 use Rattle.difane_cli.specs.Commands.{inputs_stated}
 use Rattle.difane_cli.specs.Proposals.{IsAfterProposal}
 use Rattle.difane_cli.specs.Run.{IsAnswer}
-use Rattle.difane_cli.proofs.Plays.{played}
-use Rattle.difane_cli.proofs.Proposals.{out_of_room, whole_told}
-use Rattle.difane_cli.proofs.Worked.{after_work, by_failed, by_memory, of_failed}
+use Rattle.difane_cli.proofs.PlayOutcomes.{played}
+use Rattle.difane_cli.proofs.ProposedPlans.{out_of_room, whole_told}
+use Rattle.difane_cli.proofs.WorkStatus.{after_work, by_failed, by_memory, of_failed}
 use Rattle.difane_cli.proofs.proposing.propose.Goals as goal
 
 pub write_proposal-written-requires-clause-plan : goal.write_proposal-written-requires-clause-plan

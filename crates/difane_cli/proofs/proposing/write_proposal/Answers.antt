@@ -1,6 +1,6 @@
 use Rattle.std.proofs.Common.{◌≡◌, ◌∙◌}
 use Rattle.std.specs.Fmt.{decimal}
-use Rattle.difane_cli.proofs.Proposals.{wrote_proposal}
+use Rattle.difane_cli.proofs.ProposedPlans.{wrote_proposal}
 use Rattle.difane_cli.proofs.proposing.write_proposal.Goals as goal
 
 pub returns : goal.returns

@@ -6,7 +6,7 @@ use Rattle.difane_cli.specs.Commands.{inputs_stated}
 use Rattle.difane_cli.specs.Inputs.{known_task}
 use Rattle.difane_cli.specs.Run.{IsPlayOf}
 use Rattle.difane_cli.specs.Tasks.{Play}
-use Rattle.difane_cli.proofs.Reports.{keeps_meters, play_outcome, proposal_out, proposal_outcome}
+use Rattle.difane_cli.proofs.ReplayReports.{keeps_meters, play_outcome, proposal_out, proposal_outcome}
 use Rattle.difane_cli.proofs.task.work.Goals as goal
 
 pub returns-in-Placement-clause-outcome : goal.returns-in-Placement-clause-outcome

@@ -2,9 +2,9 @@ use Rattle.std.proofs.Common.{ℕ, ◌≡◌, ◌<◌, List, get_or, ap, subst, 
 use Rattle.std.specs.Int.Bits.{bit_and}
 use Rattle.failover.specs.Links.{links_at}
 use Rattle.failover.specs.Isolated.{links_of_each}
-use Rattle.failover.proofs.Rows.{length-link_rows, row_of, row_turned}
-use Rattle.failover.proofs.Searching.{none_after}
-use Rattle.failover.proofs.Walking.{first_ball, next_ball, no_balls, more_balls, no_more, before_more, next_away}
+use Rattle.failover.proofs.KnownLinkRows.{length-link_rows, row_of, row_turned}
+use Rattle.failover.proofs.RouteSearch.{none_after}
+use Rattle.failover.proofs.RouteWriting.{first_ball, next_ball, no_balls, more_balls, no_more, before_more, next_away}
 use Rattle.failover.proofs.WiderLoop.{edge_first, edge_next}
 use Rattle.failover.proofs.search.distance.Goals as goal
 

@@ -1,8 +1,8 @@
 use Rattle.std.proofs.Common.{sym, ◌∙◌, ap, arith, Some}
 use Rattle.failover.specs.Isolated.{links_of_each}
-use Rattle.failover.proofs.Rows.{length-link_rows}
-use Rattle.failover.proofs.Searching.{route_to-above, route_to-out}
-use Rattle.failover.proofs.Walking.{is_route_list, route_to-along}
+use Rattle.failover.proofs.KnownLinkRows.{length-link_rows}
+use Rattle.failover.proofs.RouteSearch.{route_to-above, route_to-out}
+use Rattle.failover.proofs.RouteWriting.{is_route_list, route_to-along}
 use Rattle.failover.proofs.search.route_to.Goals as goal
 use Rattle.failover.proofs.search.route_to.Goals.{then-from-ge-SWITCHES-via-then-from-ge-SWITCHES, then-from-ge-SWITCHES-via-else-from-ge-SWITCHES+then-target-ge-SWITCHES}
 

@@ -5,8 +5,8 @@ use Rattle.std.specs.Int.Bits.{bit_and}
 use Rattle.base.specs.ComputedMasks.{least_in}
 use Rattle.failover.specs.Routes.{least_neighbour_in}
 use Rattle.failover.specs.Search.{path_by_balls}
-use Rattle.failover.proofs.Rows.{row_of}
-use Rattle.failover.proofs.Walking.{length-along, left_at, below_in, along-next, written_more, written_route}
+use Rattle.failover.proofs.KnownLinkRows.{row_of}
+use Rattle.failover.proofs.RouteWriting.{length-along, left_at, below_in, along-next, written_more, written_route}
 use Rattle.failover.proofs.search.walk.Goals as goal
 
 pub links_within-at-requires : goal.links_within-at-requires

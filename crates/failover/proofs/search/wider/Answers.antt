@@ -6,7 +6,7 @@ use Rattle.base.proofs.CallerLemmas.{least_lt, mask_of_lt}
 use Rattle.failover.specs.Links.{is_link}
 use Rattle.failover.specs.Isolated.{links_of_each}
 use Rattle.failover.proofs.RowLoop.{fewer_left, first_left, or_others}
-use Rattle.failover.proofs.Rows.{length-link_rows, row_of, row_turned}
+use Rattle.failover.proofs.KnownLinkRows.{length-link_rows, row_of, row_turned}
 use Rattle.failover.proofs.WiderLoop.{IsWideSoFar, wide_begins, wide_ends, wide_goes_on}
 use Rattle.failover.proofs.search.wider.Goals as goal
 

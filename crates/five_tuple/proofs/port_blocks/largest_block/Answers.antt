@@ -1,4 +1,4 @@
-use Rattle.five_tuple.proofs.Covers.{exponent_small}
+use Rattle.five_tuple.proofs.PortCovers.{exponent_small}
 use Rattle.five_tuple.proofs.CoverOf.{largest_from_code}
 use Rattle.five_tuple.proofs.port_blocks.largest_block.Goals as goal
 

@@ -3,8 +3,8 @@ use Rattle.std.proofs.lemmas.Bool.{and_from}
 use Rattle.std.proofs.lemmas.List.{take_all, take_rest}
 use Rattle.std.proofs.lemmas.List.Folds.{list_all_more}
 use Rattle.std.specs.Char.{is_ascii_digit}
-use Rattle.five_tuple.proofs.Dots.{byte_before, lacks_dot, lacks_large, lacks_other, lacks_plain}
-use Rattle.five_tuple.proofs.Numbers.{next_digit}
+use Rattle.five_tuple.proofs.DottedParts.{byte_before, lacks_dot, lacks_large, lacks_other, lacks_plain}
+use Rattle.five_tuple.proofs.WrittenNumbers.{next_digit}
 use Rattle.five_tuple.proofs.read.byte_before_dot.Goals as goal
 
 pub loop-place-preserved : goal.loop-place-preserved

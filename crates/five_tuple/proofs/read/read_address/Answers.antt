@@ -1,6 +1,6 @@
 use Rattle.std.proofs.Common.{ℕ, Option, Some, ◌∙◌, ap, rules, sym}
 use Rattle.five_tuple.specs.Texts.{address_from}
-use Rattle.five_tuple.proofs.Dots.{four_parts, lacks_first, lacks_second, lacks_third}
+use Rattle.five_tuple.proofs.DottedParts.{four_parts, lacks_first, lacks_second, lacks_third}
 use Rattle.five_tuple.proofs.read.read_address.Goals as goal
 
 pub returns-in_err-first : goal.returns-in_err-first

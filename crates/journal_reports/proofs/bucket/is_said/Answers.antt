@@ -2,7 +2,7 @@ use Rattle.std.proofs.Common.{refl, sym, subst, ◌∙◌, true≢false, arith}
 use Rattle.std.proofs.lemmas.List.{take_all}
 use Rattle.journal_reports.specs.Buckets.{HasSaying}
 use Rattle.journal_reports.specs.Judging.{SaysAsMuch}
-use Rattle.journal_reports.proofs.Buckets.{none_more, some_at}
+use Rattle.journal_reports.proofs.MessageBuckets.{none_more, some_at}
 use Rattle.journal_reports.proofs.bucket.is_said.Goals as goal
 
 pub loop-kept-preserved : goal.loop-kept-preserved

@@ -7,7 +7,7 @@ use Rattle.update_machine.specs.Quiet.{IsQuiet}
 use Rattle.journal_reports.specs.Judging.{has_mark, is_missed}
 use Rattle.journal_reports.specs.Traffic.{AreTraffic}
 use Rattle.journal_reports.specs.declared.traffic.Traffic.{Traffic}
-use Rattle.journal_reports.proofs.Judging.{marks_at_end, marks_before, missed_answer, read_next, received_at_end, received_before, rows_at_end, rows_before, switches_found, waiting_answer}
+use Rattle.journal_reports.proofs.QuietJudge.{marks_at_end, marks_before, missed_answer, read_next, received_at_end, received_before, rows_at_end, rows_before, switches_found, waiting_answer}
 use Rattle.journal_reports.proofs.judge.quiet.Goals as goal
 
 pub returns-then-not-none_missed : goal.returns-then-not-none_missed

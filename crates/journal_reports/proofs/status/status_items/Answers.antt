@@ -1,7 +1,7 @@
 use Rattle.std.proofs.Common.{ap, List}
 use Rattle.journal.specs.declared.item.Item.{Item}
 use Rattle.journal_reports.specs.Judging.{status_in}
-use Rattle.journal_reports.proofs.Lives.{told_of_item}
+use Rattle.journal_reports.proofs.SwitchStatus.{told_of_item}
 use Rattle.journal_reports.proofs.status.status_items.Goals as goal
 
 pub loop-item-init : goal.loop-item-init

@@ -3,7 +3,7 @@ use Rattle.journal.specs.declared.item.Item.{Item}
 use Rattle.journal_reports.specs.Judging.{status_in}
 use Rattle.journal_reports.specs.Traffic.{AreTraffic}
 use Rattle.journal_reports.specs.declared.traffic.Traffic.{Traffic}
-use Rattle.journal_reports.proofs.Reading.{traffic_at_end}
+use Rattle.journal_reports.proofs.ReadItems.{traffic_at_end}
 use Rattle.journal_reports.proofs.traffic.at_end.Goals as goal
 
 pub loop-switch-preserved : goal.loop-switch-preserved

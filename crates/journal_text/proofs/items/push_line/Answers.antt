@@ -2,7 +2,7 @@ use Rattle.std.proofs.Common.{List, ◌∷◌, ◌++◌, [], ℕ, ap, ◌∙◌,
 use Rattle.lines.proofs.CallerLemmas.{pushed_append}
 use Rattle.lines.specs.Pushes.{line_with}
 use Rattle.journal_text.specs.Lines.{item_line}
-use Rattle.journal_text.proofs.Gains.{held_whole}
+use Rattle.journal_text.proofs.LineGains.{held_whole}
 use Rattle.journal_text.proofs.LineLengths.{line_within}
 use Rattle.journal_text.proofs.items.push_line.Goals as goal
 

@@ -1,6 +1,6 @@
 use Rattle.std.proofs.Common.{◌≡◌, ◌∙◌, ◌∷◌, ◌++◌, [], take}
 use Rattle.journal_text.specs.Lines.{item_line, journal_text}
-use Rattle.journal_text.proofs.Gains.{IsHeld, gathers_no_more, held_more, held_nothing, lines_more, some_items}
+use Rattle.journal_text.proofs.LineGains.{IsHeld, gathers_no_more, held_more, held_nothing, lines_more, some_items}
 use Rattle.journal_text.proofs.write.write_text.Goals.{then-bytes-gt-ROOMY_BYTES+in-Ok, else-bytes-gt-ROOMY_BYTES}
 use Rattle.journal_text.proofs.write.write_text.Goals as goal
 

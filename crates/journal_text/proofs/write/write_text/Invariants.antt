@@ -1,6 +1,6 @@
 use Rattle.std.proofs.Common.{◌≡◌, take}
 use Rattle.journal_text.specs.Lines.{journal_text}
-use Rattle.journal_text.proofs.Gains.{IsHeld}
+use Rattle.journal_text.proofs.LineGains.{IsHeld}
 use Rattle.journal_text.proofs.write.write_text.Given as goal
 
 abbrev pub invariant-loop-item : goal.invariant-loop-item

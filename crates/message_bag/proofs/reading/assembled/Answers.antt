@@ -1,7 +1,7 @@
 use Rattle.std.proofs.Common.{ap, sym, subst, refl, ◌∙◌, arith}
 use Rattle.std.specs.Prelude.{IfSome, is_some}
 use Rattle.wire.specs.Frames.{AreFrames}
-use Rattle.wire.proofs.Holding.{false_true}
+use Rattle.wire.proofs.FramesHeld.{false_true}
 use Rattle.message_bag.proofs.ComingOut.{begins, comes_out, goes_on, never_past, never_short, not_refused}
 use Rattle.message_bag.proofs.reading.assembled.Goals as goal
 

@@ -4,7 +4,7 @@ use Rattle.switch_table.specs.declared.tables.Tables.{Tables}
 use Rattle.message_bag.specs.Installing.{table_frames}
 use Rattle.wire.specs.Frames.{AreFrames}
 use Rattle.message_bag.proofs.ComingOut.{rest_is}
-use Rattle.message_bag.proofs.Installs.{again_installed, has_front, long_installed}
+use Rattle.message_bag.proofs.InstallationFrames.{again_installed, has_front, long_installed}
 use Rattle.message_bag.proofs.reading.shared.Goals as goal
 
 pub slice_bounds-front_of-count : goal.slice_bounds-front_of-count

@@ -3,7 +3,7 @@ use Rattle.wire.specs.Frames.{frame}
 use Rattle.wire.specs.Messages.{spelled_front}
 use Rattle.switch_table.specs.declared.tables.Tables.{Tables}
 use Rattle.message_bag.specs.KeptFrames.{CarryTables}
-use Rattle.message_bag.proofs.Posting.{tables_are, tables_fit}
+use Rattle.message_bag.proofs.PostedMessages.{tables_are, tables_fit}
 use Rattle.message_bag.proofs.tables.spell.Goals as goal
 
 its : (c : goal.In_ok-put_first_of) → CarryTables c.args.tables.now

@@ -1,7 +1,7 @@
 use Rattle.std.proofs.Common.{◌≡◌, sym, ◌∙◌, subst}
 use Rattle.meters.specs.declared.meter.Stay.{Stay}
 use Rattle.meters.specs.Meters.{IsNoted}
-use Rattle.meters.proofs.Keeping.{kept-stay, kept-leave, kept_elsewhere}
+use Rattle.meters.proofs.MetersKept.{kept-stay, kept-leave, kept_elsewhere}
 use Rattle.meters.proofs.board.offer.Goals as goal
 use Rattle.meters.proofs.board.offer.Given.{Over}
 

@@ -1,5 +1,5 @@
 use Rattle.std.proofs.Common.{refl}
-use Rattle.net_file.proofs.Values.{items_list_view}
+use Rattle.net_file.proofs.ValueItems.{items_list_view}
 use Rattle.net_file.proofs.keys.array_in.Goals as goal
 
 pub returns-in-Some : goal.returns-in-Some

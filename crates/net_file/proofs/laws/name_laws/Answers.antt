@@ -1,4 +1,4 @@
-use Rattle.net_file.proofs.Places.{names}
+use Rattle.net_file.proofs.RowPlaces.{names}
 use Rattle.net_file.proofs.laws.name_laws.Goals as goal
 
 pub returns : goal.returns

@@ -1,4 +1,4 @@
-use Rattle.net_file.proofs.Places.{ports}
+use Rattle.net_file.proofs.RowPlaces.{ports}
 use Rattle.net_file.proofs.laws.port_laws.Goals as goal
 
 pub returns : goal.returns

@@ -5,8 +5,8 @@ use Rattle.net_file.specs.Net.{IsNet}
 use Rattle.net_file.specs.Reading.{document_of, net_read, net_of}
 use Rattle.base.specs.Refusals.{in_row}
 use Rattle.net_file.specs.declared.error.NetRefusal.TheVariants.{Toml}
-use Rattle.net_file.proofs.Sound.{net_of_document, sound_net}
-use Rattle.net_file.proofs.Steps.{refused_with}
+use Rattle.net_file.proofs.SoundNetworks.{net_of_document, sound_net}
+use Rattle.net_file.proofs.RowRefusals.{refused_with}
 use Rattle.net_file.proofs.read.read_net.Goals as goal
 
 pub returns-in_err-read_document-clause-refused : goal.returns-in_err-read_document-clause-refused

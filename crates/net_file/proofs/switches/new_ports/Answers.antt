@@ -3,9 +3,9 @@ use Rattle.std.specs.Prelude.{filter_map, nat_eq}
 use Rattle.std.specs.List.{list_any}
 use Rattle.std.proofs.Math.Bool.{or-false}
 use Rattle.net_file.specs.Reading.{port_read}
-use Rattle.net_file.proofs.Masks.{in_mask, mask_of_is}
+use Rattle.net_file.proofs.MaskBits.{in_mask, mask_of_is}
 use Rattle.net_file.proofs.FreshPorts.{any_next, are_fresh, are_new_is, fresh_next, fresh_stop, ports_less, ports_more}
-use Rattle.net_file.proofs.Values.{values_end, values_more}
+use Rattle.net_file.proofs.ValueItems.{values_end, values_more}
 use Rattle.net_file.proofs.switches.new_ports.Goals as goal
 use Rattle.net_file.proofs.switches.new_ports.Goals.{in-Some+else-has, in_default}
 

@@ -3,10 +3,10 @@ use Rattle.std.proofs.lemmas.Result.{err_from_is_err_and}
 use Rattle.toml.specs.View.{view}
 use Rattle.net_file.specs.Joins.{has_port}
 use Rattle.net_file.specs.Reading.{rows_read, switch_read}
-use Rattle.net_file.proofs.Masks.{in_mask_or}
+use Rattle.net_file.proofs.MaskBits.{in_mask_or}
 use Rattle.net_file.proofs.FreshPorts.{have_port_push}
-use Rattle.net_file.proofs.Steps.{next_row, refused_row, refused_same}
-use Rattle.net_file.proofs.Values.{values_more}
+use Rattle.net_file.proofs.RowRefusals.{next_row, refused_row, refused_same}
+use Rattle.net_file.proofs.ValueItems.{values_more}
 use Rattle.net_file.proofs.switches.read_switches.Goals as goal
 
 pub returns-in_err-switch-clause-refused : goal.returns-in_err-switch-clause-refused

@@ -1,5 +1,5 @@
-use Rattle.packet_laws.proofs.Reached.{reached}
-use Rattle.packet_laws.proofs.Runs.{caused_is_run}
+use Rattle.packet_laws.proofs.ReachedJournals.{reached}
+use Rattle.packet_laws.proofs.MachineRuns.{caused_is_run}
 use Rattle.packet_laws.proofs.laws.answers_are_runs.Goals as goal
 
 pub returns : goal.returns

@@ -1,6 +1,6 @@
 use Rattle.packet_laws.proofs.AllKept.{all_kept}
-use Rattle.packet_laws.proofs.Reached.{reached}
-use Rattle.packet_laws.proofs.Travelling.{rules_right}
+use Rattle.packet_laws.proofs.ReachedJournals.{reached}
+use Rattle.packet_laws.proofs.TravellingPackets.{rules_right}
 use Rattle.packet_laws.proofs.laws.cache_rules_are_right.Goals as goal
 
 pub returns : goal.returns

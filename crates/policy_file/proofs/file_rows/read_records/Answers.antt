@@ -3,7 +3,7 @@ use Rattle.std.specs.List.{All}
 use Rattle.std.proofs.lemmas.List.Elements.{All-push}
 use Rattle.csv.specs.Records.{fields_of}
 use Rattle.policy_file.specs.Reading.{StateEach}
-use Rattle.policy_file.proofs.Rows.{ended, next_of, refused_row, state_push, too_many}
+use Rattle.policy_file.proofs.StatedRows.{ended, next_of, refused_row, state_push, too_many}
 use Rattle.policy_file.proofs.file_rows.read_records.Goals as goal
 
 pub returns-then-not-branch-clause-read : goal.returns-then-not-branch-clause-read

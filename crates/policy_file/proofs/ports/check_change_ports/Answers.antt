@@ -1,6 +1,6 @@
 use Rattle.std.proofs.Common.{IsTrue, All, subst}
 use Rattle.policy_file.specs.Ports.{adds_port_of}
-use Rattle.policy_file.proofs.Adding.{only_ports}
+use Rattle.policy_file.proofs.AddedPorts.{only_ports}
 use Rattle.policy_file.proofs.ports.check_change_ports.Goals as goal
 
 pub returns-in-None-clause-all : goal.returns-in-None-clause-all

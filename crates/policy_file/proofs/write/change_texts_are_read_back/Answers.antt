@@ -1,4 +1,4 @@
-use Rattle.policy_file.proofs.Lines.{change_back, change_file_back}
+use Rattle.policy_file.proofs.StatedLines.{change_back, change_file_back}
 use Rattle.policy_file.proofs.write.change_texts_are_read_back.Goals as goal
 
 pub returns-clause-change : goal.returns-clause-change

@@ -1,4 +1,4 @@
-use Rattle.policy_file.proofs.Lines.{policy_back, whole_back}
+use Rattle.policy_file.proofs.StatedLines.{policy_back, whole_back}
 use Rattle.policy_file.proofs.write.policy_texts_are_read_back.Goals as goal
 
 pub returns-clause-policy : goal.returns-clause-policy

@@ -1,4 +1,4 @@
-use Rattle.policy_file.proofs.Lines.{row_back}
+use Rattle.policy_file.proofs.StatedLines.{row_back}
 use Rattle.policy_file.proofs.write.row_fields_state_the_row.Goals as goal
 
 pub returns : goal.returns

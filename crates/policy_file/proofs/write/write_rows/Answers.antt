@@ -2,7 +2,7 @@ use Rattle.std.proofs.Common.{◌∙◌, ap, sym, take, ◌++◌, append_assoc, 
 use Rattle.std.specs.String.{string_bytes}
 use Rattle.std.proofs.lemmas.List.{take_all}
 use Rattle.policy_file.specs.Printing.{fields_line, rows_text}
-use Rattle.policy_file.proofs.Lines.{rows_text-more}
+use Rattle.policy_file.proofs.StatedLines.{rows_text-more}
 use Rattle.policy_file.proofs.write.write_rows.Goals as goal
 
 pub loop-row-preserved : goal.loop-row-preserved

@@ -5,7 +5,7 @@ use Rattle.std.proofs.lemmas.List.{take_all, take_more}
 use Rattle.std.proofs.lemmas.List.Elements.{All-more}
 use Rattle.policy_rules.specs.Applied.{AreDistinctEdits, IsSoundEdit}
 use Rattle.policy_rules.specs.Edits.{AreSeen, repeats}
-use Rattle.policy_rules.proofs.Editing.{distinct_edits_push}
+use Rattle.policy_rules.proofs.EditLists.{distinct_edits_push}
 use Rattle.policy_rules.proofs.amendment.check_edits.Goals as goal
 
 pub loop-edit-preserved : goal.loop-edit-preserved

@@ -1,7 +1,7 @@
 use Rattle.std.proofs.Common.{◌++◌, ◌∷◌, [], nat_eq, sym, subst}
 use Rattle.std.specs.HashSet.{contains}
 use Rattle.policy_rules.specs.Edits.{AreSeen}
-use Rattle.policy_rules.proofs.Editing.{seen_add, seen_remove}
+use Rattle.policy_rules.proofs.EditLists.{seen_add, seen_remove}
 use Rattle.policy_rules.proofs.amendment.is_new.Goals as goal
 
 pub returns-in_ok-insert-in-Remove-clause-seen : goal.returns-in_ok-insert-in-Remove-clause-seen

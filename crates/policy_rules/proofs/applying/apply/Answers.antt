@@ -5,7 +5,7 @@ use Rattle.policy_rules.specs.Priorities.{is_among}
 use Rattle.policy_rules.specs.declared.applying.Inapplicable.TheVariants.{TooManyRows}
 use Rattle.policy_rules.specs.Policy.{IsPolicy}
 use Rattle.policy_rules.specs.declared.policy.Row.{Row}
-use Rattle.policy_rules.proofs.Changes.{IsPolicy-amended, IsSetOf, absent_by, amended_by, is_absent, is_applied, is_taken, is_too_long, priorities, taken_by}
+use Rattle.policy_rules.proofs.AmendmentCases.{IsPolicy-amended, IsSetOf, absent_by, amended_by, is_absent, is_applied, is_taken, is_too_long, priorities, taken_by}
 use Rattle.policy_rules.proofs.applying.apply.Goals as goal
 use Rattle.policy_rules.proofs.applying.apply.Goals.{In_ok-amended}
 

@@ -1,5 +1,5 @@
 use Rattle.policy_rules.proofs.FirstMatch.{first_match-only, first_match-scan}
-use Rattle.policy_rules.proofs.Sorting.{IsFalling-by_falling_priority, IsPermutation-by_falling_priority, same_sorted}
+use Rattle.policy_rules.proofs.FallingRows.{IsFalling-by_falling_priority, IsPermutation-by_falling_priority, same_sorted}
 use Rattle.policy_rules.proofs.laws.policy_laws.Goals as goal
 
 pub returns : goal.returns

@@ -1,6 +1,6 @@
 use Rattle.std.proofs.Common.{◌≡◌, ℕ, ◌<◌, false, take}
 use Rattle.policy_rules.specs.Applied.{has_priority}
-use Rattle.policy_rules.proofs.Distinct.{AreSoFar}
+use Rattle.policy_rules.proofs.DistinctRows.{AreSoFar}
 use Rattle.policy_rules.proofs.policy.are_falling.Given as goal
 
 abbrev pub invariant-loop-row : goal.invariant-loop-row

@@ -1,6 +1,6 @@
 use Rattle.std.proofs.Common.{◌∙◌, sym, ap, ◌+◌, nat_eq, true, cond}
 use Rattle.std.proofs.lemmas.Bool.{not-true}
-use Rattle.policy_rules.proofs.Distinct.{seen_more, so_far_all, so_far_more}
+use Rattle.policy_rules.proofs.DistinctRows.{seen_more, so_far_all, so_far_more}
 use Rattle.policy_rules.proofs.policy.check_rows.Goals as goal
 
 pub loop-row-preserved : goal.loop-row-preserved

@@ -1,7 +1,7 @@
 use Rattle.std.proofs.Common.{◌≡◌, ℕ, nat_eq, take}
 use Rattle.std.specs.HashSet.{contains}
 use Rattle.policy_rules.specs.Applied.{has_priority}
-use Rattle.policy_rules.proofs.Distinct.{AreSoFar}
+use Rattle.policy_rules.proofs.DistinctRows.{AreSoFar}
 use Rattle.policy_rules.proofs.policy.check_rows.Given as goal
 
 abbrev pub invariant-loop-row : goal.invariant-loop-row

@@ -5,7 +5,7 @@ use Rattle.std.proofs.lemmas.List.Sums.{sum_by-take-le}
 use Rattle.policy_rules.specs.RuleList.{entries_of, ranked_from, with_default, word_count, word_total}
 use Rattle.policy_rules.specs.declared.policy.Row.{Row}
 use Rattle.policy_rules.specs.declared.rules.Rule.{Rule}
-use Rattle.policy_rules.proofs.Ranks.{ranked_more, length-ranked_from, length-entries}
+use Rattle.policy_rules.proofs.RuleRanks.{ranked_more, length-ranked_from, length-entries}
 use Rattle.policy_rules.proofs.rule_list.list_rules.Goals as goal
 
 pub loop-row-init : goal.loop-row-init

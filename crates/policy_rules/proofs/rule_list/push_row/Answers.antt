@@ -4,7 +4,7 @@ use Rattle.five_tuple.proofs.CallerLemmas.{is_cover_of}
 use Rattle.five_tuple.specs.Cover.{cover_of}
 use Rattle.policy_rules.specs.RuleList.{ranked_from, with_hit}
 use Rattle.policy_rules.specs.Words.{words_of_row}
-use Rattle.policy_rules.proofs.Ranks.{ranked_more, length_ranked, few_pairs}
+use Rattle.policy_rules.proofs.RuleRanks.{ranked_more, length_ranked, few_pairs}
 use Rattle.policy_rules.proofs.rule_list.push_row.Goals as goal
 use Rattle.policy_rules.proofs.rule_list.push_row.Goals.{After-as_slice-word-items}
 

@@ -3,7 +3,7 @@ use Rattle.std.proofs.lemmas.List.Sorted.{All-permutation, sum_by-IsPermutation}
 use Rattle.policy_rules.specs.Policy.{IsSoundRow}
 use Rattle.policy_rules.specs.Rules.{first_rule}
 use Rattle.policy_rules.specs.RuleList.{by_falling_priority, hit_of_rule, ranked_from, rules_of, with_default, word_count, word_total}
-use Rattle.policy_rules.proofs.Sorting.{IsPermutation-by_falling_priority}
+use Rattle.policy_rules.proofs.FallingRows.{IsPermutation-by_falling_priority}
 use Rattle.policy_rules.proofs.rule_list.to_rules.Goals as goal
 
 pub list_rules-requires-clause-few : goal.list_rules-requires-clause-few

@@ -1,6 +1,6 @@
 use Rattle.five_tuple.specs.Header.{number_of}
 use Rattle.policy_rules.specs.Rules.{is_held}
-use Rattle.policy_rules.proofs.Finding.{find-position}
+use Rattle.policy_rules.proofs.FirstPassing.{find-position}
 use Rattle.policy_rules.proofs.rules.first_hit.Goals as goal
 
 pub returns-clause-rule : goal.returns-clause-rule

@@ -1,4 +1,4 @@
-use Rattle.recovery_laws.proofs.Recovers.{recovers}
+use Rattle.recovery_laws.proofs.RecoveredJournals.{recovers}
 use Rattle.recovery_laws.proofs.laws.networks_recover.Goals as goal
 
 pub returns : goal.returns

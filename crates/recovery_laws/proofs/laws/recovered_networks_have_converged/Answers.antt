@@ -1,4 +1,4 @@
-use Rattle.recovery_laws.proofs.Recovers.{recovered_converged}
+use Rattle.recovery_laws.proofs.RecoveredJournals.{recovered_converged}
 use Rattle.recovery_laws.proofs.laws.recovered_networks_have_converged.Goals as goal
 
 pub returns : goal.returns

@@ -2,8 +2,8 @@ use Rattle.world.specs.State.{setting_at}
 use Rattle.std.proofs.Common.{◌≡◌, ◌+◌, false}
 use Rattle.meters.specs.Gone.{seen_board}
 use Rattle.replay.specs.Leavings.{KeepUp}
-use Rattle.replay.proofs.Asked.{brought_so_far, steps_left}
-use Rattle.replay.proofs.Stepping.{Took}
+use Rattle.replay.proofs.AskedStep.{brought_so_far, steps_left}
+use Rattle.replay.proofs.EventStepping.{Took}
 use Rattle.replay.proofs.event_steps.take_steps.Given as goal
 
 abbrev pub invariant-loop-next : goal.invariant-loop-next

@@ -3,8 +3,8 @@ use Rattle.control_laws.specs.Bounds.{MarksAreBounded}
 use Rattle.control_laws.specs.Planned.{VersionsArePlanned}
 use Rattle.controller.specs.Controller.{current_plan}
 use Rattle.world.specs.State.{setting_at}
-use Rattle.replay.proofs.Planned.{kept_in_force}
-use Rattle.replay.proofs.Refining.{tie_of}
+use Rattle.replay.proofs.PlanInForce.{kept_in_force}
+use Rattle.replay.proofs.WorldRefines.{tie_of}
 use Rattle.replay.proofs.in_force.plan_in_force.Goals as goal
 
 pub returns : goal.returns

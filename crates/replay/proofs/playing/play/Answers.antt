@@ -7,11 +7,11 @@ use Rattle.meters.specs.Seen.{Seen}
 use Rattle.update_machine.specs.Packets.{next_packet}
 use Rattle.update_machine.proofs.CallerLemmas.{start_laws}
 use Rattle.replay.specs.Leavings.{left_in}
-use Rattle.replay.proofs.Asked.{brought_few}
-use Rattle.replay.proofs.Events.{PlaysOn, plays_from_start, plays_no_more, plays_on_by, stops_by}
+use Rattle.replay.proofs.AskedStep.{brought_few}
+use Rattle.replay.proofs.EventPlays.{PlaysOn, plays_from_start, plays_no_more, plays_on_by, stops_by}
 use Rattle.replay.specs.InForce.{IsPlanInForce}
-use Rattle.replay.proofs.Keeping.{kept_up}
-use Rattle.replay.proofs.Refining.{tie_of}
+use Rattle.replay.proofs.BoardKept.{kept_up}
+use Rattle.replay.proofs.WorldRefines.{tie_of}
 use Rattle.replay.proofs.playing.play.Goals as goal
 use Rattle.replay.proofs.playing.play.Given.{Over}
 

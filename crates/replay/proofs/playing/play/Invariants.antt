@@ -3,7 +3,7 @@ use Rattle.std.proofs.Common.{ℕ, ◌≡◌, ◌+◌, ◌≤◌, Option, [], Li
 use Rattle.journal.specs.declared.item.Item.{Item}
 use Rattle.meters.specs.Gone.{board_after, seen_board}
 use Rattle.replay.specs.Leavings.{left_in}
-use Rattle.replay.proofs.Events.{PlaysOn}
+use Rattle.replay.proofs.EventPlays.{PlaysOn}
 use Rattle.replay.proofs.playing.play.Given as goal
 
 abbrev pub invariant-loop-event : goal.invariant-loop-event

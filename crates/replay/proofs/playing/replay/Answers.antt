@@ -1,7 +1,7 @@
 use Rattle.std.proofs.Common.{subst}
 use Rattle.update_machine.specs.Setting.{IsSetting}
-use Rattle.world.proofs.Begun.{first_plans}
-use Rattle.replay.proofs.Refining.{tie_of}
+use Rattle.world.proofs.BegunWorld.{first_plans}
+use Rattle.replay.proofs.WorldRefines.{tie_of}
 use Rattle.replay.proofs.playing.replay.Goals as goal
 
 pub returns-clause-planned : goal.returns-clause-planned

@@ -1,6 +1,6 @@
 use Rattle.std.proofs.Common.{subst, sym}
 use Rattle.schedule.specs.Case.{IsPlayable}
-use Rattle.schedule.proofs.Cases.{case_playable}
+use Rattle.schedule.proofs.LoadCases.{case_playable}
 use Rattle.schedule.proofs.case.load_case.Goals as goal
 
 pub returns-clause-playable : goal.returns-clause-playable

@@ -1,7 +1,7 @@
 use Rattle.std.proofs.Common.{◌∙◌, ◌&&◌, sym, ap, codes, bytes_eq, arith}
 use Rattle.csv.specs.Records.{fields_of}
 use Rattle.csv_records.specs.Texts.{field_or_empty}
-use Rattle.schedule.proofs.Fields.{is_heading-two}
+use Rattle.schedule.proofs.EventFields.{is_heading-two}
 use Rattle.schedule.proofs.row.is_heading.Goals as goal
 
 pub returns-then-has_text : goal.returns-then-has_text

@@ -1,5 +1,5 @@
 use Rattle.std.proofs.Common.{ℕ, ◌-◌, length, length-take, length-drop, ap, arith}
-use Rattle.shelf.proofs.Writes.{gained_more}
+use Rattle.shelf.proofs.PieceWrites.{gained_more}
 use Rattle.shelf.proofs.output.write_whole.Goals as goal
 
 pub loop-written-preserved : goal.loop-written-preserved

@@ -1,7 +1,7 @@
 use Rattle.std.proofs.Common.{rules, arith}
 use Rattle.lines.proofs.CallerLemmas.{pushed_append, pushed_whole}
 use Rattle.show_text.specs.Text.{rule_text_of, with_line_feed}
-use Rattle.show_text.proofs.Sizes.{rule_fits}
+use Rattle.show_text.proofs.LineSizes.{rule_fits}
 use Rattle.show_text.proofs.plan_lines.set_rule.Goals as goal
 
 pub returns : goal.returns

@@ -1,6 +1,6 @@
 use Rattle.std.proofs.Common.{subst, sym}
 use Rattle.trace_audit.specs.Index.{Notes}
-use Rattle.trace_audit.proofs.Indexed.{notes_pushed}
+use Rattle.trace_audit.proofs.IndexedRows.{notes_pushed}
 use Rattle.trace_audit.proofs.index.note.Goals as goal
 
 pub returns-in_ok-push : goal.returns-in_ok-push

@@ -3,10 +3,10 @@ use Rattle.trace_audit.specs.Reading.{Open, Whole, lines_of}
 use Rattle.trace_audit.specs.Seen.{IsLineRead, state_seen}
 use Rattle.trace_audit.specs.Verdicts.{IsAuditVerdict}
 use Rattle.trace_audit.specs.declared.trace.Verdict.TheVariants.{No, Yes}
-use Rattle.trace_audit.proofs.Known.{verdict_justified}
-use Rattle.trace_audit.proofs.Lines.{lines_next, lines_nil, lines_open}
-use Rattle.trace_audit.proofs.Runs.{verdict_run}
-use Rattle.trace_audit.proofs.Verdicts.{IsSoFar, all_good, bad_here, good_here, nil_left, some_left, verdict_exact}
+use Rattle.trace_audit.proofs.KnownPackets.{verdict_justified}
+use Rattle.trace_audit.proofs.TraceLines.{lines_next, lines_nil, lines_open}
+use Rattle.trace_audit.proofs.TraceRuns.{verdict_run}
+use Rattle.trace_audit.proofs.TraceVerdicts.{IsSoFar, all_good, bad_here, good_here, nil_left, some_left, verdict_exact}
 use Rattle.trace_audit.proofs.trace.audit.Goals as goal
 
 pub returns-in-None : goal.returns-in-None

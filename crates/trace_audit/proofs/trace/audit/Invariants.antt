@@ -1,7 +1,7 @@
 use Rattle.std.proofs.Common.{length}
 use Rattle.trace_audit.specs.Reading.{lines_of}
 use Rattle.trace_audit.specs.Seen.{state_seen}
-use Rattle.trace_audit.proofs.Verdicts.{IsSoFar}
+use Rattle.trace_audit.proofs.TraceVerdicts.{IsSoFar}
 use Rattle.trace_audit.proofs.trace.audit.Given as goal
 
 abbrev pub invariant-loop-rest : goal.invariant-loop-rest

@@ -1,6 +1,6 @@
 use Rattle.std.proofs.Common.{◌≡◌, ◌∙◌, length, take, arith, subst}
 use Rattle.std.proofs.lemmas.List.{take_all, take_rest}
-use Rattle.trace_audit.proofs.Begins.{word_before}
+use Rattle.trace_audit.proofs.FirstWords.{word_before}
 use Rattle.trace_audit.proofs.words.behind.Goals as goal
 
 pub returns : goal.returns

@@ -1,4 +1,4 @@
-use Rattle.trace_texts.proofs.Plays.{answered_entered, texts_good}
+use Rattle.trace_texts.proofs.ScheduleAnswers.{answered_entered, texts_good}
 use Rattle.trace_texts.proofs.laws.texts_are_good.Goals as goal
 
 pub returns : goal.returns

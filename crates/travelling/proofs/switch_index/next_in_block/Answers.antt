@@ -1,6 +1,6 @@
 use Rattle.std.proofs.Common.{ℕ, ◌≡◌, ◌+◌, ◌*◌, ◌/◌, ◌%◌, ◌^◌, ◌<◌, zero, suc, refl, get_or, arith}
 use Rattle.base.specs.ComputedMasks.{least_in}
-use Rattle.travelling.proofs.Marked.{least_marked, none_before, none_in_mask, none_past, rest_below}
+use Rattle.travelling.proofs.StandingMasks.{least_marked, none_before, none_in_mask, none_past, rest_below}
 use Rattle.travelling.proofs.switch_index.next_in_block.Goals as goal
 
 pub returns-then-place-masks : goal.returns-then-place-masks

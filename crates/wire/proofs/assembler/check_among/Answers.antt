@@ -1,8 +1,8 @@
 use Rattle.std.proofs.Common.{◌≡◌, ℕ, Option, List, refl, sym, ap, ◌∙◌, arith}
 use Rattle.wire.specs.Frames.{place_in_frame}
 use Rattle.wire.specs.Assembly.{held_at, another_frame}
-use Rattle.wire.proofs.Laws.{AreBytes}
-use Rattle.wire.proofs.Holding.{false_true, index_of, check_held, check_new}
+use Rattle.wire.proofs.FormatLaws.{AreBytes}
+use Rattle.wire.proofs.FramesHeld.{false_true, index_of, check_held, check_new}
 use Rattle.wire.proofs.assembler.check_among.Goals as goal
 
 -- what is held at the place that was read is held at the frame's place

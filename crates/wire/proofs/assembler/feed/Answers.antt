@@ -2,7 +2,7 @@ use Rattle.std.proofs.Common.{subst}
 use Rattle.wire.specs.declared.assembler.FrameCheck.TheVariants.{Held, New}
 use Rattle.wire.specs.Frames.{count_in_frame}
 use Rattle.wire.specs.Assembly.{IsAssembled, IsFrameCheck}
-use Rattle.wire.proofs.Holding.{fed_held, fed_new}
+use Rattle.wire.proofs.FramesHeld.{fed_held, fed_new}
 use Rattle.wire.proofs.assembler.feed.Goals as goal
 
 pub returns-in-Held : goal.returns-in-Held

@@ -1,7 +1,7 @@
 use Rattle.std.proofs.Common.{◌<◌, [], length, get_or, ap, sym, ◌∙◌, arith}
 use Rattle.std.proofs.lemmas.List.{get_or-map}
 use Rattle.wire.specs.Frames.{chunk_of}
-use Rattle.wire.proofs.Holding.{false_true}
+use Rattle.wire.proofs.FramesHeld.{false_true}
 use Rattle.wire.proofs.assembly.are_chunks.Goals as goal
 
 pub returns-then-not-are_same : goal.returns-then-not-are_same

@@ -1,8 +1,8 @@
 use Rattle.std.proofs.Common.{map, ap, sym, refl, ◌∙◌}
 use Rattle.std.proofs.lemmas.Result.{err_from_is_err_and}
 use Rattle.wire.specs.Frames.{chunks_behind_head}
-use Rattle.wire.proofs.Assembling.{frames_by, none_by, none_spelled}
-use Rattle.wire.proofs.Holding.{false_true}
+use Rattle.wire.proofs.FrameAssembly.{frames_by, none_by, none_spelled}
+use Rattle.wire.proofs.FramesHeld.{false_true}
 use Rattle.wire.proofs.assembly.decoded.Goals as goal
 
 pub returns-in_err-message : goal.returns-in_err-message

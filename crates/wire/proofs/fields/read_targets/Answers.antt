@@ -4,7 +4,7 @@ use Rattle.std.proofs.lemmas.Result.{err_from_is_err_and}
 use Rattle.base.specs.Refusals.{IfRefused}
 use Rattle.wire.specs.Fields.{switch, target_count, targets}
 use Rattle.wire.specs.Format.{read_items}
-use Rattle.wire.proofs.Items.{goes_on, stops, is_done}
+use Rattle.wire.proofs.ItemLoops.{goes_on, stops, is_done}
 use Rattle.wire.proofs.fields.read_targets.Goals as goal
 
 pub returns-in_err-switches : goal.returns-in_err-switches

@@ -1,7 +1,7 @@
 use Rattle.std.proofs.Common.{◌≡◌, ◌-◌, ◌≤◌, length, take}
 use Rattle.wire.specs.Fields.{switch}
 use Rattle.wire.specs.Format.{read_items}
-use Rattle.wire.proofs.Items.{with_front}
+use Rattle.wire.proofs.ItemLoops.{with_front}
 use Rattle.wire.proofs.fields.read_targets.Given as goal
 
 abbrev pub invariant-loop-place : goal.invariant-loop-place

@@ -1,6 +1,6 @@
 use Rattle.std.proofs.Common.{◌≡◌, length, refl, arith}
 use Rattle.wire.specs.Fields.{word}
-use Rattle.wire.proofs.Laws.{items_count}
+use Rattle.wire.proofs.FormatLaws.{items_count}
 use Rattle.wire.proofs.fields.read_touched.Goals as goal
 
 -- there are as many words as were counted, so they aren't too many

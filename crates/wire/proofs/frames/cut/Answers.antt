@@ -1,7 +1,7 @@
 use Rattle.std.proofs.Common.{map}
 use Rattle.std.proofs.lemmas.List.{map_push}
 use Rattle.wire.specs.Frames.{chunks_behind_head, most_of_chunk}
-use Rattle.wire.proofs.Cutting.{goes_on}
+use Rattle.wire.proofs.SpellingCuts.{goes_on}
 use Rattle.wire.proofs.frames.cut.Goals as goal
 
 pub loop-preserved : goal.loop-preserved

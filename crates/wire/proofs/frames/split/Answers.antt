@@ -1,7 +1,7 @@
 use Rattle.std.proofs.Common.{◌≡◌, ◌<◌, ◌^◌, length, sym, ap, ◌∙◌}
 use Rattle.std.proofs.lemmas.List.{length-map}
 use Rattle.wire.specs.Frames.{chunks_behind_head}
-use Rattle.wire.proofs.Cutting.{few_chunks}
+use Rattle.wire.proofs.SpellingCuts.{few_chunks}
 use Rattle.wire.proofs.frames.split.Goals as goal
 
 pub framed-requires : goal.framed-requires

@@ -1,5 +1,5 @@
 use Rattle.std.proofs.lemmas.Result.{err_from_is_err_and}
-use Rattle.wire.proofs.Items.{goes_on, stops, is_done}
+use Rattle.wire.proofs.ItemLoops.{goes_on, stops, is_done}
 use Rattle.wire.specs.Format.{read_items}
 use Rattle.wire.proofs.list.read_items.Goals as goal
 

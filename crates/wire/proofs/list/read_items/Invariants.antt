@@ -1,6 +1,6 @@
 use Rattle.std.proofs.Common.{◌≡◌, ◌-◌}
 use Rattle.wire.specs.Format.{read_items}
-use Rattle.wire.proofs.Items.{with_front}
+use Rattle.wire.proofs.ItemLoops.{with_front}
 use Rattle.wire.proofs.list.read_items.Given as goal
 
 abbrev pub invariant-loop : goal.invariant-loop

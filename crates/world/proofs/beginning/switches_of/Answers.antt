@@ -8,7 +8,7 @@ use Rattle.net_file.specs.Owners.{links_of}
 use Rattle.switch_table.specs.Tables.{tables_of}
 use Rattle.switch_table.specs.declared.tables.Tables.{Tables}
 use Rattle.refinement.specs.Begun.{switch_begun}
-use Rattle.refinement.proofs.Firsts.{first_near, first_tables}
+use Rattle.refinement.proofs.FirstSwitches.{first_near, first_tables}
 use Rattle.world.proofs.beginning.switches_of.Goals as goal
 
 pub begin-requires-clause-own : goal.begin-requires-clause-own

@@ -3,7 +3,7 @@ use Rattle.std.proofs.lemmas.Bool.{cases_lt}
 use Rattle.std.proofs.lemmas.List.{get_or-set_other, get_or-set_same, get_or_default, length-set}
 use Rattle.switch_core.specs.State.{SwitchValue}
 use Rattle.world_log.specs.Linking.{relinked_as, adverts_on_change}
-use Rattle.world_log.proofs.Relinking.{all_below, all_more, all_none, all_of_them}
+use Rattle.world_log.proofs.RelinkingAdverts.{all_below, all_more, all_none, all_of_them}
 use Rattle.world_log.proofs.usable_links.relink.Goals as goal
 
 pub loop-s-init : goal.loop-s-init

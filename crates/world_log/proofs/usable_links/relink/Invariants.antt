@@ -1,7 +1,7 @@
 use Rattle.std.proofs.Common.{ℕ, ◌≡◌, ◌<◌, ◌≤◌, length, get_or}
 use Rattle.switch_core.specs.State.{SwitchValue}
 use Rattle.world_log.specs.Linking.{relinked_as}
-use Rattle.world_log.proofs.Relinking.{all_below}
+use Rattle.world_log.proofs.RelinkingAdverts.{all_below}
 use Rattle.world_log.proofs.usable_links.relink.Given as goal
 
 -- the switches so far are relinked, and tell that

@@ -1,7 +1,7 @@
 use Rattle.std.proofs.Common.{◌≡◌, ◌++◌, ap, sym, ◌∙◌, arith, true, ◌==◌, ne_eqb}
 use Rattle.std.specs.Prelude.{not, ◌&&◌}
 use Rattle.switch_core.specs.Life.{near_changed, next_advert}
-use Rattle.world_log.proofs.Relinking.{told_all, told_below}
+use Rattle.world_log.proofs.RelinkingAdverts.{told_all, told_below}
 use Rattle.world_log.specs.Linking.{links_change}
 use Rattle.world_log.proofs.usable_links.relink_one.Goals as goal
 

@@ -1,5 +1,5 @@
 use Rattle.std.proofs.Common.{◌≡◌, ◌++◌}
-use Rattle.world_log.proofs.Relinking.{told_below}
+use Rattle.world_log.proofs.RelinkingAdverts.{told_below}
 use Rattle.world_log.proofs.usable_links.relink_one.Given as goal
 
 -- what the neighbours so far are told

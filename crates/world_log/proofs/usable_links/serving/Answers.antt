@@ -1,7 +1,7 @@
 use Rattle.std.proofs.Common.{ap, sym, ◌∙◌, ◌+◌, Bool, arith, subst}
 use Rattle.std.specs.Int.Bits.{bit_or}
 use Rattle.base.specs.ComputedMasks.{only_if}
-use Rattle.world_log.proofs.Relinking.{ServeBelow, serve_all, serve_none, serve_one}
+use Rattle.world_log.proofs.RelinkingAdverts.{ServeBelow, serve_all, serve_none, serve_one}
 use Rattle.world_log.proofs.usable_links.serving.Goals as goal
 
 pub loop-s-init : goal.loop-s-init

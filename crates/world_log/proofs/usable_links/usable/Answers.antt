@@ -3,7 +3,7 @@ use Rattle.std.proofs.lemmas.List.{length-set}
 use Rattle.std.proofs.lemmas.List.Edits.{fill_by_more}
 use Rattle.std.proofs.lemmas.List.FromFn.{fill_by_all}
 use Rattle.world_log.specs.Linking.{near_all, near_by}
-use Rattle.world_log.proofs.Relinking.{same_near}
+use Rattle.world_log.proofs.RelinkingAdverts.{same_near}
 use Rattle.world_log.proofs.usable_links.usable.Goals as goal
 
 pub loop-s-preserved : goal.loop-s-preserved

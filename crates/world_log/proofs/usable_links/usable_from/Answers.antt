@@ -1,5 +1,5 @@
 use Rattle.std.proofs.Common.{sym, ◌∙◌, arith}
-use Rattle.world_log.proofs.Relinking.{usable_bits, usable_none}
+use Rattle.world_log.proofs.RelinkingAdverts.{usable_bits, usable_none}
 use Rattle.world_log.proofs.usable_links.usable_from.Goals as goal
 
 pub returns-then-has : goal.returns-then-has

@@ -5,8 +5,8 @@ use Rattle.version_update.specs.Record.{is_over}
 use Rattle.controller.specs.Controller.{KeptPlan, ControllerValue, StaysController, current_touched, plans_from}
 use Rattle.controller.specs.Sends.{boot_recorded, install_act, switches_where, settling_acts, submit_acts}
 use Rattle.controller.specs.Submit.{SubmitsPlan}
-use Rattle.controller.proofs.Newest.{newest_added}
-use Rattle.controller.proofs.Versions.{IsWhole, whole_more, stays_more}
+use Rattle.controller.proofs.NewestPolicy.{newest_added}
+use Rattle.controller.proofs.KeptPlanVersions.{IsWhole, whole_more, stays_more}
 use Rattle.controller.proofs.controller.Controller.add.Goals as goal
 use Rattle.controller.proofs.controller.Controller.add.Goals.{After-settle}
 

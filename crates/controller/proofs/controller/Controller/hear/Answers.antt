@@ -1,8 +1,8 @@
 use Rattle.std.proofs.Common.{[], ◌++◌, refl, sym, ap, ◌∙◌, subst}
 use Rattle.version_update.specs.Marks.{MarksValue}
 use Rattle.controller.specs.Controller.{SettlesWith}
-use Rattle.controller.proofs.Newest.{newest_stays}
-use Rattle.controller.proofs.Unheard.{is_unheard}
+use Rattle.controller.proofs.NewestPolicy.{newest_stays}
+use Rattle.controller.proofs.UnheardMarks.{is_unheard}
 use Rattle.controller.proofs.controller.Controller.hear.Goals as goal
 
 pub returns-in_default : goal.returns-in_default

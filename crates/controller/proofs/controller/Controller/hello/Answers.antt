@@ -5,7 +5,7 @@ use Rattle.version_update.specs.Marks.{at_switch, record_of}
 use Rattle.version_update.specs.Record.{hello_recorded, takes_hello}
 use Rattle.controller.specs.Controller.{KeptPlan, ControllerValue, kept_touched, plans_from}
 use Rattle.controller.specs.Sends.{install_act, settling_acts, hear_acts}
-use Rattle.controller.proofs.Versions.{plans_twice, whole_at, settles_at, stays_at}
+use Rattle.controller.proofs.KeptPlanVersions.{plans_twice, whole_at, settles_at, stays_at}
 use Rattle.controller.proofs.controller.Controller.hello.Goals as goal
 
 pub invariant_of-self : goal.invariant_of-self

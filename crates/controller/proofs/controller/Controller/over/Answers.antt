@@ -2,8 +2,8 @@ use Rattle.std.proofs.Common.{refl}
 use Rattle.version_update.specs.Marks.{at_switch}
 use Rattle.version_update.specs.Record.{after_over}
 use Rattle.controller.specs.Controller.{ControllerValue, SettlesWith, StaysController}
-use Rattle.controller.proofs.Newest.{newest_stays}
-use Rattle.controller.proofs.Versions.{whole_at, settles_at, settles_seen, stays_at}
+use Rattle.controller.proofs.NewestPolicy.{newest_stays}
+use Rattle.controller.proofs.KeptPlanVersions.{whole_at, settles_at, settles_seen, stays_at}
 use Rattle.controller.proofs.controller.Controller.over.Goals as goal
 
 pub invariant_of-self : goal.invariant_of-self

@@ -1,5 +1,5 @@
 use Rattle.controller.specs.Replies.{after_reply}
-use Rattle.controller.proofs.Versions.{whole_at, settles_at, settles_seen, stays_at}
+use Rattle.controller.proofs.KeptPlanVersions.{whole_at, settles_at, settles_seen, stays_at}
 use Rattle.controller.proofs.controller.Controller.replied.Goals as goal
 
 pub invariant_of-self : goal.invariant_of-self

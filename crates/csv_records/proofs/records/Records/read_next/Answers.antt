@@ -2,7 +2,7 @@ use Rattle.std.proofs.Common.{◌≡◌, ◌∙◌, [], cond, not, ap, sym, subs
 use Rattle.csv.specs.Records.{fields_of}
 use Rattle.csv_records.specs.Readers.{records_left}
 use Rattle.csv_records.specs.Texts.{TakesRecord}
-use Rattle.csv_records.proofs.Taking.{source_known, takes_next}
+use Rattle.csv_records.proofs.RecordTaking.{source_known, takes_next}
 use Rattle.csv_records.proofs.records.Records.read_next.Goals as goal
 
 pub returns-in-Ok-clause-takes : goal.returns-in-Ok-clause-takes

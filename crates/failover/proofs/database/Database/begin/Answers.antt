@@ -3,7 +3,7 @@ use Rattle.std.proofs.lemmas.List.FromFn.{fill_by_all}
 use Rattle.base.specs.Masks.{switches}
 use Rattle.failover.specs.Adverts.{first_of, first_adverts}
 use Rattle.failover.specs.Newest.{AreByOrigin}
-use Rattle.failover.proofs.Adverts.{by_origin-first}
+use Rattle.failover.proofs.HeldAdverts.{by_origin-first}
 use Rattle.failover.proofs.database.Database.begin.Goals as goal
 
 pub of-requires : goal.of-requires

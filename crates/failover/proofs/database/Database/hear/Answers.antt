@@ -1,7 +1,7 @@
 use Rattle.std.proofs.Common.{sym, ◌∙◌, ap, set, Some}
 use Rattle.std.proofs.lemmas.List.{map-set}
 use Rattle.failover.specs.Links.{neighbours_named}
-use Rattle.failover.proofs.Adverts.{after_no_news, after_news, by_origin-set}
+use Rattle.failover.proofs.HeldAdverts.{after_no_news, after_news, by_origin-set}
 use Rattle.failover.proofs.database.Database.hear.Goals as goal
 
 pub invariant_of-self : goal.invariant_of-self

@@ -1,4 +1,4 @@
-use Rattle.failover.proofs.Rows.{isolated_answer, isolated_is, named_links_held}
+use Rattle.failover.proofs.KnownLinkRows.{isolated_answer, isolated_is, named_links_held}
 use Rattle.failover.proofs.database.Database.isolated.Goals as goal
 
 pub returns-clause-value : goal.returns-clause-value

@@ -3,8 +3,8 @@ use Rattle.failover.specs.Links.{known_links}
 use Rattle.failover.specs.Paths.{IsRoute}
 use Rattle.failover.specs.Routes.{route_of, first_route}
 use Rattle.failover.specs.Isolated.{links_of_each}
-use Rattle.failover.proofs.Rows.{named_links_held}
-use Rattle.failover.proofs.Searching.{known_route_is_route, route_is_list}
+use Rattle.failover.proofs.KnownLinkRows.{named_links_held}
+use Rattle.failover.proofs.RouteSearch.{known_route_is_route, route_is_list}
 use Rattle.failover.proofs.database.Database.route.Goals as goal
 
 pub returns-clause-value : goal.returns-clause-value

@@ -1,7 +1,7 @@
 use Rattle.std.proofs.Common.{ℕ, ◌∙◌, ◌≤◌, cond, IsOk, List, [], ◌∷◌, ◌++◌, length, ap, subst, sym, arith}
 use Rattle.five_tuple.specs.declared.header.Header.{Header}
 use Rattle.flow_export.specs.Counts.{count_of_header}
-use Rattle.flow_export.proofs.Counting.{count_few, counts_after}
+use Rattle.flow_export.proofs.FlowCounts.{count_few, counts_after}
 use Rattle.flow_export.proofs.flow_meter.FlowMeter.append.Goals as goal
 
 pub count-requires : goal.count-requires

@@ -2,7 +2,7 @@ use Rattle.std.proofs.Common.{subst, sym}
 use Rattle.std.specs.Prelude.{IfOk}
 use Rattle.journal.specs.declared.item.Item.{Item}
 use Rattle.journal_reports.specs.Traffic.{IsAfter}
-use Rattle.journal_reports.proofs.Reading.{after_sent}
+use Rattle.journal_reports.proofs.ReadItems.{after_sent}
 use Rattle.journal_reports.proofs.traffic.Traffic.take_item.Goals as goal
 
 pub returns-in-Sent : goal.returns-in-Sent

@@ -1,6 +1,6 @@
 use Rattle.std.proofs.Common.{subst}
 use Rattle.journal_reports.specs.Buckets.{IsKeptInBucket}
-use Rattle.journal_reports.proofs.Reading.{passed_over}
+use Rattle.journal_reports.proofs.ReadItems.{passed_over}
 use Rattle.journal_reports.proofs.traffic.Traffic.take_message.Goals as goal
 
 pub returns-then-is_kept-clause-kept : goal.returns-then-is_kept-clause-kept

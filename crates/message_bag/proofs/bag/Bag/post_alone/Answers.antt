@@ -2,7 +2,7 @@ use Rattle.std.proofs.Common.{◌≡◌, ◌++◌, ◌∷◌, [], ℕ, List, Non
 use Rattle.wire.specs.Frames.{frames}
 use Rattle.wire.specs.Messages.{message}
 use Rattle.message_bag.specs.KeptFrames.{frames_in}
-use Rattle.message_bag.proofs.Posting.{alone_is, kept_after, posted_after, same_grown}
+use Rattle.message_bag.proofs.PostedMessages.{alone_is, kept_after, posted_after, same_grown}
 use Rattle.message_bag.proofs.bag.Bag.post_alone.Goals as goal
 
 its : (c : goal.After-push)

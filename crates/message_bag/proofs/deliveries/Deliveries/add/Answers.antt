@@ -1,7 +1,7 @@
 use Rattle.std.proofs.Common.{◌≡◌, ◌++◌, ◌∷◌, [], ◌<◌, ◌+◌, ◌^◌, length, ap, sym, subst, arith}
 use Rattle.std.proofs.lemmas.Grind.{common_steps}
 use Rattle.message_bag.specs.Deliveries.{ArePassed, waiting_status}
-use Rattle.message_bag.proofs.Waiting.{pushed_passed}
+use Rattle.message_bag.proofs.WaitingStatuses.{pushed_passed}
 use Rattle.message_bag.proofs.deliveries.Deliveries.add.Goals as goal
 
 pub invariant_of-self-2 : goal.invariant_of-self-2

@@ -1,6 +1,6 @@
 use Rattle.std.proofs.Common.{arith}
 use Rattle.message_bag.specs.Deliveries.{forgotten_status}
-use Rattle.message_bag.proofs.Waiting.{changed_passed}
+use Rattle.message_bag.proofs.WaitingStatuses.{changed_passed}
 use Rattle.message_bag.proofs.deliveries.Deliveries.forget.Goals as goal
 
 pub invariant_of-self : goal.invariant_of-self

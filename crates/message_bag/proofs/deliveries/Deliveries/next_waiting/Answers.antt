@@ -1,5 +1,5 @@
 use Rattle.std.proofs.Common.{ap, length, arith}
-use Rattle.message_bag.proofs.Waiting.{next_is, next_is_none, searched}
+use Rattle.message_bag.proofs.WaitingStatuses.{next_is, next_is_none, searched}
 use Rattle.message_bag.proofs.deliveries.Deliveries.next_waiting.Goals as goal
 
 pub returns-then-place-count : goal.returns-then-place-count

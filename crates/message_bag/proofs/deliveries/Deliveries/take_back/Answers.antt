@@ -1,6 +1,6 @@
 use Rattle.std.proofs.Common.{sym, subst, ◌∙◌, arith}
 use Rattle.message_bag.specs.Deliveries.{ArePassed}
-use Rattle.message_bag.proofs.Waiting.{taken_back, without_last}
+use Rattle.message_bag.proofs.WaitingStatuses.{taken_back, without_last}
 use Rattle.message_bag.proofs.deliveries.Deliveries.take_back.Goals as goal
 
 pub invariant_of-self : goal.invariant_of-self

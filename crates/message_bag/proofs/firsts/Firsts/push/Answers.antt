@@ -1,9 +1,9 @@
 use Rattle.std.proofs.Common.{◌≡◌, ◌++◌, ◌∷◌, [], List, length, map, refl, ap, ◌∙◌, arith}
 use Rattle.std.proofs.lemmas.Grind.{common_steps}
-use Rattle.wire.proofs.Holding.{on_err}
+use Rattle.wire.proofs.FramesHeld.{on_err}
 use Rattle.message_bag.specs.KeptFrames.{First, first_in}
 use Rattle.message_bag.specs.declared.firsts.Span.{Span}
-use Rattle.message_bag.proofs.Spans.{all_stay, pushed}
+use Rattle.message_bag.proofs.FirstFrameSpans.{all_stay, pushed}
 use Rattle.message_bag.proofs.firsts.Firsts.push.Goals as goal
 
 pub returns-in_err-push-clause-unchanged : goal.returns-in_err-push-clause-unchanged

@@ -3,8 +3,8 @@ use Rattle.std.specs.Prelude.{IfOk, IfSome, is_some}
 use Rattle.ctrl_msg.specs.declared.message.Message.{Message}
 use Rattle.message_bag.specs.Deliveries as statuses
 use Rattle.message_bag.specs.Posts.{IsMessageOf, Post, is_post_deliverable}
-use Rattle.message_bag.proofs.Taken.{found_known, found_there}
-use Rattle.message_bag.proofs.Zipped.{deliverable_as}
+use Rattle.message_bag.proofs.TakenMessages.{found_known, found_there}
+use Rattle.message_bag.proofs.FramesByStatus.{deliverable_as}
 use Rattle.message_bag.proofs.post_bag.PostBag.get.Goals as goal
 
 is_there : (c : goal.After-take)

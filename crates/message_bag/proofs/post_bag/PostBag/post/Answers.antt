@@ -3,8 +3,8 @@ use Rattle.std.specs.List.{zip}
 use Rattle.wire.specs.Frames.{frames}
 use Rattle.message_bag.specs.Deliveries.{waiting_status}
 use Rattle.message_bag.specs.Posts.{Post, posted_frames, new_post}
-use Rattle.message_bag.proofs.Framed.{framed_is}
-use Rattle.message_bag.proofs.Zipped.{length_of_zip, zip_pushed}
+use Rattle.message_bag.proofs.FramedMessages.{framed_is}
+use Rattle.message_bag.proofs.FramesByStatus.{length_of_zip, zip_pushed}
 use Rattle.message_bag.proofs.post_bag.PostBag.post.Goals as goal
 
 pub add-requires : goal.add-requires

@@ -1,5 +1,5 @@
 use Rattle.std.proofs.Common.{length, ap, sym, ◌∙◌}
-use Rattle.message_bag.proofs.Zipped.{length_of_zip}
+use Rattle.message_bag.proofs.FramesByStatus.{length_of_zip}
 use Rattle.message_bag.proofs.post_bag.PostBag.sent.Goals as goal
 
 pub returns : goal.returns

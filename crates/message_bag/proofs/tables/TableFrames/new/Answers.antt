@@ -1,7 +1,7 @@
 use Rattle.std.proofs.Common.{sym, subst}
 use Rattle.switch_table.specs.declared.tables.Tables.{Tables}
 use Rattle.message_bag.specs.KeptFrames.{CarryTables}
-use Rattle.message_bag.proofs.Installs.{says}
+use Rattle.message_bag.proofs.InstallationFrames.{says}
 use Rattle.message_bag.proofs.tables.TableFrames.new.Goals as goal
 
 pub invariant_of-result : goal.invariant_of-result

@@ -1,7 +1,7 @@
 use Rattle.std.proofs.Common.{◌<◌, ◌^◌, sym, subst, arith}
 use Rattle.switch_table.specs.declared.tables.Tables.{Tables}
 use Rattle.message_bag.specs.KeptFrames.{CarryTables}
-use Rattle.message_bag.proofs.Installs.{says_too}
+use Rattle.message_bag.proofs.InstallationFrames.{says_too}
 use Rattle.message_bag.proofs.tables.TableFrames.with_version.Goals as goal
 
 said_too : (c : goal.In_ok-frames) (t : Tables) → CarryTables t c.self.inside.frames

@@ -2,8 +2,8 @@ use Rattle.std.proofs.Common.{◌≡◌, ◌<◌, ◌∙◌, get_or-set_same, le
 use Rattle.std.specs.List.{flat_map}
 use Rattle.meters.specs.Gone.{leaving_records}
 use Rattle.meters.specs.Meters.{meters_after, flow_records_of}
-use Rattle.meters.proofs.Keeping.{after_stay, after_leave, after_all}
-use Rattle.meters.proofs.Telling.{board_on, told_all, told_leave, told_stay}
+use Rattle.meters.proofs.MetersKept.{after_stay, after_leave, after_all}
+use Rattle.meters.proofs.MeterRecords.{board_on, told_all, told_leave, told_stay}
 use Rattle.meters.proofs.board.Board.note.Goals as goal
 use Rattle.meters.proofs.board.Board.note.Given.{Over}
 

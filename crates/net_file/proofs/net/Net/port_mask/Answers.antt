@@ -3,7 +3,7 @@ use Rattle.std.proofs.Math.Facts.{Fits-lt-pow}
 use Rattle.std.proofs.lemmas.List.Folds.{list_any_more}
 use Rattle.net_file.specs.Joins.{has_port}
 use Rattle.net_file.specs.Owners.{have_port}
-use Rattle.net_file.proofs.Masks.{in_mask_or, mask_of_is}
+use Rattle.net_file.proofs.MaskBits.{in_mask_or, mask_of_is}
 use Rattle.net_file.proofs.net.Net.port_mask.Goals as goal
 
 pub loop-row-preserved : goal.loop-row-preserved

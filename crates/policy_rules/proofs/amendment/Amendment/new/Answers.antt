@@ -1,7 +1,7 @@
 use Rattle.std.proofs.Common.{◌≡◌, ◌∙◌, ap, sym, subst}
 use Rattle.policy_rules.specs.Applied.{IsAmendment, additions, removals}
 use Rattle.policy_rules.specs.Edits.{edits_of}
-use Rattle.policy_rules.proofs.Editing.{additions_of, removals_of}
+use Rattle.policy_rules.proofs.EditLists.{additions_of, removals_of}
 use Rattle.policy_rules.proofs.amendment.Amendment.new.Goals as goal
 use Rattle.policy_rules.proofs.amendment.Amendment.new.Goals.{In_ok-edits}
 

@@ -1,6 +1,6 @@
 use Rattle.std.proofs.Common.{ℕ, List, ◌++◌, subst, sym}
 use Rattle.shelf.specs.SinkWrites.{IsGathered}
-use Rattle.shelf.proofs.Gathers.{all_written, part_longer, part_written, waits_alone}
+use Rattle.shelf.proofs.BlockWrites.{all_written, part_longer, part_written, waits_alone}
 use Rattle.shelf.proofs.block.Block.push.Goals as goal
 
 pub returns-in-Ok-clause-gathered : goal.returns-in-Ok-clause-gathered

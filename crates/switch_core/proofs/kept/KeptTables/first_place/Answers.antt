@@ -1,4 +1,4 @@
-use Rattle.switch_core.proofs.Held.{IsOwnFirst, own_first, same_place}
+use Rattle.switch_core.proofs.OwnTables.{IsOwnFirst, own_first, same_place}
 use Rattle.switch_core.proofs.kept.KeptTables.first_place.Goals as goal
 use Rattle.switch_core.proofs.kept.KeptTables.first_place.Goals.{After-first}
 

@@ -3,8 +3,8 @@ use Rattle.switch_core.specs.Answers.{Answer, Answered, entry_of}
 use Rattle.switch_core.specs.Answering.{admitted, incoming_packet}
 use Rattle.switch_core.specs.Ends.{around}
 use Rattle.switch_core.specs.State.{SwitchValue}
-use Rattle.switch_core.proofs.Admitting.{answered, by_lookup}
-use Rattle.switch_core.proofs.Lookups.{entry_uncached}
+use Rattle.switch_core.proofs.AdmittedPackets.{answered, by_lookup}
+use Rattle.switch_core.proofs.LookupAnswers.{entry_uncached}
 use Rattle.switch_core.proofs.switch.Switch.enter.Goals as goal
 
 -- a packet that isn't looked up finds the switch closed

@@ -1,7 +1,7 @@
 use Rattle.std.proofs.Common.{ap, sym, ◌∙◌}
 use Rattle.switch_core.specs.Answering.{arrived_on}
 use Rattle.switch_core.specs.Deciding.{packet_with}
-use Rattle.switch_core.proofs.Admitting.{answer_counted}
+use Rattle.switch_core.proofs.AdmittedPackets.{answer_counted}
 use Rattle.switch_core.proofs.switch.Switch.receive.Goals as goal
 
 pub returns-in-Seek-clause-answer : goal.returns-in-Seek-clause-answer

@@ -1,7 +1,7 @@
 use Rattle.std.proofs.Common.{refl, sym, rules}
 use Rattle.policy_rules.proofs.CallerLemmas.{none_from_not_some}
 use Rattle.trace_audit.specs.Seen.{packet_seen}
-use Rattle.trace_audit.proofs.Moves.{put_after}
+use Rattle.trace_audit.proofs.LineMoves.{put_after}
 use Rattle.trace_audit.proofs.auditor.Auditor.end.Goals as goal
 
 pub returns : goal.returns

@@ -1,6 +1,6 @@
 use Rattle.std.proofs.Common.{refl, rules}
 use Rattle.trace_audit.specs.Seen.{packet_seen}
-use Rattle.trace_audit.proofs.Moves.{none_seen, put_after}
+use Rattle.trace_audit.proofs.LineMoves.{none_seen, put_after}
 use Rattle.trace_audit.proofs.auditor.Auditor.enter.Goals as goal
 
 pub returns : goal.returns

@@ -3,7 +3,7 @@ use Rattle.std.proofs.lemmas.Option.{slice_get-get_or}
 use Rattle.five_tuple.specs.Header.{AddressBlock}
 use Rattle.trace_audit.specs.Index.{IsBetter, slot_of}
 use Rattle.trace_audit.specs.declared.index.Shape.{Shape}
-use Rattle.trace_audit.proofs.Indexed.{IsSought, sought_all, sought_more}
+use Rattle.trace_audit.proofs.IndexedRows.{IsSought, sought_all, sought_more}
 use Rattle.trace_audit.proofs.index.Index.best.Goals as goal
 
 pub loop-place-preserved : goal.loop-place-preserved

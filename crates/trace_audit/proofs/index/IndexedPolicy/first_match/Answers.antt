@@ -3,7 +3,7 @@ use Rattle.five_tuple.specs.Header.{fields_of}
 use Rattle.policy_rules.specs.Policy.{IsFirstMatch}
 use Rattle.policy_rules.specs.SoundPolicies.{IsPolicy}
 use Rattle.trace_audit.specs.Index.{IsBest}
-use Rattle.trace_audit.proofs.Indexed.{best_first}
+use Rattle.trace_audit.proofs.IndexedRows.{best_first}
 use Rattle.trace_audit.proofs.index.IndexedPolicy.first_match.Goals as goal
 
 indexed : (c : goal.After-best) → IsFirstMatch c.args.self.now c.args.header.now c.best.result

@@ -6,7 +6,7 @@ use Rattle.std.proofs.lemmas.Bool.{eqb-true, ne_eqb}
 use Rattle.std.proofs.lemmas.List.{nil_from_length}
 use Rattle.trace_audit.specs.Seen.{packet_seen, run_get}
 use Rattle.trace_audit.specs.declared.packets.TracePacket.{TracePacket}
-use Rattle.trace_audit.proofs.Numbered.{push_here, push_there, run_below, run_past, seen_put, set_here, set_there}
+use Rattle.trace_audit.proofs.NumberedItems.{push_here, push_there, run_below, run_past, seen_put, set_here, set_there}
 use Rattle.trace_audit.proofs.packets.Packets.put.Goals as goal
 use Rattle.trace_audit.proofs.packets.Packets.put.Goals.{then-number-self+else-place-len+else-place-len-2, else-number-self}
 

@@ -1,6 +1,6 @@
 use Rattle.std.proofs.Common.{◌≡◌, ◌∷◌, [], MatchBool, List, ℕ, subst, sym}
 use Rattle.trace_audit.specs.Told.{words_left}
-use Rattle.trace_audit.proofs.Begins.{more_left}
+use Rattle.trace_audit.proofs.FirstWords.{more_left}
 use Rattle.trace_audit.proofs.words.Words.has_more.Goals as goal
 
 pub returns : goal.returns

@@ -1,6 +1,6 @@
 use Rattle.std.proofs.Common.{◌+◌, ◌*◌, ◌/◌, ◌≤◌, ◌≡◌, ℕ, None, false, subst}
 use Rattle.travelling.specs.SwitchIndex.{IsLeastMarked, IsNextInBlock, is_marked}
-use Rattle.travelling.proofs.Blocks.{least_beyond, none_beyond}
+use Rattle.travelling.proofs.MarkBlocks.{least_beyond, none_beyond}
 use Rattle.travelling.proofs.switch_index.SwitchIndex.next.Goals as goal
 
 pub returns-in-Some-next_by_blocks : goal.returns-in-Some-next_by_blocks

@@ -1,6 +1,6 @@
 use Rattle.std.proofs.Common.{◌<◌, ap, length, arith}
 use Rattle.travelling.specs.Travelling.{HasPlace}
-use Rattle.travelling.proofs.Marked.{within_and}
+use Rattle.travelling.proofs.StandingMasks.{within_and}
 use Rattle.travelling.proofs.travelling.Travelling.move_to.Goals as goal
 
 pub move_slot-requires-clause-room : goal.move_slot-requires-clause-room

@@ -2,7 +2,7 @@ use Rattle.std.proofs.Common.{ℕ, ◌≡◌, ◌<◌, ◌≤◌, ◌∙◌, inl
 use Rattle.std.proofs.lemmas.Bool.{cases_lt}
 use Rattle.std.proofs.lemmas.List.{get_or_past}
 use Rattle.travelling.specs.Travelling.{Flights, stands_at, flight}
-use Rattle.travelling.proofs.Marked.{marked_on, room_on}
+use Rattle.travelling.proofs.StandingMasks.{marked_on, room_on}
 use Rattle.travelling.proofs.travelling.Travelling.put.Goals.{then-self-len, else-self-len}
 use Rattle.travelling.proofs.travelling.Travelling.put.Goals as goal
 

@@ -1,7 +1,7 @@
 use Rattle.std.proofs.Common.{◌≡◌, ◌<◌, true, ap, length, arith}
 use Rattle.std.specs.Prelude.{is_some}
 use Rattle.travelling.specs.Travelling.{flight}
-use Rattle.travelling.proofs.Marked.{within_some}
+use Rattle.travelling.proofs.StandingMasks.{within_some}
 use Rattle.travelling.proofs.travelling.Travelling.remove.Goals as goal
 
 pub set_slot-requires-clause-room : goal.set_slot-requires-clause-room

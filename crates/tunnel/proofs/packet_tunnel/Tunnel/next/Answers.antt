@@ -1,4 +1,4 @@
-use Rattle.tunnel.proofs.Onward.{next_is_some, next_is_other}
+use Rattle.tunnel.proofs.OnwardSwitch.{next_is_some, next_is_other}
 use Rattle.tunnel.proofs.packet_tunnel.Tunnel.next.Goals as goal
 
 pub returns-clause-more : goal.returns-clause-more

@@ -2,7 +2,7 @@ use Rattle.std.proofs.Common.{ℕ, ◌≡◌, ◌≤◌, List, ap, ◌∙◌, ta
 use Rattle.version_update.specs.declared.record.SwitchRecord.{SwitchRecord}
 use Rattle.std.proofs.lemmas.List.{take-replicate}
 use Rattle.version_update.specs.Record.{first_record}
-use Rattle.version_update.proofs.Opening.{first-bounded}
+use Rattle.version_update.proofs.OpenedSwitches.{first-bounded}
 use Rattle.version_update.proofs.ledger.Ledger.begin.Goals as goal
 
 firsts : (n : ℕ) (records : List SwitchRecord) → records ≡ replicate 64 first_record → n ≤ 64

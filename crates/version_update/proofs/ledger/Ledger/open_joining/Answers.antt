@@ -1,5 +1,5 @@
-use Rattle.version_update.proofs.Opening.{opened-bounded}
-use Rattle.version_update.proofs.Mapping.{take_put_back}
+use Rattle.version_update.proofs.OpenedSwitches.{opened-bounded}
+use Rattle.version_update.proofs.ReplacedItems.{take_put_back}
 use Rattle.version_update.proofs.ledger.Ledger.open_joining.Goals as goal
 
 pub invariant_of-self : goal.invariant_of-self

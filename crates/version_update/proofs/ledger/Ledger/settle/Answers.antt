@@ -2,7 +2,7 @@ use Rattle.std.proofs.Common.{subst, sym, ap, ◌∙◌, length}
 use Rattle.std.proofs.lemmas.List.{length-map}
 use Rattle.version_update.specs.Marks.{MarksValue}
 use Rattle.version_update.specs.Settling.{RisesTo}
-use Rattle.version_update.proofs.Opening.{settled_by}
+use Rattle.version_update.proofs.OpenedSwitches.{settled_by}
 use Rattle.version_update.proofs.ledger.Ledger.settle.Goals as goal
 
 pub returns-clause-rule : goal.returns-clause-rule

@@ -2,7 +2,7 @@ use Rattle.std.proofs.Common.{◌≤◌, ap, subst, sym, arith}
 use Rattle.version_update.specs.declared.record.SwitchRecord.{SwitchRecord}
 use Rattle.version_update.specs.Record.{IsSoundRecord}
 use Rattle.version_update.specs.Marks.{MarksValue}
-use Rattle.version_update.proofs.Opening.{installed-sound}
+use Rattle.version_update.proofs.OpenedSwitches.{installed-sound}
 use Rattle.version_update.proofs.marks.Marks.installed.Goals as goal
 
 pub set_record-requires-clause-sound : goal.set_record-requires-clause-sound

@@ -6,7 +6,7 @@ use Rattle.journal.specs.declared.item.Item.TheVariants as item
 use Rattle.version_update.specs.Marks.{at_switch}
 use Rattle.version_update.specs.Record.{after_over}
 use Rattle.world_log.specs.Sending.{MayNote}
-use Rattle.world.proofs.Frame.{follows, goes_nothing, net_stays, none_in, nothing_goes}
+use Rattle.world.proofs.StepFrame.{follows, goes_nothing, net_stays, none_in, nothing_goes}
 use Rattle.world.proofs.GoesTold.{goes_acting}
 use Rattle.world.proofs.OverSwitches.{known_in, place_in}
 use Rattle.refinement.proofs.GoneSwitches.{gone_may, gone_piece, gone_refines, still_up}

@@ -13,11 +13,11 @@ use Rattle.world.specs.Parts.{setting_in, state_in}
 use Rattle.refinement.specs.Refinement.{RefineJournal}
 use Rattle.travelling.specs.Travelling.{WithoutAt, numbers_at}
 use Rattle.world_log.specs.Writing.{IsPart}
-use Rattle.refinement.proofs.Crashed.{crash_may, crash_next, crash_piece, crash_refines, same_switch, stays_down}
-use Rattle.world.proofs.Frame.{follows, goes, goes_nothing, net_stays, nothing_goes}
+use Rattle.refinement.proofs.CrashWrites.{crash_may, crash_next, crash_piece, crash_refines, same_switch, stays_down}
+use Rattle.world.proofs.StepFrame.{follows, goes, goes_nothing, net_stays, nothing_goes}
 use Rattle.world.proofs.GoesTold.{relinked_refines}
 use Rattle.world.proofs.OverSwitches.{few_in, place_in, switch_in}
-use Rattle.world_log.proofs.Writing.{none_ok, part_of_first, part_of_rest, step_part, step_written, three_ok, on_err}
+use Rattle.world_log.proofs.StepWrites.{none_ok, part_of_first, part_of_rest, step_part, step_written, three_ok, on_err}
 use Rattle.world.proofs.parts.Parts.crash.Goals as goal
 use Rattle.world.proofs.parts.Parts.crash.Goals.{After-index_mut}
 

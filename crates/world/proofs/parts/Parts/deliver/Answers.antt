@@ -4,7 +4,7 @@ use Rattle.message_bag.specs.Deliveries.{delivered_status}
 use Rattle.std.proofs.lemmas.List.{length-set}
 use Rattle.std.proofs.lemmas.Result.{on_ok_weaker}
 use Rattle.message_bag.specs.Posts.{new_post, with_delivered, with_status}
-use Rattle.message_bag.proofs.Numbered.{length_changed}
+use Rattle.message_bag.proofs.NumberedPosts.{length_changed}
 use Rattle.controller.specs.Controller.{ControllerValue, newest_policy}
 use Rattle.controller.specs.Sends.{hear_acts}
 use Rattle.ctrl_msg.specs.declared.message.Message.{Message}
@@ -13,15 +13,15 @@ use Rattle.switch_core.specs.Hearing.{IsSoundBody, replies}
 use Rattle.update_machine.specs.Messages.{sent_from}
 use Rattle.world_log.specs.Linking.{all_adverts_sent, near_all}
 use Rattle.world_log.specs.Sending.{MayNote, MaySend, act_items, act_posts}
-use Rattle.refinement.proofs.Delivering.{found_there}
+use Rattle.refinement.proofs.BagDeliveries.{found_there}
 use Rattle.world_log.specs.Writing.{IsPart}
 use Rattle.world.proofs.GoesTold.{first_goes, goes_told, relinked_refines}
 use Rattle.refinement.proofs.HeardBy.{control_may, control_piece, control_refines, first_piece, names_known, shut_may, shut_piece, shut_refines, undelivered}
 use Rattle.world.proofs.OverSwitches.{few_in}
 use Rattle.refinement.proofs.HearReady.{hear_ready, usable_here}
-use Rattle.refinement.proofs.Opening.{opening_may, opening_next, opening_piece, opening_refines}
-use Rattle.world.proofs.Frame.{follows, goes_nothing, net_stays, none_in, nothing_goes}
-use Rattle.world_log.proofs.Writing.{both_ok, step_part, step_written}
+use Rattle.refinement.proofs.OpeningSwitch.{opening_may, opening_next, opening_piece, opening_refines}
+use Rattle.world.proofs.StepFrame.{follows, goes_nothing, net_stays, none_in, nothing_goes}
+use Rattle.world_log.proofs.StepWrites.{both_ok, step_part, step_written}
 use Rattle.world.proofs.parts.Parts.deliver.Goals as goal
 use Rattle.world.proofs.parts.Parts.deliver.Goals.{In-Switch}
 

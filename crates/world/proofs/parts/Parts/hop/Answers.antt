@@ -6,9 +6,9 @@ use Rattle.std.proofs.lemmas.Result.{on_ok_weaker}
 use Rattle.switch_core.specs.Answering.{IsAtAuthority}
 use Rattle.switch_core.specs.Moving.{StandsAt, hop_answer}
 use Rattle.switch_core.specs.declared.answers.HopEnd.TheVariants.{Arrive}
-use Rattle.world_log.proofs.Passing.{of_kept}
-use Rattle.refinement.proofs.Asking.{can_ask, ingress_below, within_here, number_of_packet}
-use Rattle.world.proofs.Frame.{files_stay, goes_nothing, goes_quiet, none_in, plane_stays}
+use Rattle.world_log.proofs.HopLogs.{of_kept}
+use Rattle.refinement.proofs.AskingSwitch.{can_ask, ingress_below, within_here, number_of_packet}
+use Rattle.world.proofs.StepFrame.{files_stay, goes_nothing, goes_quiet, none_in, plane_stays}
 use Rattle.refinement.proofs.HopRefines.{hop_left}
 use Rattle.world.proofs.OverParts.{hop_is, hops_refine}
 use Rattle.world.proofs.parts.Parts.hop.Goals as goal

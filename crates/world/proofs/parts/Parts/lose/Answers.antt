@@ -3,10 +3,10 @@ use Rattle.std.proofs.lemmas.Result.{on_err_weaker, on_ok_weaker}
 use Rattle.journal.specs.declared.item.Item.TheVariants as item
 use Rattle.steps.specs.declared.step.Step.TheVariants.{Lose}
 use Rattle.world.specs.Parts.{setting_in}
-use Rattle.world.proofs.Frame.{goes_nothing, goes_quiet, files_stay, none_in, plane_stays, with_posts}
-use Rattle.world_log.proofs.Writing.{part_none}
+use Rattle.world.proofs.StepFrame.{goes_nothing, goes_quiet, files_stay, none_in, plane_stays, with_posts}
+use Rattle.world_log.proofs.StepWrites.{part_none}
 use Rattle.world_log.specs.declared.log.Log.{Log}
-use Rattle.refinement.proofs.Losing.{lost, lost_piece, not_lost}
+use Rattle.refinement.proofs.LostPacket.{lost, lost_piece, not_lost}
 use Rattle.refinement.specs.Refinement.{RefineJournal}
 use Rattle.world.proofs.parts.Parts.lose.Goals as goal
 

@@ -1,8 +1,8 @@
 use Rattle.std.proofs.Common.{refl, arith}
 use Rattle.std.proofs.lemmas.Result.{on_ok_weaker}
-use Rattle.world.proofs.Frame.{files_stay, goes_quiet, plane_stays}
-use Rattle.refinement.proofs.Asking.{can_look_up}
-use Rattle.refinement.proofs.Incoming.{come_fits}
+use Rattle.world.proofs.StepFrame.{files_stay, goes_quiet, plane_stays}
+use Rattle.refinement.proofs.AskingSwitch.{can_look_up}
+use Rattle.refinement.proofs.IncomingTie.{come_fits}
 use Rattle.world.proofs.OverParts.{come_is, entries_refine}
 use Rattle.world.proofs.OverSwitches.{place_in}
 use Rattle.world.proofs.parts.Parts.packet.Goals as goal

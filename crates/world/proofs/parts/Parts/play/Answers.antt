@@ -4,7 +4,7 @@ use Rattle.std.specs.Prelude.{Result}
 use Rattle.steps.specs.declared.step.Step.{Step}
 use Rattle.world.specs.Parts.{Goes, HasBegun, Plays}
 use Rattle.world.specs.declared.parts.Parts.{Parts}
-use Rattle.world.proofs.Frame.{begun, played, with_journal}
+use Rattle.world.proofs.StepFrame.{begun, played, with_journal}
 use Rattle.world.proofs.parts.Parts.play.Goals as goal
 use Rattle.world.proofs.parts.Parts.play.Goals.{In_ok-push}
 

@@ -11,12 +11,12 @@ use Rattle.world_log.specs.Linking.{all_adverts_sent, near_all}
 use Rattle.world.specs.Parts.{HasBegun}
 use Rattle.world.specs.declared.parts.Parts.{Parts}
 use Rattle.world.specs.State.{comes_in}
-use Rattle.world.proofs.Frame.{follows, goes_nothing, net_stays, nothing_goes}
+use Rattle.world.proofs.StepFrame.{follows, goes_nothing, net_stays, nothing_goes}
 use Rattle.world.proofs.GoesTold.{goes_told, relinked_refines}
 use Rattle.world.proofs.OverSwitches.{few_in}
 use Rattle.refinement.proofs.LinksChange.{numbers_left}
 use Rattle.refinement.proofs.LinkRows.{ends_below, same_refines, set_may, set_piece, set_refines}
-use Rattle.world_log.proofs.Writing.{both_ok}
+use Rattle.world_log.proofs.StepWrites.{both_ok}
 use Rattle.world.proofs.parts.Parts.set_link.Goals as goal
 
 -- no packet comes in

@@ -21,9 +21,9 @@ use Rattle.world.specs.Parts.{BeginsStep, Goes, KeepNet, setting_in}
 use Rattle.world.specs.declared.parts.Parts.{Parts}
 use Rattle.world_log.specs.Sending.{MayNote}
 use Rattle.world.proofs.KeptFiles.{file_there}
-use Rattle.world.proofs.Frame.{files_stay, goes_one, net_stays, none_in, not_err, nothing_goes, plane_stays}
+use Rattle.world.proofs.StepFrame.{files_stay, goes_one, net_stays, none_in, not_err, nothing_goes, plane_stays}
 use Rattle.world.proofs.GoesTold.{goes_acting}
-use Rattle.refinement.proofs.Submitting.{live_piece, newest_refines, planned_next, refused_piece, refused_refines, submitted_may, submitted_piece, submitted_refines, unapplied_next, unplanned_next, versions_piece}
+use Rattle.refinement.proofs.SubmittedPolicy.{live_piece, newest_refines, planned_next, refused_piece, refused_refines, submitted_may, submitted_piece, submitted_refines, unapplied_next, unplanned_next, versions_piece}
 use Rattle.world.proofs.parts.Parts.update.Goals as goal
 use Rattle.world.proofs.parts.Parts.update.Goals.{In-Planned, in-Err-Refused-TooManyLive, in-Err-Refused-TooManyVersions}
 

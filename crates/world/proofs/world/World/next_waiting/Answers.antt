@@ -3,7 +3,7 @@ use Rattle.update_machine.specs.Messages.{is_waiting, next_waiting}
 use Rattle.world.specs.Least.{IsLeastFrom}
 use Rattle.world.proofs.LeastWaiting.{least_from_in, least_waits_in}
 use Rattle.world.specs.Parts.{world_value}
-use Rattle.world.proofs.Viewed.{by_view}
+use Rattle.world.proofs.ViewedParts.{by_view}
 use Rattle.world.proofs.world.World.next_waiting.Goals as goal
 
 pub returns-clause-first : goal.returns-clause-first

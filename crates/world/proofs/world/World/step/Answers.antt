@@ -7,7 +7,7 @@ use Rattle.update_machine.specs.Packets.{next_packet}
 use Rattle.update_machine.specs.Setting.{setting_of}
 use Rattle.steps.specs.Steps.{IsStep}
 use Rattle.world.specs.State.{WorldValue, setting_at}
-use Rattle.world.proofs.Filling.{has_room, is_full, not_full}
+use Rattle.world.proofs.JournalRoom.{has_room, is_full, not_full}
 use Rattle.world.proofs.SoFar.{part_so_far, so_far_in, step_so_far}
 use Rattle.world.specs.Parts.{KeepNet, setting_in, world_value}
 use Rattle.world.specs.declared.parts.Parts.{Parts}

@@ -1,4 +1,4 @@
-use Rattle.world_log.proofs.Logs.{log_one}
+use Rattle.world_log.proofs.LogCalls.{log_one}
 use Rattle.world_log.proofs.log.Log.end.Goals as goal
 use Rattle.std.proofs.Common.{None, refl}
 

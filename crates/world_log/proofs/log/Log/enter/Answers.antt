@@ -10,7 +10,7 @@ use Rattle.travelling.specs.Travelling.{Standing}
 use Rattle.world_log.specs.Packets.{coming_in}
 use Rattle.world_log.specs.Writing.{LogAfter, arrived_flight, arrived_items, arrived_posts, entered_items, entered_posts, entered_flight, packet_standing}
 use Rattle.world_log.specs.declared.log.Log.{Log}
-use Rattle.world_log.proofs.Logs.{log_behind, log_unwritten}
+use Rattle.world_log.proofs.LogCalls.{log_behind, log_unwritten}
 use Rattle.world_log.proofs.log.Log.enter.Goals as goal
 
 -- what is written of a packet, where its switch is closed or says this of it

@@ -20,10 +20,10 @@ use Rattle.tunnel.specs.Tunnel.{TunnelValue}
 use Rattle.world_log.specs.Packets.{HasHopped, ended_flight, ended_items, ended_posts, ended_switch, turned_items}
 use Rattle.world_log.specs.Writing.{LogAfter, arrived_items, arrived_posts, arrived_flight, packet_standing}
 use Rattle.world_log.specs.declared.log.Log.{Log}
-use Rattle.world_log.proofs.Hopping.{SamePacket, authority_counted, hopped_same}
-use Rattle.world_log.proofs.Logs.{log_failed, log_one}
-use Rattle.world_log.proofs.Passing.{IsMet, arrival_log, met_log, met_switch, met_turned, of_kept, placed, settled_log, stood}
-use Rattle.world_log.proofs.Writing.{both_written, none_ok}
+use Rattle.world_log.proofs.HoppedPacket.{SamePacket, authority_counted, hopped_same}
+use Rattle.world_log.proofs.LogCalls.{log_failed, log_one}
+use Rattle.world_log.proofs.HopLogs.{IsMet, arrival_log, met_log, met_switch, met_turned, of_kept, placed, settled_log, stood}
+use Rattle.world_log.proofs.StepWrites.{both_written, none_ok}
 use Rattle.world_log.proofs.log.Log.go_around.Goals as goal
 use Rattle.world_log.proofs.log.Log.go_around.Goals.{After-number-here}
 

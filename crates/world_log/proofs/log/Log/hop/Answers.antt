@@ -12,8 +12,8 @@ use Rattle.travelling.specs.Travelling.{Flight, Standing, standing_at, standing_
 use Rattle.tunnel.specs.Moves.{next}
 use Rattle.world_log.specs.Packets.{HasHopped}
 use Rattle.world_log.specs.Writing.{LogAfter, arrived_items, arrived_posts, arrived_flight, packet_standing}
-use Rattle.world_log.proofs.Hopping.{authority_counted}
-use Rattle.world_log.proofs.Passing.{IsPassed, arrival_log, free_hop, move_log, of_kept, passed_by, passed_log, passed_switch, passed_to, placed, settled_log}
+use Rattle.world_log.proofs.HoppedPacket.{authority_counted}
+use Rattle.world_log.proofs.HopLogs.{IsPassed, arrival_log, free_hop, move_log, of_kept, passed_by, passed_log, passed_switch, passed_to, placed, settled_log}
 use Rattle.world_log.proofs.log.Log.hop.Goals as goal
 use Rattle.world_log.proofs.log.Log.hop.Goals.{After-pass}
 

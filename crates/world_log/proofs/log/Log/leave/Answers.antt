@@ -12,7 +12,7 @@ use Rattle.switch_core.specs.declared.answers.Decision.{Decision}
 use Rattle.travelling.specs.Travelling.{standing_kept}
 use Rattle.tunnel.specs.Tunnel.{TunnelValue}
 use Rattle.world_log.specs.Writing.{LogAfter, packet_standing, set_item, set_flight}
-use Rattle.world_log.proofs.Going.{by_action, exits, owned, unowned, way_is}
+use Rattle.world_log.proofs.WrittenGoing.{by_action, exits, owned, unowned, way_is}
 use Rattle.world_log.proofs.log.Log.leave.Goals as goal
 
 pub returns-in-Drop-clause-log : goal.returns-in-Drop-clause-log

@@ -1,6 +1,6 @@
 use Rattle.std.proofs.Common.{refl}
 use Rattle.journal.specs.declared.item.Item.TheVariants as item
-use Rattle.world_log.proofs.Logs.{log_one}
+use Rattle.world_log.proofs.LogCalls.{log_one}
 use Rattle.world_log.proofs.log.Log.move_on.Goals as goal
 
 pub returns : goal.returns

@@ -10,7 +10,7 @@ use Rattle.switch_core.specs.Verdicts.{cached_by}
 use Rattle.ternary.specs.Word.{WordValue}
 use Rattle.update_machine.specs.Messages.{sent_from}
 use Rattle.world_log.specs.Writing.{cache_message, message_list}
-use Rattle.world_log.proofs.Going.{rule_spelled}
+use Rattle.world_log.proofs.WrittenGoing.{rule_spelled}
 use Rattle.world_log.proofs.log.Log.send_rule.Goals as goal
 
 pub send-requires : goal.send-requires

@@ -14,9 +14,9 @@ use Rattle.travelling.specs.Travelling.{standing_kept}
 use Rattle.tunnel.specs.Tunnel.{TunnelValue}
 use Rattle.update_machine.specs.Messages.{sent_from}
 use Rattle.world_log.specs.Writing.{LogAfter, arrived_flight, arrived_items, arrived_posts, cache_message, message_list, packet_standing, set_item, set_flight}
-use Rattle.world_log.proofs.Going.{sought, way_is}
-use Rattle.world_log.proofs.Logs.{log_ends, log_failed, log_unwritten}
-use Rattle.world_log.proofs.Writing.{both_written, part_first}
+use Rattle.world_log.proofs.WrittenGoing.{sought, way_is}
+use Rattle.world_log.proofs.LogCalls.{log_ends, log_failed, log_unwritten}
+use Rattle.world_log.proofs.StepWrites.{both_written, part_first}
 use Rattle.world_log.proofs.log.Log.settle.Goals as goal
 
 pub returns-in-Out-clause-log : goal.returns-in-Out-clause-log

@@ -1,0 +1,459 @@
+-- How many messages each block of a piece sends.
+use Rattle.std.proofs.Common.{ℕ, ◌≡◌, ◌+◌, ◌-◌, ◌≤◌, ◌==◌, Bool, true, false, cond, if◌then◌else◌, Option, Some, None, List, [], ◌∷◌, ◌++◌, length, map, refl, arith}
+use Rattle.std.specs.Prelude.{IsFalse, filter, nat_lt, not}
+use Rattle.std.specs.List.{flat_map, range_with_len}
+use Rattle.std.proofs.lemmas.List.{length-append, length-map}
+use Rattle.std.proofs.lemmas.List.Concat.{length-flat_map}
+use Rattle.std.proofs.lemmas.List.FromFn.{length-range_with_len}
+use Rattle.std.proofs.lemmas.List.Sums.{sum_by-cons}
+use Rattle.ctrl_msg.specs.declared.message.Body.{Body}
+use Rattle.ctrl_msg.specs.declared.message.Body.TheVariants.{Hello}
+use Rattle.ctrl_msg.specs.declared.message.Message.{Message}
+use Rattle.base.specs.Masks.{has}
+use Rattle.failover.specs.declared.advert.Advert.{Advert}
+use Rattle.five_tuple.specs.declared.header.Header.{Header}
+use Rattle.net_file.specs.Net.{IsNet}
+use Rattle.policy_rules.specs.declared.packet.Leg.{Leg}
+use Rattle.policy_rules.specs.declared.policy.Action.{Action}
+use Rattle.policy_rules.specs.declared.policy.Action.TheVariants as action
+use Rattle.switch_table.specs.declared.search.Found.{Found}
+use Rattle.journal.specs.declared.item.Item.{Item}
+use Rattle.journal.specs.declared.item.Item.TheVariants as item
+use Rattle.steps.specs.declared.step.Step.{Step}
+use Rattle.update_machine.specs.Adverts.{held_adverts}
+use Rattle.update_machine.specs.Boots.{is_up}
+use Rattle.update_machine.specs.Caches.{lookup_at}
+use Rattle.update_machine.specs.Concerns.{NoneConcern, concerns_policies}
+use Rattle.update_machine.specs.Deliveries.{advert_to, after_hello, controller_items, is_new_boot, passed_on, switches_in}
+use Rattle.update_machine.specs.Folds.{count_of}
+use Rattle.update_machine.specs.LinkMasks.{near}
+use Rattle.update_machine.specs.Marks.{acked_stamp, current_mark, has_acked, is_member, is_over, members, retired_mark}
+use Rattle.update_machine.specs.Messages.{is_sending, next_message, send_items, sent_from}
+use Rattle.update_machine.specs.Moves.{AuthorityRule, arrive_items, authority_items, cache_items, end_items, found_items, header_at, in_turn, leg_items, lookup_items, move_items, items_then, reroute_items}
+use Rattle.update_machine.specs.Pieces.{confirm_items, expire_items, forget_items, hello_of, hop_items, lose_items, nothing, packet_items, resend_items, resent_by_switch, sends_or_nothing, step_items, update_code, update_items}
+use Rattle.update_machine.specs.Setting.{Setting}
+use Rattle.update_machine.specs.SwitchNumbers.{switches_of}
+use Rattle.update_machine.specs.Settling.{collect_for, current_items, install_for, installs_to, installs_to_all, open_items, resent_by_controller, resent_to_member, retired_items, settling, stamp_for, submitted_items, unacked_installs, versions_from_current}
+use Rattle.update_machine.specs.Versions.{version_count}
+use Rattle.update_machine.proofs.CallerLemmas.{count_of_append, policies_keep}
+use Rattle.control_laws.proofs.ControllerCommands.{IsOfSettling, settling_settles}
+use Rattle.control_laws.proofs.ItemFacts.{have_weaker}
+use Rattle.control_laws.proofs.TrafficItems.{IsWorkStep, work_cases}
+use Rattle.control_laws.proofs.LinkSends.{held_few}
+use Rattle.control_laws.proofs.PairSums.{length_filter_less, sum_each}
+
+abbrev pub sent : List Item → ℕ
+sent items = count_of is_sending items
+
+-- ---- items one after another
+
+pub sent_more : (next : Item) (items : List Item)
+    → sent (next ∷ items) ≡ cond (is_sending next) 1 0 + sent items
+sent_more next items = sum_by-cons (λ x. cond (is_sending x) 1 0) next items
+
+sent_all : (messages : List Message) (n : ℕ) → sent (sent_from n messages) ≡ length messages
+unfolding sent_from
+sent_all [] n = refl
+sent_all (message ∷ messages) n =
+    omega (
+      arith,
+      sent_more (item.Sent n message) (sent_from (n + 1) messages),
+      sent_all messages (n + 1),
+    )
+
+pub sends_count : (journal : List Item) (messages : List Message)
+    → sent (send_items journal messages) ≡ length messages
+sends_count journal messages = sent_all messages (next_message journal)
+
+pub put_few : (first : List Item) (rest : List Item → List Item) (journal : List Item)
+    → sent (items_then first rest journal) ≡ sent first + sent (rest (journal ++ first))
+put_few first rest journal = count_of_append is_sending first (rest (journal ++ first))
+
+-- ---- packets: a lookup at an authority switch may send one cache rule
+
+leg_few : (setting : Setting) (journal : List Item) (i s : ℕ) (leg : Leg)
+    → sent (leg_items setting journal i s leg) ≡ 0
+unfolding leg_items
+leg_few setting journal i s leg = grind arith
+
+end_few : (setting : Setting) (i s : ℕ) (act : Action) (journal : List Item)
+    → sent (end_items setting i s act journal) ≡ 0
+unfolding end_items
+end_few setting i s action.Drop journal = refl
+end_few setting i s (action.Out port) journal = grind (arith, leg_few)
+
+cache_few : (setting : Setting) (i s : ℕ) (rule : AuthorityRule) (journal : List Item)
+    → sent (cache_items setting i s rule journal) ≤ 1
+unfolding cache_items
+cache_few setting i s rule journal = grind (arith, sends_count)
+
+authority_few : (setting : Setting) (i s : ℕ) (rule : Option AuthorityRule) (journal : List Item)
+    → sent (authority_items setting i s rule journal) ≤ 1
+unfolding authority_items
+authority_few setting i s None journal = omega arith
+authority_few setting i s (Some rule) journal =
+    grind (arith, sent_more, put_few, count_of_append, cache_few, end_few)
+
+found_few : (setting : Setting) (i s : ℕ) (what : Found) (journal : List Item)
+    → sent (found_items setting i s what journal) ≤ 1
+found_few setting i s what journal =
+    grind (arith, sent_more, end_few, authority_few, leg_few)
+
+lookup_few : (setting : Setting) (i s : ℕ) (journal : List Item)
+    → sent (lookup_items setting i s journal) ≤ 1
+unfolding lookup_items
+lookup_few setting i s journal =
+    found_few setting i s (lookup_at setting journal s (header_at journal i)) journal
+
+arrive_few : (setting : Setting) (i s : ℕ) (journal : List Item)
+    → sent (arrive_items setting i s journal) ≤ 1
+unfolding arrive_items
+arrive_few setting i s journal = grind (arith, lookup_few, authority_few)
+
+reroute_few : (setting : Setting) (i s : ℕ) (journal : List Item)
+    → sent (reroute_items setting i s journal) ≤ 1
+unfolding reroute_items
+reroute_few setting i s journal = grind (arith, sent_more, arrive_few)
+
+move_few : (setting : Setting) (i s : ℕ) (journal : List Item)
+    → sent (move_items setting i s journal) ≤ 1
+unfolding move_items
+move_few setting i s journal = grind (arith, sent_more, arrive_few, reroute_few)
+
+pub packet_few : (setting : Setting) (i s : ℕ) (header : Header) (journal : List Item)
+    → sent (packet_items setting i s header journal) ≤ 1
+unfolding packet_items
+packet_few setting i s header journal = grind (arith, sent_more, lookup_few)
+
+-- so what is work alone sends at most one message
+pub step_few : (setting : Setting) (before : List Item) (step : Step) (here : List Item)
+    → IsWorkStep step → sent (step_items setting before step here) ≤ 1
+unfolding hop_items lose_items forget_items expire_items
+step_few setting before step here =
+    work_cases (λ step. sent (step_items setting before step here) ≤ 1)
+    (λ packet. grind (arith, move_few)) (λ packet. grind arith) (λ message. grind arith)
+    (λ s place. grind arith) step
+
+-- ---- settling
+
+switches_few : (setting : Setting) → IsNet setting.net → (test : ℕ → Bool)
+    → length (filter test (switches_of setting)) ≤ 64
+switches_few setting net test =
+    omega (
+      arith,
+      length_filter_less test (switches_of setting),
+      length-range_with_len 0 (length setting.net.switches),
+      net.few_switches,
+    )
+
+-- the same message to each of these switches
+each_few : (setting : Setting) → IsNet setting.net → (journal : List Item) (to : ℕ → Message)
+    (test : ℕ → Bool) → sent (send_items journal (map to (filter test (switches_of setting)))) ≤ 64
+each_few setting net journal to test =
+    omega (
+      arith,
+      sends_count journal (map to (filter test (switches_of setting))),
+      length-map (filter test (switches_of setting)) to,
+      switches_few setting net test,
+    )
+
+-- a mark that rises is told to the members
+mark_few : (setting : Setting) → IsNet setting.net → (journal : List Item) (next : Item)
+    → is_sending next ≡ false → (to : ℕ → Message) (rises : Bool) → sent (elim rises [
+      | false ↦ []
+      | true ↦ items_then (next ∷ []) (λ raised. send_items raised
+          (map to (members setting journal))) journal
+    ]) ≤ 64
+mark_few setting net journal next none to false = omega arith
+mark_few setting net journal next none to true =
+    let alone : sent (next ∷ []) ≡ 0 = rw none refl in
+    omega (
+      arith,
+      put_few (next ∷ []) (λ raised. send_items raised (map to (members setting journal))) journal,
+      alone,
+      each_few setting net (journal ++ next ∷ []) to (is_member journal),
+    )
+
+current_few : (setting : Setting) → IsNet setting.net → (journal : List Item)
+    → sent (current_items setting journal) ≤ 64
+unfolding current_items
+current_few setting net journal = mark_few setting net journal (item.Current _) refl _ _
+
+open_few : (setting : Setting) → IsNet setting.net → (journal : List Item)
+    → sent (open_items setting journal) ≤ 64
+unfolding open_items
+open_few setting net journal = each_few setting net journal _ _
+
+retired_few : (setting : Setting) → IsNet setting.net → (journal : List Item)
+    → sent (retired_items setting journal) ≤ 64
+unfolding retired_items
+retired_few setting net journal = mark_few setting net journal (item.Retired _) refl _ _
+
+pub settling_few : (setting : Setting) → IsNet setting.net → (journal : List Item)
+    → sent (settling setting journal) ≤ 192
+unfolding settling
+settling_few setting net journal =
+    let raised : List Item = journal ++ current_items setting journal in
+    let opened : List Item = raised ++ open_items setting raised in
+    omega (
+      arith,
+      put_few (current_items setting journal)
+          (in_turn (open_items setting ∷ retired_items setting ∷ [])) journal,
+      put_few (open_items setting raised) (in_turn (retired_items setting ∷ [])) raised,
+      put_few (retired_items setting opened) (in_turn []) opened,
+      current_few setting net journal,
+      open_few setting net raised,
+      retired_few setting net opened,
+    )
+
+-- ---- tables
+
+-- there are few versions
+range_few : (journal : List Item) (to : ℕ → Message) (low n : ℕ)
+    → sent (send_items journal (map to (range_with_len low n))) ≤ n
+range_few journal to low n =
+    omega (
+      arith,
+      sends_count journal (map to (range_with_len low n)),
+      length-map (range_with_len low n) to,
+      length-range_with_len low n,
+    )
+
+pub installs_few : (setting : Setting) (s : ℕ) (journal : List Item)
+    → sent (installs_to setting s journal) ≤ version_count journal + 1
+unfolding installs_to
+installs_few setting s journal =
+    omega (
+      arith,
+      range_few journal (λ version. install_for setting journal version s)
+          (current_mark journal) (version_count journal + 1 - current_mark journal),
+    )
+
+all_installs_few : (setting : Setting) → IsNet setting.net → (journal : List Item)
+    → sent (installs_to_all setting journal) ≤ 64
+unfolding installs_to_all
+all_installs_few setting net journal = each_few setting net journal _ _
+
+pub submitted_few : (setting : Setting) → IsNet setting.net → (journal : List Item)
+    → sent (submitted_items setting journal) ≤ 256
+submitted_few setting net journal =
+    let installed : List Item = journal ++ installs_to_all setting journal in
+    let settled : List Item = installed ++ settling setting installed in
+    omega (
+      arith,
+      put_few (installs_to_all setting journal) (in_turn (settling setting ∷ [])) journal,
+      put_few (settling setting installed) (in_turn []) installed,
+      all_installs_few setting net journal,
+      settling_few setting net installed,
+    )
+
+-- ---- what is sent again
+
+unacked_few : (setting : Setting) (journal : List Item) (s low n : ℕ)
+    → length (unacked_installs setting journal s (range_with_len low n)) ≤ n
+unacked_few setting journal s low n =
+    let test : ℕ → Bool = λ version. not (has_acked journal s version) in
+    omega (
+      arith,
+      length-map (filter test (range_with_len low n))
+          (λ version. install_for setting journal version s),
+      length_filter_less test (range_with_len low n),
+      length-range_with_len low n,
+    )
+
+one_if : (b : Bool) (message : Message) → length (if b then message ∷ [] else []) ≤ 1
+one_if true message = omega arith
+one_if false message = omega arith
+
+none_if : (b : Bool) (message : Message) → length (if b then [] else message ∷ []) ≤ 1
+none_if true message = omega arith
+none_if false message = omega arith
+
+member_few : (setting : Setting) (journal : List Item) (s : ℕ)
+    → length (resent_to_member setting journal s) ≤ version_count journal + 3
+member_few setting journal s =
+    let later : ℕ = version_count journal - current_mark journal in
+    let tables : List Message =
+    unacked_installs setting journal s (range_with_len (current_mark journal + 1) later) in
+    let stamp : List Message = if nat_lt (acked_stamp journal s) (current_mark journal)
+    then stamp_for setting journal (current_mark journal) s ∷ [] else [] in
+    let mark : List Message = if retired_mark journal == 0
+    then [] else collect_for journal (retired_mark journal) s ∷ [] in
+    omega (
+      arith,
+      length-append (tables ++ stamp) mark,
+      length-append tables stamp,
+      unacked_few setting journal s (current_mark journal + 1) later,
+      one_if (nat_lt (acked_stamp journal s) (current_mark journal))
+          (stamp_for setting journal (current_mark journal) s),
+      none_if (retired_mark journal == 0) (collect_for journal (retired_mark journal) s),
+    )
+
+controller_resent_few : (setting : Setting) (journal : List Item) (s : ℕ)
+    → length (resent_by_controller setting journal s) ≤ version_count journal + 3
+unfolding resent_by_controller
+controller_resent_few setting journal s = by_over (is_over journal s)
+  where
+    by_member : (member : Bool) → length {A = Message} (elim member [
+      | true ↦ resent_to_member setting journal s
+      | false ↦ unacked_installs setting journal s (versions_from_current journal)
+    ]) ≤ version_count journal + 3
+    by_member true = member_few setting journal s
+    by_member false =
+        omega (
+          arith,
+          unacked_few setting journal s (current_mark journal)
+              (version_count journal + 1 - current_mark journal),
+        )
+
+    by_over : (over : Bool) → length {A = Message} (elim over [
+      | true ↦ []
+      | false ↦ elim (is_member journal s) [
+        | true ↦ resent_to_member setting journal s
+        | false ↦ unacked_installs setting journal s (versions_from_current journal)
+      ]
+    ]) ≤ version_count journal + 3
+    by_over true = omega arith
+    by_over false = by_member (is_member journal s)
+
+-- all adverts that are held, to each neighbour
+switch_resent_few : (setting : Setting) → IsNet setting.net → (journal : List Item) (s : ℕ)
+    → length (resent_by_switch setting journal s) ≤ 4097
+switch_resent_few setting net journal s = by_up (is_up journal s)
+  where
+    by_up : (up : Bool) → length {A = Message} (elim up [
+      | false ↦ []
+      | true ↦ hello_of journal s
+          ∷ flat_map (λ neighbour. map (advert_to neighbour) (held_adverts setting journal s))
+          (switches_in setting (near setting journal s))
+    ]) ≤ 4097
+    by_up false = omega arith
+    by_up true =
+        omega (
+          arith,
+          length-flat_map
+              (λ neighbour. map (advert_to neighbour) (held_adverts setting journal s))
+              (switches_in setting (near setting journal s)),
+          sum_each
+              (λ neighbour. length (map (advert_to neighbour) (held_adverts setting journal s)))
+              64 (switches_in setting (near setting journal s))
+              (λ neighbour. omega (
+                arith,
+                held_few setting journal s,
+                length-map (held_adverts setting journal s) (advert_to neighbour),
+              )),
+          switches_few setting net (has (near setting journal s)),
+        )
+
+pub resend_few : (setting : Setting) → IsNet setting.net → (s : ℕ) (journal : List Item)
+    → sent (resend_items setting s journal) ≤ 4100 + version_count journal
+unfolding resend_items
+resend_few setting net s journal =
+    by_messages (resent_by_switch setting journal s ++ resent_by_controller setting journal s)
+    (omega (
+      arith,
+      length-append (resent_by_switch setting journal s)
+          (resent_by_controller setting journal s),
+      switch_resent_few setting net journal s,
+      controller_resent_few setting journal s,
+    ))
+  where
+    by_messages : (messages : List Message) → length messages ≤ 4100 + version_count journal
+        → sent (sends_or_nothing journal messages) ≤ 4100 + version_count journal
+    by_messages [] few = omega arith
+    by_messages (message ∷ messages) few =
+        omega (arith, few, sends_count journal (message ∷ messages))
+
+-- ---- steps without links
+
+pub update_few : (setting : Setting) → IsNet setting.net → (file : ℕ) (journal : List Item)
+    → sent (update_items setting file journal) ≤ 256
+unfolding update_items
+update_few setting net file journal = by_code (update_code setting journal file)
+  where
+    next : Item
+    next = item.Submitted file (version_count journal + 1)
+
+    by_code : (code : Option ℕ) → sent (elim code [
+      | Some refused ↦ item.Refused file refused ∷ []
+      | None ↦ items_then (item.Submitted file (version_count journal + 1) ∷ [])
+          (submitted_items setting) journal
+    ]) ≤ 256
+    by_code (Some refused) = omega arith
+    by_code None =
+        omega (
+          arith,
+          sent_more next (submitted_items setting (journal ++ next ∷ [])),
+          submitted_few setting net (journal ++ next ∷ []),
+        )
+
+pub confirm_few : (setting : Setting) → IsNet setting.net → (s : ℕ) (journal : List Item)
+    → sent (confirm_items setting s journal) ≤ 192
+unfolding confirm_items
+confirm_few setting net s journal = by_up (is_up journal s)
+  where
+    by_up : (up : Bool) → sent (elim up [
+      | true ↦ nothing
+      | false ↦ items_then (item.OverNow s ∷ []) (settling setting) journal
+    ]) ≤ 192
+    by_up true = omega arith
+    by_up false =
+        omega (
+          arith,
+          sent_more (item.OverNow s) (settling setting (journal ++ item.OverNow s ∷ [])),
+          settling_few setting net (journal ++ item.OverNow s ∷ []),
+        )
+
+pub passed_few : (setting : Setting) → IsNet setting.net → (journal : List Item) (s : ℕ)
+    (advert : Advert) → length (passed_on setting journal s advert) ≤ 64
+passed_few setting net journal s advert =
+    omega (
+      arith,
+      length-map (switches_in setting (near setting journal s))
+          (λ neighbour. advert_to neighbour advert),
+      switches_few setting net (has (near setting journal s)),
+    )
+
+-- ---- what the controller does: settling submits nothing
+
+settling_submits_none : (before : List Item) (next : Item) → IsOfSettling before next
+    → IsFalse (concerns_policies before next)
+settling_submits_none before (item.Submitted file version) of = absurd of
+settling_submits_none before _ of = refl
+
+settling_submitless : (setting : Setting) (journal : List Item)
+    → NoneConcern concerns_policies journal (settling setting journal)
+settling_submitless setting journal =
+    have_weaker IsOfSettling (λ before next. IsFalse (concerns_policies before next))
+    settling_submits_none journal _ (settling_settles setting journal)
+
+hello_few : (setting : Setting) (before : List Item) (body : Body) (journal : List Item)
+    → sent (after_hello setting before body journal) ≤ version_count journal + 1
+hello_few setting before (Hello s boot) journal = by_new (is_new_boot before s boot)
+  where
+    by_new : (new : Bool) → sent (elim new [
+      | true ↦ installs_to setting s journal
+      | false ↦ []
+    ]) ≤ version_count journal + 1
+    by_new true = installs_few setting s journal
+    by_new false = omega arith
+hello_few setting before _ journal = omega arith
+
+pub controller_few : (setting : Setting) → IsNet setting.net → (before : List Item) (body : Body)
+    (journal : List Item)
+    → sent (controller_items setting before body journal) ≤ 193 + version_count journal
+unfolding controller_items
+controller_few setting net before body journal =
+    let settled : List Item = journal ++ settling setting journal in
+    let after : List Item = settled ++ after_hello setting before body settled in
+    let same : version_count settled ≡ version_count journal =
+    (policies_keep journal (settling setting journal) (settling_submitless setting journal)).count
+    in
+    omega (
+      arith,
+      put_few (settling setting journal) (in_turn (after_hello setting before body ∷ [])) journal,
+      put_few (after_hello setting before body settled) (in_turn []) settled,
+      settling_few setting net journal,
+      hello_few setting before body settled,
+      same,
+    )

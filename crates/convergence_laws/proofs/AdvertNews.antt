@@ -1,0 +1,302 @@
+-- At the end of each step what a switch has each neighbour has as new, or was sent.
+use Rattle.std.proofs.Common.{ℕ, ◌≡◌, ◌+◌, ◌≤◌, ◌⊎◌, ◌==◌, ◌&&◌, Bool, true, false, not, List, [], ◌∷◌, ◌++◌, map, min, max, refl, ap, sym, subst, ◌∙◌, append_assoc, arith, inl, inr}
+use Rattle.std.specs.Prelude.{IsTrue, IsFalse, unwrap_or}
+use Rattle.std.specs.Bool.{beq}
+use Rattle.std.proofs.lemmas.Bool.{eq-eqb, eqb-true}
+use Rattle.failover.specs.declared.advert.Advert.{Advert}
+use Rattle.base.specs.Masks.{has}
+use Rattle.net_file.specs.Net.{IsNet}
+use Rattle.journal.specs.declared.item.Item.{Item}
+use Rattle.journal.specs.declared.item.Item.TheVariants as item
+use Rattle.steps.specs.declared.step.Step.{Step}
+use Rattle.update_machine.specs.Adverts.{own_advert}
+use Rattle.update_machine.specs.Boots.{boot_of, heard, is_up}
+use Rattle.update_machine.specs.Causes.{HaveCauses}
+use Rattle.update_machine.specs.Concerns.{concerns_links}
+use Rattle.update_machine.specs.Deliveries.{has_changed, link_changes}
+use Rattle.update_machine.specs.Laws.{LinksKeep}
+use Rattle.update_machine.specs.Links.{is_link_up, gives_link, serves}
+use Rattle.update_machine.specs.Messages.{next_message}
+use Rattle.update_machine.specs.Moves.{items_then}
+use Rattle.update_machine.specs.Travels.{packets_at}
+use Rattle.update_machine.specs.Pieces.{crash_items, hello_of, link_items, nothing, restart_items}
+use Rattle.update_machine.specs.Setting.{Setting}
+use Rattle.update_machine.specs.LinkMasks.{near}
+use Rattle.update_machine.proofs.CallerLemmas.{last_given_append, links_keep, near_same, near_stays}
+use Rattle.control_laws.proofs.ControllerCommands.{Control, IsControl}
+use Rattle.control_laws.proofs.CrashedSwitches.{losts_have, losts_keep}
+use Rattle.control_laws.proofs.ItemFacts.{have_weaker}
+use Rattle.control_laws.proofs.FactsGrown.{boot_more, heard_more, serving_more, up_more}
+use Rattle.control_laws.proofs.SwitchOpenings.{IsKnown}
+use Rattle.control_laws.proofs.StepCases.{restart_cases}
+use Rattle.control_laws.proofs.TrafficItems.{IsWork, Work}
+use Rattle.control_laws.proofs.AdvertStepCauses.{row_first}
+use Rattle.convergence_laws.proofs.ChangedLinksTold.{IsOwed, link_news, pay_links, sends_still}
+use Rattle.convergence_laws.proofs.GivenAdverts.{HaveNews, IsHad, IsStill, given_grows, stills_news}
+use Rattle.convergence_laws.proofs.ListElements.{IsIn}
+use Rattle.convergence_laws.proofs.MessageCourses.{next_grows}
+
+abbrev pub Still : List Item → List Item → Type 0
+Still journal items = HaveCauses IsStill journal items
+
+-- nobody owes anything
+abbrev pub Spread : Setting → ℕ → List Item → Type 0
+Spread setting since journal = HaveNews setting since (λ s neighbour advert. ⊥) journal
+
+pub still_spread : {since : ℕ} (setting : Setting) (journal items : List Item)
+    → Still journal items
+    → Spread setting since journal → Spread setting since (journal ++ items)
+still_spread setting journal items still have =
+    stills_news setting (λ s neighbour advert. ⊥) journal items still have
+
+-- ---- blocks
+
+pub work_is_still : (setting : Setting) (before : List Item) (next : Item)
+    → IsWork setting before next → IsStill before next
+work_is_still setting before (item.Delivered number) is = absurd is
+work_is_still setting before (item.Down s) is = absurd is
+work_is_still setting before (item.Booted s boot) is = absurd is
+work_is_still setting before (item.Opened s version) is = absurd is
+work_is_still setting before (item.LinkIs one two up) is = absurd is
+work_is_still setting before _ is = tt
+
+pub work_still : (setting : Setting) (journal items : List Item) → Work setting journal items
+    → Still journal items
+work_still setting journal items work =
+    have_weaker (IsWork setting) IsStill (work_is_still setting) journal items work
+
+pub control_is_still : (before : List Item) (next : Item) → IsControl before next → IsStill before next
+control_is_still before (item.Delivered number) is = absurd is
+control_is_still before (item.Down s) is = absurd is
+control_is_still before (item.Booted s boot) is = absurd is
+control_is_still before (item.Opened s version) is = absurd is
+control_is_still before (item.LinkIs one two up) is = absurd is
+control_is_still before _ is = tt
+
+pub control_still : (journal items : List Item) → Control journal items → Still journal items
+control_still = have_weaker IsControl IsStill control_is_still
+
+-- ---- links and switches
+
+pub row_near : (setting : Setting) (before : List Item) (row : ℕ) (step : Step) (s : ℕ)
+    → near setting (before ++ item.Row row step ∷ []) s ≡ near setting before s
+row_near setting before row step s =
+    near_stays setting s before (item.Row row step ∷ []) (refl, tt)
+
+pub link_spread : {since : ℕ} (setting : Setting) (before : List Item) (row : ℕ) (step : Step)
+    (one two : ℕ) (up : Bool) → IsNet setting.net
+    → let here = before ++ item.Row row step ∷ [] in
+    since ≤ next_message here → IsKnown here → Spread setting since here
+    → Spread setting since (here ++ link_items setting before one two up here)
+unfolding link_items
+link_spread {since = since} setting before row step one two up net late known have =
+    by_test (beq (is_link_up before one two) up)
+  where
+    here : List Item
+    here = before ++ item.Row row step ∷ []
+
+    next : Item
+    next = item.LinkIs (min one two) (max one two) up
+
+    now : List Item
+    now = here ++ next ∷ []
+
+    by_test : (b : Bool) → Spread setting since (here ++ elim b [
+      | true ↦ nothing
+      | false ↦ items_then (next ∷ []) (link_changes setting before) here
+    ])
+    by_test true = still_spread setting here nothing (tt, tt) have
+    by_test false =
+        subst (Spread setting since)
+        (append_assoc here (next ∷ []) (link_changes setting before now))
+        (pay_links setting before now net (omega (arith, late, next_grows here (next ∷ [])))
+        (link_news setting before here next (row_near setting before row step)
+        (record { first = tt; second = row_first before row step }) refl known have))
+
+-- what is owed is so behind the packets that are lost too
+owed_later : (setting : Setting) (before now : List Item) (packets : List ℕ) (s neighbour : ℕ)
+    (advert : Advert) → IsOwed setting before now s neighbour advert
+    → IsOwed setting before (now ++ map item.Lost packets) s neighbour advert
+owed_later setting before now packets s neighbour advert owed =
+    record {
+      changed = by_changed (is_up now s) (near setting now s) owed.changed up (keeps.near s);
+      told = subst (λ n. 1 ≤ n) (sym (keeps.seq s)) owed.told;
+      had = by_had owed.had;
+      which = by_which owed.which;
+    }
+  where
+    after : List Item
+    after = now ++ map item.Lost packets
+
+    keeps : LinksKeep setting now after
+    keeps = links_keep setting now (map item.Lost packets)
+        (losts_have (λ before next. IsFalse (concerns_links before next)) (λ before i. refl) packets
+        now)
+
+    up : is_up after s ≡ is_up now s
+    up = losts_keep (λ journal. is_up journal s) (λ journal i. up_more journal (item.Lost i) s)
+        packets now
+
+    boot : boot_of after s ≡ boot_of now s
+    boot = losts_keep (λ journal. boot_of journal s)
+        (λ journal i. boot_more journal (item.Lost i) s) packets now
+
+    same : heard after s ≡ heard now s
+    same = losts_keep (λ journal. heard journal s) (λ journal i. heard_more journal (item.Lost i) s)
+        packets now
+
+    by_changed : (up : Bool) (mask : ℕ) → (up && not (near setting before s == mask)) ≡ true
+        → is_up after s ≡ up → near setting after s ≡ mask
+        → IsTrue (has_changed setting before after s)
+    by_changed up mask changed same links = rw (same, links) changed
+
+    by_had : IsHad setting now s advert → IsHad setting after s advert
+    by_had (inl own) = inl (own ∙ sym (keeps.advert s))
+    by_had (inr of) = inr (record {
+      other = of.other;
+      small = of.small;
+      given = given_grows setting now after s advert up boot
+          (λ body is. subst (λ bodies. IsIn body bodies) (sym same) is) of.given;
+    })
+
+    by_which : (advert ≡ own_advert setting now s)
+        ⊎ IsFalse (has (near setting before s) neighbour)
+        → (advert ≡ own_advert setting after s) ⊎ IsFalse (has (near setting before s) neighbour)
+    by_which (inl own) = inl (own ∙ sym (keeps.advert s))
+    by_which (inr new) = inr new
+
+-- what is owed in one way is owed in another
+pub owed_as : {since : ℕ} (setting : Setting) (One Other : ℕ → ℕ → Advert → Type 0)
+    (journal : List Item)
+    → ((s neighbour : ℕ) (advert : Advert) → One s neighbour advert → Other s neighbour advert)
+    → HaveNews setting since One journal → HaveNews setting since Other journal
+owed_as setting One Other journal as_other have = record {
+  each = λ s neighbour advert linked had other.
+      elim (have.each s neighbour advert linked had other) [
+        | inl owed ↦ inl (as_other s neighbour advert owed)
+        | inr has ↦ inr has
+      ];
+}
+
+pub crash_spread : {since : ℕ} (setting : Setting) (before : List Item) (row : ℕ) (step : Step)
+    (s : ℕ) → IsNet setting.net → let here = before ++ item.Row row step ∷ [] in
+    since ≤ next_message here → IsKnown here → Spread setting since here
+    → Spread setting since (here ++ crash_items setting before s here)
+unfolding crash_items
+crash_spread {since = since} setting before row step s net late known have = by_up (is_up before s) refl
+  where
+    here : List Item
+    here = before ++ item.Row row step ∷ []
+
+    next : Item
+    next = item.Down s
+
+    packets : List ℕ
+    packets = packets_at before s
+
+    losts : List Item
+    losts = map item.Lost packets
+
+    now : List Item
+    now = here ++ next ∷ []
+
+    later : since ≤ next_message (now ++ losts)
+    later = omega (arith, late, next_grows here (next ∷ []), next_grows now losts)
+
+    down : is_up before s ≡ true → Spread setting since
+        ((now ++ losts) ++ link_changes setting before (now ++ losts))
+    down up = pay_links setting before (now ++ losts) net later
+        (owed_as setting (IsOwed setting before now) (IsOwed setting before (now ++ losts))
+        (now ++ losts) (owed_later setting before now packets)
+        (stills_news setting (IsOwed setting before now) now losts
+        (losts_have IsStill (λ journal i. tt) packets now)
+        (link_news setting before here next (row_near setting before row step)
+        (record {
+          first = up_more before (item.Row row step) s ∙ up;
+          second = row_first before row step;
+        }) refl known have)))
+
+    same : now ++ losts ≡ here ++ (next ∷ losts)
+    same = append_assoc here (next ∷ []) losts
+
+    by_up : (b : Bool) → is_up before s ≡ b → Spread setting since (here ++ elim b [
+      | false ↦ nothing
+      | true ↦ items_then (next ∷ losts) (link_changes setting before) here
+    ])
+    by_up false e = still_spread setting here nothing (tt, tt) have
+    by_up true e =
+        subst (Spread setting since)
+        (append_assoc here (next ∷ losts) (link_changes setting before (here ++ (next ∷ losts))))
+        (subst (λ j. Spread setting since (j ++ link_changes setting before j)) same (down e))
+
+booted_link : (here : List Item) (s boot one other : ℕ)
+    → is_link_up (here ++ item.Booted s boot ∷ []) one other ≡ is_link_up here one other
+unfolding is_link_up
+booted_link here s boot one other =
+    ap (λ o. unwrap_or o true)
+    (last_given_append (gives_link (min one other) (max one other)) here (item.Booted s boot ∷ []))
+
+-- a switch that began a boot has no links yet, and had none
+pub restart_spread : {since : ℕ} (setting : Setting) (before : List Item) (row : ℕ)
+    (step : Step) (s : ℕ) → let here = before ++ item.Row row step ∷ [] in
+    IsKnown here → Spread setting since here
+    → Spread setting since (here ++ restart_items s here)
+restart_spread {since = since} setting before row step s known have =
+    restart_cases (Spread setting since) s here (still_spread setting here nothing (tt, tt) have)
+    (λ down. still_spread setting now _ (sends_still now (hello_of now s ∷ [])) (booted down))
+  where
+    here : List Item
+    here = before ++ item.Row row step ∷ []
+
+    next : Item
+    next = item.Booted s (boot_of here s + 1)
+
+    now : List Item
+    now = here ++ next ∷ []
+
+    idle : is_up here s ≡ false → serves here s ≡ false
+    idle down = by_serving (serves here s) refl
+      where
+        by_serving : (b : Bool) → serves here s ≡ b → serves here s ≡ false
+        by_serving false e = e
+        by_serving true e =
+            let clash : false ≡ true = sym down ∙ (known.serving s).up e in absurd cc
+
+    serving_same : is_up here s ≡ false → (t : ℕ) → serves now t ≡ serves here t
+    serving_same down t = by_test (s == t) refl
+      where
+        by_test : (b : Bool) → (s == t) ≡ b → serves now t ≡ serves here t
+        by_test true e =
+            let none : serves now t ≡ false = rw (serving_more here next t, e) refl in
+            none ∙ sym (idle down) ∙ ap (serves here) (eqb-true s t e)
+        by_test false e = rw (serving_more here next t, e) refl
+
+    links_now : is_up here s ≡ false → (t : ℕ) → near setting now t ≡ near setting before t
+    links_now down t =
+        near_same setting here now (serving_same down)
+        (λ one other. booted_link here s (boot_of here s + 1) one other) t
+        ∙ row_near setting before row step t
+
+    none : is_up here s ≡ false → (t neighbour : ℕ) (advert : Advert)
+        → IsOwed setting before now t neighbour advert → ⊥
+    none down t neighbour advert owed =
+        by_changed (is_up now t) (near setting now t) owed.changed (links_now down t)
+      where
+        by_changed : (up : Bool) (mask : ℕ)
+            → (up && not (near setting before t == mask)) ≡ true
+            → mask ≡ near setting before t → ⊥
+        by_changed true mask changed same =
+            let alike : (near setting before t == mask) ≡ true =
+            eq-eqb (near setting before t) mask (sym same) in
+            let clash : false ≡ true = sym (ap not alike) ∙ changed in
+            absurd cc
+        by_changed false mask changed same = absurd cc
+
+    booted : is_up here s ≡ false → Spread setting since now
+    booted down = owed_as setting (IsOwed setting before now) (λ t neighbour advert. ⊥) now
+        (none down)
+        (link_news setting before here next (row_near setting before row step)
+        (record {
+          first = record { down = down; next = refl };
+          second = row_first before row step;
+        }) refl known have)

@@ -1,0 +1,233 @@
+-- Where adverts have spread, and each switch was given what it was told, neighbours agree.
+use Rattle.std.proofs.Common.{ℕ, ◌≡◌, ◌≢◌, ◌<◌, ◌≤◌, ◌⊎◌, Bool, true, false, Some, List, [], ◌∷◌, ◌++◌, refl, ap, sym, subst, ◌∙◌, arith, inl, inr}
+use Rattle.std.specs.Prelude.{IsTrue, IsFalse}
+use Rattle.std.proofs.lemmas.Bool.{cases_eq}
+use Rattle.std.proofs.lemmas.Bool.Decides.{nat_tests}
+use Rattle.failover.specs.Adverts.{is_newer}
+use Rattle.failover.specs.declared.advert.Advert.{Advert}
+use Rattle.base.specs.Masks.{has}
+use Rattle.net_file.specs.Net.{IsNet}
+use Rattle.journal.specs.declared.item.Item.{Item}
+use Rattle.journal.specs.declared.item.Item.TheVariants as item
+use Rattle.steps.specs.Steps.{HasSwitch}
+use Rattle.update_machine.specs.Adverts.{advert_known, own_advert, own_seq}
+use Rattle.update_machine.specs.Boots.{boot_of, is_up}
+use Rattle.update_machine.specs.Causes.{HaveCauses}
+use Rattle.update_machine.specs.LinkMasks.{near}
+use Rattle.update_machine.specs.Setting.{Setting}
+use Rattle.update_machine.specs.Links.{serves}
+use Rattle.update_machine.proofs.CallerLemmas.{known_link_laws, start_laws}
+use Rattle.control_laws.proofs.ItemFacts.{AreKept, fact_on}
+use Rattle.control_laws.proofs.FactsGrown.{boot_more}
+use Rattle.control_laws.proofs.SwitchOpenings.{IsKnown, known_at_first, known_kept}
+use Rattle.control_laws.proofs.SwitchKeeps.{turns}
+use Rattle.control_laws.specs.Adverts.{OwnAreNewest}
+use Rattle.control_laws.proofs.AllAdverts.{own_told}
+use Rattle.control_laws.proofs.BothCauses.{HasBothCauses}
+use Rattle.control_laws.proofs.NetLinks.{ends_serve, own_origin}
+use Rattle.control_laws.proofs.NewestAdverts.{own_on}
+use Rattle.control_laws.proofs.OwnAdverts.{same_near, same_seq}
+use Rattle.convergence_laws.specs.News.{HoldsAsNew, IsAsNew, NeighboursAgree}
+use Rattle.convergence_laws.proofs.ChangedLinksTold.{AreEnds, ends_there, newest_held, own_held, serving_turns}
+use Rattle.convergence_laws.proofs.AdvertFloods.{known_given}
+use Rattle.convergence_laws.proofs.GivenAdverts.{HasNews, IsGiven, IsHad, IsToldTo, as_new_itself, as_new_through}
+use Rattle.convergence_laws.proofs.UsableNeighbours.{near_both}
+use Rattle.convergence_laws.proofs.AdvertNews.{Spread}
+
+-- ---- a switch that has a link told its own advert
+
+pub record TellsOwn (setting : Setting) (journal : List Item) : Type 0 where
+  pub known : IsKnown journal
+  pub tells : (s k : ℕ) → IsTrue (has (near setting journal s) k) → 1 ≤ own_seq setting journal s
+
+boot_stays : (before : List Item) (next : Item) (s : ℕ) → turns s next ≡ false
+    → boot_of (before ++ next ∷ []) s ≡ boot_of before s
+boot_stays before (item.Booted t boot) s e = rw (boot_more before (item.Booted t boot) s, e) refl
+boot_stays before next s e = boot_more before next s
+
+serving_boot : (before : List Item) (next : Item) (s : ℕ)
+    → serves (before ++ next ∷ []) s ≡ true → boot_of (before ++ next ∷ []) s ≡ boot_of before s
+serving_boot before next s serving = by_turn (turns s next) refl
+  where
+    by_turn : (b : Bool) → turns s next ≡ b → boot_of (before ++ next ∷ []) s ≡ boot_of before s
+    by_turn true e =
+        let clash : true ≡ false = sym serving ∙ serving_turns before next s e in absurd cc
+    by_turn false e = boot_stays before next s e
+
+tells_kept : (setting : Setting) → AreKept (HasBothCauses setting) (TellsOwn setting)
+tells_kept setting before next both are = record { known = known_now; tells = tells }
+  where
+    now : List Item
+    now = before ++ next ∷ []
+
+    known_now : IsKnown now
+    known_now = known_kept setting before next both.first are.known
+
+    tells : (s k : ℕ) → IsTrue (has (near setting now s) k) → 1 ≤ own_seq setting now s
+    tells s k linked =
+        let serving = (ends_serve setting now s k linked).0 in
+        elim (own_on setting before next s both ((known_now.serving s).up serving)
+        (serving_boot before next s serving)) [
+          | inl same ↦ omega (
+            arith,
+            same_seq setting now before s same,
+            are.tells s k (subst (λ mask. IsTrue (has mask k))
+                (same_near setting now before s same) linked),
+          )
+          | inr more ↦ omega (arith, more.seq)
+        ]
+
+pub caused_tells : (setting : Setting) (journal : List Item)
+    → HaveCauses (HasBothCauses setting) [] journal → TellsOwn setting journal
+caused_tells setting journal have =
+    fact_on (HasBothCauses setting) (TellsOwn setting) (tells_kept setting) [] journal have
+    (record {
+      known = known_at_first;
+      tells = λ s k linked. omega (arith, start_laws.seq setting s);
+    })
+
+-- ---- what a neighbour holds, or was told
+
+older_own : (own a : Advert) → (a ≡ own) ⊎ IsTrue (is_newer own a) → IsFalse (is_newer a own)
+older_own own a (inl same) =
+    subst (λ (b : Advert). IsFalse (is_newer b own)) (sym same) (as_new_itself own).new
+older_own own a (inr newer) = less own a newer
+  where
+    less : (x z : Advert) → is_newer x z ≡ true → is_newer z x ≡ false
+    less x z more = grind (arith, nat_tests)
+
+-- of what it was given it holds what is as new
+given_held : (setting : Setting) (journal : List Item) (s : ℕ) (b a : Advert) → a.origin ≢ s
+    → a.origin < 64 → IsAsNew b a → IsGiven setting journal s b → HoldsAsNew setting journal s a
+given_held setting journal s b a apart small as_new given =
+    let of = as_new.origin in
+    let best = newest_held setting journal s b (record {
+      other = λ same. apart (sym of ∙ same);
+      small = omega (arith, of, small);
+      given = given;
+    }) in
+    record {
+      advert = best.advert;
+      held = ap (advert_known setting journal s) (sym of) ∙ best.held;
+      as_new = as_new_through best.advert b a best.as_new as_new;
+    }
+
+-- the network, and what is said of the adverts in it
+pub record AreSpread (setting : Setting) (since : ℕ) (journal : List Item) : Type 0 where
+  pub net : IsNet setting.net
+  pub spread : Spread setting since journal
+  pub newest : OwnAreNewest setting journal
+  pub tells : TellsOwn setting journal
+
+-- an advert of another switch that is as new was told to the switch
+pub record IsToldAsNew (since : ℕ) (journal : List Item) (s : ℕ) (than : Advert) : Type 0 where
+  pub advert : Advert
+  pub as_new : IsAsNew advert than
+  pub told : IsToldTo since journal s advert
+  pub other : advert.origin ≢ s
+  pub small : than.origin < 64
+
+pub spread_cases : {since : ℕ} (setting : Setting) (journal : List Item)
+    → AreSpread setting since journal → (s neighbour origin : ℕ) (a : Advert) → IsTrue (has (near setting journal s) neighbour)
+    → origin < 64 → advert_known setting journal s origin ≡ Some a
+    → HoldsAsNew setting journal neighbour a ⊎ IsToldAsNew since journal neighbour a
+spread_cases {since = since} setting journal are s neighbour origin a linked small known =
+    by_place (cases_eq a.origin neighbour)
+  where
+    ends : AreEnds setting s neighbour
+    ends = ends_there setting journal s neighbour are.net linked
+
+    s_small : s < 64
+    s_small = omega (arith, ends.one, are.net.few_switches)
+
+    had : IsHad setting journal s a
+    had = by_origin (cases_eq origin s)
+      where
+        by_origin : (origin ≡ s) ⊎ (origin ≢ s) → IsHad setting journal s a
+        by_origin (inl same) =
+            inl (sym (own_told (own_advert setting journal s) a
+            (sym (known_link_laws.own setting journal s s_small)
+            ∙ ap (advert_known setting journal s) (sym same) ∙ known)))
+        by_origin (inr apart) =
+            let given = known_given setting journal s origin a apart small known in
+            inr (record {
+              other = λ same. apart (sym given.of ∙ same);
+              small = omega (arith, given.of, small);
+              given = given.given;
+            })
+
+    -- of itself a neighbour holds the newest
+    of_itself : a.origin ≡ neighbour → HoldsAsNew setting journal neighbour a
+    of_itself same =
+        let fits : neighbour < 64 = omega (arith, ends.other, are.net.few_switches) in
+        let back = near_both setting journal s neighbour s_small linked in
+        let up : IsTrue (is_up journal neighbour) =
+        (are.tells.known.serving neighbour).up (ends_serve setting journal s neighbour linked).1 in
+        record {
+          advert = own_advert setting journal neighbour;
+          held = ap (advert_known setting journal neighbour) same
+              ∙ own_held setting journal neighbour fits (are.tells.tells neighbour s back);
+          as_new = record {
+            origin = own_origin setting journal neighbour ∙ sym same;
+            new = older_own (own_advert setting journal neighbour) a
+                (subst (λ o. (a ≡ own_advert setting journal o)
+                ⊎ IsTrue (is_newer (own_advert setting journal o) a)) same
+                ((are.newest.held s origin a small known).own
+                (subst (λ o. IsTrue (is_up journal o)) (sym same) up)));
+          };
+        }
+
+    a_small : IsHad setting journal s a → a.origin < 64
+    a_small (inl own) =
+        omega (arith, ap (λ (b : Advert). b.origin) own ∙ own_origin setting journal s, s_small)
+    a_small (inr of) = of.small
+
+    by_had : a.origin ≢ neighbour → (news : HasNews setting since journal neighbour a)
+        → IsGiven setting journal neighbour news.advert
+        ⊎ IsToldTo since journal neighbour news.advert
+        → HoldsAsNew setting journal neighbour a ⊎ IsToldAsNew since journal neighbour a
+    by_had apart news (inl given) =
+        inl (given_held setting journal neighbour news.advert a apart (a_small had) news.as_new given)
+    by_had apart news (inr told) = inr (record {
+      advert = news.advert;
+      as_new = news.as_new;
+      told = told;
+      other = λ same. apart (sym news.as_new.origin ∙ same);
+      small = a_small had;
+    })
+
+    by_place : (a.origin ≡ neighbour) ⊎ (a.origin ≢ neighbour)
+        → HoldsAsNew setting journal neighbour a ⊎ IsToldAsNew since journal neighbour a
+    by_place (inl same) = inl (of_itself same)
+    by_place (inr apart) = elim (are.spread.each s neighbour a linked had apart) [
+      | inl none ↦ absurd none
+      | inr news ↦ by_had apart news news.had
+    ]
+
+-- ---- neighbours that agree
+
+-- the switch was given an advert that is as new
+pub record IsGivenNew (setting : Setting) (journal : List Item) (s : ℕ) (than : Advert)
+    : Type 0 where
+  pub advert : Advert
+  pub as_new : IsAsNew advert than
+  pub given : IsGiven setting journal s advert
+
+-- where each switch was given what it was told, or what is as new, neighbours agree
+pub spread_agree : {since : ℕ} (setting : Setting) (journal : List Item)
+    → AreSpread setting since journal
+    → ((s : ℕ) (b : Advert) → HasSwitch setting.net s → IsTrue (is_up journal s) → b.origin ≢ s
+    → IsToldTo since journal s b → IsGivenNew setting journal s b)
+    → NeighboursAgree setting journal
+spread_agree setting journal are gets s neighbour origin a linked small known =
+    elim (spread_cases setting journal are s neighbour origin a linked small known) [
+      | inl held ↦ held
+      | inr told ↦
+          let ends = ends_there setting journal s neighbour are.net linked in
+          let up : IsTrue (is_up journal neighbour) =
+          (are.tells.known.serving neighbour).up (ends_serve setting journal s neighbour linked).1 in
+          let found = gets neighbour told.advert ends.other up told.other told.told in
+          let of : a.origin ≢ neighbour = λ same. told.other (told.as_new.origin ∙ same) in
+          given_held setting journal neighbour found.advert a of told.small
+          (as_new_through found.advert told.advert a found.as_new told.as_new) found.given
+    ]

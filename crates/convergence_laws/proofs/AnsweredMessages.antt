@@ -1,0 +1,442 @@
+-- At the end of each step a switch has answered what it heard in its boot, and has told the
+-- controller of that boot.
+use Rattle.std.proofs.Common.{ℕ, ◌≡◌, ◌+◌, ◌⊎◌, ◌==◌, Bool, true, false, if◌then◌else◌, Option, Some, None, List, [], ◌∷◌, ◌++◌, refl, ap, sym, subst, ◌∙◌, append-nil, append_assoc, arith, inl, inr}
+use Rattle.std.specs.Prelude.{IfSome, IsTrue, IsFalse, unwrap_or}
+use Rattle.std.specs.Option.{option_map_or}
+use Rattle.std.proofs.lemmas.Bool.{eq-eqb, eqb-true}
+use Rattle.std.proofs.lemmas.Bool.Decides.{nat_tests}
+use Rattle.std.proofs.lemmas.Option.{IfSome_then}
+use Rattle.ctrl_msg.specs.declared.message.Body.{Body}
+use Rattle.ctrl_msg.specs.declared.message.Body.TheVariants.{Install, OpenAt, Stamp, Hello, Installed, Stamped}
+use Rattle.ctrl_msg.specs.Kinds.{to_controller}
+use Rattle.journal.specs.declared.item.Item.{Item}
+use Rattle.journal.specs.declared.item.Item.TheVariants as item
+use Rattle.steps.specs.declared.step.Step.{Step}
+use Rattle.steps.specs.declared.step.Step.TheVariants.{Deliver, Restart}
+use Rattle.update_machine.specs.Boots.{boot_of, heard, is_up, body_to_switch}
+use Rattle.update_machine.specs.Deliveries.{delivery_items, link_changes, received_items, switch_items}
+use Rattle.update_machine.specs.Messages.{send_items}
+use Rattle.update_machine.specs.Moves.{items_then}
+use Rattle.update_machine.specs.Pieces.{deliver_items, hello_of, nothing, piece, restart_items, step_items}
+use Rattle.update_machine.specs.Setting.{Setting}
+use Rattle.update_machine.specs.Settling.{to_switch}
+use Rattle.update_machine.specs.Versions.{stamp_of}
+use Rattle.update_machine.specs.Links.{serves, message_of}
+use Rattle.update_machine.proofs.CallerLemmas.{start_laws}
+use Rattle.control_laws.proofs.ReachedCauses.{behind_piece}
+use Rattle.control_laws.proofs.ItemFacts.{AreKept, fact_on}
+use Rattle.control_laws.proofs.FactsGrown.{boot_more, heard_more, serving_more, up_more}
+use Rattle.control_laws.proofs.StepCases.{deliver_cases, restart_cases}
+use Rattle.control_laws.proofs.SwitchBlocks.{said_parts, said_row}
+use Rattle.control_laws.proofs.TrafficItems.{IsTraffic, links_traffic}
+use Rattle.control_laws.proofs.SwitchKeeps.{is_delivered}
+use Rattle.convergence_laws.proofs.ListElements.{IsIn, in_either}
+use Rattle.convergence_laws.proofs.PlainItems.{IsPlain, Plain, delivery_plain, is_plain, sends_plain, step_plain}
+use Rattle.convergence_laws.proofs.MessageCourses.{IsSent, sends_all, sent_stays}
+
+-- ---- what is said
+
+-- the acknowledgement that the switch owes for tables and for a stamp
+abbrev pub answer_of : ℕ → Body → Option Body
+answer_of s (Install boot tables) = Some (Installed s boot tables.version)
+answer_of s (Stamp boot version touched) = Some (Stamped s boot version)
+answer_of s _ = None
+
+-- the switch sent it, and serves once it was told to open
+abbrev pub IsAnswered : List Item → ℕ → Body → Type 0
+IsAnswered journal s (OpenAt boot version) = IsTrue (serves journal s)
+IsAnswered journal s body =
+    IfSome (answer_of s body) (λ answer. IsSent journal (to_controller answer))
+
+-- all that was heard is answered, but what is still owed
+pub record AreAnswered (Owed : ℕ → Body → Type 0) (journal : List Item) : Type 0 where
+  pub each : (s : ℕ) (body : Body) → IsIn body (heard journal s)
+      → Owed s body ⊎ IsAnswered journal s body
+
+-- the controller was told of the boot of each switch that is up, but of those that still owe it
+pub record AreGreeted (Owed : ℕ → Type 0) (journal : List Item) : Type 0 where
+  pub each : (s : ℕ) → IsTrue (is_up journal s) → Owed s ⊎ ((boot_of journal s ≡ 1)
+      ⊎ IsSent journal (to_controller (Hello s (boot_of journal s))))
+
+pub record HaveSpoken (journal : List Item) : Type 0 where
+  pub answers : AreAnswered (λ s body. ⊥) journal
+  pub hellos : AreGreeted (λ s. ⊥) journal
+
+-- ---- items that keep it
+
+abbrev is_booted : Item → Bool
+is_booted (item.Booted s boot) = true
+is_booted _ = false
+
+-- what was heard before an item that is no delivery
+record WasIn (before : List Item) (next : Item) (s : ℕ) (body : Body) : Type 0 where
+  is : IsIn body (heard before s)
+  serving : IsTrue (serves before s) → IsTrue (serves (before ++ next ∷ []) s)
+
+-- an item behind which one switch has heard nothing, and the others are as they were
+was_apart : (before : List Item) (next : Item) (t s : ℕ) (body : Body)
+    → heard (before ++ next ∷ []) s ≡ (if t == s then [] else heard before s)
+    → ((t == s) ≡ false → serves (before ++ next ∷ []) s ≡ serves before s)
+    → IsIn body (heard (before ++ next ∷ []) s) → WasIn before next s body
+was_apart before next t s body forgets same is = by_test (t == s) refl
+  where
+    by_test : (b : Bool) → (t == s) ≡ b → WasIn before next s body
+    by_test true e = let none : IsIn body [] = rw (forgets, e) at is in absurd none
+    by_test false e = record {
+      is = rw (forgets, e) at is;
+      serving = λ serving. same e ∙ serving;
+    }
+
+was_in : (before : List Item) (next : Item) (s : ℕ) (body : Body) → IsFalse (is_delivered next)
+    → IsIn body (heard (before ++ next ∷ []) s) → WasIn before next s body
+was_in before (item.Down t) s body plain is =
+    was_apart before (item.Down t) t s body (heard_more before (item.Down t) s)
+    (λ e. rw (serving_more before (item.Down t) s, e) refl) is
+was_in before (item.Booted t boot) s body plain is =
+    was_apart before (item.Booted t boot) t s body (heard_more before (item.Booted t boot) s)
+    (λ e. rw (serving_more before (item.Booted t boot) s, e) refl) is
+was_in before (item.Opened t version) s body plain is = record {
+  is = rw (heard_more before (item.Opened t version) s) at is;
+  serving = λ serving.
+      rw (serving_more before (item.Opened t version) s) (by_test (t == s) serving);
+}
+  where
+    by_test : (b : Bool) → IsTrue (serves before s)
+        → IsTrue (unwrap_or (if b then Some true else None) (serves before s))
+    by_test true serving = refl
+    by_test false serving = serving
+was_in before (item.Delivered number) s body plain is = absurd cc
+was_in before next s body plain is = record {
+  is = rw (heard_more before next s) at is;
+  serving = λ serving. rw (serving_more before next s) serving;
+}
+
+answered_stays : (before : List Item) (next : Item) (s : ℕ) (body : Body)
+    → (IsTrue (serves before s) → IsTrue (serves (before ++ next ∷ []) s))
+    → IsAnswered before s body → IsAnswered (before ++ next ∷ []) s body
+answered_stays before next s (OpenAt boot version) serving is = serving is
+answered_stays before next s body serving is =
+    IfSome_then (answer_of s body) is (λ answer sent. sent_stays before next (to_controller answer) sent)
+
+answers_on : (Owed : ℕ → Body → Type 0) (before : List Item) (next : Item)
+    → IsFalse (is_delivered next) → AreAnswered Owed before
+    → AreAnswered Owed (before ++ next ∷ [])
+answers_on Owed before next plain are = record {
+  each = λ s body is.
+      let was = was_in before next s body plain is in
+      elim (are.each s body was.is) [
+        | inl owed ↦ inl owed
+        | inr answered ↦ inr (answered_stays before next s body was.serving answered)
+      ];
+}
+
+hellos_on : (Owed : ℕ → Type 0) (before : List Item) (next : Item) → IsFalse (is_booted next)
+    → AreGreeted Owed before → AreGreeted Owed (before ++ next ∷ [])
+hellos_on Owed before next plain are = record {
+  each = λ s up.
+      let same = boot_same next s plain in
+      elim (are.each s (was_up next s plain up)) [
+        | inl owed ↦ inl owed
+        | inr known ↦ elim known [
+          | inl first ↦ inr (inl (same ∙ first))
+          | inr sent ↦ inr (inr (subst (λ b. IsSent (before ++ next ∷ [])
+              (to_controller (Hello s b))) (sym same) (sent_stays before next _ sent)))
+        ]
+      ];
+}
+  where
+    boot_same : (next : Item) (s : ℕ) → IsFalse (is_booted next)
+        → boot_of (before ++ next ∷ []) s ≡ boot_of before s
+    boot_same (item.Booted t boot) s plain = absurd cc
+    boot_same next s plain = boot_more before next s
+
+    was_up : (next : Item) (s : ℕ) → IsFalse (is_booted next)
+        → IsTrue (is_up (before ++ next ∷ []) s) → IsTrue (is_up before s)
+    was_up (item.Booted t boot) s plain up = absurd cc
+    was_up (item.Down t) s plain up = grind (arith, nat_tests, up_more)
+    was_up next s plain up = rw (up_more before next s) at up
+
+plain_answers : (Owed : ℕ → Body → Type 0) → AreKept IsPlain (AreAnswered Owed)
+plain_answers Owed before (item.Delivered number) plain are = absurd plain
+plain_answers Owed before (item.Booted s boot) plain are = absurd plain
+plain_answers Owed before next plain are = answers_on Owed before next refl are
+
+plain_hellos : (Owed : ℕ → Type 0) → AreKept IsPlain (AreGreeted Owed)
+plain_hellos Owed before (item.Delivered number) plain are = absurd plain
+plain_hellos Owed before (item.Booted s boot) plain are = absurd plain
+plain_hellos Owed before next plain are = hellos_on Owed before next refl are
+
+answers_stay : (Owed : ℕ → Body → Type 0) (journal items : List Item) → Plain journal items
+    → AreAnswered Owed journal → AreAnswered Owed (journal ++ items)
+answers_stay Owed journal items plain are =
+    fact_on IsPlain (AreAnswered Owed) (plain_answers Owed) journal items plain are
+
+hellos_stay : (Owed : ℕ → Type 0) (journal items : List Item) → Plain journal items
+    → AreGreeted Owed journal → AreGreeted Owed (journal ++ items)
+hellos_stay Owed journal items plain are =
+    fact_on IsPlain (AreGreeted Owed) (plain_hellos Owed) journal items plain are
+
+spoken_stay : (journal items : List Item) → Plain journal items → HaveSpoken journal
+    → HaveSpoken (journal ++ items)
+spoken_stay journal items plain spoken = record {
+  answers = answers_stay (λ s body. ⊥) journal items plain spoken.answers;
+  hellos = hellos_stay (λ s. ⊥) journal items plain spoken.hellos;
+}
+
+boot_kept : (s boot : ℕ) → AreKept IsPlain (λ journal. boot_of journal s ≡ boot)
+boot_kept s boot before (item.Delivered number) plain is = absurd plain
+boot_kept s boot before (item.Booted t of) plain is = absurd plain
+boot_kept s boot before next plain is = boot_more before next s ∙ is
+
+boot_stays : (journal items : List Item) → Plain journal items → (s : ℕ)
+    → boot_of (journal ++ items) s ≡ boot_of journal s
+boot_stays journal items plain s =
+    fact_on IsPlain (λ now. boot_of now s ≡ boot_of journal s) (boot_kept s (boot_of journal s))
+    journal items plain refl
+
+-- ---- a delivery
+
+-- the delivery is owed its answers
+delivered_owed : (here : List Item) (number : ℕ) → AreAnswered (λ s body. ⊥) here
+    → AreAnswered (λ s body. body_to_switch here s number ≡ Some body)
+    (here ++ item.Delivered number ∷ [])
+delivered_owed here number are = record {
+  each = λ s body is.
+      by_said s body (body_to_switch here s number) refl
+      (rw (heard_more here (item.Delivered number) s) at is);
+}
+  where
+    next : Item
+    next = item.Delivered number
+
+    old : (s : ℕ) (body : Body) → IsIn body (heard here s)
+        → (body_to_switch here s number ≡ Some body) ⊎ IsAnswered (here ++ next ∷ []) s body
+    old s body is = elim (are.each s body is) [
+      | inl owed ↦ absurd owed
+      | inr answered ↦ inr (answered_stays here next s body
+          (λ serving. rw (serving_more here next s) serving) answered)
+    ]
+
+    by_said : (s : ℕ) (body : Body) (o : Option Body) → body_to_switch here s number ≡ o
+        → IsIn body (option_map_or (λ b. heard here s ++ b ∷ []) o (heard here s))
+        → (body_to_switch here s number ≡ Some body) ⊎ IsAnswered (here ++ next ∷ []) s body
+    by_said s body None e is = old s body is
+    by_said s body (Some said) e is = elim (in_either body (heard here s) (said ∷ []) is) [
+      | inl earlier ↦ old s body earlier
+      | inr now ↦ elim now [ inl same ↦ inl (e ∙ ap Some same) | inr none ↦ absurd none ]
+    ]
+
+-- a switch that serves does so behind such items
+serving_on : (setting : Setting) (s : ℕ)
+    → AreKept (IsTraffic setting) (λ journal. IsTrue (serves journal s))
+serving_on setting s before (item.Down t) is serving = absurd is
+serving_on setting s before (item.Booted t boot) is serving = absurd is
+serving_on setting s before (item.Opened t version) is serving = absurd is
+serving_on setting s before next is serving = rw (serving_more before next s) serving
+
+pub opens : (setting : Setting) (before : List Item) (s : ℕ) (now : List Item)
+    → serves now s ≡ serves before s → (boot version : ℕ)
+    → IsTrue (serves (now ++ switch_items setting before s (OpenAt boot version) now) s)
+unfolding switch_items
+opens setting before s now same boot version = by_serving (serves before s) refl
+  where
+    next : Item
+    next = item.Opened s (stamp_of now s)
+
+    opened : IsTrue (serves (now ++ next ∷ []) s)
+    opened =
+        let here : (s == s) ≡ true = eq-eqb s s refl in
+        rw (serving_more now next s, here) refl
+
+    by_serving : (b : Bool) → serves before s ≡ b → IsTrue (serves (now ++ elim b [
+      | true ↦ []
+      | false ↦ items_then (next ∷ []) (link_changes setting before) now
+    ]) s)
+    by_serving true e = ap (λ j. serves j s) (append-nil now) ∙ same ∙ e
+    by_serving false e =
+        subst (λ j. IsTrue (serves j s))
+        (append_assoc now (next ∷ []) (link_changes setting before (now ++ next ∷ [])))
+        (fact_on (IsTraffic setting) (λ j. IsTrue (serves j s)) (serving_on setting s)
+        (now ++ next ∷ []) (link_changes setting before (now ++ next ∷ []))
+        (links_traffic setting before (now ++ next ∷ [])) opened)
+
+switch_answers : (setting : Setting) (before : List Item) (s : ℕ) (body : Body)
+    (now : List Item) → serves now s ≡ serves before s
+    → IsAnswered (now ++ switch_items setting before s body now) s body
+unfolding switch_items
+switch_answers setting before s (Install boot tables) now same =
+    sends_all now (to_controller (Installed s boot tables.version) ∷ []) _ (inl refl)
+switch_answers setting before s (Stamp boot version touched) now same =
+    sends_all now (to_controller (Stamped s boot version) ∷ []) _ (inl refl)
+switch_answers setting before s (OpenAt boot version) now same =
+    opens setting before s now same boot version
+switch_answers setting before s _ now same = tt
+
+-- what is sent to a switch is answered in the step, if it is said
+pub sent_items : (setting : Setting) (before : List Item) (number s : ℕ) (body : Body)
+    (now : List Item) → message_of before number ≡ Some (to_switch s body) → (said : Option Body)
+    → body_to_switch before s number ≡ said → delivery_items setting before number now ≡ elim said [
+      | None ↦ []
+      | Some told ↦ switch_items setting before s told now
+    ]
+unfolding delivery_items
+sent_items setting before number s body now sent said is =
+    ap (λ o. elim o [
+      | None ↦ []
+      | Some message ↦ received_items setting before number message now
+    ]) sent
+    ∙ ap (λ o. elim o [
+      | None ↦ []
+      | Some told ↦ switch_items setting before s told now
+    ]) is
+
+pub delivery_is : (setting : Setting) (before : List Item) (number : ℕ) (now : List Item)
+    (s : ℕ) (body : Body) → body_to_switch before s number ≡ Some body
+    → delivery_items setting before number now ≡ switch_items setting before s body now
+delivery_is setting before number now s body said =
+    sent_items setting before number s body now (said_parts before s number body said).sent
+    (Some body) said
+
+delivery_answers : (setting : Setting) (before : List Item) (number : ℕ) (now : List Item)
+    (s : ℕ) (body : Body) → body_to_switch before s number ≡ Some body
+    → serves now s ≡ serves before s
+    → IsAnswered (now ++ delivery_items setting before number now) s body
+delivery_answers setting before number now s body said same =
+    subst (λ items. IsAnswered (now ++ items) s body)
+    (sym (delivery_is setting before number now s body said))
+    (switch_answers setting before s body now same)
+
+deliver_spoken : (setting : Setting) (before : List Item) (row number : ℕ)
+    → let here = before ++ item.Row row (Deliver number) ∷ [] in HaveSpoken here
+    → HaveSpoken (here ++ deliver_items setting before number here)
+deliver_spoken setting before row number spoken =
+    deliver_cases HaveSpoken setting before number here (spoken_stay here nothing (tt, tt) spoken)
+    (record { answers = answers; hellos = hellos })
+  where
+    here : List Item
+    here = before ++ item.Row row (Deliver number) ∷ []
+
+    now : List Item
+    now = here ++ item.Delivered number ∷ []
+
+    items : List Item
+    items = delivery_items setting before number now
+
+    answers : AreAnswered (λ s body. ⊥) (now ++ items)
+    answers = record {
+      each = λ s body is.
+          elim ((answers_stay (λ t b. body_to_switch here t number ≡ Some b) now items
+          (delivery_plain setting before number now)
+          (delivered_owed here number spoken.answers)).each s body is) [
+            | inl owed ↦ inr (delivery_answers setting before number now s body
+                (sym (said_row before row s number (Deliver number)) ∙ owed)
+                (serving_more here (item.Delivered number) s
+                ∙ serving_more before (item.Row row (Deliver number)) s))
+            | inr answered ↦ inr answered
+          ];
+    }
+
+    hellos : AreGreeted (λ s. ⊥) (now ++ items)
+    hellos = hellos_stay (λ s. ⊥) now items (delivery_plain setting before number now)
+        (hellos_on (λ s. ⊥) here (item.Delivered number) refl spoken.hellos)
+
+-- ---- a restart
+
+-- a switch that began a boot heard nothing in it
+booted_answers : (here : List Item) (s boot : ℕ) → AreAnswered (λ t body. ⊥) here
+    → AreAnswered (λ t body. ⊥) (here ++ item.Booted s boot ∷ [])
+booted_answers here s boot are = answers_on (λ t body. ⊥) here (item.Booted s boot) refl are
+
+-- it owes its hello
+booted_owed : (here : List Item) (s boot : ℕ) → AreGreeted (λ t. ⊥) here
+    → AreGreeted (λ t. t ≡ s) (here ++ item.Booted s boot ∷ [])
+booted_owed here s boot are = record { each = λ t up. by_test t (s == t) refl up }
+  where
+    next : Item
+    next = item.Booted s boot
+
+    by_test : (t : ℕ) (b : Bool) → (s == t) ≡ b → IsTrue (is_up (here ++ next ∷ []) t)
+        → (t ≡ s) ⊎ ((boot_of (here ++ next ∷ []) t ≡ 1)
+        ⊎ IsSent (here ++ next ∷ []) (to_controller (Hello t (boot_of (here ++ next ∷ []) t))))
+    by_test t true e up = inl (sym (eqb-true s t e))
+    by_test t false e up =
+        let same : boot_of (here ++ next ∷ []) t ≡ boot_of here t =
+        rw (boot_more here next t, e) refl in
+        elim (are.each t (rw (up_more here next t, e) at up)) [
+          | inl owed ↦ absurd owed
+          | inr known ↦ elim known [
+            | inl first ↦ inr (inl (same ∙ first))
+            | inr sent ↦ inr (inr (subst (λ b. IsSent (here ++ next ∷ [])
+                (to_controller (Hello t b))) (sym same) (sent_stays here next _ sent)))
+          ]
+        ]
+
+-- and sends it
+restart_spoken : (s : ℕ) (here : List Item) → HaveSpoken here
+    → HaveSpoken (here ++ restart_items s here)
+restart_spoken s here spoken =
+    restart_cases HaveSpoken s here (spoken_stay here nothing (tt, tt) spoken)
+    (λ down. record { answers = answers; hellos = hellos })
+  where
+    next : Item
+    next = item.Booted s (boot_of here s + 1)
+
+    hello : List Item → List Item
+    hello booted = send_items booted (hello_of booted s ∷ [])
+
+    now : List Item
+    now = here ++ next ∷ []
+
+    plain : Plain now (hello now)
+    plain = sends_plain now (hello_of now s ∷ [])
+
+    same : boot_of (now ++ hello now) s ≡ boot_of now s
+    same = boot_stays now (hello now) plain s
+
+    answers : AreAnswered (λ t body. ⊥) (now ++ hello now)
+    answers = answers_stay (λ t body. ⊥) now (hello now) plain
+        (booted_answers here s (boot_of here s + 1) spoken.answers)
+
+    hellos : AreGreeted (λ t. ⊥) (now ++ hello now)
+    hellos = record {
+      each = λ t up.
+          elim ((hellos_stay (λ u. u ≡ s) now (hello now) plain
+          (booted_owed here s (boot_of here s + 1) spoken.hellos)).each t up) [
+            | inl owed ↦ inr (inr (subst (λ u. IsSent (now ++ hello now)
+                (to_controller (Hello u (boot_of (now ++ hello now) u)))) (sym owed)
+                (subst (λ b. IsSent (now ++ hello now) (to_controller (Hello s b))) (sym same)
+                (sends_all now (hello_of now s ∷ []) _ (inl refl)))))
+            | inr known ↦ inr known
+          ];
+    }
+
+-- ---- steps
+
+step_spoken : (setting : Setting) (before : List Item) (row : ℕ) (step : Step) (b : Bool)
+    → is_plain step ≡ b → let here = before ++ item.Row row step ∷ [] in HaveSpoken here
+    → HaveSpoken (here ++ step_items setting before step here)
+step_spoken setting before row step true is = λ spoken.
+    spoken_stay (before ++ item.Row row step ∷ []) _
+    (step_plain setting before step (before ++ item.Row row step ∷ []) is) spoken
+step_spoken setting before row (Deliver number) false is =
+    deliver_spoken setting before row number
+step_spoken setting before row (Restart s) false is =
+    restart_spoken s (before ++ item.Row row (Restart s) ∷ [])
+step_spoken setting before row step false is = absurd cc
+
+pub piece_spoken : (setting : Setting) (before : List Item) (row : ℕ) (step : Step)
+    → HaveSpoken before → HaveSpoken (before ++ piece setting before row step)
+piece_spoken setting before row step spoken =
+    behind_piece setting before row step HaveSpoken
+    (step_spoken setting before row step (is_plain step) refl
+    (spoken_stay before (item.Row row step ∷ []) (tt, tt) spoken))
+
+pub spoken_at_first : HaveSpoken []
+spoken_at_first = record {
+  answers = record {
+    each = λ s body is.
+        let none : IsIn body [] = subst (λ bodies. IsIn body bodies) (start_laws.heard s) is in
+        absurd none;
+  };
+  hellos = record { each = λ s up. inr (inl (start_laws.boot s)) };
+}

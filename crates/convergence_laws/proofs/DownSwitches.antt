@@ -1,0 +1,466 @@
+-- Of a switch that is down, for which the controller doesn't wait though it doesn't count it as
+-- over, nothing is known in its known boot; and what stands behind openings and acknowledgements.
+use Rattle.std.proofs.Common.{ℕ, ◌≡◌, ◌≤◌, ◌⊎◌, ◌==◌, ◌||◌, Bool, true, false, if◌then◌else◌, Option, Some, None, List, [], ◌∷◌, ◌++◌, refl, ap, sym, subst, ◌∙◌, arith, inl, inr}
+use Rattle.std.specs.Prelude.{IsTrue, IsFalse, filter_map, nat_eq, option_to_list, unwrap_or}
+use Rattle.std.specs.List.{cons_option, list_any}
+use Rattle.std.specs.Option.{option_or}
+use Rattle.std.proofs.lemmas.Bool.{eqb-true}
+use Rattle.ctrl_msg.specs.declared.message.Body.{Body}
+use Rattle.ctrl_msg.specs.declared.message.Body.TheVariants.{OpenAt, Installed}
+use Rattle.ctrl_msg.specs.declared.message.Message.{Message}
+use Rattle.ctrl_msg.specs.Kinds.{to_controller}
+use Rattle.journal.specs.declared.item.Item.{Item}
+use Rattle.journal.specs.declared.item.Item.TheVariants as item
+use Rattle.update_machine.specs.Boots.{boot_of, heard, is_up}
+use Rattle.update_machine.specs.Folds.{all_given}
+use Rattle.update_machine.specs.Marks.{controller_heard, first_number, has_acked, installed_in, is_over, known_boot, open_sent, opened_at, raises_known, body_to_controller}
+use Rattle.update_machine.specs.Quiet.{is_waited_for, gives_waited_for}
+use Rattle.update_machine.specs.Sendings.{Sending, sendings}
+use Rattle.update_machine.specs.Setting.{Setting}
+use Rattle.update_machine.specs.Settling.{to_switch}
+use Rattle.update_machine.specs.Versions.{installs_version}
+use Rattle.update_machine.specs.Links.{serves, message_of}
+use Rattle.update_machine.proofs.CallerLemmas.{start_laws}
+use Rattle.control_laws.specs.ItemCauses.{HasItemCause, IsRightInstalled, IsRightOpening}
+use Rattle.control_laws.proofs.BootsKnown.{by_number, known_rises, said_sent}
+use Rattle.control_laws.proofs.ItemFacts.{AreKept, FromCauses, from_causes}
+use Rattle.control_laws.proofs.FactsGrown.{boot_more, known_more, last_more, opened_at_more, opened_in, opened_more, opens_by, over_more, serving_more, told_more, up_more}
+use Rattle.control_laws.proofs.SwitchOpenings.{IsKnown, known_at_first, known_kept}
+use Rattle.control_laws.proofs.HeardTables.{heard_known}
+use Rattle.control_laws.proofs.AcknowledgementKinds.{installed_is}
+use Rattle.control_laws.proofs.CurrentVersions.{StampsAreCurrent, current_at_first, current_kept}
+use Rattle.control_laws.proofs.MemberFacts.{opened_same, raised_above, raised_none, unraised_same}
+use Rattle.control_laws.proofs.SwitchKeeps.{is_delivered}
+use Rattle.convergence_laws.proofs.ListElements.{IsIn, in_either}
+use Rattle.convergence_laws.proofs.MessageCourses.{IsSent, sendings_more, sent_by, sent_now, sent_stays}
+
+-- ---- what was sent
+
+-- a message is the one that the item sends, or was sent before
+pub sent_either : (before : List Item) (next : Item) (message : Message)
+    → IsSent (before ++ next ∷ []) message
+    → IsSent before message ⊎ ((n : ℕ) × (next ≡ item.Sent n message))
+sent_either before next message sent =
+    elim (in_either sent.sending (sendings before) (sent_by before next)
+    (subst (λ xs. IsIn sent.sending xs) (sendings_more before next) sent.is)) [
+      | inl earlier ↦
+          inl (record { sending = sent.sending; is = earlier; of = sent.of })
+      | inr now ↦ inr (by_item next now)
+    ]
+  where
+    by_item : (next : Item) → IsIn sent.sending (sent_by before next)
+        → (n : ℕ) × (next ≡ item.Sent n message)
+    by_item (item.Sent n new) is = elim is [
+      | inl same ↦ (n, ap (item.Sent n) (ap (λ (x : Sending). x.message) same ∙ sent.of))
+      | inr none ↦ absurd none
+    ]
+    by_item _ is = absurd is
+
+-- ---- facts
+
+-- the switch is down, isn't waited for, and isn't over
+pub record IsIdle (journal : List Item) (s : ℕ) : Type 0 where
+  pub down : IsFalse (is_up journal s)
+  pub confirmed : IsFalse (is_waited_for journal s)
+  pub not_over : IsFalse (is_over journal s)
+
+pub record AreRecorded (journal : List Item) : Type 0 where
+  pub known : IsKnown journal
+  pub current : StampsAreCurrent journal
+  -- messages were sent, and so was what the controller heard
+  pub messages : (n : ℕ) (message : Message) → message_of journal n ≡ Some message
+      → IsSent journal message
+  pub told : (body : Body) → IsIn body (controller_heard journal)
+      → IsSent journal (to_controller body)
+  -- a switch was opened by a message, but for the first boot
+  pub openings : (s boot version : ℕ) → opened_in journal s boot ≡ Some version
+      → (boot ≡ 1) ⊎ IsSent journal (to_switch s (OpenAt boot version))
+  -- it heard tables, and acknowledges them, in a boot that is known
+  pub heard : (s version : ℕ) → IsTrue (list_any (installs_version version) (heard journal s))
+      → boot_of journal s ≤ known_boot journal s
+  pub acks : (s boot version : ℕ) → IsSent journal (to_controller (Installed s boot version))
+      → boot ≤ known_boot journal s
+  -- in its first boot it serves
+  pub first : (s : ℕ) → IsTrue (is_up journal s) → boot_of journal s ≡ 1
+      → IsTrue (serves journal s)
+  pub boots : (s : ℕ) → 1 ≤ boot_of journal s
+  -- an idle switch was neither opened in its known boot, nor has it acknowledged any tables
+  pub closed : (s : ℕ) → IsIdle journal s → opened_at journal s ≡ None
+  pub silent : (s version : ℕ) → IsIdle journal s
+      → IsSent journal (to_controller (Installed s (known_boot journal s) version)) → ⊥
+
+-- ---- items keep them
+
+messages_on : (setting : Setting) (before : List Item) (next : Item) → AreRecorded before
+    → (n : ℕ) (message : Message) → message_of (before ++ next ∷ []) n ≡ Some message
+    → IsSent (before ++ next ∷ []) message
+messages_on setting before next are n message is = elim (by_number before next n message is) [
+  | inl new ↦ subst (λ x. IsSent (before ++ x ∷ []) message) (sym new) (sent_now before n message)
+  | inr old ↦ sent_stays before next message (are.messages n message old)
+]
+
+told_on : (setting : Setting) (before : List Item) (next : Item) → AreRecorded before
+    → (body : Body) → IsIn body (controller_heard (before ++ next ∷ []))
+    → IsSent (before ++ next ∷ []) (to_controller body)
+told_on setting before (item.Delivered number) are body is =
+    by_said (body_to_controller before number) refl
+    (rw (told_more before (item.Delivered number)) at is)
+  where
+    next : Item
+    next = item.Delivered number
+
+    old : IsIn body (controller_heard before) → IsSent (before ++ next ∷ []) (to_controller body)
+    old is = sent_stays before next (to_controller body) (are.told body is)
+
+    by_said : (o : Option Body) → body_to_controller before number ≡ o
+        → IsIn body (controller_heard before ++ option_to_list o)
+        → IsSent (before ++ next ∷ []) (to_controller body)
+    by_said o e is = elim (in_either body (controller_heard before) (option_to_list o) is) [
+      | inl earlier ↦ old earlier
+      | inr now ↦ by_now o e now
+    ]
+      where
+        by_now : (o : Option Body) → body_to_controller before number ≡ o
+            → IsIn body (option_to_list o) → IsSent (before ++ next ∷ []) (to_controller body)
+        by_now None e is = absurd is
+        by_now (Some said) e is = elim is [
+          | inl same ↦ sent_stays before next (to_controller body)
+              (are.messages number (to_controller body)
+              (said_sent before number body (e ∙ ap Some same)))
+          | inr none ↦ absurd none
+        ]
+told_on setting before next are body is =
+    sent_stays before next (to_controller body)
+    (are.told body (rw (told_more before next) at is))
+
+openings_on : (before : List Item) (next : Item) → AreRecorded before → (s boot version : ℕ)
+    → opened_in (before ++ next ∷ []) s boot ≡ Some version
+    → (boot ≡ 1) ⊎ IsSent (before ++ next ∷ []) (to_switch s (OpenAt boot version))
+openings_on before next are s boot version opened =
+    by_opened (opened_in before s boot) refl (sym (opened_more before next s boot) ∙ opened)
+  where
+    by_opened : (o : Option ℕ) → opened_in before s boot ≡ o
+        → option_or o (first_number (open_sent s boot next)) ≡ Some version
+        → (boot ≡ 1) ⊎ IsSent (before ++ next ∷ []) (to_switch s (OpenAt boot version))
+    by_opened (Some w) e is = elim (are.openings s boot version (e ∙ is)) [
+      | inl first ↦ inl first
+      | inr sent ↦ inr (sent_stays before next _ sent)
+    ]
+    by_opened None e is =
+        let new = opens_by next s boot version is in
+        inr (subst (λ x. IsSent (before ++ x ∷ []) (to_switch s (OpenAt boot version)))
+        (sym new.1) (sent_now before new.0 _))
+
+acks_on : (setting : Setting) (before : List Item) (next : Item)
+    → HasItemCause setting before next → AreRecorded before → (s boot version : ℕ)
+    → IsSent (before ++ next ∷ []) (to_controller (Installed s boot version))
+    → boot ≤ known_boot (before ++ next ∷ []) s
+acks_on setting before next cause are s boot version sent =
+    elim (sent_either before next (to_controller (Installed s boot version)) sent) [
+      | inl earlier ↦ omega (
+        arith,
+        known_rises before next s,
+        are.acks s boot version earlier,
+      )
+      | inr new ↦
+          let right : IsRightInstalled before s boot version =
+          subst (HasItemCause setting before) new.1 cause in
+          omega (
+            arith,
+            right.present.own,
+            are.heard s version right.heard,
+            known_rises before next s,
+          )
+    ]
+
+-- ---- the first boot
+
+boots_on : (setting : Setting) (before : List Item) (next : Item)
+    → HasItemCause setting before next → AreRecorded before → (s : ℕ)
+    → 1 ≤ boot_of (before ++ next ∷ []) s
+boots_on setting before (item.Booted t boot) cause are s =
+    rw (boot_more before (item.Booted t boot) s) (by_test (t == s))
+  where
+    by_test : (b : Bool) → 1 ≤ unwrap_or (if b then Some boot else None) (boot_of before s)
+    by_test true = let next = cause.next in omega arith
+    by_test false = are.boots s
+boots_on setting before next cause are s = rw (boot_more before next s) (are.boots s)
+
+first_on : (setting : Setting) (before : List Item) (next : Item)
+    → HasItemCause setting before next → AreRecorded before → (s : ℕ)
+    → IsTrue (is_up (before ++ next ∷ []) s) → boot_of (before ++ next ∷ []) s ≡ 1
+    → IsTrue (serves (before ++ next ∷ []) s)
+first_on setting before (item.Booted t boot) cause are s up first = by_test (t == s) refl
+  where
+    next : Item
+    next = item.Booted t boot
+
+    by_test : (b : Bool) → (t == s) ≡ b → IsTrue (serves (before ++ next ∷ []) s)
+    by_test true e =
+        let own : boot ≡ 1 = rw (boot_more before next s, e) at first in
+        absurd (omega (arith, own, cause.next, are.boots t))
+    by_test false e =
+        rw (serving_more before next s, e)
+        (are.first s (rw (up_more before next s, e) at up)
+        (rw (boot_more before next s, e) at first))
+first_on setting before (item.Down t) cause are s up first = by_test (t == s) refl
+  where
+    next : Item
+    next = item.Down t
+
+    by_test : (b : Bool) → (t == s) ≡ b → IsTrue (serves (before ++ next ∷ []) s)
+    by_test true e =
+        let down : false ≡ true = rw (up_more before next s, e) at up in absurd cc
+    by_test false e =
+        rw (serving_more before next s, e)
+        (are.first s (rw (up_more before next s, e) at up)
+        (rw (boot_more before next s) at first))
+first_on setting before (item.Opened t version) cause are s up first = by_test (t == s) refl
+  where
+    next : Item
+    next = item.Opened t version
+
+    by_test : (b : Bool) → (t == s) ≡ b → IsTrue (serves (before ++ next ∷ []) s)
+    by_test true e = rw (serving_more before next s, e) refl
+    by_test false e =
+        rw (serving_more before next s, e)
+        (are.first s (rw (up_more before next s) at up) (rw (boot_more before next s) at first))
+first_on setting before next cause are s up first =
+    rw (serving_more before next s)
+    (are.first s (rw (up_more before next s) at up) (rw (boot_more before next s) at first))
+
+-- ---- idle switches
+
+pub waited_more : (before : List Item) (next : Item) (s : ℕ) → is_waited_for (before ++ next ∷ []) s
+    ≡ unwrap_or (gives_waited_for s next) (is_waited_for before s)
+waited_more before next s = last_more (gives_waited_for s) before next false
+
+idle_was : (before : List Item) (next : Item) (s : ℕ) → IsFalse (is_delivered next)
+    → IsIdle (before ++ next ∷ []) s → IsIdle before s
+idle_was before (item.Delivered number) s none idle = absurd cc
+idle_was before (item.Down t) s none idle =
+    grind (arith, up_more, over_more, waited_more before (item.Down t) s)
+idle_was before (item.Booted t boot) s none idle =
+    grind (arith, up_more, over_more, waited_more before (item.Booted t boot) s)
+idle_was before (item.OverNow t) s none idle =
+    grind (arith, up_more, over_more, waited_more before (item.OverNow t) s)
+idle_was before next s none idle = record {
+  down = rw (up_more before next s) at idle.down;
+  confirmed = rw (waited_more before next s) at idle.confirmed;
+  not_over = rw (over_more before next s) at idle.not_over;
+}
+
+-- a delivery that raises no known boot
+idle_delivered : (before : List Item) (number s : ℕ) → raises_known before s number ≡ false
+    → IsIdle (before ++ item.Delivered number ∷ []) s → IsIdle before s
+idle_delivered before number s e idle =
+    let next : Item = item.Delivered number in
+    let over : is_over (before ++ next ∷ []) s ≡ is_over before s =
+    over_more before next s ∙ ap (λ b. if b then false else is_over before s) e in
+    record {
+      down = rw (up_more before next s) at idle.down;
+      confirmed = rw (waited_more before next s) at idle.confirmed;
+      not_over = sym over ∙ idle.not_over;
+    }
+
+-- what is among those that bodies tell was told
+pub any_told : (reads : Body → Option ℕ) (v : ℕ) (bodies : List Body)
+    → IsTrue (list_any (nat_eq v) (filter_map reads bodies))
+    → (body : Body) × IsIn body bodies × (reads body ≡ Some v)
+any_told reads v [] any = absurd cc
+any_told reads v (body ∷ bodies) any = by_read (reads body) refl any (any_told reads v bodies)
+  where
+    by_test : (w : ℕ) (b : Bool) → nat_eq v w ≡ b → reads body ≡ Some w
+        → IsTrue (b || list_any (nat_eq v) (filter_map reads bodies))
+        → (IsTrue (list_any (nat_eq v) (filter_map reads bodies))
+        → (found : Body) × IsIn found bodies × (reads found ≡ Some v))
+        → (found : Body) × IsIn found (body ∷ bodies) × (reads found ≡ Some v)
+    by_test w true e is any rest = (body, inl refl, is ∙ ap Some (sym (eqb-true v w e)))
+    by_test w false e is any rest = let found = rest any in (found.0, inr found.1, found.2)
+
+    by_read : (o : Option ℕ) → reads body ≡ o
+        → IsTrue (list_any (nat_eq v) (cons_option o (filter_map reads bodies)))
+        → (IsTrue (list_any (nat_eq v) (filter_map reads bodies))
+        → (found : Body) × IsIn found bodies × (reads found ≡ Some v))
+        → (found : Body) × IsIn found (body ∷ bodies) × (reads found ≡ Some v)
+    by_read None e any rest = let found = rest any in (found.0, inr found.1, found.2)
+    by_read (Some w) e any rest = by_test w (nat_eq v w) refl e any rest
+
+-- an acknowledgement that is known was sent, but of the first boot
+acked_sent : (journal : List Item) (s version : ℕ)
+    → ((body : Body) → IsIn body (controller_heard journal)
+    → IsSent journal (to_controller body))
+    → opened_at journal s ≡ None → IsTrue (has_acked journal s version)
+    → IsSent journal (to_controller (Installed s (known_boot journal s) version))
+unfolding has_acked opened_at
+acked_sent journal s version told closed any =
+    by_first (known_boot journal s == 1) closed any
+  where
+    boot : ℕ
+    boot = known_boot journal s
+
+    by_first : (b : Bool)
+        → (if b then Some 1 else first_number (all_given (open_sent s boot) journal)) ≡ None
+        → IsTrue (list_any (nat_eq version) ((if b then 1 ∷ [] else [])
+        ++ filter_map (installed_in s boot) (controller_heard journal)))
+        → IsSent journal (to_controller (Installed s boot version))
+    by_first true closed any = absurd cc
+    by_first false closed any =
+        let found = any_told (installed_in s boot) version (controller_heard journal) any in
+        subst (λ body. IsSent journal (to_controller body))
+        (installed_is s boot found.0 version found.2) (told found.0 found.1)
+
+closed_on : (setting : Setting) (before : List Item) (next : Item)
+    → HasItemCause setting before next → AreRecorded before → (s : ℕ)
+    → IsIdle (before ++ next ∷ []) s → opened_at (before ++ next ∷ []) s ≡ None
+closed_on setting before (item.Delivered number) cause are s idle =
+    by_raise (raises_known before s number) refl
+  where
+    next : Item
+    next = item.Delivered number
+
+    by_raise : (b : Bool) → raises_known before s number ≡ b
+        → opened_at (before ++ next ∷ []) s ≡ None
+    by_raise true e = raised_none before number s are.current e
+    by_raise false e =
+        opened_same before next s (unraised_same before number s e) refl
+        ∙ are.closed s (idle_delivered before number s e idle)
+closed_on setting before (item.Sent n message) cause are s idle =
+    opened_at_more before next s (known_more before next s)
+    ∙ ap (λ o. option_or o (first_number (open_sent s boot next))) closed
+    ∙ by_new (first_number (open_sent s boot next)) refl
+  where
+    next : Item
+    next = item.Sent n message
+
+    boot : ℕ
+    boot = known_boot before s
+
+    was : IsIdle before s
+    was = idle_was before next s refl idle
+
+    closed : opened_at before s ≡ None
+    closed = are.closed s was
+
+    by_new : (o : Option ℕ) → first_number (open_sent s boot next) ≡ o
+        → first_number (open_sent s boot next) ≡ None
+    by_new None e = e
+    by_new (Some w) e =
+        let new = opens_by next s boot w e in
+        let right : IsRightOpening before s boot w =
+        subst (HasItemCause setting before) new.1 cause in
+        elim right.opens [
+          | inl first ↦ absurd (are.silent s w was
+              (acked_sent before s w are.told closed first.acked))
+          | inr same ↦ let clash : None ≡ Some w = sym closed ∙ same in absurd cc
+        ]
+closed_on setting before next cause are s idle =
+    opened_same before next s (known_more before next s) refl
+    ∙ are.closed s (idle_was before next s refl idle)
+
+-- a switch that is down acknowledges nothing
+silent_now : (setting : Setting) (before : List Item) (next : Item)
+    → HasItemCause setting before next → AreRecorded before → (s version : ℕ)
+    → known_boot (before ++ next ∷ []) s ≡ known_boot before s → IsIdle before s
+    → IsSent (before ++ next ∷ [])
+    (to_controller (Installed s (known_boot (before ++ next ∷ []) s) version)) → ⊥
+silent_now setting before next cause are s version known idle sent =
+    elim (sent_either before next (to_controller (Installed s (known_boot before s) version))
+    (subst (λ b. IsSent (before ++ next ∷ []) (to_controller (Installed s b version))) known
+    sent)) [
+      | inl earlier ↦ are.silent s version idle earlier
+      | inr new ↦
+          let right : IsRightInstalled before s (known_boot before s) version =
+          subst (HasItemCause setting before) new.1 cause in
+          let clash : false ≡ true = sym idle.down ∙ right.present.up in
+          absurd cc
+    ]
+
+silent_on : (setting : Setting) (before : List Item) (next : Item)
+    → HasItemCause setting before next → AreRecorded before → (s version : ℕ)
+    → IsIdle (before ++ next ∷ []) s
+    → IsSent (before ++ next ∷ [])
+    (to_controller (Installed s (known_boot (before ++ next ∷ []) s) version)) → ⊥
+silent_on setting before (item.Delivered number) cause are s version idle sent =
+    by_raise (raises_known before s number) refl
+  where
+    next : Item
+    next = item.Delivered number
+
+    no_delivery : (n : ℕ) → item.Delivered number ≡ item.Sent n (to_controller
+        (Installed s (known_boot (before ++ next ∷ []) s) version)) → ⊥
+    no_delivery n is = absurd cc
+
+    by_raise : (b : Bool) → raises_known before s number ≡ b → ⊥
+    by_raise true e =
+        elim (sent_either before next
+        (to_controller (Installed s (known_boot (before ++ next ∷ []) s) version)) sent) [
+          | inl earlier ↦ absurd (omega (
+            arith,
+            raised_above before number s e,
+            are.acks s (known_boot (before ++ next ∷ []) s) version earlier,
+          ))
+          | inr new ↦ absurd (no_delivery new.0 new.1)
+        ]
+    by_raise false e = silent_now setting before next cause are s version
+        (unraised_same before number s e) (idle_delivered before number s e idle) sent
+silent_on setting before next cause are s version idle sent =
+    silent_now setting before next cause are s version (known_more before next s)
+    (idle_was before next s refl idle) sent
+
+-- ---- together
+
+recorded_kept : (setting : Setting) → AreKept (HasItemCause setting) AreRecorded
+recorded_kept setting before next cause are = record {
+  known = known_kept setting before next cause are.known;
+  current = current_kept setting before next cause are.current;
+  messages = λ n message is. messages_on setting before next are n message is;
+  told = λ body is. told_on setting before next are body is;
+  openings = λ s boot version is. openings_on before next are s boot version is;
+  heard = heard_known before next are.known.boots are.heard;
+  acks = λ s boot version sent. acks_on setting before next cause are s boot version sent;
+  first = λ s up boot. first_on setting before next cause are s up boot;
+  boots = λ s. boots_on setting before next cause are s;
+  closed = λ s idle. closed_on setting before next cause are s idle;
+  silent = λ s version idle sent. silent_on setting before next cause are s version idle sent;
+}
+
+none_sent : (message : Message) → IsSent [] message → ⊥
+none_sent message sent =
+    let none : IsIn sent.sending [] = subst (λ xs. IsIn sent.sending xs) start_laws.sent sent.is in
+    absurd none
+
+not_idle : (s : ℕ) → IsIdle [] s → ⊥
+not_idle s idle =
+    let clash : true ≡ false = sym (start_laws.up s) ∙ idle.down in absurd cc
+
+recorded_at_first : AreRecorded []
+unfolding controller_heard opened_in
+recorded_at_first = record {
+  known = known_at_first;
+  current = current_at_first;
+  messages = λ n message is.
+      let none : None ≡ Some message = rw (start_laws.message n).message at is in absurd cc;
+  told = λ body is. absurd is;
+  openings = λ s boot version is. by_first s boot (boot == 1) refl version is;
+  heard = λ s version any.
+      let none : false ≡ true =
+      subst (λ bodies. IsTrue (list_any (installs_version version) bodies)) (start_laws.heard s) any
+      in
+      absurd cc;
+  acks = λ s boot version sent. absurd (none_sent _ sent);
+  first = λ s up boot. start_laws.serving s;
+  boots = λ s. omega (arith, start_laws.boot s);
+  closed = λ s idle. absurd (not_idle s idle);
+  silent = λ s version idle sent. not_idle s idle;
+}
+  where
+    by_first : (s boot : ℕ) (b : Bool) → (boot == 1) ≡ b → (version : ℕ)
+        → (if b then Some 1 else None) ≡ Some version
+        → (boot ≡ 1) ⊎ IsSent [] (to_switch s (OpenAt boot version))
+    by_first s boot true e version is = inl (eqb-true boot 1 e)
+    by_first s boot false e version is = absurd cc
+
+pub caused_recorded : FromCauses (λ setting. AreRecorded)
+caused_recorded =
+    from_causes (λ setting. AreRecorded) recorded_kept (λ setting. recorded_at_first)

@@ -1,0 +1,73 @@
+-- A schedule that ends with a flush leaves no message waiting.
+use Rattle.std.proofs.Common.{ℕ, ◌≡◌, ◌+◌, Option, Some, None, option_map, List, [], ◌∷◌, ◌++◌, refl, ap, sym, subst, ◌∙◌, append-nil}
+use Rattle.journal.specs.declared.item.Item.{Item}
+use Rattle.net_file.specs.Net.{IsNet}
+use Rattle.steps.specs.declared.step.Event.{Event}
+use Rattle.steps.specs.declared.step.Event.TheVariants.{Flush}
+use Rattle.steps.specs.declared.step.Step.{Step}
+use Rattle.steps.specs.declared.step.Step.TheVariants.{Deliver}
+use Rattle.update_machine.specs.Answers.{AreAll, AreSteps, StepOfRow, after_steps, next_delivery}
+use Rattle.update_machine.specs.Messages.{next_waiting}
+use Rattle.update_machine.specs.Pieces.{piece}
+use Rattle.update_machine.specs.Quiet.{IsQuiet}
+use Rattle.update_machine.specs.Setting.{Setting}
+use Rattle.update_machine.proofs.CallerLemmas.{after_append}
+use Rattle.convergence_laws.specs.Converged.{HasConverged}
+use Rattle.convergence_laws.specs.Finished.{EndsFinished}
+use Rattle.convergence_laws.specs.Updated.{IsUpdated}
+use Rattle.convergence_laws.proofs.FinishedNetwork.{finished_behind}
+use Rattle.convergence_laws.proofs.NewsLaws.{quiet_converged}
+use Rattle.convergence_laws.proofs.UpdatesEnd.{updated_at_ends}
+
+-- behind all of them there is no next one
+pub all_end : (setting : Setting) (next : List Item → Option Step) (row : ℕ) (before : List Item)
+    (steps : List StepOfRow) → AreAll setting next row before steps
+    → next (after_steps setting before steps) ≡ None
+all_end setting next row before [] are = are
+all_end setting next row before (first ∷ steps) are =
+    all_end setting next row (before ++ piece setting before first.row first.step) steps are.2
+
+pub flush_ends : (setting : Setting) (row : ℕ) (events : List Event) (before : List Item)
+    (steps : List StepOfRow) → AreSteps setting row (events ++ Flush ∷ []) before steps
+    → next_delivery (after_steps setting before steps) ≡ None
+flush_ends setting row [] before steps are =
+    let whole : steps ≡ are.0 = are.2.split ∙ ap (λ rest. are.0 ++ rest) are.4
+    ∙ append-nil are.0 in
+    subst (λ all. next_delivery (after_steps setting before all) ≡ None) (sym whole)
+    (all_end setting next_delivery row before are.0 are.3)
+flush_ends setting row (event ∷ events) before steps are =
+    let joined : after_steps setting before steps
+    ≡ after_steps setting (after_steps setting before are.0) are.1 =
+    ap (after_steps setting before) are.2.split ∙ after_append setting before are.0 are.1 in
+    subst (λ journal. next_delivery journal ≡ None) (sym joined)
+    (flush_ends setting (row + 1) events (after_steps setting before are.0) are.1 are.4)
+
+pub none_waits : (journal : List Item) → next_delivery journal ≡ None → next_waiting journal ≡ None
+none_waits journal none = by_next (next_waiting journal) none
+  where
+    by_next : (o : Option ℕ) → option_map Deliver o ≡ None → o ≡ None
+    by_next None e = refl
+    by_next (Some number) e = absurd cc
+
+pub flushed_quiet : (setting : Setting) (events : List Event) (journal : List Item)
+    → EndsFinished setting events journal → IsQuiet setting journal
+flushed_quiet setting events journal ends =
+    finished_behind.ends.answered setting (events ++ Flush ∷ []) journal ends.answered (record {
+      waiting = none_waits journal
+          (subst (λ j. next_delivery j ≡ None) (sym ends.answered.written)
+          (flush_ends setting 1 events [] ends.answered.steps ends.answered.allowed));
+      forgotten = ends.forgotten;
+      switches = ends.switches;
+    })
+
+pub flushed_converged : (setting : Setting) (events : List Event) (journal : List Item)
+    → IsNet setting.net → EndsFinished setting events journal → HasConverged setting journal
+flushed_converged setting events journal net ends =
+    quiet_converged.answered setting (events ++ Flush ∷ []) journal ends.answered net
+    (flushed_quiet setting events journal ends)
+
+pub flushed_updated : (setting : Setting) (events : List Event) (journal : List Item)
+    → EndsFinished setting events journal → IsUpdated setting journal
+flushed_updated setting events journal ends =
+    updated_at_ends.answered setting (events ++ Flush ∷ []) journal ends.answered
+    (flushed_quiet setting events journal ends)

@@ -1,0 +1,494 @@
+-- What became of each message that was sent: it has the number under which it was sent, and if it
+-- was delivered to a switch in the boot in which it was sent, or to the controller, it was heard.
+use Rattle.std.proofs.Common.{ℕ, ◌≡◌, ◌+◌, ◌≤◌, ◌<◌, ◌⊎◌, ◌==◌, ◌&&◌, ◌||◌, Bool, true, false, if◌then◌else◌, Option, Some, None, List, [], ◌∷◌, ◌++◌, refl, ap, sym, subst, ◌∙◌, append-nil, append_assoc, arith, inl, inr}
+use Rattle.std.specs.Prelude.{⊤, IfSome, IsTrue, IsFalse, not, is_some}
+use Rattle.std.specs.List.{AllByRecursion}
+use Rattle.std.specs.Option.{option_map_or}
+use Rattle.std.proofs.lemmas.Bool.{eq-eqb, eqb-true}
+use Rattle.std.proofs.lemmas.Bool.Decides.{nat_tests}
+use Rattle.std.proofs.lemmas.Option.{IfSome_then}
+use Rattle.ctrl_msg.specs.Bodies.{body_boot}
+use Rattle.ctrl_msg.specs.declared.message.Body.{Body}
+use Rattle.ctrl_msg.specs.declared.message.Message.{Message}
+use Rattle.ctrl_msg.specs.declared.message.Place.{Place}
+use Rattle.ctrl_msg.specs.Kinds.{to_controller}
+use Rattle.ctrl_msg.specs.declared.message.Place.TheVariants as receiver
+use Rattle.journal.specs.declared.item.Item.{Item}
+use Rattle.journal.specs.declared.item.Item.TheVariants as item
+use Rattle.update_machine.specs.Boots.{boot_of, heard, is_for_boot, is_up, body_to_switch}
+use Rattle.update_machine.specs.Causes.{HaveCauses}
+use Rattle.update_machine.specs.Marks.{controller_heard, body_to_controller}
+use Rattle.update_machine.specs.Messages.{is_deliverable, is_delivery, is_forgetting, is_forgotten, is_sending, next_message, send_items, sent_from, was_delivered}
+use Rattle.update_machine.specs.Numbers.{TakesNext}
+use Rattle.update_machine.specs.Sendings.{Sending, boot_at, changes_sendings, sendings}
+use Rattle.update_machine.specs.Setting.{Setting}
+use Rattle.update_machine.specs.Settling.{to_switch}
+use Rattle.update_machine.specs.Links.{message_of}
+use Rattle.update_machine.proofs.CallerLemmas.{PiecesHave, count_of_append, folded_append, piece_next, start_laws, next_rises}
+use Rattle.control_laws.specs.ItemCauses.{HasItemCause}
+use Rattle.control_laws.proofs.BootsKnown.{boot_rises}
+use Rattle.control_laws.proofs.ItemFacts.{AreKept, Both, fact_on, have_both}
+use Rattle.control_laws.proofs.FactsGrown.{boot_more, counted_more, heard_more, message_more, some_more, told_more}
+use Rattle.control_laws.proofs.PieceCauses as boots
+use Rattle.control_laws.proofs.MessageSends.{each_append}
+use Rattle.control_laws.proofs.SwitchOpenings.{IsKnown, known_at_first, known_kept}
+use Rattle.control_laws.proofs.SwitchKeeps.{GoesOn, goes_on, turns}
+use Rattle.control_laws.proofs.ToldToController.{each_weaker}
+use Rattle.convergence_laws.proofs.ListElements.{IsIn, in_left, in_right}
+use Rattle.convergence_laws.proofs.PlainItems as plain
+
+-- ---- what one more item sends
+
+-- the sending of an item
+abbrev pub sent_by : List Item → Item → List Sending
+sent_by before (item.Sent number message) =
+    record { number = number; message = message; boot = boot_at before message.to } ∷ []
+sent_by before _ = []
+
+pub sendings_more : (before : List Item) (next : Item)
+    → sendings (before ++ next ∷ []) ≡ sendings before ++ sent_by before next
+unfolding sendings
+sendings_more before next =
+    folded_append changes_sendings [] before (next ∷ []) ∙ by_item next
+  where
+    by_item : (next : Item) → changes_sendings before (sendings before) next
+        ≡ sendings before ++ sent_by before next
+    by_item (item.Sent number message) = refl
+    by_item other = sym (append-nil (sendings before))
+
+-- ---- what was sent
+
+-- a message was sent
+pub record IsSent (journal : List Item) (message : Message) : Type 0 where
+  pub sending : Sending
+  pub is : IsIn sending (sendings journal)
+  pub of : sending.message ≡ message
+
+pub sent_stays : (before : List Item) (next : Item) (message : Message) → IsSent before message
+    → IsSent (before ++ next ∷ []) message
+sent_stays before next message sent = record {
+  sending = sent.sending;
+  is = rw (sendings_more before next)
+      (in_left sent.sending (sendings before) (sent_by before next) sent.is);
+  of = sent.of;
+}
+
+pub sent_on : (journal items : List Item) (message : Message) → IsSent journal message
+    → IsSent (journal ++ items) message
+sent_on journal [] message sent = subst (λ now. IsSent now message) (sym (append-nil journal)) sent
+sent_on journal (next ∷ items) message sent =
+    subst (λ now. IsSent now message) (append_assoc journal (next ∷ []) items)
+    (sent_on (journal ++ next ∷ []) items message (sent_stays journal next message sent))
+
+pub sent_now : (before : List Item) (number : ℕ) (message : Message)
+    → IsSent (before ++ item.Sent number message ∷ []) message
+sent_now before number message = record {
+  sending = record { number = number; message = message; boot = boot_at before message.to };
+  is = rw (sendings_more before (item.Sent number message))
+      (in_right _ (sendings before) _ (inl refl));
+  of = refl;
+}
+
+-- each of these messages is sent
+pub all_sent : (journal : List Item) (n : ℕ) (messages : List Message) (message : Message)
+    → IsIn message messages → IsSent (journal ++ sent_from n messages) message
+unfolding sent_from
+all_sent journal n [] message is = absurd is
+all_sent journal n (first ∷ messages) message is =
+    let next : Item = item.Sent n first in
+    subst (λ now. IsSent now message)
+    (append_assoc journal (next ∷ []) (sent_from (n + 1) messages))
+    (elim is [
+      | inl here ↦ sent_on (journal ++ next ∷ []) (sent_from (n + 1) messages) message
+          (subst (IsSent (journal ++ next ∷ [])) here (sent_now journal n first))
+      | inr later ↦ all_sent (journal ++ next ∷ []) (n + 1) messages message later
+    ])
+
+pub sends_all : (journal : List Item) (messages : List Message) (message : Message)
+    → IsIn message messages → IsSent (journal ++ send_items journal messages) message
+sends_all journal messages message is =
+    all_sent journal (next_message journal) messages message is
+
+-- ---- what one more item makes of numbers and deliveries
+
+next_more : (before : List Item) (next : Item) → next_message (before ++ next ∷ [])
+    ≡ (if is_sending next then next_message before + 1 else next_message before)
+unfolding next_message
+next_more before next = counted_more is_sending before next
+
+pub next_first : (journal : List Item) → 1 ≤ next_message journal
+unfolding next_message
+next_first journal = omega arith
+
+pub delivered_more : (before : List Item) (next : Item) (n : ℕ)
+    → was_delivered (before ++ next ∷ []) n ≡ (is_delivery n next || was_delivered before n)
+unfolding was_delivered
+delivered_more before next n = some_more (is_delivery n) before next
+
+pub forgotten_more : (before : List Item) (next : Item) (n : ℕ)
+    → is_forgotten (before ++ next ∷ []) n ≡ (is_forgetting n next || is_forgotten before n)
+unfolding is_forgotten
+forgotten_more before next n = some_more (is_forgetting n) before next
+
+-- numbers of messages never fall
+pub next_grows : (journal items : List Item) → next_message journal ≤ next_message (journal ++ items)
+unfolding next_message
+next_grows journal items = omega (arith, count_of_append is_sending journal items)
+
+-- ---- what becomes of a message
+
+-- the boot in which it was sent to the switch isn't above the switch's, nor is that of its body
+-- above it; delivered in that boot it was heard
+pub record SwitchCourse (journal : List Item) (s : ℕ) (x : Sending) : Type 0 where
+  pub own : x.boot ≤ boot_of journal s
+  pub past : IfSome (body_boot x.message.body) (λ boot. boot ≤ x.boot)
+  pub heard : IsTrue (is_up journal s) → x.boot ≡ boot_of journal s
+      → IsTrue (is_for_boot x.boot x.message.body) → IsTrue (was_delivered journal x.number)
+      → IsIn x.message.body (heard journal s)
+
+abbrev pub Course : List Item → Place → Sending → Type 0
+Course journal (receiver.Switch s) x = SwitchCourse journal s x
+Course journal receiver.Controller x =
+    IsTrue (was_delivered journal x.number) → IsIn x.message.body (controller_heard journal)
+
+pub record IsTraced (journal : List Item) (x : Sending) : Type 0 where
+  pub first : 1 ≤ x.number
+  pub number : x.number < next_message journal
+  pub message : message_of journal x.number ≡ Some x.message
+  pub course : Course journal x.message.to x
+
+-- all messages are so, and none was delivered or forgotten that wasn't sent
+pub record AreTraced (journal : List Item) : Type 0 where
+  pub known : IsKnown journal
+  pub sent : (n : ℕ) (message : Message) → message_of journal n ≡ Some message
+      → n < next_message journal
+  pub delivered : (n : ℕ) → IsTrue (was_delivered journal n) → n < next_message journal
+  pub forgotten : (n : ℕ) → IsTrue (is_forgotten journal n) → n < next_message journal
+  pub each : AllByRecursion (IsTraced journal) (sendings journal)
+
+-- ---- causes
+
+-- what is delivered or forgotten was sent
+abbrev pub IsSentFirst : List Item → Item → Type 0
+IsSentFirst before (item.Delivered number) =
+    (message : Message) × (message_of before number ≡ Some message)
+IsSentFirst before (item.Forgotten number) =
+    (message : Message) × (message_of before number ≡ Some message)
+IsSentFirst before _ = ⊤
+
+pub deliverable_sent : (journal : List Item) (number : ℕ) → is_deliverable journal number ≡ true
+    → (message : Message) × (message_of journal number ≡ Some message)
+unfolding is_deliverable
+deliverable_sent journal number is = by_message (message_of journal number) refl is
+  where
+    by_message : (o : Option Message) → message_of journal number ≡ o
+        → (is_some o && not (is_forgotten journal number)) ≡ true
+        → (message : Message) × (message_of journal number ≡ Some message)
+    by_message None e is = absurd cc
+    by_message (Some message) e is = (message, e)
+
+plain_sent_first : (before : List Item) (next : Item) → plain.IsPlain before next
+    → IsSentFirst before next
+plain_sent_first before (item.Delivered number) is = absurd is
+plain_sent_first before (item.Forgotten number) is = deliverable_sent before number is
+plain_sent_first before _ is = tt
+
+sent_first_others : plain.HasOthers IsSentFirst
+sent_first_others = record {
+  aside = λ before next is. plain_sent_first before next (plain.aside_is before next is);
+  delivered = λ journal number is. deliverable_sent journal number is;
+  booted = λ journal s down. tt;
+}
+
+-- the causes of items, that they take the next numbers, and that what is delivered or forgotten was
+-- sent
+abbrev pub IsInOrder : Setting → List Item → Item → Type 0
+IsInOrder setting = Both (HasItemCause setting) (Both TakesNext IsSentFirst)
+
+pub pieces_in_order : (setting : Setting) → PiecesHave (IsInOrder setting) setting
+pieces_in_order setting journal row step =
+    have_both (HasItemCause setting) (Both TakesNext IsSentFirst) journal _
+    (boots.pieces_have setting journal row step)
+    (have_both TakesNext IsSentFirst journal _ (piece_next setting journal row step)
+    (plain.pieces_have IsSentFirst sent_first_others plain_sent_first setting journal row step))
+
+-- ---- items keep it
+
+number_on : (before : List Item) (next : Item) (x : Sending) → x.number < next_message before
+    → x.number < next_message (before ++ next ∷ [])
+number_on before next x below = omega (arith, below, next_rises before next)
+
+message_on : (before : List Item) (next : Item) (x : Sending) → TakesNext before next
+    → x.number < next_message before → message_of before x.number ≡ Some x.message
+    → message_of (before ++ next ∷ []) x.number ≡ Some x.message
+message_on before (item.Sent number message) x takes below is =
+    let apart : (number == x.number) ≡ false = grind (arith, nat_tests) in
+    rw (message_more before (item.Sent number message) x.number, apart) is
+message_on before next x takes below is = rw (message_more before next x.number) is
+
+pub delivered_grows : (before : List Item) (number s : ℕ) (body : Body)
+    → IsIn body (heard before s) → IsIn body (heard (before ++ item.Delivered number ∷ []) s)
+delivered_grows before number s body is =
+    rw (heard_more before (item.Delivered number) s) (by_said (body_to_switch before s number))
+  where
+    by_said : (o : Option Body)
+        → IsIn body (option_map_or (λ b. heard before s ++ b ∷ []) o (heard before s))
+    by_said None = is
+    by_said (Some b) = in_left body (heard before s) (b ∷ []) is
+
+heard_grows : (before : List Item) (next : Item) (s : ℕ) (body : Body)
+    → IsFalse (turns s next) → IsIn body (heard before s)
+    → IsIn body (heard (before ++ next ∷ []) s)
+heard_grows before (item.Down t) s body same is = grind (arith, heard_more)
+heard_grows before (item.Booted t boot) s body same is = grind (arith, heard_more)
+heard_grows before (item.Delivered number) s body same is =
+    delivered_grows before number s body is
+heard_grows before next s body same is = rw (heard_more before next s) is
+
+-- what is delivered to the switch in its boot it hears
+delivery_heard : (before : List Item) (s number : ℕ) (body : Body)
+    → message_of before number ≡ Some (to_switch s body) → IsTrue (is_up before s)
+    → IsTrue (is_for_boot (boot_of before s) body)
+    → IsIn body (heard (before ++ item.Delivered number ∷ []) s)
+delivery_heard before s number body sent up own =
+    let here : (s == s) ≡ true = eq-eqb s s refl in
+    let is_up_here : is_up before s ≡ true = up in
+    let for_it : is_for_boot (boot_of before s) body ≡ true = own in
+    let said : body_to_switch before s number ≡ Some body =
+    rw (sent, here, is_up_here, for_it, body_to_switch) refl in
+    rw (heard_more before (item.Delivered number) s, said)
+    (in_right body (heard before s) (body ∷ []) (inl refl))
+
+delivery_told : (before : List Item) (number : ℕ) (body : Body)
+    → message_of before number ≡ Some (to_controller body)
+    → IsIn body (controller_heard (before ++ item.Delivered number ∷ []))
+delivery_told before number body sent =
+    let said : body_to_controller before number ≡ Some body = rw (sent, body_to_controller) refl in
+    rw (told_more before (item.Delivered number), said)
+    (in_right body (controller_heard before) (body ∷ []) (inl refl))
+
+-- what was delivered behind a delivery is that, or was so before
+delivered_either : (before : List Item) (number n : ℕ)
+    → IsTrue (was_delivered (before ++ item.Delivered number ∷ []) n)
+    → (number ≡ n) ⊎ IsTrue (was_delivered before n)
+delivered_either before number n delivered =
+    by_test (number == n) refl (rw (delivered_more before (item.Delivered number) n) at delivered)
+  where
+    by_test : (b : Bool) → (number == n) ≡ b → IsTrue (b || was_delivered before n)
+        → (number ≡ n) ⊎ IsTrue (was_delivered before n)
+    by_test true e was = inl (eqb-true number n e)
+    by_test false e was = inr was
+
+switch_heard : (before : List Item) (next : Item) (s : ℕ) (x : Sending) (to : Message)
+    → to ≡ to_switch s x.message.body → message_of before x.number ≡ Some to
+    → GoesOn before next s x.boot → SwitchCourse before s x
+    → IsTrue (is_for_boot x.boot x.message.body)
+    → IsTrue (was_delivered (before ++ next ∷ []) x.number)
+    → IsIn x.message.body (heard (before ++ next ∷ []) s)
+switch_heard before (item.Delivered number) s x to is sent on course own delivered =
+    elim (delivered_either before number x.number delivered) [
+      | inl same ↦ delivery_heard before s number x.message.body
+          (ap (message_of before) same ∙ sent ∙ ap Some is) on.up
+          (subst (λ b. IsTrue (is_for_boot b x.message.body)) on.own own)
+      | inr was ↦ heard_grows before (item.Delivered number) s x.message.body refl
+          (course.heard on.up on.own own was)
+    ]
+switch_heard before next s x to is sent on course own delivered =
+    heard_grows before next s x.message.body on.same
+    (course.heard on.up on.own own (rw (delivered_more before next x.number) at delivered))
+
+switch_on : (setting : Setting) (before : List Item) (next : Item) (s : ℕ) (x : Sending)
+    → HasItemCause setting before next
+    → message_of before x.number ≡ Some (to_switch s x.message.body)
+    → SwitchCourse before s x → SwitchCourse (before ++ next ∷ []) s x
+switch_on setting before next s x cause sent course = record {
+  own = omega (arith, course.own, boot_rises setting before next s cause);
+  past = course.past;
+  heard = λ up own for delivered.
+      switch_heard before next s x (to_switch s x.message.body) refl sent
+      (goes_on setting before next s x.boot cause course.own up own) course for delivered;
+}
+
+told_on : (before : List Item) (next : Item) (x : Sending)
+    → message_of before x.number ≡ Some (to_controller x.message.body)
+    → Course before receiver.Controller x → Course (before ++ next ∷ []) receiver.Controller x
+told_on before (item.Delivered number) x sent course delivered =
+    elim (delivered_either before number x.number delivered) [
+      | inl same ↦ delivery_told before number x.message.body (ap (message_of before) same ∙ sent)
+      | inr was ↦ rw (told_more before (item.Delivered number))
+          (in_left x.message.body (controller_heard before) _ (course was))
+    ]
+told_on before next x sent course delivered =
+    rw (told_more before next) (course (rw (delivered_more before next x.number) at delivered))
+
+course_on : (setting : Setting) (before : List Item) (next : Item) (to : Place) (x : Sending)
+    → HasItemCause setting before next
+    → message_of before x.number ≡ Some (record { to = to; body = x.message.body })
+    → Course before to x → Course (before ++ next ∷ []) to x
+course_on setting before next (receiver.Switch s) x cause sent course =
+    switch_on setting before next s x cause sent course
+course_on setting before next receiver.Controller x cause sent course =
+    told_on before next x sent course
+
+traced_on : (setting : Setting) (before : List Item) (next : Item) (x : Sending)
+    → IsInOrder setting before next → IsTraced before x → IsTraced (before ++ next ∷ []) x
+traced_on setting before next x cause traced = record {
+  first = traced.first;
+  number = number_on before next x traced.number;
+  message = message_on before next x cause.second.first traced.number traced.message;
+  course = course_on setting before next x.message.to x cause.first traced.message traced.course;
+}
+
+-- ---- a new message
+
+new_course : (before : List Item) (number : ℕ) (to : Place) (body : Body)
+    → IsKnown (before ++ item.Sent number (record { to = to; body = body }) ∷ [])
+    → IsFalse (was_delivered before number)
+    → Course (before ++ item.Sent number (record { to = to; body = body }) ∷ []) to
+    (record {
+      number = number;
+      message = record { to = to; body = body };
+      boot = boot_at before to;
+    })
+new_course before number (receiver.Switch s) body known fresh =
+    let next : Item = item.Sent number (to_switch s body) in
+    let here : (number == number) ≡ true = eq-eqb number number refl in
+    let sent : message_of (before ++ next ∷ []) number ≡ Some (to_switch s body) =
+    rw (message_more before next number, here) refl in
+    let below = known.boots.known s in
+    let same : boot_of (before ++ next ∷ []) s ≡ boot_of before s = boot_more before next s in
+    record {
+      own = omega (arith, same);
+      past = IfSome_then (body_boot body) (known.boots.sent number (to_switch s body) sent)
+          (λ boot past. omega (arith, past, below, same));
+      heard = λ up own for delivered.
+          let no : false ≡ true =
+          sym fresh ∙ (rw (delivered_more before next number) at delivered) in
+          absurd cc;
+    }
+new_course before number receiver.Controller body known fresh =
+    λ delivered.
+    let next : Item = item.Sent number (to_controller body) in
+    let no : false ≡ true = sym fresh ∙ (rw (delivered_more before next number) at delivered) in
+    absurd cc
+
+new_traced : (setting : Setting) (before : List Item) (number : ℕ) (message : Message)
+    → IsInOrder setting before (item.Sent number message) → AreTraced before
+    → IsTraced (before ++ item.Sent number message ∷ [])
+    (record { number = number; message = message; boot = boot_at before message.to })
+new_traced setting before number message cause are =
+    let next : Item = item.Sent number message in
+    let here : (number == number) ≡ true = eq-eqb number number refl in
+    let takes : number ≡ next_message before = cause.second.first in
+    record {
+      first = omega (arith, takes, next_first before);
+      number = rw (next_more before next) (omega (arith, takes));
+      message = rw (message_more before next number, here) refl;
+      course = new_course before number message.to message.body
+          (known_kept setting before next cause.first are.known)
+          (by_test (was_delivered before number) refl);
+    }
+  where
+    by_test : (b : Bool) → was_delivered before number ≡ b → IsFalse (was_delivered before number)
+    by_test false e = e
+    by_test true e =
+        let takes : number ≡ next_message before = cause.second.first in
+        absurd (omega (arith, are.delivered number e, takes))
+
+sent_traced : (setting : Setting) (before : List Item) (next : Item)
+    → IsInOrder setting before next → AreTraced before
+    → AllByRecursion (IsTraced (before ++ next ∷ [])) (sent_by before next)
+sent_traced setting before (item.Sent number message) cause are =
+    (new_traced setting before number message cause are, tt)
+sent_traced setting before _ cause are = tt
+
+-- ---- together
+
+sent_below : (setting : Setting) (before : List Item) (next : Item) (n : ℕ) (message : Message)
+    → IsInOrder setting before next → AreTraced before
+    → message_of (before ++ next ∷ []) n ≡ Some message
+    → n < next_message (before ++ next ∷ [])
+sent_below setting before (item.Sent number sent) n message cause are is =
+    by_test (number == n) refl
+  where
+    next : Item
+    next = item.Sent number sent
+
+    by_test : (b : Bool) → (number == n) ≡ b → n < next_message (before ++ next ∷ [])
+    by_test true e =
+        let takes : number ≡ next_message before = cause.second.first in
+        rw (next_more before next) (omega (arith, takes, eqb-true number n e))
+    by_test false e =
+        let was : message_of before n ≡ Some message =
+        rw (message_more before next n, e) at is in
+        omega (arith, are.sent n message was, next_rises before next)
+sent_below setting before next n message cause are is =
+    let was : message_of before n ≡ Some message = rw (message_more before next n) at is in
+    omega (arith, are.sent n message was, next_rises before next)
+
+delivered_below : (setting : Setting) (before : List Item) (next : Item) (n : ℕ)
+    → IsInOrder setting before next → AreTraced before
+    → IsTrue (was_delivered (before ++ next ∷ []) n) → n < next_message (before ++ next ∷ [])
+delivered_below setting before (item.Delivered number) n cause are is =
+    by_test (number == n) refl (rw (delivered_more before (item.Delivered number) n) at is)
+  where
+    next : Item
+    next = item.Delivered number
+
+    by_test : (b : Bool) → (number == n) ≡ b → IsTrue (b || was_delivered before n)
+        → n < next_message (before ++ next ∷ [])
+    by_test true e was =
+        let sent = cause.second.second in
+        omega (arith, are.sent number sent.0 sent.1, eqb-true number n e, next_rises before next)
+    by_test false e was = omega (arith, are.delivered n was, next_rises before next)
+delivered_below setting before next n cause are is =
+    let was : IsTrue (was_delivered before n) = rw (delivered_more before next n) at is in
+    omega (arith, are.delivered n was, next_rises before next)
+
+forgotten_below : (setting : Setting) (before : List Item) (next : Item) (n : ℕ)
+    → IsInOrder setting before next → AreTraced before
+    → IsTrue (is_forgotten (before ++ next ∷ []) n) → n < next_message (before ++ next ∷ [])
+forgotten_below setting before (item.Forgotten number) n cause are is =
+    by_test (number == n) refl (rw (forgotten_more before (item.Forgotten number) n) at is)
+  where
+    next : Item
+    next = item.Forgotten number
+
+    by_test : (b : Bool) → (number == n) ≡ b → IsTrue (b || is_forgotten before n)
+        → n < next_message (before ++ next ∷ [])
+    by_test true e was =
+        let sent = cause.second.second in
+        omega (arith, are.sent number sent.0 sent.1, eqb-true number n e, next_rises before next)
+    by_test false e was = omega (arith, are.forgotten n was, next_rises before next)
+forgotten_below setting before next n cause are is =
+    let was : IsTrue (is_forgotten before n) = rw (forgotten_more before next n) at is in
+    omega (arith, are.forgotten n was, next_rises before next)
+
+pub traced_kept : (setting : Setting) → AreKept (IsInOrder setting) AreTraced
+traced_kept setting before next cause are = record {
+  known = known_kept setting before next cause.first are.known;
+  sent = λ n message is. sent_below setting before next n message cause are is;
+  delivered = λ n is. delivered_below setting before next n cause are is;
+  forgotten = λ n is. forgotten_below setting before next n cause are is;
+  each = rw (sendings_more before next)
+      (each_append (IsTraced (before ++ next ∷ [])) (sendings before) (sent_by before next)
+      (each_weaker (IsTraced before) (IsTraced (before ++ next ∷ []))
+      (λ x traced. traced_on setting before next x cause traced) (sendings before) are.each)
+      (sent_traced setting before next cause are));
+}
+
+pub traced_at_first : AreTraced []
+unfolding was_delivered is_forgotten
+traced_at_first = record {
+  known = known_at_first;
+  sent = λ n message is.
+      let none : None ≡ Some message = rw (start_laws.message n).message at is in absurd cc;
+  delivered = λ n is. let no : false ≡ true = is in absurd cc;
+  forgotten = λ n is. let no : false ≡ true = is in absurd cc;
+  each = subst (AllByRecursion (IsTraced [])) (sym start_laws.sent) tt;
+}
+
+pub caused_traced : (setting : Setting) (journal : List Item)
+    → HaveCauses (IsInOrder setting) [] journal → AreTraced journal
+caused_traced setting journal have =
+    fact_on (IsInOrder setting) AreTraced (traced_kept setting) [] journal have traced_at_first

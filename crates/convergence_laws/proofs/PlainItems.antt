@@ -1,0 +1,289 @@
+-- Items that deliver nothing and begin no boot: all of every step but the `Delivered` and the
+-- `Booted` of two kinds. What they forget could be delivered. Those of steps that move no packet
+-- make none stuck either.
+use Rattle.std.proofs.Common.{ℕ, ◌≡◌, ◌+◌, Bool, true, false, List, [], ◌∷◌, ◌++◌, refl, ◌∙◌, arith}
+use Rattle.std.specs.Prelude.{⊤, IsFalse, IsTrue}
+use Rattle.ctrl_msg.specs.declared.message.Body.{Body}
+use Rattle.ctrl_msg.specs.declared.message.Message.{Message}
+use Rattle.journal.specs.declared.item.Item.{Item}
+use Rattle.journal.specs.declared.item.Item.TheVariants as item
+use Rattle.steps.specs.declared.step.Step.{Step}
+use Rattle.steps.specs.declared.step.Step.TheVariants.{Packet, Hop, Deliver, Update, LinkDown, LinkUp, Crash, Restart, Confirm, Resend}
+use Rattle.update_machine.specs.Boots.{boot_of, is_up}
+use Rattle.update_machine.specs.Causes.{HaveCauses}
+use Rattle.update_machine.specs.Deliveries.{delivery_items, link_changes, switch_items}
+use Rattle.update_machine.specs.Messages.{is_deliverable, send_items}
+use Rattle.update_machine.specs.Moves.{items_then}
+use Rattle.update_machine.specs.Packets.{next_packet}
+use Rattle.update_machine.specs.Pieces.{deliver_items, expire_items, forget_items, hello_of, lose_items, nothing, restart_items, step_items}
+use Rattle.update_machine.specs.Setting.{Setting}
+use Rattle.update_machine.specs.Settling.{settling}
+use Rattle.update_machine.proofs.CallerLemmas.{PiecesHave, have_first, message_keeps}
+use Rattle.control_laws.proofs.ControllerCommands.{Control, IsControl, confirm_control, controller_control, settling_control, update_has}
+use Rattle.control_laws.proofs.CrashedSwitches.{crash_changes}
+use Rattle.control_laws.proofs.DeliveryCauses.{delivery_has}
+use Rattle.control_laws.proofs.ItemFacts.{have_weaker, piece_has}
+use Rattle.control_laws.proofs.ResentBySwitches.{resends_any, sends_any}
+use Rattle.control_laws.proofs.SwitchCases.{switch_cases}
+use Rattle.control_laws.proofs.TrafficItems.{Change, link_change, IsChange, IsTraffic, links_change, packet_has, step_traffic, work_cases}
+
+abbrev pub IsPlain : List Item → Item → Type 0
+IsPlain before (item.Delivered number) = ⊥
+IsPlain before (item.Booted s boot) = ⊥
+IsPlain before (item.Forgotten number) = IsTrue (is_deliverable before number)
+IsPlain before _ = ⊤
+
+abbrev pub Plain : List Item → List Item → Type 0
+Plain journal items = HaveCauses IsPlain journal items
+
+-- plain items that make no packet stuck
+abbrev pub IsAside : List Item → Item → Type 0
+IsAside before (item.Stuck i s cause leg down) = ⊥
+IsAside before next = IsPlain before next
+
+abbrev Aside : List Item → List Item → Type 0
+Aside journal items = HaveCauses IsAside journal items
+
+pub aside_is : (before : List Item) (next : Item) → IsAside before next → IsPlain before next
+aside_is before (item.Stuck i s cause leg down) is = absurd is
+aside_is before next is = is
+
+aside_plain : (journal items : List Item) → Aside journal items → Plain journal items
+aside_plain = have_weaker IsAside IsPlain aside_is
+
+-- ---- blocks
+
+sends_aside : (journal : List Item) (messages : List Message)
+    → Aside journal (send_items journal messages)
+sends_aside = sends_any IsAside (λ before n message. tt)
+
+pub sends_plain : (journal : List Item) (messages : List Message)
+    → Plain journal (send_items journal messages)
+sends_plain = sends_any IsPlain (λ before n message. tt)
+
+control_is : (before : List Item) (next : Item) → IsControl before next → IsAside before next
+control_is before (item.Delivered number) is = absurd is
+control_is before (item.Booted s boot) is = absurd is
+control_is before (item.Stuck i s cause leg down) is = absurd is
+control_is before (item.Forgotten number) is = absurd is
+control_is before _ is = tt
+
+control_aside : (journal items : List Item) → Control journal items → Aside journal items
+control_aside = have_weaker IsControl IsAside control_is
+
+pub settling_plain : (setting : Setting) (journal : List Item)
+    → Plain journal (settling setting journal)
+settling_plain setting journal =
+    aside_plain journal _ (control_aside journal _ (settling_control setting journal))
+
+change_is : (setting : Setting) (before : List Item) (next : Item) → IsChange setting before next
+    → IsAside before next
+change_is setting before (item.Delivered number) is = absurd is
+change_is setting before (item.Booted s boot) is = absurd is
+change_is setting before (item.Stuck i s cause leg down) is = absurd is
+change_is setting before (item.Forgotten number) is = absurd is
+change_is setting before _ is = tt
+
+change_aside : (setting : Setting) (journal items : List Item) → Change setting journal items
+    → Aside journal items
+change_aside setting = have_weaker (IsChange setting) IsAside (change_is setting)
+
+links_aside : (setting : Setting) (before journal : List Item)
+    → Aside journal (link_changes setting before journal)
+links_aside setting before journal =
+    change_aside setting journal _ (links_change setting before journal)
+
+traffic_is : (setting : Setting) (before : List Item) (next : Item)
+    → IsTraffic setting before next → IsPlain before next
+traffic_is setting before (item.Delivered number) is = absurd is
+traffic_is setting before (item.Booted s boot) is = absurd is
+traffic_is setting before (item.Forgotten number) is = is
+traffic_is setting before _ is = tt
+
+-- ---- deliveries
+
+switch_aside : (setting : Setting) (before : List Item) (s : ℕ) (body : Body) (now : List Item)
+    → Aside now (switch_items setting before s body now)
+switch_aside setting before s body now =
+    switch_cases (Aside now) setting before s body now (λ boot version. sends_aside now _)
+    (λ boot version. sends_aside now _)
+    (λ boot version is. grind (arith, have_first, links_aside))
+    (λ advert is news. sends_aside now _) tt
+
+delivery_aside : (setting : Setting) (before : List Item) (number : ℕ) (now : List Item)
+    → Aside now (delivery_items setting before number now)
+delivery_aside setting before number now =
+    delivery_has (Aside now) setting before number now tt
+    (λ body sent. control_aside now _ (controller_control setting before body now))
+    (λ s body said. switch_aside setting before s body now)
+
+pub delivery_plain : (setting : Setting) (before : List Item) (number : ℕ) (now : List Item)
+    → Plain now (delivery_items setting before number now)
+delivery_plain setting before number now =
+    aside_plain now _ (delivery_aside setting before number now)
+
+-- ---- other steps
+
+lose_aside : (packet : ℕ) (journal : List Item) → Aside journal (lose_items packet journal)
+unfolding lose_items
+lose_aside packet journal = grind arith
+
+forget_aside : (number : ℕ) (journal : List Item) → Aside journal (forget_items number journal)
+unfolding forget_items
+forget_aside number journal = by_test (is_deliverable journal number) refl
+  where
+    by_test : (b : Bool) → is_deliverable journal number ≡ b → Aside journal (elim b [
+      | false ↦ nothing
+      | true ↦ item.Forgotten number ∷ []
+    ])
+    by_test false e = (tt, tt)
+    by_test true e = (e, tt)
+
+expire_aside : (setting : Setting) (s place : ℕ) (journal : List Item)
+    → Aside journal (expire_items setting s place journal)
+unfolding expire_items
+expire_aside setting s place journal = grind arith
+
+-- the steps that move no packet and write neither a `Delivered` nor a `Booted`
+abbrev is_aside : Step → Bool
+is_aside (Packet s header) = false
+is_aside (Hop packet) = false
+is_aside (Deliver message) = false
+is_aside (Restart s) = false
+is_aside _ = true
+
+step_aside : (setting : Setting) (before : List Item) (step : Step) (here : List Item)
+    → IsTrue (is_aside step) → Aside here (step_items setting before step here)
+step_aside setting before (Update file) here is =
+    update_has IsAside control_is setting file _ (λ version. tt)
+step_aside setting before (LinkDown one two) here is =
+    change_aside setting _ _ (link_change setting before one two false _)
+step_aside setting before (LinkUp one two) here is =
+    change_aside setting _ _ (link_change setting before one two true _)
+step_aside setting before (Crash s) here is =
+    crash_changes setting IsAside (change_is setting) before s _ (λ up. tt)
+step_aside setting before (Confirm s) here is = control_aside _ _ (confirm_control setting s _)
+step_aside setting before (Resend s) here is =
+    resends_any IsAside (λ now n message. tt) setting s _ tt
+step_aside setting before (Packet s header) here is = absurd cc
+step_aside setting before (Deliver message) here is = absurd cc
+step_aside setting before (Restart s) here is = absurd cc
+step_aside setting before step here is =
+    work_cases (λ step. IsTrue (is_aside step)
+    → Aside here (step_items setting before step here)) (λ packet none. absurd cc)
+    (λ packet one. lose_aside packet _) (λ message one. forget_aside message _)
+    (λ s place one. expire_aside setting s place _) step tt is
+
+-- the steps that write neither
+abbrev pub is_plain : Step → Bool
+is_plain (Deliver message) = false
+is_plain (Restart s) = false
+is_plain _ = true
+
+pub step_plain : (setting : Setting) (before : List Item) (step : Step) (here : List Item)
+    → is_plain step ≡ true → Plain here (step_items setting before step here)
+step_plain setting before (Packet s header) here is =
+    packet_has setting IsPlain (traffic_is setting) (next_packet before) s header _ tt
+step_plain setting before (Hop packet) here is =
+    have_weaker (IsTraffic setting) IsPlain (traffic_is setting) _ _
+    (step_traffic setting before (Hop packet) _ tt)
+step_plain setting before (Deliver message) here is = absurd cc
+step_plain setting before (Restart s) here is = absurd cc
+step_plain setting before step here is =
+    aside_plain _ _ (step_aside setting before step here refl)
+
+-- ---- all steps, where the two other items have causes of their own
+
+-- a `Delivered` and a `Booted` have the cause at the moments at which steps write them
+pub record HasOthers (cause : List Item → Item → Type 0) : Type 0 where
+  pub aside : (before : List Item) (next : Item) → IsAside before next → cause before next
+  pub delivered : (journal : List Item) (number : ℕ) → is_deliverable journal number ≡ true
+      → cause journal (item.Delivered number)
+  pub booted : (journal : List Item) (s : ℕ) → is_up journal s ≡ false
+      → cause journal (item.Booted s (boot_of journal s + 1))
+
+aside_have : (cause : List Item → Item → Type 0) → HasOthers cause
+    → (journal items : List Item) → Aside journal items → HaveCauses cause journal items
+aside_have cause others = have_weaker IsAside cause others.aside
+
+deliver_have : (cause : List Item → Item → Type 0) → HasOthers cause → (setting : Setting)
+    → (before : List Item) (row number : ℕ) (step : Step)
+    → let here = before ++ item.Row row step ∷ [] in
+    HaveCauses cause here (deliver_items setting before number here)
+unfolding deliver_items
+deliver_have cause others setting before row number step =
+    by_test (is_deliverable before number) refl
+  where
+    here : List Item
+    here = before ++ item.Row row step ∷ []
+
+    next : Item
+    next = item.Delivered number
+
+    by_test : (b : Bool) → is_deliverable before number ≡ b → HaveCauses cause here (elim b [
+      | false ↦ nothing
+      | true ↦ items_then (next ∷ []) (delivery_items setting before number) here
+    ])
+    by_test false e = (others.aside here item.Nothing tt, tt)
+    by_test true e = have_first cause next (delivery_items setting before number) here
+        (others.delivered here number
+        ((message_keeps number before (item.Row row step ∷ []) (refl, tt)).deliverable ∙ e))
+        (aside_have cause others (here ++ next ∷ []) _
+        (delivery_aside setting before number (here ++ next ∷ [])))
+
+restart_have : (cause : List Item → Item → Type 0) → HasOthers cause → (s : ℕ)
+    → (journal : List Item) → HaveCauses cause journal (restart_items s journal)
+unfolding restart_items
+restart_have cause others s journal = by_up (is_up journal s) refl
+  where
+    next : Item
+    next = item.Booted s (boot_of journal s + 1)
+
+    hello : List Item → List Item
+    hello booted = send_items booted (hello_of booted s ∷ [])
+
+    by_up : (b : Bool) → is_up journal s ≡ b → HaveCauses cause journal (elim b [
+      | true ↦ nothing
+      | false ↦ items_then (next ∷ []) hello journal
+    ])
+    by_up true e = (others.aside journal item.Nothing tt, tt)
+    by_up false e = have_first cause next hello journal (others.booted journal s e)
+        (aside_have cause others (journal ++ next ∷ []) _
+        (sends_aside (journal ++ next ∷ []) (hello_of (journal ++ next ∷ []) s ∷ [])))
+
+-- the steps of packets that move
+abbrev pub moves : Step → Bool
+moves (Packet s header) = true
+moves (Hop packet) = true
+moves _ = false
+
+pub others_have : (cause : List Item → Item → Type 0) → HasOthers cause → (setting : Setting)
+    → (before : List Item) (row : ℕ) (step : Step) → IsFalse (moves step)
+    → let here = before ++ item.Row row step ∷ [] in
+    HaveCauses cause here (step_items setting before step here)
+others_have cause others setting before row (Packet s header) none = absurd cc
+others_have cause others setting before row (Hop packet) none = absurd cc
+others_have cause others setting before row (Deliver message) none =
+    deliver_have cause others setting before row message (Deliver message)
+others_have cause others setting before row (Restart s) none = restart_have cause others s _
+others_have cause others setting before row step none =
+    aside_have cause others _ _ (step_aside setting before step _ refl)
+
+step_have : (cause : List Item → Item → Type 0) → HasOthers cause
+    → ((before : List Item) (next : Item) → IsPlain before next → cause before next)
+    → (setting : Setting) (before : List Item) (row : ℕ) (step : Step)
+    → let here = before ++ item.Row row step ∷ [] in
+    HaveCauses cause here (step_items setting before step here)
+step_have cause others plain setting before row (Packet s header) =
+    have_weaker IsPlain cause plain _ _ (step_plain setting before (Packet s header) _ refl)
+step_have cause others plain setting before row (Hop packet) =
+    have_weaker IsPlain cause plain _ _ (step_plain setting before (Hop packet) _ refl)
+step_have cause others plain setting before row step =
+    others_have cause others setting before row step refl
+
+pub pieces_have : (cause : List Item → Item → Type 0) → HasOthers cause
+    → ((before : List Item) (next : Item) → IsPlain before next → cause before next)
+    → (setting : Setting) → PiecesHave cause setting
+pieces_have cause others plain setting journal row step =
+    piece_has cause setting journal row step (others.aside journal (item.Row row step) tt)
+    (step_have cause others plain setting journal row step)

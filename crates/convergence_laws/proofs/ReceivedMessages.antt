@@ -1,0 +1,533 @@
+-- In a quiet journal what matters was heard, or what replaces it.
+use Rattle.std.proofs.Common.{ℕ, ◌≡◌, ◌+◌, ◌≤◌, ◌<◌, ◌⊎◌, ◌==◌, ◌&&◌, ◌||◌, Bool, true, false, Some, List, [], ◌∷◌, ◌++◌, refl, ap, sym, subst, ◌∙◌, append-nil, append_assoc, arith, inl, inr}
+use Rattle.std.specs.Prelude.{⊤, IfSome, IsTrue, IsFalse, nat_lt}
+use Rattle.std.specs.List.{list_any}
+use Rattle.std.proofs.lemmas.Bool.{eq-eqb, eqb-true, or_right}
+use Rattle.std.proofs.lemmas.Bool.Decides.{nat_tests}
+use Rattle.ctrl_msg.specs.Bodies.{body_boot}
+use Rattle.ctrl_msg.specs.declared.message.Body.{Body}
+use Rattle.ctrl_msg.specs.declared.message.Body.TheVariants.{Stamp, Collect, Advertise, Stamped}
+use Rattle.ctrl_msg.specs.declared.message.Message.{Message}
+use Rattle.ctrl_msg.specs.declared.message.Place.{Place}
+use Rattle.ctrl_msg.specs.declared.message.Place.TheVariants as receiver
+use Rattle.ctrl_msg.specs.Kinds.{to_controller}
+use Rattle.journal.specs.declared.item.Item.{Item}
+use Rattle.journal.specs.declared.item.Item.TheVariants as item
+use Rattle.steps.specs.Steps.{HasSwitch}
+use Rattle.update_machine.specs.Boots.{boot_of, heard, is_for_boot, is_up}
+use Rattle.update_machine.specs.Causes.{HaveCauses}
+use Rattle.update_machine.specs.Folds.{count_of, folded_from}
+use Rattle.update_machine.specs.Marks.{controller_heard, current_mark}
+use Rattle.update_machine.specs.Messages.{is_delivery, was_delivered}
+use Rattle.update_machine.specs.Quiet.{AreReceived, IsQuiet, IsReceived, IsReplaced, Replaces, are_old_tables, begins_boot, is_later_body, is_old_answer, matters, speaker}
+use Rattle.update_machine.specs.Sendings.{Sending, boot_at, changes_sendings, sendings}
+use Rattle.update_machine.specs.Setting.{Setting}
+use Rattle.update_machine.specs.Settling.{to_switch}
+use Rattle.update_machine.proofs.CallerLemmas.{count_of_append}
+use Rattle.control_laws.specs.ItemCauses.{HasItemCause}
+use Rattle.control_laws.proofs.BootsKnown.{boot_rises}
+use Rattle.control_laws.proofs.ItemFacts.{have_weaker}
+use Rattle.control_laws.proofs.FactsGrown.{boot_more}
+use Rattle.convergence_laws.proofs.ListElements.{IsIn, each_in, in_either, in_left, in_right}
+use Rattle.convergence_laws.proofs.MessageCourses.{AreTraced, IsInOrder, IsSent, IsTraced, SwitchCourse, caused_traced, sendings_more, sent_by}
+
+-- ---- sendings
+
+-- the message, its number and its boot
+pub record IsSentAs (journal : List Item) (message : Message) : Type 0 where
+  pub number : ℕ
+  pub boot : ℕ
+  pub is : IsIn (record { number = number; message = message; boot = boot }) (sendings journal)
+
+pub sent_as : (journal : List Item) (message : Message) → IsSent journal message
+    → IsSentAs journal message
+sent_as journal message sent =
+    let x : Sending = sent.sending in
+    let same : x ≡ record { number = x.number; message = message; boot = x.boot } =
+    ap (λ m. record { number = x.number; message = m; boot = x.boot }) sent.of in
+    record {
+      number = x.number;
+      boot = x.boot;
+      is = subst (λ y. IsIn y (sendings journal)) same sent.is;
+    }
+
+pub sendings_on : (journal items : List Item) (x : Sending) → IsIn x (sendings journal)
+    → IsIn x (sendings (journal ++ items))
+sendings_on journal [] x is = subst (λ now. IsIn x (sendings now)) (sym (append-nil journal)) is
+sendings_on journal (next ∷ items) x is =
+    subst (λ now. IsIn x (sendings now)) (append_assoc journal (next ∷ []) items)
+    (sendings_on (journal ++ next ∷ []) items x
+    (rw (sendings_more journal next) (in_left x (sendings journal) (sent_by journal next) is)))
+
+-- what an item of a journal sends
+pub in_sendings : (journal front : List Item) (number : ℕ) (message : Message) (rest : List Item)
+    → journal ≡ front ++ item.Sent number message ∷ rest
+    → IsIn (record { number = number; message = message; boot = boot_at front message.to })
+    (sendings journal)
+in_sendings journal front number message rest is =
+    let next : Item = item.Sent number message in
+    let x : Sending = record {
+      number = number;
+      message = message;
+      boot = boot_at front message.to;
+    } in
+    subst (λ now. IsIn x (sendings now)) (append_assoc front (next ∷ []) rest ∙ sym is)
+    (sendings_on (front ++ next ∷ []) rest x
+    (rw (sendings_more front next) (in_right x (sendings front) (sent_by front next) (inl refl))))
+
+-- where a message was sent: by one of these items behind a journal; and it was received, if it
+-- matters
+record IsSentBehind (setting : Setting) (journal before items : List Item) (x : Sending)
+    : Type 0 where
+  between : List Item
+  after : List Item
+  is : items ≡ between ++ item.Sent x.number x.message ∷ after
+  boot : x.boot ≡ boot_at (before ++ between) x.message.to
+  received : (s : ℕ) → HasSwitch setting.net s → IsTrue (matters journal s x.message after)
+      → IsReceived x.number x.message after
+
+behind_one : (setting : Setting) (journal before : List Item) (next : Item) (items : List Item)
+    (x : Sending) → IsSentBehind setting journal (before ++ next ∷ []) items x
+    → IsSentBehind setting journal before (next ∷ items) x
+behind_one setting journal before next items x sent = record {
+  between = next ∷ sent.between;
+  after = sent.after;
+  is = ap (λ xs. next ∷ xs) sent.is;
+  boot = sent.boot
+      ∙ ap (λ js. boot_at js x.message.to) (append_assoc before (next ∷ []) sent.between);
+  received = sent.received;
+}
+
+sent_behind : (setting : Setting) (journal before : List Item) (value : List Sending)
+    (items : List Item) (x : Sending) → AreReceived setting journal items
+    → IsIn x (folded_from changes_sendings before value items)
+    → IsIn x value ⊎ IsSentBehind setting journal before items x
+sent_behind setting journal before value [] x received is = inl is
+sent_behind setting journal before value (item.Sent number message ∷ items) x received is =
+    elim (sent_behind setting journal (before ++ next ∷ []) (value ++ own ∷ []) items x received.1
+    is) [
+      | inl so_far ↦ elim (in_either x value (own ∷ []) so_far) [
+        | inl old ↦ inl old
+        | inr new ↦ elim new [
+          | inl here ↦ inr (subst (IsSentBehind setting journal before (next ∷ items)) here first)
+          | inr none ↦ absurd none
+        ]
+      ]
+      | inr later ↦ inr (behind_one setting journal before next items x later)
+    ]
+  where
+    next : Item
+    next = item.Sent number message
+
+    own : Sending
+    own = record { number = number; message = message; boot = boot_at before message.to }
+
+    first : IsSentBehind setting journal before (next ∷ items) own
+    first = record {
+      between = [];
+      after = items;
+      is = refl;
+      boot = ap (λ js. boot_at js message.to) (sym (append-nil before));
+      received = received.0;
+    }
+sent_behind setting journal before value (next ∷ items) x received is =
+    elim (sent_behind setting journal (before ++ next ∷ []) value items x received is) [
+      | inl old ↦ inl old
+      | inr later ↦ inr (behind_one setting journal before next items x later)
+    ]
+
+sent_at : (setting : Setting) (journal : List Item) (x : Sending)
+    → AreReceived setting journal journal → IsIn x (sendings journal)
+    → IsSentBehind setting journal [] journal x
+unfolding sendings
+sent_at setting journal x received is =
+    elim (sent_behind setting journal [] [] journal x received is) [
+      | inl none ↦ absurd none
+      | inr sent ↦ sent
+    ]
+
+-- ---- deliveries
+
+pub delivered_append : (before after : List Item) (n : ℕ)
+    → was_delivered (before ++ after) n ≡ (was_delivered before n || was_delivered after n)
+unfolding was_delivered
+delivered_append before after n =
+    ap (nat_lt 0) (count_of_append (is_delivery n) before after)
+    ∙ some_of (count_of (is_delivery n) before) (count_of (is_delivery n) after)
+  where
+    some_of : (a b : ℕ) → nat_lt 0 (a + b) ≡ (nat_lt 0 a || nat_lt 0 b)
+    some_of a b = by_test (nat_lt 0 a) refl
+      where
+        by_test : (t : Bool) → nat_lt 0 a ≡ t → nat_lt 0 (a + b) ≡ (t || nat_lt 0 b)
+        by_test true e = grind (arith, nat_tests)
+        by_test false e =
+            let none : a ≡ 0 = grind (arith, nat_tests) in
+            let same : a + b ≡ b = omega (arith, none) in
+            ap (nat_lt 0) same
+
+-- what was delivered at the end of a journal was delivered
+delivered_behind : (journal front after : List Item) (n : ℕ) → journal ≡ front ++ after
+    → IsTrue (was_delivered after n) → IsTrue (was_delivered journal n)
+delivered_behind journal front after n is delivered =
+    ap (λ js. was_delivered js n) is ∙ delivered_append front after n
+    ∙ or_right (was_delivered front n) (was_delivered after n) delivered
+
+-- ---- boots
+
+have_split : (cause : List Item → Item → Type 0) (before xs ys : List Item)
+    → HaveCauses cause before (xs ++ ys)
+    → HaveCauses cause before xs × HaveCauses cause (before ++ xs) ys
+have_split cause before [] ys have =
+    (tt, subst (λ js. HaveCauses cause js ys) (sym (append-nil before)) have)
+have_split cause before (x ∷ xs) ys have =
+    let rest = have_split cause (before ++ x ∷ []) xs ys have.1 in (
+      (have.0, rest.0),
+      subst (λ js. HaveCauses cause js ys) (append_assoc before (x ∷ []) xs) rest.1,
+    )
+
+boots_rise : (setting : Setting) (before items : List Item) (s : ℕ)
+    → HaveCauses (HasItemCause setting) before items
+    → boot_of before s ≤ boot_of (before ++ items) s
+boots_rise setting before [] s have =
+    omega (arith, ap (λ js. boot_of js s) (append-nil before))
+boots_rise setting before (next ∷ items) s have =
+    omega (
+      arith,
+      boot_rises setting before next s have.0,
+      boots_rise setting (before ++ next ∷ []) items s have.1,
+      ap (λ js. boot_of js s) (append_assoc before (next ∷ []) items),
+    )
+
+boot_begun : (setting : Setting) (before : List Item) (next : Item) (s : ℕ)
+    → HasItemCause setting before next → begins_boot s next ≡ true
+    → boot_of before s < boot_of (before ++ next ∷ []) s
+boot_begun setting before (item.Booted t boot) s cause is =
+    let own : (t == s) ≡ true = is in
+    let same : boot_of before t ≡ boot_of before s = ap (boot_of before) (eqb-true t s own) in
+    let next = cause.next in
+    rw (boot_more before (item.Booted t boot) s, own) (omega (arith, next, same))
+boot_begun setting before next s cause is = absurd cc
+
+-- items behind which a switch is in the same boot begin none of it
+no_boot : (setting : Setting) (before items : List Item) (s : ℕ)
+    → HaveCauses (HasItemCause setting) before items
+    → boot_of (before ++ items) s ≡ boot_of before s → list_any (begins_boot s) items ≡ false
+no_boot setting before [] s have same = refl
+no_boot setting before (next ∷ items) s have same =
+    by_test (begins_boot s next) refl (no_boot setting (before ++ next ∷ []) items s have.1)
+  where
+    on : boot_of ((before ++ next ∷ []) ++ items) s ≡ boot_of (before ++ next ∷ items) s
+    on = ap (λ js. boot_of js s) (append_assoc before (next ∷ []) items)
+
+    rises : boot_of (before ++ next ∷ []) s ≤ boot_of ((before ++ next ∷ []) ++ items) s
+    rises = boots_rise setting (before ++ next ∷ []) items s have.1
+
+    by_test : (b : Bool) → begins_boot s next ≡ b
+        → (boot_of ((before ++ next ∷ []) ++ items) s ≡ boot_of (before ++ next ∷ []) s
+        → list_any (begins_boot s) items ≡ false)
+        → (b || list_any (begins_boot s) items) ≡ false
+    by_test true e rest =
+        absurd (omega (arith, on, rises, same, boot_begun setting before next s have.0 e))
+    by_test false e rest =
+        rest (omega (arith, on, rises, same, boot_rises setting before next s have.0))
+
+-- ---- what replaces a message
+
+record IsReplacedBy (message : Message) (after : List Item) : Type 0 where
+  number : ℕ
+  later : Message
+  between : List Item
+  behind : List Item
+  is : after ≡ between ++ item.Sent number later ∷ behind
+  replaces : Replaces later message
+  delivered : IsTrue (was_delivered behind number)
+
+replaced_on : (message : Message) (next : Item) (after : List Item) → IsReplacedBy message after
+    → IsReplacedBy message (next ∷ after)
+replaced_on message next after found = record {
+  number = found.number;
+  later = found.later;
+  between = next ∷ found.between;
+  behind = found.behind;
+  is = ap (λ xs. next ∷ xs) found.is;
+  replaces = found.replaces;
+  delivered = found.delivered;
+}
+
+replaced_by : (message : Message) (after : List Item) → IsReplaced message after
+    → IsReplacedBy message after
+replaced_by message [] replaced = absurd replaced
+replaced_by message (item.Sent number later ∷ after) replaced = elim replaced [
+  | inl here ↦ record {
+    number = number;
+    later = later;
+    between = [];
+    behind = after;
+    is = refl;
+    replaces = here.0;
+    delivered = here.1;
+  }
+  | inr rest ↦
+      replaced_on message (item.Sent number later) after (replaced_by message after rest)
+]
+replaced_by message (next ∷ after) replaced =
+    replaced_on message next after (replaced_by message after replaced)
+
+-- ---- what was received
+
+-- the boot is that of the receiver
+abbrev IsOwn : List Item → Place → ℕ → Type 0
+IsOwn journal (receiver.Switch s) boot = boot ≡ boot_of journal s
+IsOwn journal receiver.Controller boot = ⊤
+
+-- these items begin no boot of the receiver
+abbrev IsSince : Place → List Item → Type 0
+IsSince (receiver.Switch s) after = IsFalse (list_any (begins_boot s) after)
+IsSince receiver.Controller after = ⊤
+
+-- a message that was delivered, and says the same or more to the same receiver in its boot
+pub record IsGot (journal : List Item) (to : Place) (of : Body) : Type 0 where
+  pub number : ℕ
+  pub boot : ℕ
+  pub body : Body
+  pub is : IsIn (record {
+    number = number;
+    message = record { to = to; body = body };
+    boot = boot;
+  }) (sendings journal)
+  pub says : (body ≡ of) ⊎ IsTrue (is_later_body body of)
+  pub delivered : IsTrue (was_delivered journal number)
+  pub own : IsOwn journal to boot
+
+pub got : (setting : Setting) (journal : List Item) (s number boot : ℕ) (to : Place) (body : Body)
+    → IsQuiet setting journal → HaveCauses (IsInOrder setting) [] journal
+    → HasSwitch setting.net s
+    → IsIn (record {
+      number = number;
+      message = record { to = to; body = body };
+      boot = boot;
+    }) (sendings journal)
+    → IsOwn journal to boot
+    → ((after : List Item) → IsSince to after
+    → IsTrue (matters journal s (record { to = to; body = body }) after))
+    → IsGot journal to body
+got setting journal s number boot to body quiet have there is own matter =
+    by_received (at.received s there (matter at.after (since to at.boot own)))
+  where
+    message : Message
+    message = record { to = to; body = body }
+
+    next : Item
+    next = item.Sent number message
+
+    at : IsSentBehind setting journal [] journal
+        (record { number = number; message = message; boot = boot })
+    at = sent_at setting journal _ quiet.messages is
+
+    causes : HaveCauses (HasItemCause setting) [] (at.between ++ next ∷ at.after)
+    causes = subst (HaveCauses (HasItemCause setting) []) at.is
+        (have_weaker (IsInOrder setting) (HasItemCause setting) (λ before item both. both.first)
+        [] journal have)
+
+    behind : HaveCauses (HasItemCause setting) at.between (next ∷ at.after)
+    behind = (have_split (HasItemCause setting) [] at.between (next ∷ at.after) causes).1
+
+    whole : (t : ℕ) → boot_of ((at.between ++ next ∷ []) ++ at.after) t ≡ boot_of journal t
+    whole t = ap (λ js. boot_of js t) (append_assoc at.between (next ∷ []) at.after ∙ sym at.is)
+
+    since : (of : Place) → boot ≡ boot_at at.between of → IsOwn journal of boot
+        → IsSince of at.after
+    since (receiver.Switch t) before own =
+        no_boot setting (at.between ++ next ∷ []) at.after t behind.1
+        (omega (arith, whole t, boot_more at.between next t, before, own))
+    since receiver.Controller before own = tt
+
+    by_replaced : IsReplacedBy message at.after → IsGot journal to body
+    by_replaced found = record {
+      number = found.number;
+      boot = boot_at front to;
+      body = found.later.body;
+      is = subst (λ of. IsIn (record {
+        number = found.number;
+        message = record { to = of; body = found.later.body };
+        boot = boot_at front of;
+      }) (sendings journal)) found.replaces.receiver
+          (in_sendings journal front found.number found.later found.behind split);
+      says = found.replaces.says;
+      delivered = delivered_behind journal (front ++ later ∷ []) found.behind found.number
+          (split ∙ sym (append_assoc front (later ∷ []) found.behind)) found.delivered;
+      own = still to at.boot own;
+    }
+      where
+        later : Item
+        later = item.Sent found.number found.later
+
+        front : List Item
+        front = at.between ++ next ∷ found.between
+
+        split : journal ≡ front ++ later ∷ found.behind
+        split = at.is ∙ ap (λ xs. at.between ++ next ∷ xs) found.is
+            ∙ sym (append_assoc at.between (next ∷ found.between) (later ∷ found.behind))
+
+        parts : HaveCauses (HasItemCause setting) at.between (next ∷ found.between)
+            × HaveCauses (HasItemCause setting) front (later ∷ found.behind)
+        parts = have_split (HasItemCause setting) at.between (next ∷ found.between)
+            (later ∷ found.behind)
+            (subst (λ xs. HaveCauses (HasItemCause setting) at.between (next ∷ xs)) found.is
+            behind)
+
+        still : (of : Place) → boot ≡ boot_at at.between of → IsOwn journal of boot
+            → IsOwn journal of (boot_at front of)
+        still (receiver.Switch t) before own =
+            omega (
+              arith,
+              before,
+              own,
+              boots_rise setting at.between (next ∷ found.between) t parts.0,
+              boots_rise setting front (later ∷ found.behind) t parts.1,
+              ap (λ js. boot_of js t) split,
+            )
+        still receiver.Controller before own = tt
+
+    by_received : IsReceived number message at.after → IsGot journal to body
+    by_received (inl delivered) = record {
+      number = number;
+      boot = boot;
+      body = body;
+      is = is;
+      says = inl refl;
+      delivered = delivered_behind journal (at.between ++ next ∷ []) at.after number
+          (at.is ∙ sym (append_assoc at.between (next ∷ []) at.after)) delivered;
+      own = own;
+    }
+    by_received (inr replaced) = by_replaced (replaced_by message at.after replaced)
+
+-- ---- at a switch
+
+-- what replaces a body of a boot is of that boot
+pub later_boot : (body of : Body) (boot : ℕ) → IsTrue (is_later_body body of)
+    → body_boot of ≡ Some boot → body_boot body ≡ Some boot
+later_boot (Stamp one v touched) (Stamp other w others) boot later is = grind (arith, nat_tests)
+later_boot (Collect one v) (Collect other w) boot later is = grind (arith, nat_tests)
+later_boot (Stamped s one v) (Stamped t other w) boot later is = grind (arith, nat_tests)
+later_boot (Advertise advert) (Advertise earlier) boot later is = absurd cc
+later_boot body of boot later is = absurd cc
+
+pub says_boot : (body of : Body) (boot : ℕ) → (body ≡ of) ⊎ IsTrue (is_later_body body of)
+    → body_boot of ≡ Some boot → body_boot body ≡ Some boot
+says_boot body of boot (inl same) is = ap body_boot same ∙ is
+says_boot body of boot (inr later) is = later_boot body of boot later is
+
+-- what was heard: the body, or one that replaces it
+pub record WasHeard (bodies : List Body) (of : Body) : Type 0 where
+  pub body : Body
+  pub is : IsIn body bodies
+  pub says : (body ≡ of) ⊎ IsTrue (is_later_body body of)
+
+-- a message to a switch that carries its boot was sent in that boot
+pub own_boot : (journal : List Item) (s boot : ℕ) (x : Sending) → SwitchCourse journal s x
+    → body_boot x.message.body ≡ Some boot → boot ≡ boot_of journal s → x.boot ≡ boot
+own_boot journal s boot x course of own =
+    let past : boot ≤ x.boot = subst (λ o. IfSome o (λ b. b ≤ x.boot)) of course.past in
+    omega (arith, past, own, course.own)
+
+pub heard_in_boot : (journal : List Item) (s number boot : ℕ) (body : Body) → AreTraced journal
+    → IsIn (record { number = number; message = to_switch s body; boot = boot })
+    (sendings journal)
+    → IsTrue (is_up journal s) → boot ≡ boot_of journal s → IsTrue (is_for_boot boot body)
+    → IsTrue (was_delivered journal number) → IsIn body (heard journal s)
+heard_in_boot journal s number boot body traced is up own for delivered =
+    let x : Sending = record { number = number; message = to_switch s body; boot = boot } in
+    (each_in (IsTraced journal) x (sendings journal) traced.each is).course.heard up own for
+    delivered
+
+pub heard_of : (setting : Setting) (journal : List Item) (s : ℕ) (body : Body)
+    → IsQuiet setting journal → HaveCauses (IsInOrder setting) [] journal
+    → HasSwitch setting.net s → IsSent journal (to_switch s body)
+    → IsTrue (is_up journal s) → body_boot body ≡ Some (boot_of journal s)
+    → IsFalse (are_old_tables (current_mark journal) body) → WasHeard (heard journal s) body
+heard_of setting journal s body quiet causes there sent up of new =
+    record { body = later.body; is = heard_later; says = later.says }
+  where
+    own : ℕ
+    own = boot_of journal s
+
+    traced : AreTraced journal
+    traced = caused_traced setting journal causes
+
+    its : IsSentAs journal (to_switch s body)
+    its = sent_as journal (to_switch s body) sent
+
+    x : Sending
+    x = record { number = its.number; message = to_switch s body; boot = its.boot }
+
+    boot : its.boot ≡ own
+    boot = own_boot journal s own x
+        (each_in (IsTraced journal) x (sendings journal) traced.each its.is).course of refl
+
+    matter : (after : List Item) → IsFalse (list_any (begins_boot s) after)
+        → IsTrue (matters journal s (to_switch s body) after)
+    matter after since =
+        let here : is_up journal s ≡ true = up in
+        let same : (s == s) ≡ true = eq-eqb s s refl in
+        let none : list_any (begins_boot s) after ≡ false = since in
+        let mine : (own == own) ≡ true = eq-eqb own own refl in
+        let fresh : are_old_tables (current_mark journal) body ≡ false = new in
+        rw (here, same, none, of, mine, fresh) (by_advert _)
+      where
+        by_advert : (b : Bool) → ((b || true) && true) ≡ true
+        by_advert true = refl
+        by_advert false = refl
+
+    later : IsGot journal (receiver.Switch s) body
+    later = got setting journal s its.number its.boot (receiver.Switch s) body quiet causes there
+        its.is boot matter
+
+    heard_later : IsIn later.body (heard journal s)
+    heard_later =
+        let says : body_boot later.body ≡ Some own =
+        says_boot later.body body own later.says of in
+        let same : (own == later.boot) ≡ true = eq-eqb own later.boot (sym later.own) in
+        heard_in_boot journal s later.number later.boot later.body traced later.is up later.own
+        (rw (says, same) refl) later.delivered
+
+-- ---- at the controller
+
+pub told_of : (setting : Setting) (journal : List Item) (s : ℕ) (body : Body)
+    → IsQuiet setting journal → HaveCauses (IsInOrder setting) [] journal
+    → HasSwitch setting.net s → IsSent journal (to_controller body)
+    → IsTrue (is_up journal s) → speaker body ≡ Some (s, boot_of journal s)
+    → IsFalse (is_old_answer (current_mark journal) body)
+    → WasHeard (controller_heard journal) body
+told_of setting journal s body quiet causes there sent up speaks new =
+    record {
+      body = later.body;
+      is = (each_in (IsTraced journal) y (sendings journal)
+          (caused_traced setting journal causes).each later.is).course later.delivered;
+      says = later.says;
+    }
+  where
+    own : ℕ
+    own = boot_of journal s
+
+    its : IsSentAs journal (to_controller body)
+    its = sent_as journal (to_controller body) sent
+
+    matter : (after : List Item) → IsTrue (matters journal s (to_controller body) after)
+    matter after =
+        let here : is_up journal s ≡ true = up in
+        let same : (s == s) ≡ true = eq-eqb s s refl in
+        let mine : (own == own) ≡ true = eq-eqb own own refl in
+        let fresh : is_old_answer (current_mark journal) body ≡ false = new in
+        rw (here, speaks, same, mine, fresh) refl
+
+    later : IsGot journal receiver.Controller body
+    later = got setting journal s its.number its.boot receiver.Controller body quiet causes there
+        its.is tt (λ after since. matter after)
+
+    y : Sending
+    y = record {
+      number = later.number;
+      message = to_controller later.body;
+      boot = later.boot;
+    }

@@ -1,0 +1,314 @@
+-- In a quiet journal a step makes a packet stuck only where it reaches no target.
+use Rattle.std.proofs.Common.{ℕ, ◌≡◌, ◌≢◌, ◌<◌, ◌≤◌, ◌⊎◌, ◌==◌, ◌||◌, ◌^◌, Bool, true, false, if◌then◌else◌, List, [], ◌∷◌, ◌++◌, length, min, max, get_or, set, refl, ap, sym, subst, ◌∙◌, arith, inl, inr, get_or-set_other, get_or-set_same, length-set, bit_or}
+use Rattle.std.specs.Prelude.{⊤, All, IsTrue, IsFalse}
+use Rattle.std.proofs.lemmas.Bool.{cases_eq, cases_lt}
+use Rattle.std.proofs.lemmas.List.{get_or_past}
+use Rattle.failover.specs.Links.{has_link, no_links, with_link}
+use Rattle.failover.proofs.LinkSets.{has_link-none}
+use Rattle.base.specs.Masks.{has}
+use Rattle.base.proofs.CallerLemmas.{has-or, has-pow_other, has-zero}
+use Rattle.net_file.specs.Net.{IsNet}
+use Rattle.policy_rules.specs.declared.packet.Cause.{Cause}
+use Rattle.policy_rules.specs.declared.packet.Leg.{Leg}
+use Rattle.policy_rules.specs.declared.packet.Leg.TheVariants.{Seek, Exit}
+use Rattle.journal.specs.declared.item.Item.{Item}
+use Rattle.journal.specs.declared.item.Item.TheVariants as item
+use Rattle.steps.specs.Steps.{HasSwitch}
+use Rattle.steps.specs.declared.step.Step.{Step}
+use Rattle.steps.specs.declared.step.Step.TheVariants.{Packet, Hop}
+use Rattle.update_machine.specs.Adverts.{adverts_known, own_advert, route_from}
+use Rattle.update_machine.specs.Boots.{boot_of, heard, is_up}
+use Rattle.update_machine.specs.Causes.{HaveCauses}
+use Rattle.update_machine.specs.Concerns.{concerns_links, concerns_policies}
+use Rattle.update_machine.specs.Laws.{LinksKeep}
+use Rattle.update_machine.specs.LinkMasks.{near}
+use Rattle.update_machine.specs.Moves.{items_then}
+use Rattle.update_machine.specs.Packets.{next_packet}
+use Rattle.update_machine.specs.Pieces.{piece, step_items}
+use Rattle.update_machine.specs.Setting.{Setting}
+use Rattle.update_machine.specs.Versions.{plan_at}
+use Rattle.update_machine.specs.PacketRoutes.{changes_found, found_down, targets_in, targets_of}
+use Rattle.update_machine.proofs.CallerLemmas.{folded_append, have_first, links_keep, policies_keep}
+use Rattle.control_laws.proofs.ItemFacts.{AreKept, fact_on, have_front, have_rest}
+use Rattle.control_laws.proofs.FactsGrown.{boot_more, heard_more, up_more}
+use Rattle.control_laws.proofs.TrafficItems.{KnowsNoRoute}
+use Rattle.convergence_laws.specs.Converged.{AreUnusable, Reaches}
+use Rattle.convergence_laws.specs.Stuck.{GetStuckApart}
+use Rattle.convergence_laws.proofs.ChangedLinksTold.{near_back}
+use Rattle.convergence_laws.proofs.ConvergedLinks.{AreAgreed}
+use Rattle.convergence_laws.proofs.KnownLinks.{agreed_converged}
+use Rattle.convergence_laws.proofs.PlainItems.{HasOthers, IsAside, others_have}
+use Rattle.convergence_laws.proofs.PacketWalks.{Walk, Walks, hop_walk, packet_walk}
+
+-- ---- steps of other kinds make no packet stuck
+
+abbrev IsNoEnd : List Item → Item → Type 0
+IsNoEnd before (item.Stuck i s cause leg down) = ⊥
+IsNoEnd before _ = ⊤
+
+abbrev NoEnd : List Item → List Item → Type 0
+NoEnd journal items = HaveCauses IsNoEnd journal items
+
+ends_none : HasOthers IsNoEnd
+ends_none = record {
+  aside = is_no_end;
+  delivered = λ journal number is. tt;
+  booted = λ journal s down. tt;
+}
+  where
+    is_no_end : (before : List Item) (next : Item) → IsAside before next → IsNoEnd before next
+    is_no_end before (item.Stuck i s cause leg down) is = absurd is
+    is_no_end before _ is = tt
+
+-- ---- a set of links that were found down
+
+-- a link of a set with one more is of the set, or that one
+more_links : (down : List ℕ) (x y a b : ℕ) → IsTrue (has_link (with_link down x y) a b)
+    → IsTrue (has_link down a b) ⊎ ((min a b ≡ min x y) × (max a b ≡ max x y))
+unfolding has_link with_link
+more_links down x y a b is = by_row (cases_eq (min a b) low)
+  where
+    low : ℕ
+    low = min x y
+
+    high : ℕ
+    high = max x y
+
+    row : ℕ
+    row = bit_or (get_or down low 0) (2 ^ high)
+
+    by_high : min a b ≡ low → (max a b ≡ high) ⊎ (max a b ≢ high)
+        → IsTrue (has row (max a b))
+        → IsTrue (has (get_or down (min a b) 0) (max a b))
+        ⊎ ((min a b ≡ low) × (max a b ≡ high))
+    by_high same (inl top) here = inr (same, top)
+    by_high same (inr apart) here =
+        inl (subst (λ k. IsTrue (has (get_or down k 0) (max a b))) (sym same)
+        (by_or (has (get_or down low 0) (max a b)) (has (2 ^ high) (max a b))
+        (has-pow_other high (max a b) apart)
+        (sym (has-or (get_or down low 0) (2 ^ high) (max a b)) ∙ here)))
+      where
+        by_or : (p q : Bool) → q ≡ false → (p || q) ≡ true → p ≡ true
+        by_or true q none is = refl
+        by_or false q none is = let clash : false ≡ true = sym none ∙ is in absurd cc
+
+    by_within : min a b ≡ low → (low < length down) ⊎ (length down ≤ low)
+        → IsTrue (has (get_or down (min a b) 0) (max a b))
+        ⊎ ((min a b ≡ low) × (max a b ≡ high))
+    by_within same (inl within) =
+        by_high same (cases_eq (max a b) high)
+        (subst (λ mask. IsTrue (has mask (max a b)))
+        (ap (λ k. get_or (set down low row) k 0) same ∙ get_or-set_same down low row 0 within) is)
+    by_within same (inr past) =
+        let none : get_or (set down low row) (min a b) 0 ≡ 0 =
+        get_or_past (set down low row) (min a b) 0
+        (omega (arith, same, past, length-set down low row)) in
+        let clash : false ≡ true =
+        sym (has-zero (max a b)) ∙ ap (λ mask. has mask (max a b)) (sym none) ∙ is in
+        absurd cc
+
+    by_row : (min a b ≡ low) ⊎ (min a b ≢ low)
+        → IsTrue (has (get_or down (min a b) 0) (max a b))
+        ⊎ ((min a b ≡ low) × (max a b ≡ high))
+    by_row (inl same) = by_within same (cases_lt low (length down))
+    by_row (inr apart) =
+        inl (subst (λ mask. IsTrue (has mask (max a b)))
+        (get_or-set_other down low (min a b) row 0 apart) is)
+
+unusable_more : (setting : Setting) (journal : List Item) → IsNet setting.net
+    → (down : List ℕ) (x y : ℕ) → AreUnusable setting journal down
+    → IsFalse (has (near setting journal x) y) → AreUnusable setting journal (with_link down x y)
+unusable_more setting journal net down x y unusable none a b linked =
+    by_link (has_link (with_link down x y) a b) refl
+  where
+    same_ends : (min a b ≡ min x y) × (max a b ≡ max x y)
+        → ((a ≡ x) × (b ≡ y)) ⊎ ((a ≡ y) × (b ≡ x))
+    same_ends ends =
+        let low = ends.0 in
+        let high = ends.1 in
+        elim (cases_eq a x) [
+          | inl same ↦ inl (same, omega (arith, low, high, same))
+          | inr apart ↦ inr (omega (arith, low, high, apart), omega (arith, low, high, apart))
+        ]
+
+    clashes : IsTrue (has (near setting journal x) y) → ⊥
+    clashes is = let clash : false ≡ true = sym none ∙ is in absurd cc
+
+    not_it : ((a ≡ x) × (b ≡ y)) ⊎ ((a ≡ y) × (b ≡ x)) → ⊥
+    not_it (inl ends) =
+        clashes (subst (λ k. IsTrue (has (near setting journal x) k)) ends.1
+        (subst (λ k. IsTrue (has (near setting journal k) b)) ends.0 linked))
+    not_it (inr ends) =
+        clashes (subst (λ k. IsTrue (has (near setting journal x) k)) ends.0
+        (subst (λ k. IsTrue (has (near setting journal k) a)) ends.1
+        (near_back setting journal a b net linked)))
+
+    by_link : (c : Bool) → has_link (with_link down x y) a b ≡ c
+        → IsFalse (has_link (with_link down x y) a b)
+    by_link false e = e
+    by_link true e = elim (more_links down x y a b e) [
+      | inl old ↦ let clash : false ≡ true = sym (unusable a b linked) ∙ old in absurd cc
+      | inr ends ↦ absurd (not_it (same_ends ends))
+    ]
+
+-- ---- what stays as it was within the step
+
+pub record StaysSo (setting : Setting) (journal now : List Item) (i : ℕ) : Type 0 where
+  pub links : (s : ℕ) → near setting now s ≡ near setting journal s
+  pub routes : (s : ℕ) (targets down : List ℕ)
+      → route_from setting now s targets down ≡ route_from setting journal s targets down
+  pub targets : (leg : Leg) → targets_of setting now leg ≡ targets_of setting journal leg
+  pub found : AreUnusable setting journal (found_down now i)
+
+-- the switch is up in its boot as before, and heard what it had heard
+record IsSame (before after : List Item) (s : ℕ) : Type 0 where
+  up : is_up after s ≡ is_up before s
+  boot : boot_of after s ≡ boot_of before s
+  heard : heard after s ≡ heard before s
+
+walks_same : (setting : Setting) (before : List Item) (next : Item) (s : ℕ)
+    → Walks setting before next → IsSame before (before ++ next ∷ []) s
+walks_same setting before (item.Delivered number) s walks = absurd walks
+walks_same setting before (item.Down t) s walks = absurd walks
+walks_same setting before (item.Booted t boot) s walks = absurd walks
+walks_same setting before next s walks = record {
+  up = up_more before next s;
+  boot = boot_more before next s;
+  heard = heard_more before next s;
+}
+
+-- so it knows the same routes where no links change
+same_route : (setting : Setting) (before after : List Item) (s : ℕ) → IsSame before after s
+    → LinksKeep setting before after → (targets down : List ℕ)
+    → route_from setting after s targets down ≡ route_from setting before s targets down
+unfolding route_from adverts_known
+same_route setting before after s same links targets down =
+    let up : is_up after s ≡ is_up before s = same.up in
+    let boot : boot_of after s ≡ boot_of before s = same.boot in
+    let bodies : heard after s ≡ heard before s = same.heard in
+    let advert : own_advert setting after s ≡ own_advert setting before s = links.advert s in
+    let linked : near setting after s ≡ near setting before s = links.near s in
+    rw (up, boot, bodies, advert, linked) refl
+
+walks_links : (setting : Setting) (before : List Item) (next : Item)
+    → Walks setting before next → IsFalse (concerns_links before next)
+walks_links setting before (item.LinkIs one two up) walks = absurd walks
+walks_links setting before (item.Down t) walks = absurd walks
+walks_links setting before (item.Booted t boot) walks = absurd walks
+walks_links setting before (item.Opened t version) walks = absurd walks
+walks_links setting before _ walks = refl
+
+walks_policies : (setting : Setting) (before : List Item) (next : Item)
+    → Walks setting before next → IsFalse (concerns_policies before next)
+walks_policies setting before (item.Submitted file version) walks = absurd walks
+walks_policies setting before _ walks = refl
+
+found_more : (before : List Item) (next : Item) (i : ℕ)
+    → found_down (before ++ next ∷ []) i ≡ changes_found i before (found_down before i) next
+unfolding found_down
+found_more before next i = folded_append (changes_found i) no_links before (next ∷ [])
+
+found_on : (setting : Setting) (journal : List Item) → IsNet setting.net
+    → (before : List Item) (next : Item) (i : ℕ) → Walks setting before next
+    → StaysSo setting journal before i
+    → AreUnusable setting journal (found_down (before ++ next ∷ []) i)
+found_on setting journal net before (item.FoundDown p x y) i walks stays =
+    subst (AreUnusable setting journal) (sym (found_more before (item.FoundDown p x y) i))
+    (by_test (p == i))
+  where
+    by_test : (b : Bool) → AreUnusable setting journal
+        (if b then with_link (found_down before i) x y else found_down before i)
+    by_test true = unusable_more setting journal net (found_down before i) x y stays.found
+        (ap (λ mask. has mask y) (sym (stays.links x)) ∙ walks)
+    by_test false = stays.found
+found_on setting journal net before next i walks stays =
+    subst (AreUnusable setting journal) (sym (found_more before next i)) stays.found
+
+pub stays_on : (setting : Setting) (journal : List Item) → IsNet setting.net → (i : ℕ)
+    → AreKept (Walks setting) (λ now. StaysSo setting journal now i)
+stays_on setting journal net i before next walks stays =
+    let links = links_keep setting before (next ∷ []) (walks_links setting before next walks, tt) in
+    let plans = policies_keep before (next ∷ []) (walks_policies setting before next walks, tt) in
+    record {
+      links = λ s. links.near s ∙ stays.links s;
+      routes = λ s targets down.
+          same_route setting before (before ++ next ∷ []) s (walks_same setting before next s walks)
+          links targets down
+          ∙ stays.routes s targets down;
+      targets = λ leg. by_leg leg (λ v. plans.plan setting v) ∙ stays.targets leg;
+      found = found_on setting journal net before next i walks stays;
+    }
+  where
+    by_leg : (leg : Leg)
+        → ((v : ℕ) → plan_at setting (before ++ next ∷ []) v ≡ plan_at setting before v)
+        → targets_of setting (before ++ next ∷ []) leg ≡ targets_of setting before leg
+    by_leg (Seek version partition) same = ap (λ plan. targets_in plan partition) (same version)
+    by_leg (Exit port) same = refl
+
+pub stays_itself : (setting : Setting) (journal : List Item) (i : ℕ)
+    → found_down journal i ≡ no_links → StaysSo setting journal journal i
+stays_itself setting journal i none = record {
+  links = λ t. refl;
+  routes = λ t targets found. refl;
+  targets = λ leg. refl;
+  found = λ one other linked.
+      ap (λ links. has_link links one other) none ∙ has_link-none one other;
+}
+
+-- ---- steps
+
+walk_apart : (setting : Setting) (journal : List Item) → AreAgreed setting journal
+    → (items front rest : List Item) (i s : ℕ) (cause : Cause) (leg : Leg) (down : List ℕ)
+    → Walk setting journal items → items ≡ front ++ item.Stuck i s cause leg down ∷ rest
+    → found_down journal i ≡ no_links → HasSwitch setting.net s
+    → All (λ target. Reaches setting journal s target → ⊥) (targets_of setting journal leg)
+walk_apart setting journal are items front rest i s cause leg down walk is none there =
+    let whole : Walk setting journal (front ++ item.Stuck i s cause leg down ∷ rest) =
+    subst (Walk setting journal) is walk in
+    let stays : StaysSo setting journal (journal ++ front) i =
+    fact_on (Walks setting) (λ now. StaysSo setting journal now i)
+    (stays_on setting journal are.net i) journal front
+    (have_front (Walks setting) journal front _ whole) (stays_itself setting journal i none) in
+    let knows : KnowsNoRoute setting (journal ++ front) i s leg down =
+    (have_rest (Walks setting) journal front _ whole).0 in
+    (agreed_converged setting journal are).stuck s (targets_of setting journal leg) down there
+    (subst (AreUnusable setting journal) (sym knows.found) stays.found)
+    (sym (stays.routes s (targets_of setting journal leg) down)
+    ∙ ap (λ targets. route_from setting (journal ++ front) s targets down) (sym (stays.targets leg))
+    ∙ knows.none)
+
+end_apart : (setting : Setting) (journal items front rest : List Item) (i s : ℕ) (cause : Cause)
+    (leg : Leg) (down : List ℕ) → NoEnd journal items
+    → items ≡ front ++ item.Stuck i s cause leg down ∷ rest → ⊥
+end_apart setting journal items front rest i s cause leg down ends is =
+    (have_rest IsNoEnd journal front _ (subst (NoEnd journal) is ends)).0
+
+-- the step writes what a packet's step writes, or makes no packet stuck
+step_kinds : (setting : Setting) (before : List Item) (row : ℕ) (step : Step)
+    → let here = before ++ item.Row row step ∷ [] in
+    Walk setting here (step_items setting before step here)
+    ⊎ NoEnd here (step_items setting before step here)
+step_kinds setting before row (Packet s header) =
+    inl (packet_walk setting (next_packet before) s header _)
+step_kinds setting before row (Hop i) = inl (hop_walk setting i _)
+step_kinds setting before row step =
+    inr (others_have IsNoEnd ends_none setting before row step refl)
+
+pub stuck_reaches_none : (setting : Setting) (journal : List Item) → AreAgreed setting journal
+    → GetStuckApart setting journal
+unfolding piece
+stuck_reaches_none setting journal are row step front rest i s cause leg down is none there =
+    elim (step_kinds setting journal row step) [
+      | inl walk ↦ walk_apart setting journal are
+          (items_then (next ∷ []) (step_items setting journal step) journal) front rest i s cause
+          leg down
+          (have_first (Walks setting) next (step_items setting journal step) journal tt walk) is
+          none there
+      | inr ends ↦ absurd (end_apart setting journal
+          (items_then (next ∷ []) (step_items setting journal step) journal) front rest i s cause
+          leg down
+          (have_first IsNoEnd next (step_items setting journal step) journal tt ends) is)
+    ]
+  where
+    next : Item
+    next = item.Row row step

@@ -1,0 +1,378 @@
+-- In a quiet journal every update has come to its end.
+use Rattle.std.proofs.Common.{ℕ, ◌≡◌, ◌+◌, ◌-◌, ◌≤◌, ◌<◌, ◌⊎◌, ◌==◌, ◌||◌, Bool, true, false, if◌then◌else◌, Option, Some, None, List, [], ◌∷◌, ◌++◌, length, refl, ap, sym, subst, ◌∙◌, arith, inl, inr}
+use Rattle.std.specs.Prelude.{IsTrue, IsFalse, filter_map, fold, is_some, max, nat_eq, nat_lt, unwrap_or}
+use Rattle.std.specs.List.{list_any}
+use Rattle.std.proofs.lemmas.Bool.{eq-eqb}
+use Rattle.std.proofs.lemmas.Bool.Decides.{nat_tests}
+use Rattle.ctrl_msg.specs.declared.message.Body.{Body}
+use Rattle.ctrl_msg.specs.declared.message.Body.TheVariants.{Install, OpenAt, Stamp, Collect, Advertise, Hello, Installed, Stamped}
+use Rattle.ctrl_msg.specs.Kinds.{to_controller}
+use Rattle.switch_table.specs.declared.tables.Tables.{Tables}
+use Rattle.journal.specs.declared.item.Item.{Item}
+use Rattle.update_machine.specs.Answers.{StepOfRow, after_steps}
+use Rattle.update_machine.specs.Boots.{boot_of, heard, is_up}
+use Rattle.update_machine.specs.Causes.{HaveCauses}
+use Rattle.update_machine.specs.Marks.{acked_stamp, controller_heard, current_mark, has_acked, hello_boot, installed_in, is_member, known_boot, open_version, opened_at, stamped_in}
+use Rattle.update_machine.specs.Pieces.{piece}
+use Rattle.update_machine.specs.Quiet.{IsQuiet, is_later_body}
+use Rattle.update_machine.specs.Setting.{Setting}
+use Rattle.update_machine.specs.Versions.{version_count}
+use Rattle.update_machine.specs.Links.{serves}
+use Rattle.update_machine.proofs.CallerLemmas.{have_append}
+use Rattle.control_laws.specs.Always.{HoldsAtEnds}
+use Rattle.control_laws.proofs.BehindItems.{at_ends}
+use Rattle.control_laws.proofs.FactsGrown.{opened_in, opened_is}
+use Rattle.control_laws.proofs.SwitchOpenings.{member_parts}
+use Rattle.control_laws.proofs.GreatestNumbers.{acked_stamp_opened, known_first, fold_up}
+use Rattle.control_laws.proofs.MarkLaws.{bounded}
+use Rattle.control_laws.proofs.MarksAtEnds.{settled_at_ends}
+use Rattle.convergence_laws.specs.Updated.{IsUpdated}
+use Rattle.convergence_laws.proofs.CaughtUp.{AreReady, IsCaughtUp, caught_updated, items_caused}
+use Rattle.convergence_laws.proofs.AnsweredMessages.{HaveSpoken, piece_spoken, spoken_at_first}
+use Rattle.convergence_laws.proofs.DownSwitches.{caused_recorded}
+use Rattle.convergence_laws.proofs.InstalledTables.{AllInstalled, installs_at_first, piece_installs}
+use Rattle.convergence_laws.proofs.ListElements.{IsIn, in_filter_map, in_right}
+use Rattle.convergence_laws.proofs.ReceivedMessages.{WasHeard, heard_of, told_of}
+use Rattle.convergence_laws.proofs.MessageCourses.{IsInOrder, IsSent, pieces_in_order}
+use Rattle.convergence_laws.proofs.StampOrders.{HaveStamps, IsStampSent, piece_stamps, stamps_at_first}
+use Rattle.ternary.specs.Word.{WordValue}
+
+-- ---- greatest and least numbers
+
+in_fold : (first v : ℕ) (xs : List ℕ) → IsIn v xs → v ≤ fold max first xs
+in_fold first v [] is = absurd is
+in_fold first v (x ∷ xs) is = elim is [
+  | inl here ↦ omega (arith, here, fold_up (max first x) xs)
+  | inr later ↦ in_fold (max first x) v xs later
+]
+
+any_in : (v : ℕ) (xs : List ℕ) → IsIn v xs → IsTrue (list_any (nat_eq v) xs)
+any_in v [] is = absurd is
+any_in v (x ∷ xs) is = elim is [
+  | inl here ↦ let same : nat_eq v x ≡ true = eq-eqb v x (sym here) in rw same refl
+  | inr later ↦ by_test (nat_eq v x) (any_in v xs later)
+]
+  where
+    by_test : (b : Bool) → IsTrue (list_any (nat_eq v) xs)
+        → IsTrue (b || list_any (nat_eq v) xs)
+    by_test true any = refl
+    by_test false any = any
+
+-- ---- what is known at the end of a step
+
+-- the causes, and what steps keep
+record Standing (setting : Setting) (journal : List Item) : Type 0 where
+  causes : HaveCauses (IsInOrder setting) [] journal
+  spoken : HaveSpoken journal
+  installs : AllInstalled setting journal
+  stamps : HaveStamps setting journal
+
+steps_stand : (setting : Setting) (before : List Item) (steps : List StepOfRow)
+    → Standing setting before → Standing setting (after_steps setting before steps)
+steps_stand setting before [] stand = stand
+steps_stand setting before (next ∷ steps) stand =
+    steps_stand setting (before ++ piece setting before next.row next.step) steps (record {
+      causes = have_append (IsInOrder setting) [] before
+          (piece setting before next.row next.step) stand.causes
+          (pieces_in_order setting before next.row next.step);
+      spoken = piece_spoken setting before next.row next.step stand.spoken;
+      installs = piece_installs setting before next.row next.step stand.installs;
+      stamps = piece_stamps setting before next.row next.step
+          (caused_recorded setting before (items_caused setting before stand.causes)).current
+          stand.stamps;
+    })
+
+pub steps_ready : (setting : Setting) (steps : List StepOfRow)
+    → AreReady setting (after_steps setting [] steps)
+steps_ready setting steps =
+    let journal : List Item = after_steps setting [] steps in
+    let stand : Standing setting journal = steps_stand setting [] steps (record {
+      causes = tt;
+      spoken = spoken_at_first;
+      installs = installs_at_first setting;
+      stamps = stamps_at_first setting;
+    }) in
+    let caused = items_caused setting journal stand.causes in
+    record {
+      causes = stand.causes;
+      recorded = caused_recorded setting journal caused;
+      bounds = bounded setting journal caused;
+      settled = settled_at_ends.stepped setting steps;
+      spoken = stand.spoken;
+      installs = stand.installs;
+      stamps = stand.stamps;
+    }
+
+-- ---- what is known of boots
+
+-- bodies that no other body replaces
+abbrev is_alone : Body → Bool
+is_alone (Install boot tables) = true
+is_alone (OpenAt boot version) = true
+is_alone (Hello s boot) = true
+is_alone (Installed s boot version) = true
+is_alone _ = false
+
+says_same : (body of : Body) → IsTrue (is_alone of)
+    → (body ≡ of) ⊎ IsTrue (is_later_body body of) → body ≡ of
+says_same body of alone (inl same) = same
+says_same (Stamp one v touched) (Stamp other w others) alone (inr later) = absurd cc
+says_same (Collect one v) (Collect other w) alone (inr later) = absurd cc
+says_same (Stamped s one v) (Stamped t other w) alone (inr later) = absurd cc
+says_same (Advertise advert) (Advertise earlier) alone (inr later) = absurd cc
+says_same body of alone (inr later) = absurd cc
+
+was_itself : (bodies : List Body) (of : Body) → IsTrue (is_alone of) → WasHeard bodies of
+    → IsIn of bodies
+was_itself bodies of alone was =
+    subst (λ b. IsIn b bodies) (says_same was.body of alone was.says) was.is
+
+pub hello_known : (journal : List Item) (s boot : ℕ) → IsIn (Hello s boot) (controller_heard journal)
+    → boot ≤ known_boot journal s
+unfolding known_boot
+hello_known journal s boot is =
+    let same : (s == s) ≡ true = eq-eqb s s refl in
+    in_fold 1 boot (filter_map (hello_boot s) (controller_heard journal))
+    (in_filter_map (hello_boot s) (Hello s boot) boot (controller_heard journal) is (rw same refl))
+
+-- the controller knows the boot of each switch that is up
+known_own : (setting : Setting) (journal : List Item) → AreReady setting journal
+    → IsQuiet setting journal → (s : ℕ) → s < length setting.net.switches
+    → IsTrue (is_up journal s) → known_boot journal s ≡ boot_of journal s
+known_own setting journal are quiet s there up =
+    let below : known_boot journal s ≤ boot_of journal s =
+    are.recorded.known.boots.known s in
+    elim (are.spoken.hellos.each s up) [
+      | inl none ↦ absurd none
+      | inr said ↦ elim said [
+        | inl first ↦ omega (arith, below, first, known_first journal s)
+        | inr sent ↦
+            let heard = told_of setting journal s (Hello s (boot_of journal s)) quiet are.causes
+            there sent up refl refl in
+            let told : boot_of journal s ≤ known_boot journal s =
+            hello_known journal s (boot_of journal s)
+            (was_itself (controller_heard journal) (Hello s (boot_of journal s)) refl heard) in
+            omega (arith, below, told)
+      ]
+    ]
+
+-- ---- what is acknowledged
+
+pub installed_acked : (journal : List Item) (s version : ℕ)
+    → IsIn (Installed s (known_boot journal s) version) (controller_heard journal)
+    → IsTrue (has_acked journal s version)
+unfolding has_acked
+installed_acked journal s version is =
+    let here : (s == s) ≡ true = eq-eqb s s refl in
+    let own : (known_boot journal s == known_boot journal s) ≡ true =
+    eq-eqb (known_boot journal s) (known_boot journal s) refl in
+    any_in version
+    ((if known_boot journal s == 1 then 1 ∷ [] else [])
+    ++ filter_map (installed_in s (known_boot journal s)) (controller_heard journal))
+    (in_right version (if known_boot journal s == 1 then 1 ∷ [] else []) _
+    (in_filter_map (installed_in s (known_boot journal s))
+    (Installed s (known_boot journal s) version) version (controller_heard journal) is
+    (rw (here, own) refl)))
+
+pub first_acked : (journal : List Item) (s : ℕ) → known_boot journal s ≡ 1
+    → IsTrue (has_acked journal s 1)
+unfolding has_acked
+first_acked journal s first =
+    let one : (known_boot journal s == 1) ≡ true = eq-eqb (known_boot journal s) 1 first in
+    rw one refl
+
+not_below : (v w : ℕ) → w ≤ v → IsFalse (nat_lt v w)
+not_below v w above = grind (arith, nat_tests)
+
+-- a switch that is up acknowledged each version from the current one to the last
+all_installed : (setting : Setting) (journal : List Item) → AreReady setting journal
+    → IsQuiet setting journal → (s version : ℕ) → s < length setting.net.switches
+    → IsTrue (is_up journal s) → current_mark journal ≤ version → version ≤ version_count journal
+    → IsTrue (has_acked journal s version)
+all_installed setting journal are quiet s version there up above below =
+    elim (are.installs.each s version there
+    ((are.recorded.known.serving s).not_over up own) above below) [
+      | inl none ↦ absurd none
+      | inr had ↦ elim had [
+        | inl first ↦ subst (λ v. IsTrue (has_acked journal s v)) (sym first.0)
+            (first_acked journal s first.1)
+        | inr sent ↦
+            let tables : Tables = sent.tables in
+            let body : Body = Install (known_boot journal s) tables in
+            let heard_it = heard_of setting journal s body quiet are.causes there sent.sent
+            up (ap Some own)
+            (not_below tables.version (current_mark journal) (omega (arith, sent.of, above))) in
+            elim (are.spoken.answers.each s body
+            (was_itself (heard journal s) body refl heard_it)) [
+              | inl none ↦ absurd none
+              | inr answer ↦ subst (λ v. IsTrue (has_acked journal s v)) sent.of
+                  (installed_acked journal s tables.version
+                  (was_itself (controller_heard journal)
+                  (Installed s (known_boot journal s) tables.version) refl
+                  (told_of setting journal s (Installed s (known_boot journal s) tables.version)
+                  quiet are.causes there answer up (ap (λ b. Some (s, b)) own)
+                  (not_below tables.version (current_mark journal)
+                  (omega (arith, sent.of, above))))))
+            ]
+      ]
+    ]
+  where
+    own : known_boot journal s ≡ boot_of journal s
+    own = known_own setting journal are quiet s there up
+
+-- in the first boot a switch is opened at the first version
+opened_first : (journal : List Item) (s : ℕ) → known_boot journal s ≡ 1
+    → opened_at journal s ≡ Some 1
+unfolding opened_at
+opened_first journal s first =
+    let one : (known_boot journal s == 1) ≡ true = eq-eqb (known_boot journal s) 1 first in
+    rw one refl
+
+-- ---- opened switches
+
+-- the version at which it was opened it heard, but for the first boot
+opening_heard : (setting : Setting) (journal : List Item) → AreReady setting journal
+    → IsQuiet setting journal → (s version : ℕ) → s < length setting.net.switches
+    → IsTrue (is_up journal s) → opened_at journal s ≡ Some version
+    → (boot_of journal s ≡ 1) ⊎ IsIn (OpenAt (boot_of journal s) version) (heard journal s)
+opening_heard setting journal are quiet s version there up opened =
+    let own = known_own setting journal are quiet s there up in
+    elim (are.recorded.openings s (boot_of journal s) version
+    (ap (opened_in journal s) (sym own) ∙ sym (opened_is journal s) ∙ opened)) [
+      | inl first ↦ inl first
+      | inr sent ↦ inr (was_itself (heard journal s) (OpenAt (boot_of journal s) version) refl
+          (heard_of setting journal s (OpenAt (boot_of journal s) version) quiet are.causes there
+          sent up refl refl))
+    ]
+
+pub some_opening : (journal : List Item) (s : ℕ) → IsTrue (is_member journal s)
+    → (version : ℕ) × (opened_at journal s ≡ Some version)
+some_opening journal s member =
+    by_opened (opened_at journal s) refl (member_parts journal s member).1
+  where
+    by_opened : (o : Option ℕ) → opened_at journal s ≡ o → IsTrue (is_some o)
+        → (version : ℕ) × (opened_at journal s ≡ Some version)
+    by_opened None e is = absurd cc
+    by_opened (Some version) e is = (version, e)
+
+member_serves : (setting : Setting) (journal : List Item) → AreReady setting journal
+    → IsQuiet setting journal → (s : ℕ) → s < length setting.net.switches
+    → IsTrue (is_up journal s) → IsTrue (is_member journal s) → IsTrue (serves journal s)
+member_serves setting journal are quiet s there up member =
+    let opening = some_opening journal s member in
+    elim (opening_heard setting journal are quiet s opening.0 there up opening.1) [
+      | inl first ↦ are.recorded.first s up first
+      | inr told ↦ elim (are.spoken.answers.each s (OpenAt (boot_of journal s) opening.0) told) [
+        | inl none ↦ absurd none
+        | inr serving ↦ serving
+      ]
+    ]
+
+-- ---- stamps
+
+-- a stamp, or one of a greater version
+later_stamp : (body : Body) (boot version : ℕ) (touched : List WordValue)
+    → (body ≡ Stamp boot version touched) ⊎ IsTrue (is_later_body body (Stamp boot version touched))
+    → (later : ℕ) × (words : List WordValue) × (body ≡ Stamp boot later words)
+    × (version ≤ later)
+later_stamp body boot version touched (inl same) = (version, touched, same, omega arith)
+later_stamp (Stamp of later words) boot version touched (inr more) =
+    let own : of ≡ boot = grind (arith, nat_tests) in
+    let above : version ≤ later = grind (arith, nat_tests) in
+    (later, words, ap (λ b. Stamp b later words) own, above)
+later_stamp body boot version touched (inr more) = absurd cc
+
+later_stamped : (body : Body) (s boot version : ℕ)
+    → (body ≡ Stamped s boot version) ⊎ IsTrue (is_later_body body (Stamped s boot version))
+    → (later : ℕ) × (body ≡ Stamped s boot later) × (version ≤ later)
+later_stamped body s boot version (inl same) = (version, same, omega arith)
+later_stamped (Stamped t of later) s boot version (inr more) =
+    let same : t ≡ s = grind (arith, nat_tests) in
+    let own : of ≡ boot = grind (arith, nat_tests) in
+    let above : version ≤ later = grind (arith, nat_tests) in
+    (later, ap (λ u. Stamped u of later) same ∙ ap (λ b. Stamped s b later) own, above)
+later_stamped body s boot version (inr more) = absurd cc
+
+pub stamped_acked : (journal : List Item) (s version : ℕ)
+    → IsIn (Stamped s (known_boot journal s) version) (controller_heard journal)
+    → version ≤ acked_stamp journal s
+unfolding acked_stamp
+stamped_acked journal s version is =
+    let here : (s == s) ≡ true = eq-eqb s s refl in
+    let own : (known_boot journal s == known_boot journal s) ≡ true =
+    eq-eqb (known_boot journal s) (known_boot journal s) refl in
+    in_fold (open_version journal s) version
+    (filter_map (stamped_in s (known_boot journal s)) (controller_heard journal))
+    (in_filter_map (stamped_in s (known_boot journal s)) (Stamped s (known_boot journal s) version)
+    version (controller_heard journal) is (rw (here, own) refl))
+
+told_stamps : (setting : Setting) (journal : List Item) → AreReady setting journal
+    → IsQuiet setting journal → (s : ℕ) → s < length setting.net.switches
+    → IsTrue (is_up journal s)
+    → IsStampSent journal s (known_boot journal s) (current_mark journal)
+    → current_mark journal ≤ acked_stamp journal s
+told_stamps setting journal are quiet s there up stamp =
+    omega (
+      arith,
+      later.3,
+      more.2,
+      stamped_acked journal s more.0
+          (subst (λ b. IsIn b (controller_heard journal)) more.1 told.is),
+    )
+  where
+    known : ℕ
+    known = known_boot journal s
+
+    own : known ≡ boot_of journal s
+    own = known_own setting journal are quiet s there up
+
+    was : WasHeard (heard journal s) (Stamp known (current_mark journal) stamp.touched)
+    was = heard_of setting journal s (Stamp known (current_mark journal) stamp.touched) quiet
+        are.causes there stamp.sent up (ap Some own) refl
+
+    later : (v : ℕ) × (words : List WordValue) × (was.body ≡ Stamp known v words)
+        × (current_mark journal ≤ v)
+    later = later_stamp was.body known (current_mark journal) stamp.touched was.says
+
+    answer : IsSent journal (to_controller (Stamped s known later.0))
+    answer = elim (are.spoken.answers.each s (Stamp known later.0 later.1)
+        (subst (λ b. IsIn b (heard journal s)) later.2 was.is)) [
+          | inl none ↦ absurd none
+          | inr sent ↦ sent
+        ]
+
+    told : WasHeard (controller_heard journal) (Stamped s known later.0)
+    told = told_of setting journal s (Stamped s known later.0) quiet are.causes there answer up
+        (ap (λ b. Some (s, b)) own) refl
+
+    more : (v : ℕ) × (told.body ≡ Stamped s known v) × (later.0 ≤ v)
+    more = later_stamped told.body s known later.0 told.says
+
+-- one that was opened at the current version is known to stamp with it
+pub opened_stamps : (journal : List Item) (s : ℕ) → opened_at journal s ≡ Some (current_mark journal)
+    → current_mark journal ≤ acked_stamp journal s
+opened_stamps journal s opened =
+    omega (arith, acked_stamp_opened journal s, ap (λ o. unwrap_or o 0) opened)
+
+-- ---- together
+
+quiet_caught : (setting : Setting) (journal : List Item) → AreReady setting journal
+    → IsQuiet setting journal → IsCaughtUp setting journal
+quiet_caught setting journal are quiet = record {
+  switches = quiet.switches;
+  known = known_own setting journal are quiet;
+  acked = all_installed setting journal are quiet;
+  serving = member_serves setting journal are quiet;
+  stamps = λ s there up member. elim (are.stamps.each s there member) [
+    | inl opened ↦ opened_stamps journal s opened
+    | inr sent ↦ told_stamps setting journal are quiet s there up sent
+  ];
+}
+
+pub updated_at_ends :
+    HoldsAtEnds (λ setting journal. IsQuiet setting journal → IsUpdated setting journal)
+updated_at_ends = at_ends (λ setting journal. IsQuiet setting journal → IsUpdated setting journal)
+    (λ setting steps quiet.
+    let ready = steps_ready setting steps in
+    caught_updated setting (after_steps setting [] steps) ready
+    (quiet_caught setting (after_steps setting [] steps) ready quiet))

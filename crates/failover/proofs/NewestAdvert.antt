@@ -1,0 +1,172 @@
+-- The newest advert of an origin.
+use Rattle.std.proofs.Common.{◌≡◌, ◌≢◌, ℕ, ◌<◌, Bool, true, false, nat_lt, ◌&&◌, ◌++◌, All, option_to_list, Option, Some, None, List, [], ◌∷◌, refl, sym, ◌∙◌, ap, subst, arith, append_assoc, append-nil, inl, inr, ◌||◌, ◌==◌}
+use Rattle.std.specs.Option.{option_map_or}
+use Rattle.std.proofs.lemmas.Bool.{cases_eq}
+use Rattle.std.proofs.lemmas.Bool.Decides.{nat_tests}
+use Rattle.std.proofs.lemmas.List.Elements.{All-cons, All-nil, All-append, All-push, All-weaker, All-same}
+use Rattle.failover.specs.declared.advert.Advert.{Advert}
+use Rattle.failover.specs.Adverts.{held_advert, is_newer, is_news, after_hearing, after_hearing_all}
+use Rattle.failover.specs.Newest.{AreByOrigin, IsNewest}
+use Rattle.failover.proofs.LinkBalls.{apart_tests}
+use Rattle.failover.proofs.HeldAdverts.{hearing, held_heard, held_others, by_origin-hearing}
+
+pub not_newer : (boot seq : ℕ) → (nat_lt boot boot || ((boot == boot) && nat_lt seq seq)) ≡ false
+not_newer boot seq = grind (arith, nat_tests)
+
+pub newer_through : (a b c : Advert) → is_newer a b ≡ true → is_newer b c ≡ true → is_newer a c ≡ true
+newer_through a b c p q = grind (arith, nat_tests)
+
+newer_past : (a b c : Advert) → is_newer a b ≡ true → is_newer c b ≡ false → is_newer a c ≡ true
+newer_past a b c p q = grind (arith, nat_tests)
+
+-- ---- one advert more
+
+-- one behind the others that is no newer
+push_behind : (origin : ℕ) (seen : List Advert) (advert best : Advert) →
+    (advert.origin ≡ origin → is_newer advert best ≡ false) → IsNewest origin seen (Some best) →
+    IsNewest origin (seen ++ advert ∷ []) (Some best)
+push_behind origin seen advert best old (before, after, parts, of_best, older, later) = (
+  before,
+  after ++ advert ∷ [],
+  ap (λ s. s ++ advert ∷ []) parts
+      ∙ append_assoc before (best ∷ after) (advert ∷ []),
+  of_best,
+  older,
+  All-push
+      (λ a. a.origin ≡ origin → is_newer a best ≡ false) after advert later old,
+)
+
+push_other : (origin : ℕ) (seen : List Advert) (advert : Advert) (now : Option Advert) →
+    advert.origin ≢ origin → IsNewest origin seen now → IsNewest origin (seen ++ advert ∷ []) now
+push_other origin seen advert None apart newest =
+    All-push (λ a. a.origin ≢ origin) seen advert newest apart
+push_other origin seen advert (Some best) apart newest =
+    push_behind origin seen advert best (λ e. absurd (apart e)) newest
+
+push_first : (origin : ℕ) (seen : List Advert) (advert : Advert) → advert.origin ≡ origin →
+    IsNewest origin seen None → IsNewest origin (seen ++ advert ∷ []) (Some advert)
+push_first origin seen advert of_it newest = (
+  seen,
+  [],
+  refl,
+  of_it,
+  All-weaker (λ a. a.origin ≢ origin)
+      (λ a. a.origin ≡ origin → is_newer advert a ≡ true)
+      (λ a apart e. absurd (apart e)) seen newest,
+  All-nil
+      (λ a. a.origin ≡ origin → is_newer a advert ≡ false),
+)
+
+push_newer : (origin : ℕ) (seen : List Advert) (advert best : Advert) → advert.origin ≡ origin →
+    is_newer advert best ≡ true → IsNewest origin seen (Some best) →
+    IsNewest origin (seen ++ advert ∷ []) (Some advert)
+push_newer origin seen advert best of_it newer (before, after, parts, of_best, older, later) =
+    let P : Advert → Type 0 = λ a. a.origin ≡ origin → is_newer advert a ≡ true in
+    let front : All P before = All-weaker (λ a. a.origin ≡ origin → is_newer best a ≡ true) P
+    (λ a h e. newer_through advert best a newer (h e)) before older in
+    let back : All P (best ∷ after) =
+    All-cons P best after (λ e. newer)
+    (All-weaker (λ a. a.origin ≡ origin → is_newer a best ≡ false) P
+    (λ a h e. newer_past advert best a newer (h e)) after later) in (
+      seen,
+      [],
+      refl,
+      of_it,
+      All-same P seen (before ++ best ∷ after) parts
+          (All-append P before (best ∷ after) front back),
+      All-nil
+          (λ a. a.origin ≡ origin → is_newer a advert ≡ false),
+    )
+
+push_news : (origin : ℕ) (seen : List Advert) (advert : Advert) (now : Option Advert) →
+    advert.origin ≡ origin → option_map_or (is_newer advert) now true ≡ true →
+    IsNewest origin seen now → IsNewest origin (seen ++ advert ∷ []) (Some advert)
+push_news origin seen advert None of_it news newest = push_first origin seen advert of_it newest
+push_news origin seen advert (Some best) of_it news newest =
+    push_newer origin seen advert best of_it news newest
+
+push_old : (origin : ℕ) (seen : List Advert) (advert : Advert) (now : Option Advert) →
+    option_map_or (is_newer advert) now true ≡ false → IsNewest origin seen now →
+    IsNewest origin (seen ++ advert ∷ []) now
+push_old origin seen advert None old newest = apart_tests true refl old
+push_old origin seen advert (Some best) old newest =
+    push_behind origin seen advert best (λ e. old) newest
+
+-- ---- as it is heard
+
+within : (origin : ℕ) (rest : Bool) → origin < 64 → (nat_lt origin 64 && rest) ≡ rest
+within origin rest below = grind (arith, nat_tests)
+
+news_test : (adverts : List (Option Advert)) (advert : Advert) → advert.origin < 64 →
+    is_news adverts advert ≡ option_map_or (is_newer advert) (held_advert adverts advert.origin)
+    true
+unfolding is_news
+news_test adverts advert below = within advert.origin _ below
+
+newest_same : (adverts : List (Option Advert)) (seen : List Advert) (advert : Advert) →
+    AreByOrigin adverts → advert.origin < 64 →
+    IsNewest advert.origin seen (held_advert adverts advert.origin) →
+    IsNewest advert.origin (seen ++ advert ∷ [])
+    (held_advert (after_hearing adverts advert) advert.origin)
+newest_same adverts seen advert by below newest = elim (hearing adverts advert) [
+  | inl news ↦ subst (IsNewest advert.origin (seen ++ advert ∷ []))
+      (sym (held_heard adverts advert by news.0))
+      (push_news advert.origin seen advert (held_advert adverts advert.origin) refl
+      (sym (news_test adverts advert below) ∙ news.0) newest)
+  | inr old ↦ subst (IsNewest advert.origin (seen ++ advert ∷ []))
+      (sym (ap (λ (all : List (Option Advert)). held_advert all advert.origin) old.1))
+      (push_old advert.origin seen advert (held_advert adverts advert.origin)
+      (sym (news_test adverts advert below) ∙ old.0) newest)
+]
+
+newest_hearing : (adverts : List (Option Advert)) (seen : List Advert) (advert : Advert)
+    (origin : ℕ) → AreByOrigin adverts → origin < 64
+    → IsNewest origin seen (held_advert adverts origin) →
+    IsNewest origin (seen ++ advert ∷ []) (held_advert (after_hearing adverts advert) origin)
+newest_hearing adverts seen advert origin by below newest = elim (cases_eq origin advert.origin) [
+  | inl same ↦ (let here = newest_same adverts seen advert by (omega arith)
+      (subst (λ (o : ℕ). IsNewest o seen (held_advert adverts o)) same newest) in
+      subst (λ (o : ℕ). IsNewest o (seen ++ advert ∷ [])
+      (held_advert (after_hearing adverts advert) o))
+      (sym same) here)
+  | inr apart ↦ subst (IsNewest origin (seen ++ advert ∷ []))
+      (sym (held_others adverts advert origin apart))
+      (push_other origin seen advert (held_advert adverts origin) (λ e. apart (sym e)) newest)
+]
+
+newest_after : (adverts : List (Option Advert)) (seen heard : List Advert) (origin : ℕ) →
+    AreByOrigin adverts → origin < 64 → IsNewest origin seen (held_advert adverts origin) →
+    IsNewest origin (seen ++ heard) (held_advert (after_hearing_all adverts heard) origin)
+newest_after adverts seen [] origin by below newest =
+    subst (λ (s : List Advert). IsNewest origin s (held_advert adverts origin))
+    (sym (append-nil seen)) newest
+newest_after adverts seen (advert ∷ heard) origin by below newest =
+    subst (λ (s : List Advert). IsNewest origin s
+    (held_advert (after_hearing_all adverts (advert ∷ heard)) origin))
+    (append_assoc seen (advert ∷ []) heard)
+    (newest_after (after_hearing adverts advert) (seen ++ advert ∷ []) heard origin
+    (by_origin-hearing adverts advert by) below
+    (newest_hearing adverts seen advert origin by below newest))
+
+newest_held : (origin : ℕ) (now : Option Advert) →
+    ((advert : Advert) → now ≡ Some advert → advert.origin ≡ origin) →
+    IsNewest origin (option_to_list now) now
+newest_held origin None by = All-nil (λ a. a.origin ≢ origin)
+newest_held origin (Some advert) by = (
+  [],
+  [],
+  refl,
+  by advert refl,
+  All-nil
+      (λ a. a.origin ≡ origin → is_newer advert a ≡ true),
+  All-nil
+      (λ a. a.origin ≡ origin → is_newer a advert ≡ false),
+)
+
+pub held_newest : (adverts : List (Option Advert)) (heard : List Advert) (origin : ℕ) →
+    AreByOrigin adverts → origin < 64 →
+    IsNewest origin (option_to_list (held_advert adverts origin) ++ heard)
+    (held_advert (after_hearing_all adverts heard) origin)
+held_newest adverts heard origin by below =
+    newest_after adverts (option_to_list (held_advert adverts origin)) heard origin by below
+    (newest_held origin (held_advert adverts origin) (by.origins origin))

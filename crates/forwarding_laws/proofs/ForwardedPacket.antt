@@ -1,0 +1,320 @@
+-- A packet that comes in behind a quiet journal is followed over its step and the hops of a drain,
+-- and has ended then.
+use Rattle.std.proofs.Common.{ℕ, ◌≡◌, ◌+◌, ◌-◌, ◌<◌, ◌≤◌, ◌==◌, ◌∙◌, Bool, true, false, cond, Option, Some, None, List, [], ◌∷◌, ◌++◌, All, Contains, length, refl, ap, sym, subst, append_assoc, arith, inl, inr, ◌⊎◌}
+use Rattle.std.specs.Prelude.{IsTrue, find, option_map}
+use Rattle.std.specs.List.{range_with_len}
+use Rattle.std.specs.Option.{option_or}
+use Rattle.std.proofs.lemmas.Bool.{eq-eqb}
+use Rattle.std.proofs.lemmas.List.Elements.{All-cons, All-contains, All-nil}
+use Rattle.std.proofs.lemmas.List.FromFn.{get_or-range_with_len, length-range_with_len}
+use Rattle.five_tuple.specs.Header.{IsHeader}
+use Rattle.five_tuple.specs.declared.header.Header.{Header}
+use Rattle.policy_rules.specs.Policy.{IsFirstMatch}
+use Rattle.policy_rules.specs.Scan.{scan}
+use Rattle.policy_rules.specs.declared.policy.Row.{Row}
+use Rattle.policy_rules.proofs.CallerLemmas.{first_match-scan}
+use Rattle.journal.specs.declared.item.Item.{Item}
+use Rattle.journal.specs.declared.item.Item.TheVariants as item
+use Rattle.steps.specs.Steps.{HasSwitch}
+use Rattle.steps.specs.declared.step.Step.{Step}
+use Rattle.steps.specs.declared.step.Step.TheVariants.{Hop, Packet}
+use Rattle.update_machine.specs.Answers.{AreAll, StepOfRow, after_steps, next_hop}
+use Rattle.update_machine.specs.Boots.{is_up}
+use Rattle.update_machine.specs.Causes.{HaveCauses}
+use Rattle.update_machine.specs.Folds.{count_of, last_given}
+use Rattle.update_machine.specs.Links.{serves}
+use Rattle.update_machine.specs.Moves.{items_then, lookup_items}
+use Rattle.update_machine.specs.Packets.{Decision, decision_of, gives_header, header_in, is_packet, next_packet}
+use Rattle.update_machine.specs.Pieces.{packet_items, piece}
+use Rattle.update_machine.specs.Setting.{IsSetting, Setting}
+use Rattle.update_machine.specs.SwitchNumbers.{switches_of}
+use Rattle.update_machine.specs.Travels.{next_travelling, packets_in, travels}
+use Rattle.update_machine.specs.Versions.{policy_at, version_count}
+use Rattle.update_machine.proofs.CallerLemmas.{count_of_append, last_given_append, switch_keeps}
+use Rattle.convergence_laws.proofs.CallerLemmas.{Behind, Both, NamesOwn, fact_on, have_both, have_rest, moves, stays_itself, stays_on}
+use Rattle.convergence_laws.specs.Converged.{HasConverged}
+use Rattle.convergence_laws.specs.Updated.{IsUpdated}
+use Rattle.packet_laws.specs.Amended.{hit_in}
+use Rattle.packet_laws.specs.Facts.{what_is_known}
+use Rattle.packet_laws.specs.KeptFacts.{AllKept}
+use Rattle.packet_laws.specs.OnWay.{IsUnknown}
+use Rattle.packet_laws.specs.StrongCauses.{StrongCause}
+use Rattle.packet_laws.proofs.AllKept.{all_kept, kept_before}
+use Rattle.packet_laws.proofs.AmendedPolicies.{IsRightly, all_right}
+use Rattle.packet_laws.proofs.PacketEnds.{decision_out}
+use Rattle.packet_laws.proofs.PacketsHere.{found_in}
+use Rattle.packet_laws.proofs.PacketBlocks.{standing_more, travels_more}
+use Rattle.packet_laws.proofs.RestingPackets.{IsSettled, IsWayItem, Past, numbered, piece_settled, ways_of_all}
+use Rattle.packet_laws.proofs.ServedPackets.{packet_more}
+use Rattle.packet_laws.proofs.StronglyCaused.{strongly_caused}
+use Rattle.forwarding_laws.specs.Forwards.{FindsNoTarget, IsForwarded, QuietForwards}
+use Rattle.forwarding_laws.proofs.FollowedPacket.{Fate, Follows, IsEnded, IsFollowed, follows_on, mark_more, step_more, undecided_by}
+use Rattle.forwarding_laws.proofs.PassingSteps.{MarksStay, Passes, hop_passes, marks_stay, packet_passes}
+
+-- ---- items of a settled journal
+
+module _ (setting : Setting) (is : IsSetting setting) where
+  -- the last items of a settled journal are followed, if they are those of packets
+  are_followed : (before items : List Item) → IsSettled setting (before ++ items)
+      → HaveCauses (Passes setting) before items
+      → HaveCauses (IsFollowed setting) before items
+  are_followed before items settled passes =
+      have_both (Passes setting)
+      (Both (Behind (Past (IsWayItem setting)) (AllKept setting)) (StrongCause setting)) before
+      items passes
+      (have_both (Behind (Past (IsWayItem setting)) (AllKept setting)) (StrongCause setting) before
+      items
+      (have_rest (Behind (Past (IsWayItem setting)) (AllKept setting)) [] before items
+      (kept_before setting (before ++ items) is settled.causes))
+      (have_rest (StrongCause setting) [] before items
+      (strongly_caused setting (before ++ items) is settled.causes)))
+
+-- ---- numbers of a range
+
+in_range : (low n x : ℕ) → low ≤ x → x < low + n → Contains (range_with_len low n) x
+in_range low n x above below =
+    let place : low + (x - low) ≡ x = omega (arith, above) in (
+      x - low,
+      omega (arith, length-range_with_len low n, above, below),
+      get_or-range_with_len low n (x - low) x (omega (arith, above, below)) ∙ place,
+    )
+
+find_none : {X : Type 0} (p : X → Bool) (xs : List X) → find p xs ≡ None
+    → All (λ x. p x ≡ false) xs
+find_none p [] none = All-nil (λ x. p x ≡ false)
+find_none {X} p (x ∷ xs) none = by (p x) refl none (find_none p xs)
+  where
+    by : (b : Bool) → p x ≡ b → cond b (Some x) (find p xs) ≡ None
+        → (find p xs ≡ None → All (λ y. p y ≡ false) xs) → All (λ y. p y ≡ false) (x ∷ xs)
+    by true is none rest = absurd cc
+    by false is none rest = All-cons (λ y. p y ≡ false) x xs is (rest none)
+
+unmapped : (o : Option ℕ) → option_map Hop o ≡ None → o ≡ None
+unmapped None none = refl
+unmapped (Some k) none = absurd cc
+
+-- behind all hops of a drain no packet travels
+none_travels : (now : List Item) (i : ℕ) → next_hop now ≡ None → 1 ≤ i → i < next_packet now
+    → travels now i ≡ false
+unfolding next_packet next_travelling
+none_travels now i none above below =
+    All-contains (λ k. travels now k ≡ false) (packets_in now) i
+    (find_none (travels now) (packets_in now) (unmapped (find (travels now) (packets_in now)) none))
+    (in_range 1 (count_of is_packet now) i above (omega (arith, below)))
+
+header_by : (before : List Item) (next : Item) (i : ℕ) (header : Header)
+    → gives_header i next ≡ Some header → header_in (before ++ next ∷ []) i ≡ Some header
+unfolding header_in
+header_by before next i header gives =
+    last_given_append (gives_header i) before (next ∷ [])
+    ∙ ap (λ o. option_or o (last_given (gives_header i) before)) gives
+
+number_more : (before : List Item) (i s : ℕ) (header : Header)
+    → next_packet (before ++ item.Entered i s header ∷ []) ≡ next_packet before + 1
+unfolding next_packet
+number_more before i s header =
+    rw (count_of_append is_packet before (item.Entered i s header ∷ [])) (omega arith)
+
+serves_there : (setting : Setting) (journal : List Item) (s : ℕ) → IsUpdated setting journal
+    → HasSwitch setting.net s → IsTrue (is_up journal s) → IsTrue (serves journal s)
+serves_there setting journal s updated there up =
+    All-contains (λ k. IsTrue (is_up journal k) → IsTrue (serves journal k)) (switches_of setting) s
+    updated.serving (in_range 0 (length setting.net.switches) s (omega arith) (omega (arith, there)))
+    up
+
+-- ---- as it comes in
+
+module _ (setting : Setting) (journal : List Item) (row s : ℕ) (header : Header) where
+  abbrev i : ℕ
+  i = next_packet journal
+
+  abbrev coming : Item
+  coming = item.Row row (Packet s header)
+
+  abbrev entering : Item
+  entering = item.Entered i s header
+
+  abbrev here : List Item
+  here = journal ++ coming ∷ []
+
+  abbrev begun : List Item
+  begun = here ++ entering ∷ []
+
+  abbrev lookups : List Item
+  lookups = lookup_items setting i s begun
+
+  own : (i == i) ≡ true
+  own = eq-eqb i i refl
+
+  marks_here : MarksStay setting journal here
+  marks_here = marks_stay setting journal journal coming refl (record {
+    current = refl;
+    retired = refl;
+    count = refl;
+    policy = λ v. refl;
+    plan = λ v. refl;
+  })
+
+  started : IsSetting setting → IsSettled setting journal
+      → Follows setting journal s i header begun
+  started is settled =
+      let new : IsUnknown (what_is_known journal i) =
+      (all_kept setting journal is settled.causes).unknown i (omega arith) in
+      record {
+        stays = stays_on setting journal is.net i here entering tt
+            (stays_on setting journal is.net i journal coming tt
+            (stays_itself setting journal i (found_in journal i ∙ new.found)));
+        marks = marks_stay setting journal here entering tt marks_here;
+        step = λ step present.
+            let same : Some (Packet s header) ≡ Some step =
+            sym (step_more here entering ∙ step_more journal coming) ∙ present in
+            let is_packet_row : Packet s header ≡ step = cc in
+            subst (λ x. IsTrue (moves x)) is_packet_row refl;
+        number = omega (arith, packet_more journal coming, number_more here i s header);
+        entered = header_by here entering i header (rw own refl);
+        mark = mark_more here entering i ∙ rw own marks_here.retired;
+        at = λ t stands.
+            let same : Some s ≡ Some t =
+            sym (standing_more here entering i ∙ rw own refl) ∙ stands in
+            let at_once : s ≡ t = cc in
+            record { rest = []; leads = at_once };
+        version = λ decision decided.
+            let none : decision_of journal i ≡ None = decision_out journal i None new.decision in
+            let same : None ≡ Some decision =
+            sym (undecided_by here entering i refl ∙ undecided_by journal coming i refl ∙ none)
+            ∙ decided in
+            absurd cc;
+        fate = inl (travels_more here entering i ∙ rw own refl);
+      }
+
+  written : IsTrue (serves journal s)
+      → piece setting journal row (Packet s header) ≡ coming ∷ entering ∷ lookups
+  unfolding piece packet_items
+  written serving =
+      let still : serves here s ≡ true =
+      (switch_keeps setting s journal (coming ∷ []) (refl, tt)).serving ∙ serving in
+      ap (λ b. coming ∷ (elim b [
+        | false ↦ item.Closed i s ∷ []
+        | true ↦ items_then (entering ∷ []) (lookup_items setting i s) here
+      ])) still
+
+  joined : begun ++ lookups ≡ journal ++ (coming ∷ entering ∷ lookups)
+  joined = append_assoc here (entering ∷ []) lookups
+      ∙ append_assoc journal (coming ∷ []) (entering ∷ lookups)
+
+  -- behind its step
+  followed_in : IsSetting setting → HasConverged setting journal → IsUpdated setting journal
+      → IsSettled setting journal → HasSwitch setting.net s → IsHeader header
+      → IsTrue (is_up journal s)
+      → Follows setting journal s i header
+      (journal ++ piece setting journal row (Packet s header))
+  followed_in is converged updated settled there sound up =
+      let is_written : piece setting journal row (Packet s header) ≡ coming ∷ entering ∷ lookups =
+      written (serves_there setting journal s updated there up) in
+      let whole : begun ++ lookups ≡ journal ++ piece setting journal row (Packet s header) =
+      joined ∙ ap (λ items. journal ++ items) (sym is_written) in
+      let after : IsSettled setting (begun ++ lookups) =
+      subst (IsSettled setting) (sym whole)
+      (piece_settled setting journal row (Packet s header) is (there, sound) settled) in
+      let passes : HaveCauses (Passes setting) journal (coming ∷ entering ∷ lookups) =
+      subst (HaveCauses (Passes setting) journal) is_written
+      (packet_passes setting journal row s header) in
+      subst (Follows setting journal s i header) whole
+      (fact_on (IsFollowed setting) (Follows setting journal s i header)
+      (follows_on setting journal s i header is converged updated) begun lookups
+      (are_followed setting is begun lookups after passes.1.1) (started is settled))
+
+-- ---- hops
+
+record IsHop (step : Step) : Type 0 where
+  packet : ℕ
+  hops : step ≡ Hop packet
+
+is_hop : (o : Option ℕ) (step : Step) → option_map Hop o ≡ Some step → IsHop step
+is_hop None step is = absurd cc
+is_hop (Some k) step is = record { packet = k; hops = cc is }
+
+-- the packet is followed, and nothing travels
+record IsDrained (setting : Setting) (journal : List Item) (s i : ℕ) (header : Header)
+    (after : List Item) : Type 0 where
+  follows : Follows setting journal s i header after
+  settled : IsSettled setting after
+  none : next_hop after ≡ None
+
+drained : (setting : Setting) (journal : List Item) (s i : ℕ) (header : Header) (later : ℕ)
+    (before : List Item) (hops : List StepOfRow) → IsSetting setting
+    → HasConverged setting journal → IsUpdated setting journal
+    → AreAll setting next_hop later before hops → IsSettled setting before
+    → Follows setting journal s i header before
+    → IsDrained setting journal s i header (after_steps setting before hops)
+drained setting journal s i header later before [] is converged updated none settled follows =
+    record { follows = follows; settled = settled; none = none }
+drained setting journal s i header later before (first ∷ hops) is converged updated all settled
+    follows =
+    let taken : Step = first.step in
+    let items : List Item = piece setting before first.row taken in
+    let hop : IsHop taken = is_hop (next_travelling before) taken all.1 in
+    let after : IsSettled setting (before ++ items) =
+    piece_settled setting before first.row taken is
+    (subst (NamesOwn setting) (sym hop.hops) tt) settled in
+    let passes : HaveCauses (Passes setting) before items =
+    subst (λ step. HaveCauses (Passes setting) before (piece setting before first.row step))
+    (sym hop.hops) (hop_passes setting before first.row hop.packet) in
+    drained setting journal s i header later (before ++ items) hops is converged updated all.2 after
+    (fact_on (IsFollowed setting) (Follows setting journal s i header)
+    (follows_on setting journal s i header is converged updated) before items
+    (are_followed setting is before items after passes) follows)
+
+-- ---- its end
+
+ended_so : (setting : Setting) (journal : List Item) (s i : ℕ) (header : Header)
+    (after : List Item) → IsSetting setting → IsDrained setting journal s i header after
+    → IsForwarded setting journal after i s header ⊎ FindsNoTarget setting journal after i s header
+ended_so setting journal s i header after is drained = by drained.follows.fate
+  where
+    forwarded : IsEnded setting journal s i after → IsForwarded setting journal after i s header
+    forwarded ended =
+        let decision : Decision = ended.decision in
+        let newest : decision.version ≡ version_count journal =
+        drained.follows.version decision ended.decided in
+        let rows : List Row = policy_at setting journal (version_count journal) in
+        let right : IsRightly setting after header decision =
+        all_right setting after is drained.settled.causes i header decision
+        drained.follows.entered ended.decided in
+        let first : scan rows header ≡ hit_in decision =
+        ap (λ v. scan (policy_at setting journal v) header) (sym newest)
+        ∙ ap (λ these. scan these header) (sym (drained.follows.marks.policy decision.version))
+        ∙ right.first_match in
+        record {
+          act = decision.action;
+          decided = record {
+            rule = decision.rule;
+            decided = ended.decided
+                ∙ ap (λ v. Some (record {
+                  version = v;
+                  rule = decision.rule;
+                  action = decision.action;
+                })) newest;
+            first_match = subst (IsFirstMatch rows header) first (first_match-scan rows header);
+          };
+          ends = ended.ends;
+        }
+
+    by : Fate setting journal s i header after
+        → IsForwarded setting journal after i s header
+        ⊎ FindsNoTarget setting journal after i s header
+    by (inl on) =
+        let own = numbered setting after (ways_of_all setting [] after drained.settled.causes) i on in
+        let off : travels after i ≡ false = none_travels after i drained.none own.0 own.1 in
+        absurd cc
+    by (inr ended) = elim ended.how [ inl decided ↦ inl (forwarded decided) | inr finds ↦ inr finds ]
+
+pub forwards : (setting : Setting) (journal : List Item) → IsSetting setting
+    → IsSettled setting journal → HasConverged setting journal → IsUpdated setting journal
+    → QuietForwards setting journal
+forwards setting journal is settled converged updated row later s header hops there sound up all =
+    let entered : List Item = journal ++ piece setting journal row (Packet s header) in
+    ended_so setting journal s (next_packet journal) header (after_steps setting entered hops) is
+    (drained setting journal s (next_packet journal) header later entered hops is converged updated
+    all (piece_settled setting journal row (Packet s header) is (there, sound) settled)
+    (followed_in setting journal row s header is converged updated settled there sound up))

@@ -1,0 +1,58 @@
+-- What one more item makes of a switch's status.
+use Rattle.std.proofs.Common.{ℕ, ◌≡◌, ◌+◌, ◌<◌, take, length, get_or, true, false, List, [], ◌∷◌, ◌++◌, refl, ap, sym, ◌∙◌, append-nil}
+use Rattle.std.proofs.lemmas.List.{take_more}
+use Rattle.journal.specs.declared.item.Item.{Item}
+use Rattle.journal.specs.declared.item.Item.TheVariants as item
+use Rattle.update_machine.specs.Boots.{boot_of, is_up}
+use Rattle.update_machine.specs.Marks.{current_mark}
+use Rattle.control_laws.proofs.FactsGrown.{boot_more, current_more, up_more}
+use Rattle.convergence_laws.proofs.DownSwitches.{waited_more}
+use Rattle.journal_reports.specs.declared.status.SwitchStatus.{SwitchStatus}
+use Rattle.journal_reports.specs.Judging.{status_with, status_in, status_item}
+
+status_more : (before : List Item) (item : Item) (s : ℕ)
+    → status_in (before ++ item ∷ []) s ≡ status_with item (status_in before s)
+status_more before item s =
+    rw (
+      up_more before item s,
+      boot_more before item s,
+      waited_more before item s,
+      current_more before item,
+    ) refl
+
+status_told : (told : List Item) (item : Item) (s : ℕ)
+    → status_in (told ++ status_item item) s ≡ status_with item (status_in told s)
+status_told told (item.Down switch) s = status_more told (item.Down switch) s
+status_told told (item.Booted switch boot) s = status_more told (item.Booted switch boot) s
+status_told told (item.OverNow switch) s = status_more told (item.OverNow switch) s
+status_told told (item.Current version) s = status_more told (item.Current version) s
+status_told told item s = ap (λ js. status_in js s) (append-nil told)
+
+-- ---- at first
+
+pub status_at_first : (s : ℕ) → status_in [] s
+    ≡ record { switch = s; is_up = true; boot = 1; is_waited_for = false; current = 1 }
+unfolding is_up boot_of current_mark
+status_at_first s = refl
+
+-- ---- one item of a list
+
+item_more : (items : List Item) (i : ℕ) (next : Item) → i < length items
+    → next ≡ get_or items i next → take (i + 1) items ≡ take i items ++ next ∷ []
+item_more items i next within is =
+    take_more items i next within ∙ ap (λ x. take i items ++ x ∷ []) (sym is)
+
+pub status_of_item : (items : List Item) (i s : ℕ) (next : Item) (status after : SwitchStatus)
+    → i < length items → next ≡ get_or items i next → status ≡ status_in (take i items) s
+    → after ≡ status_with next status → after ≡ status_in (take (i + 1) items) s
+status_of_item items i s next status after within is was now =
+    now ∙ ap (status_with next) was ∙ sym (status_more (take i items) next s)
+    ∙ ap (λ js. status_in js s) (sym (item_more items i next within is))
+
+pub told_of_item : (items : List Item) (i s : ℕ) (next : Item) (told after : List Item)
+    → i < length items → next ≡ get_or items i next
+    → status_in told s ≡ status_in (take i items) s → after ≡ told ++ status_item next
+    → status_in after s ≡ status_in (take (i + 1) items) s
+told_of_item items i s next told after within is was now =
+    status_of_item items i s next (status_in told s) (status_in after s) within is was
+    (ap (λ js. status_in js s) now ∙ status_told told next s)

@@ -1,0 +1,107 @@
+-- An installation is spelled as its front and its tables.
+use Rattle.std.proofs.Common.{◌≡◌, ℕ, ◌+◌, ◌-◌, ◌≤◌, true, ◌&&◌, List, [], ◌∷◌, ◌++◌, length, add-one, refl, sym, ap, ◌∙◌, append_assoc, arith}
+use Rattle.std.specs.Int.{div_ceil}
+use Rattle.std.proofs.lemmas.Grind.{div_ceil_times}
+use Rattle.std.proofs.lemmas.List.{drop_at, length-append, take_at}
+use Rattle.std.proofs.lemmas.Bool.{and_parts}
+use Rattle.ctrl_msg.specs.declared.message.Place.{Place}
+use Rattle.ctrl_msg.specs.declared.message.Place.TheVariants.{Switch, Controller}
+use Rattle.ctrl_msg.specs.declared.message.Body.TheVariants.{Install}
+use Rattle.switch_table.specs.declared.tables.Tables.{Tables}
+use Rattle.wire.specs.Fields.{n1, n4, partition, region, tables}
+use Rattle.wire.specs.Format.{list_of}
+use Rattle.wire.specs.Frames.{chunks_behind_head, frame, frames, frames_from, frames_of, most_of_chunk, equal_chunks}
+use Rattle.wire.specs.Messages.{body, message_front, install_form, message, receiver, spelled_front, suits_receiver}
+use Rattle.wire.proofs.SpellingCuts.{length-slices}
+use Rattle.wire.proofs.FrameBytes.{length_n4}
+use Rattle.message_bag.specs.Installing.{frame_count, install_frames, table_frames, table_chunks}
+use Rattle.message_bag.proofs.SpellingLengths.{length_kind, length_receiver}
+use Rattle.message_bag.proofs.FrameSizes.{length_from}
+
+spelled : (to : Place) (boot : ℕ) (t : Tables)
+    → message.spell (record { to = to; body = Install boot t }) ≡ spelled_front to boot ++ tables.spell t
+unfolding message body install_form message_front
+spelled to boot t =
+    sym (append_assoc (receiver.spell to) (n1.spell 1 ++ n4.spell boot) (tables.spell t)
+    ∙ ap (λ u. receiver.spell to ++ u) (append_assoc (n1.spell 1) (n4.spell boot) (tables.spell t)))
+
+length_front : (to : Place) (boot : ℕ) → length (spelled_front to boot) ≡ 6
+unfolding message_front
+length_front to boot =
+    omega (
+      arith,
+      length-append (receiver.spell to) (n1.spell 1 ++ n4.spell boot),
+      length-append (n1.spell 1) (n4.spell boot),
+      length_receiver to,
+      length_kind (Install boot (record { version = 0; parts = []; auth = [] })),
+      length_n4 boot,
+    )
+
+cut_behind : (head rest : List ℕ) → length head ≡ 6
+    → chunks_behind_head 6 (head ++ rest) ≡ head
+    ∷ equal_chunks (div_ceil (length rest) most_of_chunk) most_of_chunk rest
+cut_behind head rest len =
+    let left : length (head ++ rest) - 6 ≡ length rest = omega (arith, length-append head rest) in
+    rw (left, take_at head rest 6 len, drop_at head rest 6 len) refl
+
+pub installed : (to : Place) (boot : ℕ) (t : Tables)
+    → frames (record { to = to; body = Install boot t }) ≡ install_frames to boot t
+installed to boot t =
+    ap frames_of (ap (chunks_behind_head 6) (spelled to boot t)
+    ∙ cut_behind (spelled_front to boot) (tables.spell t) (length_front to boot))
+    ∙ ap (λ n. frame 0 n (spelled_front to boot) ∷ frames_from 1 n (table_chunks t))
+    (sym (add-one (length (table_chunks t))))
+
+-- ---- which installations have a spelling
+
+pub fits_parts : (to : Place) (boot : ℕ) (t : Tables) → message.fits (record { to = to; body = Install boot t }) ≡ true
+    → (message_front.fits (to, (1, boot)) ≡ true) × (tables.fits t ≡ true)
+    × (suits_receiver to (Install boot t) ≡ true)
+unfolding message body install_form message_front n1
+fits_parts to boot t fits =
+    let all = and_parts (receiver.fits to && (n4.fits boot && tables.fits t))
+    (suits_receiver to (Install boot t)) fits in
+    let parts = and_parts (receiver.fits to) (n4.fits boot && tables.fits t) all.0 in
+    let fields = and_parts (n4.fits boot) (tables.fits t) parts.1 in
+    (rw (parts.0, fields.0) refl, fields.1, all.1)
+
+pub fits_whole : (to : Place) (boot : ℕ) (t : Tables) → message_front.fits (to, (1, boot)) ≡ true
+    → tables.fits t ≡ true
+    → suits_receiver to (Install boot t) ≡ true
+    → message.fits (record { to = to; body = Install boot t }) ≡ true
+unfolding message body install_form message_front n1
+fits_whole to boot t head rest is =
+    let parts = and_parts (receiver.fits to) (n4.fits boot) head in
+    rw (parts.0, parts.1, rest, is) refl
+
+-- it doesn't matter of which boot and which tables
+pub suits_any : (to : Place) (i j : ℕ) (t u : Tables) → suits_receiver to (Install i t)
+    ≡ suits_receiver to (Install j u)
+suits_any (Switch s) i j t u = refl
+suits_any Controller i j t u = refl
+
+-- ---- how many frames there are
+
+pub length_behind : (t : Tables) → length (table_frames t) + 1 ≡ frame_count t
+length_behind t = ap (λ n. n + 1) (length_from 1 (frame_count t) (table_chunks t))
+
+long_tables : (t : Tables) → 4 ≤ length (tables.spell t)
+unfolding tables
+long_tables t = omega (
+  arith,
+  length-append (n4.spell t.version) ((list_of n4 region).spell t.parts ++ (list_of n4 partition).spell t.auth),
+  length_n4 t.version,
+)
+
+-- tables are never spelled in no bytes
+pub some_behind : (t : Tables) → 1 ≤ length (table_frames t)
+some_behind t =
+    let bytes = tables.spell t in
+    let count = div_ceil (length bytes) most_of_chunk in
+    omega (
+      arith,
+      length_from 1 (frame_count t) (table_chunks t),
+      length-slices count most_of_chunk bytes,
+      div_ceil_times (length bytes) most_of_chunk (omega arith),
+      long_tables t,
+    )

@@ -1,0 +1,121 @@
+-- What is kept of a message that is posted, and that what was kept stays.
+use Rattle.std.proofs.Common.{◌≡◌, ℕ, true, Option, Some, None, Result, Ok, Err, List, [], ◌∷◌, ◌++◌, length, drop, get_or, map, refl, sym, ap, subst, ◌∙◌, arith}
+use Rattle.std.specs.Prelude.{All, OnErr, OnOk}
+use Rattle.std.proofs.lemmas.List.{get_or-take, length-take, map_push, take_all}
+use Rattle.std.proofs.lemmas.List.Elements.{All-head, All-push, All-tail}
+use Rattle.ctrl_msg.specs.declared.message.Body.TheVariants.{Install}
+use Rattle.ctrl_msg.specs.declared.message.Message.{Message}
+use Rattle.wire.specs.Fields.{n4, tables}
+use Rattle.wire.specs.Format.{spelled_number}
+use Rattle.wire.specs.Frames.{frame, frames}
+use Rattle.wire.specs.Messages.{message_front, message, spelled_front, suits_receiver}
+use Rattle.message_bag.specs.Feeding.{HasFrames}
+use Rattle.message_bag.specs.Installing.{frame_count}
+use Rattle.message_bag.proofs.InstallationSpelling.{fits_whole}
+use Rattle.switch_table.specs.declared.tables.Tables.{Tables}
+use Rattle.message_bag.specs.KeptFrames.{AreOfMessage, First, IsGrown, AreKeptFrames, IsThere, CarryTables, frames_in, tables_version}
+use Rattle.message_bag.proofs.InstallationFrames.{carried, only_frame}
+
+-- ---- a message of one frame
+
+header : (chunk : List ℕ) → frame 0 1 chunk ≡ (0 ∷ 0 ∷ 0 ∷ 0 ∷ 0 ∷ 0 ∷ 0 ∷ 1 ∷ []) ++ chunk
+unfolding frame n4 spelled_number
+header chunk = refl
+
+pub alone_is : (m : Message) (kept : List (List (List ℕ))) (bytes : List ℕ) → tables_version m.body ≡ None
+    → bytes ≡ (0 ∷ 0 ∷ 0 ∷ 0 ∷ 0 ∷ 0 ∷ 0 ∷ 1 ∷ []) ++ message.spell m → frames_in kept (bytes, None) ≡ frames m
+alone_is m kept bytes alone is =
+    ap (λ b. b ∷ []) (is ∙ sym (header (message.spell m))) ∙ sym (only_frame m alone)
+
+-- ---- what was kept
+
+stays : (before after : List (List (List ℕ))) (first : First) → IsGrown before after → IsThere before first.1
+    → frames_in after first ≡ frames_in before first
+stays before after (first, None) grown there = refl
+stays before after (first, Some number) grown there =
+    ap (λ fs. first ∷ drop 1 fs) (sym (get_or-take (length before) after number [] there) ∙ ap (λ kept. get_or kept number []) grown)
+
+there_still : (before after : List (List (List ℕ))) (o : Option ℕ) → IsGrown before after → IsThere before o → IsThere after o
+there_still before after None grown there = tt
+there_still before after (Some number) grown there =
+    omega (arith, there, length-take (length before) after, ap length grown)
+
+pub all_stay : (before after : List (List (List ℕ))) (firsts : List First) → IsGrown before after
+    → All (AreKeptFrames before) firsts → map (frames_in after) firsts ≡ map (frames_in before) firsts
+all_stay before after [] grown kept = refl
+all_stay before after (first ∷ firsts) grown kept =
+    rw (stays before after first grown (All-head (AreKeptFrames before) first firsts kept).there)
+    (ap (λ others. frames_in before first ∷ others) (all_stay before after firsts grown (All-tail (AreKeptFrames before) first firsts kept)))
+
+pub still_kept : (before after : List (List (List ℕ))) (firsts : List First) → IsGrown before after
+    → All (AreKeptFrames before) firsts → All (AreKeptFrames after) firsts
+still_kept before after firsts grown kept = λ k d lt.
+    let is = kept k d lt in
+    record {
+      there = there_still before after _ grown is.there;
+      are = subst AreOfMessage (sym (stays before after _ grown is.there)) is.are;
+    }
+
+-- one more: the bag has the frames of its message at the end
+pub posted : (m : Message) (before after : List (List (List ℕ))) (firsts longer : List First) (first : First)
+    → IsGrown before after → All (AreKeptFrames before) firsts → longer ≡ firsts ++ first ∷ [] → frames_in after first ≡ frames m
+    → map (frames_in after) longer ≡ map (frames_in before) firsts ++ frames m ∷ []
+posted m before after firsts longer first grown kept more is =
+    rw (more, map_push, all_stay before after firsts grown kept, is) refl
+
+pub posted_kept : (m : Message) (before after : List (List (List ℕ))) (firsts longer : List First) (first : First)
+    → IsGrown before after → All (AreKeptFrames before) firsts → longer ≡ firsts ++ first ∷ [] → IsThere after first.1
+    → HasFrames m → frames_in after first ≡ frames m → All (AreKeptFrames after) longer
+posted_kept m before after firsts longer first grown kept more there has is =
+    rw more (All-push (AreKeptFrames after) firsts first (still_kept before after firsts grown kept)
+    (record { there = there; are = (m, has, is) }))
+
+-- the same kept frames
+pub same_grown : (kept : List (List (List ℕ))) → IsGrown kept kept
+same_grown kept = take_all (length kept) kept (omega arith)
+
+-- ---- a first frame that is pushed, or not for want of memory
+
+pub kept_after : {T E : Type 0} (r : Result T E) (m : Message) (before after : List (List (List ℕ)))
+    → (firsts longer : List First) (first : First) → IsGrown before after → All (AreKeptFrames before) firsts
+    → OnOk r (longer ≡ firsts ++ first ∷ []) → OnErr r (longer ≡ firsts) → IsThere after first.1 → HasFrames m
+    → frames_in after first ≡ frames m → All (AreKeptFrames after) longer
+kept_after (Ok x) m before after firsts longer first grown kept more same there has is =
+    posted_kept m before after firsts longer first grown kept more there has is
+kept_after (Err e) m before after firsts longer first grown kept more same there has is =
+    rw same (still_kept before after firsts grown kept)
+
+pub posted_after : {T E : Type 0} (r : Result T E) (m : Message) (before after bag : List (List (List ℕ)))
+    → (firsts longer : List First) (first : First) → IsGrown before after → All (AreKeptFrames before) firsts
+    → map (frames_in before) firsts ≡ bag → OnOk r (longer ≡ firsts ++ first ∷ []) → frames_in after first ≡ frames m
+    → OnOk r (map (frames_in after) longer ≡ bag ++ frames m ∷ [])
+posted_after (Ok x) m before after bag firsts longer first grown kept view more is =
+    posted m before after firsts longer first grown kept more is ∙ ap (λ (b : List (List (List ℕ))). b ++ frames m ∷ []) view
+posted_after (Err e) m before after bag firsts longer first grown kept view more is = tt
+
+pub unchanged_after : {T E : Type 0} (r : Result T E) (before after bag : List (List (List ℕ)))
+    → (firsts longer : List First) → IsGrown before after → All (AreKeptFrames before) firsts
+    → map (frames_in before) firsts ≡ bag → OnErr r (longer ≡ firsts) → OnErr r (map (frames_in after) longer ≡ bag)
+unchanged_after (Ok x) before after bag firsts longer grown kept view same = tt
+unchanged_after (Err e) before after bag firsts longer grown kept view same =
+    ap (map (frames_in after)) same ∙ all_stay before after firsts grown kept ∙ view
+
+-- ---- an installation
+
+-- the first frame of its own, and the kept ones behind it
+pub tables_are : (m : Message) (kept : List (List (List ℕ))) (number boot : ℕ) (t : Tables) (bytes : List ℕ)
+    → m.body ≡ Install boot t → CarryTables t (get_or kept number [])
+    → bytes ≡ frame 0 (length (get_or kept number [])) (spelled_front m.to boot)
+    → frames_in kept (bytes, Some number) ≡ frames m
+tables_are m kept number boot t bytes carries carry is =
+    let fs = get_or kept number [] in
+    ap (λ f. f ∷ drop 1 fs) (is ∙ ap (λ n. frame 0 n (spelled_front m.to boot)) carry.count)
+    ∙ ap (λ others. frame 0 (frame_count t) (spelled_front m.to boot) ∷ others) carry.behind.are
+    ∙ sym (carried m boot t carries)
+
+pub tables_fit : (m : Message) (boot : ℕ) (t : Tables) → m.body ≡ Install boot t
+    → message_front.fits (m.to, (1, boot)) ≡ true
+    → tables.fits t ≡ true → suits_receiver m.to m.body ≡ true → message.fits m ≡ true
+tables_fit m boot t carries head fits is =
+    ap (λ b. message.fits (record { to = m.to; body = b })) carries
+    ∙ fits_whole m.to boot t head fits (ap (suits_receiver m.to) (sym carries) ∙ is)

@@ -1,0 +1,172 @@
+-- A switch that is asked to move a travelling packet on writes an item of it.
+use Rattle.std.proofs.Common.{ℕ, ◌≡◌, Bool, true, false, Option, Some, None, List, [], refl, ap, sym, subst, ◌∙◌, arith, inl}
+use Rattle.std.specs.Prelude.{IsTrue, is_some, option_and_then, position, unwrap_or}
+use Rattle.five_tuple.specs.Header.{number_of}
+use Rattle.policy_rules.specs.Rules.{is_held}
+use Rattle.policy_rules.specs.declared.packet.Leg.{Leg}
+use Rattle.policy_rules.specs.declared.packet.Leg.TheVariants.{Seek, Exit}
+use Rattle.switch_table.specs.Tables.{Hosted}
+use Rattle.switch_table.specs.declared.search.Found.TheVariants as found
+use Rattle.journal.specs.declared.item.Item.{Item}
+use Rattle.update_machine.specs.Links.{serves}
+use Rattle.update_machine.specs.Caches.{lookup_at}
+use Rattle.update_machine.specs.Causes.{HaveCauses}
+use Rattle.update_machine.specs.Moves.{AuthorityRule, arrive_by, arrive_items, authority_items, authority_rule, first_place, header_at, leg_items, lookup_items, move_items}
+use Rattle.update_machine.specs.Packets.{standing}
+use Rattle.update_machine.specs.Pieces.{hop_items}
+use Rattle.update_machine.specs.Setting.{Setting, IsSetting}
+use Rattle.update_machine.specs.Versions.{holds_version, policy_at, stamp_of, plan_at}
+use Rattle.update_machine.specs.Travels.{leg_of, travels}
+use Rattle.control_laws.specs.ItemCauses.{HasItemCause}
+use Rattle.control_laws.proofs.ItemFacts.{own}
+use Rattle.packet_laws.specs.OnWay.{IsOnWay, IsOnLeg}
+use Rattle.packet_laws.specs.Facts.{PacketFacts, what_is_known}
+use Rattle.packet_laws.specs.KeptFacts.{AllKept}
+use Rattle.packet_laws.specs.Rest.{AreResting}
+use Rattle.packet_laws.specs.Stages.{stage_of}
+use Rattle.packet_laws.specs.PacketCauses.{IsAt}
+use Rattle.packet_laws.proofs.AllKept.{all_kept}
+use Rattle.packet_laws.proofs.PacketsHere.{IsHere, here_of, leg_in, seeking_of}
+use Rattle.packet_laws.proofs.HeaderLookups.{FindsRule, authority_found, current_planned, rule_there}
+use Rattle.packet_laws.proofs.PlanLookups.{Finds, IsPlanned, in_plan}
+use Rattle.packet_laws.proofs.RestingPackets.{IsWayItem, switches_of_all}
+use Rattle.packet_laws.proofs.AskedHops.{NamesFirst}
+
+leg_names : (setting : Setting) (journal : List Item) (i s : ℕ) (leg : Leg)
+    → NamesFirst i (leg_items setting journal i s leg)
+unfolding leg_items
+leg_names setting journal i s leg = grind (arith, own)
+
+authority_names : (setting : Setting) (i s : ℕ) (o : Option AuthorityRule) (journal : List Item)
+    → IsTrue (is_some o) → NamesFirst i (authority_items setting i s o journal)
+unfolding authority_items
+authority_names setting i s None journal some = absurd cc
+authority_names setting i s (Some rule) journal some = own i
+
+-- each rule that the lookup gives is there
+abbrev RulesAreThere : Setting → List Item → ℕ → ℕ → Type 0
+RulesAreThere setting journal i s = (partition place : ℕ)
+    → lookup_at setting journal s (header_at journal i) ≡ found.Authority partition place
+    → IsTrue (is_some (authority_rule setting journal (stamp_of journal s) partition place))
+
+lookup_names : (setting : Setting) (i s : ℕ) (journal : List Item)
+    → RulesAreThere setting journal i s → NamesFirst i (lookup_items setting i s journal)
+unfolding lookup_items
+lookup_names setting i s journal there = grind (arith, own, authority_names, leg_names, there)
+
+-- ---- at a switch
+
+-- what is known of the packet and its switch
+record IsMoved (setting : Setting) (journal : List Item) (i s : ℕ) : Type 0 where
+  is : IsSetting setting
+  have : HaveCauses (HasItemCause setting) [] journal
+  here : IsHere setting journal i s
+  way : IsOnWay setting journal (what_is_known journal i)
+
+rules_there : (setting : Setting) (journal : List Item) (i s : ℕ)
+    → IsMoved setting journal i s → RulesAreThere setting journal i s
+rules_there setting journal i s moved partition place answer =
+    let finds : FindsRule setting journal s moved.here.under.header partition place =
+    authority_found setting journal s moved.here.under.header partition place moved.here.stamped
+    moved.here.under.sound (ap (lookup_at setting journal s) (sym moved.here.header) ∙ answer) in
+    let rule = rule_there setting journal moved.here.under.header finds.part.hosted
+    (stamp_of journal s) partition finds.part.finds finds.part.number in
+    subst
+    (λ p. IsTrue (is_some (authority_rule setting journal (stamp_of journal s) partition p)))
+    finds.found_at (rw rule refl)
+
+sought_there : (setting : Setting) (journal : List Item) (i s version partition : ℕ)
+    → IsMoved setting journal i s → leg_of journal i ≡ Some (Seek version partition)
+    → IsTrue (is_some (authority_rule setting journal version partition
+    (first_place setting journal version partition (header_at journal i))))
+sought_there setting journal i s version partition moved seeks =
+    let facts : PacketFacts = what_is_known journal i in
+    let on : IsOnLeg setting journal facts moved.here.under.header (Seek version partition) =
+    seeking_of setting journal facts moved.here.under.header version partition moved.way
+    moved.here.under.entered (leg_in journal i (Some (Seek version partition)) seeks) in
+    let planned : IsPlanned setting (policy_at setting journal version)
+    (plan_at setting journal version) =
+    current_planned setting journal version moved.is moved.have
+    (omega (arith, on.not_retired)) on.current in
+    let finds : Finds (policy_at setting journal version) (plan_at setting journal version)
+    moved.here.under.header on.hosted =
+    in_plan setting (policy_at setting journal version) (plan_at setting journal version)
+    moved.here.under.header on.hosted planned moved.here.under.sound on.own.first in
+    let place : first_place setting journal version partition (header_at journal i)
+    ≡ finds.place =
+    ap (first_place setting journal version partition) moved.here.header
+    ∙ ap (λ (o : Option Hosted). unwrap_or (option_and_then
+    (λ (p : Hosted). position (is_held (number_of moved.here.under.header)) p.0.rules) o) 0)
+    on.own.found ∙ finds.position in
+    let rule = rule_there setting journal moved.here.under.header on.hosted version partition finds
+    on.own.number in
+    subst
+    (λ p. IsTrue (is_some (authority_rule setting journal version partition p)))
+    (sym place) (rw rule refl)
+
+leg_out : (journal : List Item) (i : ℕ) (leg : Option Leg) → (what_is_known journal i).leg ≡ leg
+    → leg_of journal i ≡ leg
+unfolding what_is_known
+leg_out journal i leg is = is
+
+arrive_names : (setting : Setting) (i s : ℕ) (journal : List Item) → IsMoved setting journal i s
+    → NamesFirst i (arrive_items setting i s journal)
+unfolding arrive_items
+arrive_names setting i s journal moved =
+    let leg : leg_of journal i ≡ Some moved.way.leg =
+    leg_out journal i (Some moved.way.leg) moved.way.takes in
+    subst (λ o. NamesFirst i (arrive_by setting i s o journal)) (sym leg)
+    (by_leg moved.way.leg leg)
+  where
+    by_held : (version partition : ℕ) (b : Bool)
+        → leg_of journal i ≡ Some (Seek version partition) → NamesFirst i (elim b [
+          | false ↦ lookup_items setting i s journal
+          | true ↦ authority_items setting i s
+              (authority_rule setting journal version partition
+              (first_place setting journal version partition (header_at journal i))) journal
+        ])
+    by_held version partition false e =
+        lookup_names setting i s journal (rules_there setting journal i s moved)
+    by_held version partition true e =
+        authority_names setting i s
+        (authority_rule setting journal version partition
+        (first_place setting journal version partition (header_at journal i))) journal
+        (sought_there setting journal i s version partition moved e)
+
+    by_leg : (leg : Leg) → leg_of journal i ≡ Some leg
+        → NamesFirst i (arrive_by setting i s (Some leg) journal)
+    by_leg (Exit port) e = own i
+    by_leg (Seek version partition) e =
+        by_held version partition (holds_version journal s version) e
+
+move_names : (setting : Setting) (i s : ℕ) (journal : List Item) → IsMoved setting journal i s
+    → NamesFirst i (move_items setting i s journal)
+unfolding move_items
+move_names setting i s journal moved = grind (arith, own, arrive_names, moved)
+
+-- ---- a hop
+
+pub hop_names : (setting : Setting) (i : ℕ) (journal : List Item) → IsSetting setting
+    → HaveCauses (IsWayItem setting) [] journal → AreResting journal
+    → IsTrue (travels journal i) → NamesFirst i (hop_items setting i journal)
+unfolding hop_items
+hop_names setting i journal is have rests travelling =
+    let served = rests.served i travelling in
+    let kept : AllKept setting journal = all_kept setting journal is have in
+    let switches : HaveCauses (HasItemCause setting) [] journal =
+    switches_of_all setting [] journal have in
+    let s : ℕ = unwrap_or (standing journal i) 0 in
+    let there : served.switch ≡ s = sym (ap (λ o. unwrap_or o 0) served.stands) in
+    let at : IsAt journal i s = record {
+      travelling = travelling;
+      stands = refl;
+      serving = subst (λ k. IsTrue (serves journal k)) there served.serving;
+    } in
+    let here : IsHere setting journal i s =
+    here_of setting journal i s (stage_of journal i) is switches (kept.packets i) at in
+    rw (travelling, hop_items) (move_names setting i s journal (record {
+      is = is;
+      have = switches;
+      here = here;
+      way = (kept.packets i).on_way here.travelling (inl (rests.moving i travelling));
+    }))

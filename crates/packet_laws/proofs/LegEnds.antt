@@ -1,0 +1,63 @@
+-- A packet at the end of its route is where its leg leads.
+use Rattle.std.proofs.Common.{ℕ, ◌≡◌, Some, List, [], ◌∷◌, ap, sym, subst, ◌∙◌, inl}
+use Rattle.std.specs.Prelude.{IsTrue, nat_eq}
+use Rattle.std.specs.List.{list_any}
+use Rattle.five_tuple.specs.declared.header.Header.{Header}
+use Rattle.policy_rules.specs.declared.packet.Leg.{Leg}
+use Rattle.policy_rules.specs.declared.packet.Leg.TheVariants.{Seek, Exit}
+use Rattle.journal.specs.declared.item.Item.{Item}
+use Rattle.update_machine.specs.Packets.{header_in, standing}
+use Rattle.update_machine.specs.Setting.{Setting}
+use Rattle.control_laws.specs.Authorities.{EndsAt}
+use Rattle.packet_laws.specs.OnWay.{EndsAtTarget, IsOnLeg, IsOnWay}
+use Rattle.packet_laws.specs.Facts.{PacketFacts, what_is_known}
+use Rattle.packet_laws.specs.Arriving.{IsAtEnd, PacketsArrive}
+use Rattle.packet_laws.specs.KeptFacts.{AllKept}
+use Rattle.packet_laws.proofs.PacketEnds.{last_here, one_target}
+use Rattle.packet_laws.proofs.PacketsHere.{header_in_facts, leg_in, next_in, stands_in, some_same, travels_in}
+
+-- it stands at a target of its leg
+at_target : (setting : Setting) (journal : List Item) (i s : ℕ) (header : Header) (leg : Leg)
+    (targets : List ℕ) (way : IsOnWay setting journal (what_is_known journal i))
+    → IsAtEnd journal i s header leg → EndsAtTarget (what_is_known journal i).route targets
+    → IsTrue (list_any (nat_eq s) targets)
+at_target setting journal i s header leg targets way at ends =
+    let facts : PacketFacts = what_is_known journal i in
+    let last : way.under_way.switch ≡ ends.target =
+    last_here facts.route facts.hops way.under_way.switch ends.target way.stands
+    (sym (next_in journal i) ∙ at.arrives.last) ends.last in
+    let there : way.under_way.switch ≡ s =
+    some_same (standing journal i) way.under_way.switch s
+    (stands_in journal i way.under_way.switch way.under_way.stands) at.stands in
+    subst (λ k. IsTrue (list_any (nat_eq k) targets)) (sym last ∙ there) ends.own
+
+by_leg : (setting : Setting) (journal : List Item) (i s : ℕ) (header : Header) (leg : Leg)
+    (way : IsOnWay setting journal (what_is_known journal i)) → IsAtEnd journal i s header leg
+    → IsOnLeg setting journal (what_is_known journal i) header leg
+    → EndsAt setting journal s header leg
+by_leg setting journal i s header (Seek version partition) way at on = record {
+  hosted = on.hosted;
+  found = on.own.found;
+  number = on.own.number;
+  holds = on.own.holds;
+  target = at_target setting journal i s header (Seek version partition) on.hosted.1 way at
+      on.leads.ends;
+}
+by_leg setting journal i s header (Exit port) way at on =
+    on.has_port ∙ ap Some (sym (one_target s on.owner
+    (at_target setting journal i s header (Exit port) (on.owner ∷ []) way at on.leads.ends)))
+
+pub packets_arrive : (setting : Setting) (journal : List Item) → AllKept setting journal
+    → PacketsArrive setting journal
+packets_arrive setting journal kept i s header leg at =
+    let facts : PacketFacts = what_is_known journal i in
+    let way : IsOnWay setting journal facts =
+    (kept.packets i).on_way (travels_in journal i at.travelling) (inl at.arrives.moving) in
+    let same : way.leg ≡ leg =
+    some_same facts.leg way.leg leg way.takes (leg_in journal i (Some leg) at.takes) in
+    let own : way.under_way.header ≡ header =
+    some_same (header_in journal i) way.under_way.header header
+    (header_in_facts journal i way.under_way.header way.under_way.entered) at.with_header in
+    by_leg setting journal i s header leg way at
+    (subst (λ h. IsOnLeg setting journal facts h leg) own
+    (subst (λ l. IsOnLeg setting journal facts way.under_way.header l) same way.on_leg))

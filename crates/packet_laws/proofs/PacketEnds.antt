@@ -1,0 +1,457 @@
+-- Items that end a packet, or say that it found a link down, have their causes.
+use Rattle.std.proofs.Common.{ℕ, ◌≡◌, Bool, true, false, ◌+◌, ◌-◌, ◌<◌, ◌≤◌, Option, Some, None, List, [], ◌∷◌, length, refl, ap, sym, subst, ◌∙◌, arith, inl, inr, ◌⊎◌, get_or}
+use Rattle.std.specs.Prelude.{All, Contains, IsFalse, IsTrue, nat_eq, option_map, option_to_list, slice_get, unwrap_or}
+use Rattle.std.specs.List.{list_any}
+use Rattle.std.proofs.lemmas.Bool.{cases_lt, eq-eqb, eqb-true}
+use Rattle.std.proofs.lemmas.Bool.Decides.{nat_tests}
+use Rattle.std.proofs.lemmas.List.Elements.{All-from_recursion, All-nil, All-weaker}
+use Rattle.std.proofs.lemmas.Option.{get_or_from_slice_get, slice_get_within, slice_get-get_or}
+use Rattle.failover.specs.Links.{IsReachable}
+use Rattle.failover.proofs.RouteSearch.{length-known_links}
+use Rattle.base.specs.Masks.{has}
+use Rattle.net_file.specs.Joins.{are_linked, owner_of}
+use Rattle.policy_rules.specs.declared.packet.Cause.{Cause}
+use Rattle.policy_rules.specs.declared.packet.Leaving.{Leaving}
+use Rattle.policy_rules.specs.declared.packet.Leg.{Leg}
+use Rattle.policy_rules.specs.declared.packet.Leg.TheVariants.{Seek, Exit}
+use Rattle.policy_rules.specs.declared.policy.Action.{Action}
+use Rattle.policy_rules.specs.declared.policy.Action.TheVariants as action
+use Rattle.switch_table.specs.Tables.{Hosted}
+use Rattle.journal.specs.declared.item.Item.{Item}
+use Rattle.journal.specs.declared.item.Item.TheVariants as item
+use Rattle.update_machine.specs.LinkMasks.{adverts_of_others, links_known, near}
+use Rattle.update_machine.specs.Causes.{AreTargets, FindsDown, HasCause, IsLostRightly, IsStuckRightly, Leads, LeavesRightly, is_open}
+use Rattle.update_machine.specs.Boots.{is_up}
+use Rattle.update_machine.specs.Links.{can_use, is_end, serves}
+use Rattle.update_machine.specs.Moves.{header_at}
+use Rattle.update_machine.specs.Packets.{Decision, decision_of, header_in, standing}
+use Rattle.update_machine.specs.Setting.{Setting}
+use Rattle.update_machine.specs.Versions.{plan_at}
+use Rattle.update_machine.specs.PacketRoutes.{found_down, no_switch, owner, targets_of}
+use Rattle.update_machine.specs.ExactCauses.{SeeksOwn, FindsNoPath}
+use Rattle.update_machine.proofs.CallerLemmas.{plan_is, unreached}
+use Rattle.control_laws.specs.ItemCauses.{HasItemCause}
+use Rattle.control_laws.proofs.SwitchOpenings.{IsKnown}
+use Rattle.control_laws.proofs.LinkClaims.{own_end}
+use Rattle.control_laws.proofs.NetLinks.{linked_by_mask}
+use Rattle.packet_laws.specs.OnWay.{FollowsLinks, IsOnLeg, IsOnWay, IsPartitionOf}
+use Rattle.packet_laws.specs.Facts.{PacketFacts, entry_mark, what_is_known}
+use Rattle.packet_laws.specs.KeptFacts.{IsRightlyDecided}
+use Rattle.packet_laws.specs.Stages.{stage_of}
+use Rattle.packet_laws.specs.StrongCauses.{SeeksRightly}
+use Rattle.packet_laws.specs.PacketCauses.{FindsNoRoute, IsAt, IsAtPort, IsBlockedOn, IsLostHere, LeavesHere, MeetsDown, TakesLeg, PacketCause}
+use Rattle.packet_laws.proofs.PacketsHere.{IsHere, decision_in, exiting_of, header_in_facts, leg_in, next_in, stands_in, seeking_of, some_same}
+use Rattle.packet_laws.proofs.KeptFacts.{Knows, here_known, port_named, redirected_to, stage_looked, undecided_of}
+use Rattle.packet_laws.proofs.OpenWays.{Sees, none_leads, open_joined}
+
+pub decision_out : (journal : List Item) (i : ℕ) (decision : Option Decision)
+    → (what_is_known journal i).decision ≡ decision → decision_of journal i ≡ decision
+unfolding what_is_known
+decision_out journal i decision is = is
+
+stands_at : (setting : Setting) (before : List Item) (i s : ℕ) → IsHere setting before i s
+    → standing before i ≡ Some s
+stands_at setting before i s here =
+    stands_in before i here.under.switch here.under.stands ∙ ap Some (sym here.at)
+
+pub stands_known : (setting : Setting) (before : List Item) (i s : ℕ)
+    → Knows setting before i (stage_of before i) → IsAt before i s → standing before i ≡ Some s
+stands_known setting before i s knows at =
+    stands_at setting before i s (here_known setting before i s knows at)
+
+entered_as : (setting : Setting) (before : List Item) (i s : ℕ)
+    → (here : IsHere setting before i s) → header_in before i ≡ Some here.under.header
+entered_as setting before i s here =
+    header_in_facts before i here.under.header here.under.entered
+
+-- ---- links found down
+
+follows : (setting : Setting) (journal : List Item) (facts : PacketFacts) (way : IsOnWay setting journal facts)
+    → FollowsLinks setting facts.route
+follows setting journal facts way = by_leg way.leg way.on_leg
+  where
+    by_leg : (leg : Leg) → IsOnLeg setting journal facts way.under_way.header leg
+        → FollowsLinks setting facts.route
+    by_leg (Seek version partition) on = on.leads.joined
+    by_leg (Exit port) on = on.leads.joined
+
+-- a link that a packet finds down is one of the network, since its route follows links
+pub meets_link : (setting : Setting) (before : List Item) (i one two : ℕ)
+    → Knows setting before i (stage_of before i) → MeetsDown setting before i one two
+    → IsTrue (are_linked setting.net.links one two)
+meets_link setting before i one two knows meets =
+    let facts : PacketFacts = what_is_known before i in
+    let here : IsHere setting before i one =
+    here_known setting before i one knows meets.at in
+    let way : IsOnWay setting before facts =
+    knows.kept.on_way here.travelling (inl meets.moving) in
+    let there : way.under_way.switch ≡ one =
+    some_same facts.stands way.under_way.switch here.under.switch way.under_way.stands
+    here.under.stands ∙ sym here.at in
+    linked_by_mask setting.net.links one two
+    (follows setting before facts way facts.hops one two (way.stands ∙ ap Some there)
+    (sym (next_in before i) ∙ meets.goes_on))
+
+-- ---- losses
+
+lost_rightly : (before : List Item) (i : ℕ) → IsLostHere before i → IsLostRightly before i
+lost_rightly before i lost = elim lost.how [
+  | inl row ↦ inl row
+  | inr crash ↦ inr (record {
+    switch = crash.switch;
+    crashes = crash.crashes;
+    stands = crash.stands;
+  })
+]
+
+-- ---- packets that are stuck
+
+-- the partition that it seeks, which has its header
+seeks_part : (setting : Setting) (before : List Item) (i s version partition : ℕ)
+    → Knows setting before i (stage_of before i) → (here : IsHere setting before i s)
+    → TakesLeg setting before i s (Seek version partition)
+    ⊎ IsBlockedOn before i (Seek version partition)
+    → (hosted : Hosted)
+    × IsPartitionOf setting before here.under.header version partition hosted
+seeks_part setting before i s version partition knows here (inl takes) =
+    redirected_to setting before i s version partition here takes
+seeks_part setting before i s version partition knows here (inr blocked) =
+    let on = seeking_of setting before (what_is_known before i) here.under.header version partition
+    (knows.kept.on_way here.travelling (inr blocked.blocked)) here.under.entered
+    (leg_in before i (Some (Seek version partition)) blocked.takes) in
+    (on.hosted, on.own)
+
+-- its decision, by the port to which it exits
+exits_by : (setting : Setting) (before : List Item) (i s port : ℕ)
+    → Knows setting before i (stage_of before i) → IsHere setting before i s
+    → TakesLeg setting before i s (Exit port) ⊎ IsBlockedOn before i (Exit port)
+    → (decision : Decision) × (decision_of before i ≡ Some decision)
+    × (decision.action ≡ action.Out port)
+exits_by setting before i s port knows here (inl takes) =
+    (takes.decision, takes.decided, takes.action)
+exits_by setting before i s port knows here (inr blocked) =
+    let on = exiting_of setting before (what_is_known before i) port
+    (knows.kept.on_way here.travelling (inr blocked.blocked))
+    (leg_in before i (Some (Exit port)) blocked.takes) in
+    (on.decision, decision_out before i (Some on.decision) on.decided, on.action)
+
+own_leg : (setting : Setting) (before : List Item) (i s : ℕ) (leg : Leg)
+    → Knows setting before i (stage_of before i) → IsHere setting before i s
+    → TakesLeg setting before i s leg ⊎ IsBlockedOn before i leg → SeeksOwn setting before i leg
+own_leg setting before i s (Seek version partition) knows here on =
+    let part = seeks_part setting before i s version partition knows here on in (
+      here.under.header,
+      entered_as setting before i s here,
+      ap (option_map (λ (p : Hosted). p.0.number)) part.1.first ∙ ap Some part.1.number,
+    )
+own_leg setting before i s (Exit port) knows here on =
+    exits_by setting before i s port knows here on
+
+pub mark_in : (journal : List Item) (i : ℕ) → (what_is_known journal i).mark ≡ entry_mark journal i
+unfolding what_is_known
+mark_in journal i = refl
+
+pub seeks_rightly : (setting : Setting) (before : List Item) (i s : ℕ) (version partition : ℕ)
+    → Knows setting before i (stage_of before i) → IsHere setting before i s
+    → TakesLeg setting before i s (Seek version partition)
+    ⊎ IsBlockedOn before i (Seek version partition)
+    → SeeksRightly before i version
+seeks_rightly setting before i s version partition knows here (inl takes) = record {
+  undecided = decision_out before i None
+      (undecided_of setting before i s (stage_of before i) knows.kept here
+      (stage_looked before i s takes.looked_up));
+  not_retired = omega (
+    arith,
+    sym (mark_in before i),
+    here.under.mark,
+    here.stamped.retired,
+    takes.stamp,
+  );
+  current = omega (arith, here.stamped.current, takes.stamp);
+}
+seeks_rightly setting before i s version partition knows here (inr blocked) =
+    let on = seeking_of setting before (what_is_known before i) here.under.header version partition
+    (knows.kept.on_way here.travelling (inr blocked.blocked)) here.under.entered
+    (leg_in before i (Some (Seek version partition)) blocked.takes) in
+    record {
+      undecided = decision_out before i None on.undecided;
+      not_retired = subst (λ m. m < version) (mark_in before i) on.not_retired;
+      current = on.current;
+    }
+
+pub stuck_rightly : (setting : Setting) (before : List Item) (i s : ℕ) (cause : Cause) (leg : Leg)
+    (down : List ℕ) → Knows setting before i (stage_of before i)
+    → FindsNoRoute setting before i s cause leg down
+    → FindsNoPath setting before i s leg
+stuck_rightly setting before i s cause leg down knows finds =
+    let here : IsHere setting before i s = here_known setting before i s knows finds.at in
+    record {
+      stands = stands_at setting before i s here;
+      own_leg = own_leg setting before i s leg knows here finds.on;
+      no_path =
+          let down : List ℕ = found_down before i in
+          All-from_recursion
+          (λ target. ¬ IsReachable (links_known setting before s down) s target)
+          (targets_of setting before leg)
+          (unreached setting before s (targets_of setting before leg) down finds.none);
+    }
+
+-- ---- by what the switch knows of links, as relations
+
+pub finds_down : (setting : Setting) (before : List Item) (i one two : ℕ)
+    → Knows setting before i (stage_of before i) → MeetsDown setting before i one two
+    → FindsDown setting before i one two
+finds_down setting before i one two knows meets =
+    record {
+      stands = stands_known setting before i one knows meets.at;
+      linked = meets_link setting before i one two knows meets;
+      unusable = unusable (can_use setting before one two) refl;
+    }
+  where
+    unusable : (b : Bool) → can_use setting before one two ≡ b → IsFalse b
+    unusable false e = refl
+    unusable true e =
+        let own : IsTrue (is_end setting before one one two) = rw (eq-eqb one one refl) e in
+        let usable : has (near setting before one) two ≡ true =
+        (own_end setting before knows.is.net one two own).named in
+        let unused : has (near setting before one) two ≡ false = meets.unusable in
+        absurd cc
+
+-- a partition of a plan stands in it
+part_in : (plan : List Hosted) (k : ℕ) (hosted : Hosted) → slice_get plan k ≡ Some hosted
+    → Contains plan hosted
+part_in plan k hosted there = (
+  k,
+  slice_get_within plan k hosted there,
+  get_or_from_slice_get plan k hosted hosted there,
+)
+
+-- no way leads to any of these targets
+abbrev AreCutOff : Setting → List Item → ℕ → ℕ → List ℕ → Type 0
+AreCutOff setting before i s targets =
+    All (λ target. (path : List ℕ) → ¬ Leads (is_open setting before i s) s path target) targets
+
+home_cut_off : (setting : Setting) (before : List Item) (i s : ℕ) (home : Option ℕ)
+    → AreCutOff setting before i s (unwrap_or home no_switch ∷ [])
+    → AreCutOff setting before i s (option_to_list home)
+home_cut_off setting before i s None cut = All-nil _
+home_cut_off setting before i s (Some home) cut = cut
+
+-- the targets of its leg, all cut off
+record HasTargets (setting : Setting) (before : List Item) (i s : ℕ) (leg : Leg) : Type 0 where
+  targets : List ℕ
+  own_leg : AreTargets setting before i leg targets
+  cut_off : AreCutOff setting before i s targets
+
+targets_cut_off : (setting : Setting) (before : List Item) (i s : ℕ) (leg : Leg)
+    → Knows setting before i (stage_of before i) → IsHere setting before i s
+    → TakesLeg setting before i s leg ⊎ IsBlockedOn before i leg
+    → AreCutOff setting before i s (targets_of setting before leg)
+    → HasTargets setting before i s leg
+targets_cut_off setting before i s (Seek version partition) knows here on cut =
+    let part = seeks_part setting before i s version partition knows here on in
+    let hosted : Hosted = part.0 in
+    let plan : List Hosted = plan_at setting before version in
+    record {
+      targets = hosted.1;
+      own_leg = (
+        (seeks_rightly setting before i s version partition knows here on).undecided,
+        here.under.header,
+        entered_as setting before i s here,
+        plan,
+        plan_is setting before version hosted (part_in plan partition hosted part.1.found),
+        hosted,
+        part_in plan partition hosted part.1.found,
+        part.1.holds,
+        part.1.number,
+        refl,
+      );
+      cut_off = subst (AreCutOff setting before i s)
+          (ap (λ o. unwrap_or (option_map (λ (p : Hosted). p.1) o) []) part.1.found) cut;
+    }
+targets_cut_off setting before i s (Exit port) knows here on cut =
+    let by = exits_by setting before i s port knows here on in
+    record {
+      targets = option_to_list (owner_of setting.net.switches port);
+      own_leg = (by.0, by.1, by.2, refl);
+      cut_off = home_cut_off setting before i s (owner_of setting.net.switches port) cut;
+    }
+
+pub stuck_by_claims : (setting : Setting) (before : List Item) (i s : ℕ) (cause : Cause)
+    (leg : Leg) (down : List ℕ) → Knows setting before i (stage_of before i)
+    → FindsNoRoute setting before i s cause leg down → IsStuckRightly setting before i s leg
+stuck_by_claims setting before i s cause leg down knows finds =
+    let here : IsHere setting before i s = here_known setting before i s knows finds.at in
+    let exact : FindsNoPath setting before i s leg =
+    stuck_rightly setting before i s cause leg down knows finds in
+    let links : List ℕ = links_known setting before s (found_down before i) in
+    let sees : Sees setting before s =
+    record { net = knows.is.net; have = knows.both; serving = finds.at.serving } in
+    let small : s < 64 = omega (arith, here.at, here.under.now, knows.is.net.few_switches) in
+    let cut : AreCutOff setting before i s (targets_of setting before leg) =
+    All-weaker (λ target. ¬ IsReachable links s target)
+    (λ target. (path : List ℕ) → ¬ Leads (is_open setting before i s) s path target)
+    (λ target unreached.
+    none_leads (is_open setting before i s) links s target
+    (length-known_links (adverts_of_others setting before s) s (near setting before s)
+    (found_down before i))
+    (open_joined setting before i s sees) small unreached) (targets_of setting before leg)
+    exact.no_path in
+    let own : HasTargets setting before i s leg =
+    targets_cut_off setting before i s leg knows here finds.on cut in
+    record {
+      stands = exact.stands;
+      serving = finds.at.serving;
+      targets = own.targets;
+      own_leg = own.own_leg;
+      no_path = own.cut_off;
+    }
+
+-- ---- packets that leave
+
+-- where a route doesn't go on, the packet stands at its last switch
+pub last_here : (route : List ℕ) (hops s target : ℕ) → slice_get route hops ≡ Some s
+    → slice_get route (hops + 1) ≡ None → slice_get route (length route - 1) ≡ Some target
+    → s ≡ target
+last_here route hops s target here none last =
+    let within : hops < length route = slice_get_within route hops s here in
+    let past : length route ≤ hops + 1 = not_within (cases_lt (hops + 1) (length route)) in
+    let same : length route - 1 ≡ hops = omega arith in
+    some_same (slice_get route hops) s target here
+    (subst (λ n. slice_get route n ≡ Some target) same last)
+  where
+    not_within : ((hops + 1) < length route) ⊎ (length route ≤ hops + 1) → length route ≤ hops + 1
+    not_within (inl more) =
+        let clash : None ≡ Some (get_or route (hops + 1) 0) = sym none
+        ∙ slice_get-get_or route (hops + 1) 0 more in absurd cc
+    not_within (inr past) = past
+
+pub one_target : (target home : ℕ) → IsTrue (list_any (nat_eq target) (home ∷ [])) → target ≡ home
+one_target target home own = grind (arith, nat_tests)
+
+-- the port's switch, and the decision by that port
+record LeavesBy (setting : Setting) (before : List Item) (i s port : ℕ) : Type 0 where
+  has_port : owner_of setting.net.switches port ≡ Some s
+  decision : Decision
+  decided : decision_of before i ≡ Some decision
+  action : decision.action ≡ action.Out port
+
+leaves_by : (setting : Setting) (before : List Item) (i port : ℕ) (leaving : Leaving)
+    → Knows setting before i (stage_of before i)
+    → (way : LeavesHere setting before i port leaving)
+    → IsHere setting before i way.switch → LeavesBy setting before i way.switch port
+leaves_by setting before i port leaving knows way here = by_port way.at_port
+  where
+    facts : PacketFacts
+    facts = what_is_known before i
+
+    by_port : IsAtPort setting before i way.switch port
+        → LeavesBy setting before i way.switch port
+    by_port (inl now) =
+        let decision : Decision = now.2.0 in
+        let judged : IsRightlyDecided setting before facts here.under.header =
+        knows.kept.judged here.travelling now.0 here.under.header here.under.entered in
+        let same : judged.decision ≡ decision =
+        some_same facts.decision judged.decision decision judged.decided
+        (decision_in before i (Some decision) now.2.1) in
+        let home : owner_of setting.net.switches port ≡ Some (owner setting port) =
+        port_named setting port judged.decision.action
+        (ap (λ (d : Decision). d.action) same ∙ now.2.2) judged.named in
+        record {
+          has_port = home ∙ ap Some (eqb-true (owner setting port) way.switch now.1);
+          decision = decision;
+          decided = now.2.1;
+          action = now.2.2;
+        }
+    by_port (inr arrived) =
+        let was : IsOnWay setting before facts =
+        knows.kept.on_way here.travelling (inl arrived.0.moving) in
+        let on = exiting_of setting before facts port was (leg_in before i (Some (Exit port)) arrived.1) in
+        let ends : was.under_way.switch ≡ on.leads.ends.target =
+        last_here facts.route facts.hops was.under_way.switch on.leads.ends.target was.stands
+        (sym (next_in before i) ∙ arrived.0.last) on.leads.ends.last in
+        let there : was.under_way.switch ≡ here.under.switch =
+        some_same facts.stands was.under_way.switch here.under.switch was.under_way.stands
+        here.under.stands in
+        let home : on.owner ≡ way.switch =
+        sym (one_target on.leads.ends.target on.owner on.leads.ends.own) ∙ sym ends ∙ there
+        ∙ sym here.at in
+        record {
+          has_port = on.has_port ∙ ap Some home;
+          decision = on.decision;
+          decided = decision_out before i (Some on.decision) on.decided;
+          action = on.action;
+        }
+
+-- the packet leaves with its own header, version and rule
+abbrev leaving_of : List Item → ℕ → Leaving
+leaving_of before i = record {
+  packet = i;
+  header = header_at before i;
+  version = unwrap_or (option_map (λ (d : Decision). d.version) (decision_of before i)) 0;
+  rule = unwrap_or (option_map (λ (d : Decision). d.rule) (decision_of before i)) None;
+}
+
+leaving_is : (one other : Leaving) (i port : ℕ)
+    → item.Left i port one ≡ item.Left i port other → one ≡ other
+leaving_is one other i port e = cc
+
+pub leaves_rightly : (setting : Setting) (before : List Item) (i port : ℕ) (leaving : Leaving)
+    → Knows setting before i (stage_of before i) → LeavesHere setting before i port leaving
+    → LeavesRightly setting before i port leaving
+leaves_rightly setting before i port leaving knows way =
+    let s : ℕ = way.switch in
+    let here : IsHere setting before i s = here_known setting before i s knows way.at in
+    let by : LeavesBy setting before i s port =
+    leaves_by setting before i port leaving knows way here in
+    let decision : Decision = by.decision in
+    let whole : decision ≡ record {
+      version = decision.version;
+      rule = decision.rule;
+      action = action.Out port;
+    } =
+    ap (λ (a : Action). record { version = decision.version; rule = decision.rule; action = a })
+    by.action in
+    subst (LeavesRightly setting before i port)
+    (sym (leaving_is leaving (leaving_of before i) i port way.own)) (record {
+      switch = s;
+      stands = stands_at setting before i s here;
+      has_port = by.has_port;
+      number = refl;
+      header = entered_as setting before i s here ∙ ap Some (sym here.header);
+      decided = by.decided ∙ ap Some whole
+          ∙ ap (λ (o : Option Decision). Some (record {
+            version = unwrap_or (option_map (λ (d : Decision). d.version) o) 0;
+            rule = unwrap_or (option_map (λ (d : Decision). d.rule) o) None;
+            action = action.Out port;
+          })) (sym by.decided);
+    })
+
+-- ---- all ends
+
+-- a switch that is down doesn't serve
+not_serving : (before : List Item) (s : ℕ) → IsKnown before → IsFalse (is_up before s)
+    → IsFalse (serves before s)
+not_serving before s known down = by_serving (serves before s) refl
+  where
+    by_serving : (b : Bool) → serves before s ≡ b → IsFalse b
+    by_serving false e = refl
+    by_serving true e = let clash : true ≡ false = sym ((known.serving s).up e) ∙ down in absurd cc
+
+pub end_caused : (setting : Setting) (before : List Item) (next : Item)
+    → ((i : ℕ) → Knows setting before i (stage_of before i)) → IsKnown before
+    → HasItemCause setting before next → PacketCause setting before next
+    → HasCause setting before next
+end_caused setting before (item.Left packet port leaving) knows served own way =
+    leaves_rightly setting before packet port leaving (knows packet) way
+end_caused setting before (item.Lost packet) knows served own way = lost_rightly before packet way
+end_caused setting before (item.FoundDown packet one two) knows served own way =
+    finds_down setting before packet one two (knows packet) way
+end_caused setting before (item.Stuck packet switch cause leg down) knows served own way =
+    stuck_by_claims setting before packet switch cause leg down (knows packet) way
+end_caused setting before (item.Down switch) knows served own way = way
+end_caused setting before (item.Booted switch boot) knows served own way =
+    (way, not_serving before switch served own.down)
+end_caused setting before (item.LinkIs one two up) knows served own way = way
+end_caused setting before (item.Submitted file version) knows served own way = way
+end_caused setting before next knows served own way = tt

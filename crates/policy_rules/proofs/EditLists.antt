@@ -1,0 +1,167 @@
+-- Edits, one edit further.
+use Rattle.std.proofs.Common.{ℕ, ◌≡◌, ◌∙◌, ◌+◌, ◌<◌, ◌≢◌, Bool, true, false, cond, ◌||◌, eqb, All, AllPairs, List, [], ◌∷◌, ◌++◌, append-nil, length, map, length-append, length-take, take, drop, get_or, refl, sym, ap, subst, arith}
+use Rattle.std.specs.List.{list_any}
+use Rattle.std.proofs.lemmas.Bool.{eq-eqb, ne_eqb}
+use Rattle.std.proofs.lemmas.List.{drop_more, get_or_append_left, get_or-take, take-append-drop, take-take}
+use Rattle.std.proofs.lemmas.List.Elements.{filter_map-append}
+use Rattle.std.proofs.lemmas.List.Folds.{list_any-append, list_any_at, list_any_none}
+use Rattle.std.proofs.lemmas.List.Quantifiers.{all_pairs_push}
+use Rattle.policy_rules.specs.declared.policy.Row.{Row}
+use Rattle.policy_rules.specs.Policy.{HaveDistinctPriorities}
+use Rattle.policy_rules.proofs.DistinctRows.{distinct_push}
+use Rattle.policy_rules.specs.declared.amendment.Edit.{Edit}
+use Rattle.policy_rules.specs.declared.amendment.Edit.TheVariants.{Remove, Add}
+use Rattle.policy_rules.specs.Applied.{AreDistinctEdits, addition, additions, has_priority, removal, removals, removes}
+use Rattle.policy_rules.specs.Edits.{AreSeen, edits_of, repeats}
+
+-- ---- what edits remove and add
+
+removals_remove : (edits : List Edit) (priority : ℕ) → removals (edits ++ Remove priority ∷ [])
+    ≡ removals edits ++ priority ∷ []
+removals_remove edits priority = filter_map-append removal edits (Remove priority ∷ [])
+
+removals_add : (edits : List Edit) (row : Row) → removals (edits ++ Add row ∷ []) ≡ removals edits
+removals_add edits row = filter_map-append removal edits (Add row ∷ [])
+    ∙ append-nil (removals edits)
+
+additions_remove : (edits : List Edit) (priority : ℕ)
+    → additions (edits ++ Remove priority ∷ []) ≡ additions edits
+additions_remove edits priority = filter_map-append addition edits (Remove priority ∷ [])
+    ∙ append-nil (additions edits)
+
+additions_add : (edits : List Edit) (row : Row) → additions (edits ++ Add row ∷ []) ≡ additions
+    edits ++ row ∷ []
+additions_add edits row = filter_map-append addition edits (Add row ∷ [])
+
+-- ---- of lists of what is removed and added
+
+removed_back : (removed : List ℕ) → removals (map Remove removed) ≡ removed
+removed_back [] = refl
+removed_back (priority ∷ removed) = ap (λ xs. priority ∷ xs) (removed_back removed)
+
+none_removed : (added : List Row) → removals (map Add added) ≡ []
+none_removed [] = refl
+none_removed (row ∷ added) = none_removed added
+
+none_added : (removed : List ℕ) → additions (map Remove removed) ≡ []
+none_added [] = refl
+none_added (priority ∷ removed) = none_added removed
+
+added_back : (added : List Row) → additions (map Add added) ≡ added
+added_back [] = refl
+added_back (row ∷ added) = ap (λ xs. row ∷ xs) (added_back added)
+
+pub removals_of : (removed : List ℕ) (added : List Row)
+    → removals (edits_of removed added) ≡ removed
+removals_of removed added =
+    filter_map-append removal (map Remove removed) (map Add added)
+    ∙ ap (λ xs. xs ++ removals (map Add added)) (removed_back removed)
+    ∙ ap (λ xs. removed ++ xs) (none_removed added) ∙ append-nil removed
+
+pub additions_of : (removed : List ℕ) (added : List Row)
+    → additions (edits_of removed added) ≡ added
+additions_of removed added =
+    filter_map-append addition (map Remove removed) (map Add added)
+    ∙ ap (λ xs. xs ++ additions (map Add added)) (none_added removed) ∙ added_back added
+
+-- ---- one priority more
+
+or_more : (a b : Bool) → cond a true b ≡ (b || (a || false))
+or_more true true = refl
+or_more true false = refl
+or_more false true = refl
+or_more false false = refl
+
+abbrev Puts : (ℕ → Bool) → ℕ → (ℕ → Bool) → Type 0
+Puts old priority new = (q : ℕ) → new q ≡ cond (eqb priority q) true (old q)
+
+pub seen_remove : (removed added new : ℕ → Bool) (edits : List Edit) (priority : ℕ)
+    → Puts removed priority new → AreSeen removed added edits
+    → AreSeen new added (edits ++ Remove priority ∷ [])
+seen_remove removed added new edits priority puts seen = record {
+  of_removed = λ q. puts q ∙ ap (cond (eqb priority q) true) (seen.of_removed q)
+      ∙ or_more (eqb priority q) (removes edits q)
+      ∙ sym (ap (list_any (λ x. eqb x q)) (removals_remove edits priority)
+      ∙ list_any-append (λ x. eqb x q) (removals edits) (priority ∷ []));
+  of_added = λ q. seen.of_added q
+      ∙ ap (λ rows. has_priority rows q) (sym (additions_remove edits priority));
+}
+
+pub seen_add : (removed added new : ℕ → Bool) (edits : List Edit) (row : Row)
+    → Puts added row.priority new → AreSeen removed added edits
+    → AreSeen removed new (edits ++ Add row ∷ [])
+seen_add removed added new edits row puts seen = record {
+  of_removed = λ q. seen.of_removed q
+      ∙ ap (list_any (λ x. eqb x q)) (sym (removals_add edits row));
+  of_added = λ q. puts q ∙ ap (cond (eqb row.priority q) true) (seen.of_added q)
+      ∙ or_more (eqb row.priority q) (has_priority (additions edits) q)
+      ∙ sym (ap (λ rows. has_priority rows q) (additions_add edits row)
+      ∙ list_any-append (λ (x : Row). eqb x.priority q) (additions edits) (row ∷ []));
+}
+
+-- ---- one edit more that repeats none
+
+pub distinct_edits_push : (edits : List Edit) (edit : Edit) → AreDistinctEdits edits
+    → repeats edits edit ≡ false → AreDistinctEdits (edits ++ edit ∷ [])
+distinct_edits_push edits (Remove priority) distinct new = record {
+  removed_once = subst (AllPairs (λ (x y : ℕ). x ≢ y)) (sym (removals_remove edits priority))
+      (all_pairs_push (λ (x y : ℕ). x ≢ y) (removals edits) priority distinct.removed_once
+      (λ k d within same.
+      let some = list_any_at (λ x. eqb x priority) (removals edits) k d within
+      (eq-eqb _ _ same) in
+      cc));
+  added_once = subst HaveDistinctPriorities (sym (additions_remove edits priority))
+      distinct.added_once;
+}
+distinct_edits_push edits (Add row) distinct new = record {
+  removed_once = subst (AllPairs (λ (x y : ℕ). x ≢ y)) (sym (removals_add edits row))
+      distinct.removed_once;
+  added_once = subst HaveDistinctPriorities (sym (additions_add edits row))
+      (distinct_push (additions edits) row distinct.added_once new);
+}
+
+-- ---- no edit among distinct ones repeats an earlier one
+
+at_end : {X : Type 0} (xs : List X) (y : X) (zs : List X) (d : X)
+    → get_or (xs ++ y ∷ zs) (length xs) d ≡ y
+at_end [] y zs d = refl
+at_end (x ∷ xs) y zs d = at_end xs y zs d
+
+-- what comes before an element is related to it
+pairs_before : {X : Type 0} (R : X → X → Type 0) (xs : List X) (y : X) (zs : List X)
+    → AllPairs R (xs ++ y ∷ zs) → All (λ x. R x y) xs
+pairs_before R xs y zs pairs k d within =
+    let len : length (xs ++ y ∷ zs) ≡ length xs + length (y ∷ zs) = length-append xs (y ∷ zs) in
+    subst (λ x. R x y) (get_or_append_left xs (y ∷ zs) d k within)
+    (subst (R (get_or (xs ++ y ∷ zs) k d)) (at_end xs y zs d)
+    (pairs k (length xs) d within (omega (arith, len))))
+
+-- the first of distinct edits, the next, and the others
+fresh_before : (earlier later : List Edit) (edit : Edit)
+    → AreDistinctEdits (earlier ++ edit ∷ later) → repeats earlier edit ≡ false
+fresh_before earlier later (Remove priority) distinct =
+    list_any_none (λ x. eqb x priority) (removals earlier) (λ k d within. ne_eqb _ _
+    (pairs_before (λ (x y : ℕ). x ≢ y) (removals earlier) priority (removals later)
+    (subst (AllPairs (λ (x y : ℕ). x ≢ y))
+    (filter_map-append removal earlier (Remove priority ∷ later)) distinct.removed_once)
+    k d within))
+fresh_before earlier later (Add row) distinct =
+    list_any_none (λ (x : Row). eqb x.priority row.priority) (additions earlier)
+    (λ k d within. ne_eqb _ _
+    (pairs_before (λ (x y : Row). x.priority ≢ y.priority) (additions earlier) row
+    (additions later) (subst HaveDistinctPriorities
+    (filter_map-append addition earlier (Add row ∷ later)) distinct.added_once)
+    k d within))
+
+pub fresh_edits : (edits : List Edit) (p k : ℕ) (d : Edit) → AreDistinctEdits (take p edits)
+    → k < p → k < length edits → repeats (take k edits) (get_or edits k d) ≡ false
+fresh_edits edits p k d distinct less within =
+    let room : k < length (take p edits) = omega (arith, length-take p edits) in
+    let split : take p edits ≡ take k edits ++ get_or edits k d ∷ drop (k + 1) (take p edits) =
+    sym (take-append-drop k (take p edits))
+    ∙ ap (λ xs. xs ++ drop k (take p edits)) (take-take k p edits (omega arith))
+    ∙ ap (λ xs. take k edits ++ xs) (drop_more (take p edits) k d room)
+    ∙ ap (λ edit. take k edits ++ edit ∷ drop (k + 1) (take p edits))
+    (get_or-take p edits k d less) in
+    fresh_before (take k edits) (drop (k + 1) (take p edits)) (get_or edits k d)
+    (subst AreDistinctEdits split distinct)

@@ -1,0 +1,241 @@
+-- A packet at the end of its route: its switch answers as the journal's definitions say, and its
+-- answer is what becomes of the packet.
+use Rattle.std.proofs.Common.{ℕ, ◌≡◌, ◌+◌, ◌==◌, Bool, true, false, if◌then◌else◌, Option, Some, None, List, [], ◌∷◌, ◌++◌, refl, ap, sym, subst, ◌∙◌, position, eq-eqb, arith}
+use Rattle.std.specs.Prelude.{⊤, IsTrue, nat_eq, unwrap_or, option_map, option_and_then, slice_get}
+use Rattle.std.specs.List.{list_any}
+use Rattle.std.specs.Option.{option_map_or}
+use Rattle.five_tuple.specs.Header.{IsHeader, number_of}
+use Rattle.five_tuple.specs.declared.header.Header.{Header}
+use Rattle.net_file.specs.Joins.{owner_of}
+use Rattle.net_file.specs.declared.ports.Ports.{Ports}
+use Rattle.policy_rules.specs.Rules.{is_held}
+use Rattle.policy_rules.specs.declared.packet.Leg.{Leg}
+use Rattle.policy_rules.specs.declared.packet.Leg.TheVariants.{Seek, Exit}
+use Rattle.journal.specs.declared.item.Item.{Item}
+use Rattle.journal.specs.declared.item.Item.TheVariants as item
+use Rattle.switch_core.specs.Answering.{arrived_on, decided_at, decided_in, looked_up}
+use Rattle.switch_core.specs.Deciding.{place_of_first, part_numbered}
+use Rattle.switch_core.specs.Ends.{around}
+use Rattle.switch_core.specs.State.{SwitchValue, held_tables}
+use Rattle.switch_core.specs.Answers.{Arrival}
+use Rattle.switch_core.specs.Answers as arrived
+use Rattle.switch_core.specs.declared.packet.Packet.{Packet}
+use Rattle.switch_table.specs.Tables.{Hosted}
+use Rattle.switch_table.specs.declared.tables.Tables.{Tables}
+use Rattle.update_machine.specs.Concerns.{NoneConcern, concerns_policies}
+use Rattle.update_machine.specs.Messages.{next_message}
+use Rattle.update_machine.specs.Moves.{arrive_by, arrive_items, authority_items, authority_rule, header_at, lookup_items, first_place as first_place_in}
+use Rattle.update_machine.specs.Packets.{decision_of}
+use Rattle.update_machine.specs.Setting.{Setting}
+use Rattle.update_machine.specs.Versions.{holds_version, policy_at, tables_at, plan_at}
+use Rattle.update_machine.specs.PacketRoutes.{targets_of}
+use Rattle.update_machine.proofs.CallerLemmas.{policies_keep}
+use Rattle.packet_laws.specs.OnWay.{IsOnLeg}
+use Rattle.packet_laws.specs.Facts.{PacketFacts, what_is_known}
+use Rattle.packet_laws.proofs.PacketEnds.{last_here, one_target}
+use Rattle.packet_laws.proofs.HeaderLookups.{current_planned}
+use Rattle.packet_laws.proofs.PlanLookups.{Finds, IsPlanned, in_plan}
+use Rattle.world_log.specs.Writing.{arrived_items, arrived_flight}
+use Rattle.travelling.specs.Travelling.{Flight, Standing}
+use Rattle.refinement.proofs.AuthorityDecisions.{header_is}
+use Rattle.refinement.proofs.OnwardPackets.{AreOfFacts, IsComing, answer_goes, looked_goes, ruled_goes}
+use Rattle.refinement.proofs.JournalLaws.{Known}
+use Rattle.refinement.proofs.TakenLegs.{at_switch}
+use Rattle.refinement.proofs.LookupRefines.{IsAsked, IsOurs, looked_law, ruled_law}
+use Rattle.refinement.proofs.OwnPacketAnswers.{IsSeen}
+use Rattle.refinement.proofs.OwnPartitions.{own_numbered}
+use Rattle.refinement.proofs.FactsAlong.{Targets, flight_by, facts_along}
+
+-- ---- where a route ends
+
+-- at the end of its route its switch is an authority of the partition that it seeks, or has the
+-- port of its exit
+abbrev pub IsAtEnd : Setting → List Item → ℕ → Header → Leg → Type 0
+IsAtEnd setting journal s header (Seek version partition) =
+    IsOurs setting journal s header version partition
+IsAtEnd setting journal s header (Exit port) = owner_of setting.net.switches port ≡ Some s
+
+pub ours_of : (setting : Setting) (journal : List Item) (s : ℕ) (facts : PacketFacts)
+    (header : Header) (version partition : ℕ) → Known setting journal → IsHeader header
+    → (seeks : IsOnLeg setting journal facts header (Seek version partition))
+    → IsTrue (list_any (nat_eq s) seeks.hosted.1)
+    → IsOurs setting journal s header version partition
+ours_of setting journal s facts header version partition knows sound seeks target =
+    let planned : IsPlanned setting (policy_at setting journal version)
+    (plan_at setting journal version) =
+    current_planned setting journal version knows.is knows.caused
+    (omega (arith, seeks.not_retired)) seeks.current in
+    record {
+      planned = planned;
+      hosted = seeks.hosted;
+      finds = in_plan setting (policy_at setting journal version)
+          (plan_at setting journal version) header seeks.hosted planned sound seeks.own.first;
+      number = seeks.own.number;
+      target = target;
+    }
+
+pub end_of_route : (setting : Setting) (journal : List Item) (s : ℕ) (facts : PacketFacts)
+    (header : Header) (leg : Leg) → Known setting journal → IsHeader header
+    → IsOnLeg setting journal facts header leg
+    → slice_get facts.route facts.hops ≡ Some s → slice_get facts.route (facts.hops + 1) ≡ None
+    → IsAtEnd setting journal s header leg
+end_of_route setting journal s facts header (Exit port) knows sound on stands last =
+    on.has_port ∙ ap Some (sym (one_target on.leads.ends.target on.owner on.leads.ends.own)
+    ∙ sym (last_here facts.route facts.hops s on.leads.ends.target stands last on.leads.ends.last))
+end_of_route setting journal s facts header (Seek version partition) knows sound on stands last =
+    let target : on.leads.ends.target ≡ s =
+    sym (last_here facts.route facts.hops s on.leads.ends.target stands last on.leads.ends.last) in
+    ours_of setting journal s facts header version partition knows sound on
+    (subst (λ at. IsTrue (list_any (nat_eq at) on.hosted.1)) target on.leads.ends.own)
+
+-- items by which no policy comes keep the plan
+pub at_end_on : (setting : Setting) (before items : List Item) (s : ℕ) (header : Header)
+    (leg : Leg) → NoneConcern concerns_policies before items
+    → IsAtEnd setting before s header leg → IsAtEnd setting (before ++ items) s header leg
+at_end_on setting before items s header (Exit port) none end = end
+at_end_on setting before items s header (Seek version partition) none end =
+    let keeps = policies_keep before items none in
+    let same_policy : policy_at setting before version
+    ≡ policy_at setting (before ++ items) version = sym (keeps.policy setting version) in
+    let same_plan : plan_at setting before version ≡ plan_at setting (before ++ items) version =
+    sym (keeps.plan setting version) in
+    record {
+      planned = subst (λ rows. IsPlanned setting rows (plan_at setting (before ++ items) version))
+          same_policy (subst (IsPlanned setting (policy_at setting before version)) same_plan
+          end.planned);
+      hosted = end.hosted;
+      finds = subst (λ rows. Finds rows (plan_at setting (before ++ items) version) header
+          end.hosted) same_policy
+          (subst (λ plan. Finds (policy_at setting before version) plan header end.hosted) same_plan
+          end.finds);
+      number = end.number;
+      target = end.target;
+    }
+
+-- ---- what the switch answers, and what the journal's definitions say
+
+-- what becomes of a packet that arrives
+abbrev pub GoesOut : Targets → Standing → Arrival → Type 0
+GoesOut targets at (arrived.Out port) = ⊤
+GoesOut targets at (arrived.Answered what) = IsComing targets at what
+
+module _ (setting : Setting) (journal : List Item) (s : ℕ) (w : SwitchValue) (mask : ℕ)
+    (ports : Ports) (packet : Packet) (asked : IsAsked setting journal s w mask ports packet) where
+  abbrev at : Standing
+  at = at_switch s packet
+
+  -- the place of the first rule that holds the header, in the plan
+  place_in_plan : (version partition : ℕ)
+      (ours : IsOurs setting journal s packet.header version partition)
+      → first_place_in setting journal version partition (header_at journal packet.number)
+      ≡ ours.finds.place
+  place_in_plan version partition ours =
+      ap (first_place_in setting journal version partition)
+      (header_is journal packet.number packet.header asked.of_packet.entered)
+      ∙ ap (λ (o : Option Hosted). unwrap_or (option_and_then
+      (λ (p : Hosted). position (is_held (number_of packet.header)) p.0.rules) o) 0)
+      (ap (slice_get (plan_at setting journal version)) (sym ours.number) ∙ ours.finds.at)
+      ∙ ours.finds.position
+
+  -- and in the switch's own partition
+  place_in_tables : (version partition : ℕ)
+      (ours : IsOurs setting journal s packet.header version partition)
+      → place_of_first packet.header (part_numbered (tables_at setting journal version s) partition)
+      ≡ ours.finds.place
+  place_in_tables version partition ours =
+      ap (place_of_first packet.header)
+      (own_numbered (plan_at setting journal version) s version partition ours.hosted
+      ours.planned.parts.sound.numbers
+      (ap (slice_get (plan_at setting journal version)) (sym ours.number) ∙ ours.finds.at)
+      ours.number ours.target)
+      ∙ ours.finds.position
+
+  -- at an authority that has the version, or not
+  sought_law : (t : Flight) (version partition : ℕ) (b : Bool)
+      → holds_version journal s version ≡ b
+      → IsOurs setting journal s packet.header version partition
+      → elim b [
+        | false ↦ lookup_items setting packet.number s journal
+        | true ↦ authority_items setting packet.number s (authority_rule setting journal version
+            partition (first_place_in setting journal version partition
+            (header_at journal packet.number))) journal
+      ]
+      ≡ arrived_items (next_message journal) at t.version t.rule
+      (arrived_on w (around mask ports) packet (Seek version partition))
+  unfolding decided_in
+  sought_law t version partition false missing ours =
+      looked_law setting journal s w mask ports packet asked
+      ∙ ap (λ (o : Option Tables). arrived_items (next_message journal) at t.version t.rule
+      (arrived.Answered (option_map_or (decided_in w (around mask ports) packet partition) o
+      (looked_up w (around mask ports) packet))))
+      (sym (asked.sees.tables version
+      ∙ ap (λ b. if b then Some (tables_at setting journal version s) else None) missing))
+  sought_law t version partition true held ours =
+      ap (λ place. authority_items setting packet.number s
+      (authority_rule setting journal version partition place) journal)
+      (place_in_plan version partition ours)
+      ∙ sym (ruled_law setting journal s w mask ports packet asked version partition ours)
+      ∙ ap (λ place. arrived_items (next_message journal) at t.version t.rule
+      (arrived.Answered
+      (decided_at w (around mask ports) packet version
+      (part_numbered (tables_at setting journal version s) partition) place)))
+      (sym (place_in_tables version partition ours))
+      ∙ ap (λ (o : Option Tables). arrived_items (next_message journal) at t.version t.rule
+      (arrived.Answered (option_map_or (decided_in w (around mask ports) packet partition) o
+      (looked_up w (around mask ports) packet))))
+      (sym (asked.sees.tables version
+      ∙ ap (λ b. if b then Some (tables_at setting journal version s) else None) held))
+
+  pub arrive_law : (t : Flight) (leg : Leg)
+      → AreOfFacts t.version t.rule (what_is_known journal packet.number)
+      → (what_is_known journal packet.number).leg ≡ Some leg
+      → IsAtEnd setting journal s packet.header leg
+      → arrive_items setting packet.number s journal
+      ≡ arrived_items (next_message journal) (at_switch s packet) t.version t.rule
+      (arrived_on w (around mask ports) packet leg)
+  unfolding arrive_items what_is_known
+  arrive_law t (Exit port) of takes end =
+      let i : ℕ = packet.number in
+      let left : Header → ℕ → Option ℕ → List Item = λ header version rule.
+      item.Left i port (record { packet = i; header = header; version = version; rule = rule })
+      ∷ [] in
+      ap (λ leg. arrive_by setting i s leg journal) takes
+      ∙ ap (λ header. left header
+      (unwrap_or (option_map (λ decision. decision.version) (decision_of journal i)) 0)
+      (unwrap_or (option_map (λ decision. decision.rule) (decision_of journal i)) None))
+      (header_is journal i packet.header asked.of_packet.entered)
+      ∙ ap (λ version. left packet.header version
+      (unwrap_or (option_map (λ decision. decision.rule) (decision_of journal i)) None))
+      (sym of.its_version)
+      ∙ ap (left packet.header t.version) (sym of.its_rule)
+  arrive_law t (Seek version partition) of takes end =
+      ap (λ leg. arrive_by setting packet.number s leg journal) takes
+      ∙ sought_law t version partition (holds_version journal s version) refl end
+
+  pub arrive_comes : (leg : Leg) → GoesOut (targets_of setting journal) (at_switch s packet)
+      (arrived_on w (around mask ports) packet leg)
+  unfolding decided_in
+  arrive_comes (Exit port) = tt
+  arrive_comes (Seek version partition) = by_tables (held_tables w version)
+    where
+      by_tables : (o : Option Tables) → IsComing (targets_of setting journal) at
+          (option_map_or (decided_in w (around mask ports) packet partition) o (looked_up w (around mask ports) packet))
+      by_tables None = looked_goes setting journal s w mask ports packet asked
+      by_tables (Some tables) =
+          ruled_goes setting journal s tables.version
+          (place_of_first packet.header (part_numbered tables partition)) w mask ports packet
+          (part_numbered tables partition) asked.owners
+
+-- ---- what becomes of the packet
+
+pub arrival_goes : (targets : Targets) (before : List Item) (number : ℕ) (at : Standing)
+    (t : Flight) (what : Arrival) (facts : PacketFacts) → IsSeen at at.ingress facts
+    → AreOfFacts t.version t.rule facts → GoesOut targets at what
+    → arrived_flight t.version t.rule what
+    ≡ flight_by targets at.packet
+    (facts_along at.packet before (arrived_items number at t.version t.rule what) facts)
+arrival_goes targets before number at t (arrived.Out port) facts seen of goes =
+    let own : (at.packet == at.packet) ≡ true = eq-eqb _ _ refl in
+    rw own refl
+arrival_goes targets before number at t (arrived.Answered what) facts seen of goes =
+    answer_goes targets before number at t.version t.rule what facts seen of goes

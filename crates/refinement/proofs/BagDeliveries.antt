@@ -1,0 +1,134 @@
+-- What the bag says of a message, and a message that is forgotten.
+use Rattle.std.proofs.Common.{ℕ, ◌≡◌, Bool, true, false, if◌then◌else◌, Option, Some, None, List, [], ◌∷◌, ◌++◌, refl, ap, sym, subst, ◌∙◌, append_assoc, length, rules}
+use Rattle.std.specs.Prelude.{IfSome, IsFalse, not, ◌&&◌, is_some, option_map}
+use Rattle.std.specs.Option.{option_and_then}
+use Rattle.message_bag.specs.Posts.{IsMessageOf, Post, posted_frames, is_post_deliverable, remembered_frames, with_forgotten}
+use Rattle.message_bag.proofs.FramedMessages.{known_by_frames}
+use Rattle.ctrl_msg.specs.declared.message.Message.{Message}
+use Rattle.journal.specs.declared.item.Item.{Item}
+use Rattle.journal.specs.declared.item.Item.TheVariants as item
+use Rattle.steps.specs.declared.step.Step.{Step}
+use Rattle.steps.specs.declared.step.Step.TheVariants.{Forget}
+use Rattle.update_machine.specs.Concerns.{concerns_calls}
+use Rattle.update_machine.specs.Messages.{is_deliverable, is_forgotten, was_delivered}
+use Rattle.update_machine.specs.Pieces.{forget_items, nothing, piece}
+use Rattle.steps.specs.Steps.{IsStep}
+use Rattle.update_machine.specs.Setting.{Setting}
+use Rattle.update_machine.specs.Links.{message_of}
+use Rattle.update_machine.proofs.CallerLemmas.{message_keeps}
+use Rattle.refinement.specs.Refinement.{RefineJournal, NetworkState}
+use Rattle.refinement.specs.Bags.{IsBagOf, post_in}
+use Rattle.refinement.proofs.OneItem.{WroteOne, refines_one}
+use Rattle.refinement.proofs.PostedFrames.{bag_forgotten, bag_on, some_within}
+use Rattle.refinement.proofs.StepRefines.{switches_stay}
+
+-- ---- what the bag says of a message
+
+abbrev flagged : Bool → Bool → Option Message → Option Post
+flagged was gone o =
+    option_map (λ (m : Message). (posted_frames m, record { delivered = was; forgotten = gone })) o
+
+pub deliverable_as : (journal : List Item) (posts : List Post) (n : ℕ) → IsBagOf journal posts
+    → is_deliverable journal n ≡ is_post_deliverable posts n
+unfolding is_deliverable post_in
+deliverable_as journal posts n bag =
+    sym (ap (λ o. is_some (option_and_then remembered_frames o)) (bag.each n)
+    ∙ by_flag (message_of journal n) (was_delivered journal n) (is_forgotten journal n))
+  where
+    by_flag : (o : Option Message) (was gone : Bool)
+        → is_some (option_and_then remembered_frames (flagged was gone o)) ≡ (is_some o && not gone)
+    by_flag None was gone = refl
+    by_flag (Some m) was true = refl
+    by_flag (Some m) was false = refl
+
+pub sent_as : (journal : List Item) (posts : List Post) (n : ℕ) (message : Message)
+    → IsBagOf journal posts → IsMessageOf posts n message → message_of journal n ≡ Some message
+unfolding post_in
+sent_as journal posts n message bag is =
+    by_flag (message_of journal n) (was_delivered journal n) (is_forgotten journal n)
+    (sym (ap (option_and_then remembered_frames) (bag.each n)) ∙ is.frames_are)
+  where
+    by_flag : (o : Option Message) (was gone : Bool)
+        → option_and_then remembered_frames (flagged was gone o) ≡ Some (posted_frames message)
+        → o ≡ Some message
+    by_flag None was gone none = absurd cc
+    by_flag (Some m) was true none = absurd cc
+    by_flag (Some m) was false some =
+        let same : posted_frames m ≡ posted_frames message = cc in
+        ap Some (known_by_frames message m is.fits same)
+
+-- a message that was found
+pub found_there : (posts : List Post) (n : ℕ) (message : Message) (o : Option Message)
+    → o ≡ Some message → IfSome o (IsMessageOf posts n) → IsMessageOf posts n message
+found_there posts n message o is all = subst (λ o. IfSome o (IsMessageOf posts n)) is all
+
+-- ---- pieces
+
+forget_piece : (setting : Setting) (journal : List Item) (row n : ℕ)
+    → piece setting journal row (Forget n)
+    ≡ item.Row row (Forget n)
+    ∷ (if is_deliverable journal n then item.Forgotten n ∷ [] else nothing)
+unfolding piece forget_items
+forget_piece setting journal row n =
+    ap (λ b. item.Row row (Forget n)
+    ∷ elim b [ false ↦ nothing | true ↦ item.Forgotten n ∷ [] ])
+    (message_keeps n journal (item.Row row (Forget n) ∷ []) (refl, tt)).deliverable
+    ∙ by_test (is_deliverable journal n)
+  where
+    by_test : (b : Bool) → item.Row row (Forget n)
+        ∷ elim b [ false ↦ nothing | true ↦ item.Forgotten n ∷ [] ]
+        ≡ item.Row row (Forget n) ∷ (if b then item.Forgotten n ∷ [] else nothing)
+    by_test false = refl
+    by_test true = refl
+
+-- ---- a step that does nothing
+
+module _ {setting : Setting} {journal : List Item} {state : NetworkState}
+    (refines : RefineJournal setting journal state) where
+  pub nothing_happens : (row : ℕ) (step : Step) → IsStep setting.net (length setting.files) step
+      → ((q : ℕ) → IsFalse (concerns_calls q journal (item.Row row step)))
+      → piece setting journal row step ≡ item.Row row step ∷ nothing
+      → WroteOne setting journal row step item.Nothing state
+  nothing_happens row step may uncalled is = (
+    is,
+    refines_one refines state.posts state.switches row step item.Nothing
+        (search (rules, switches_stay, bag_on)),
+  )
+
+-- ---- a message is forgotten
+
+module _ {setting : Setting} {journal : List Item} {state : NetworkState}
+    (refines : RefineJournal setting journal state) (row n : ℕ)
+    (may : IsStep setting.net (length setting.files) (Forget n)) where
+  abbrev first : Item
+  first = item.Row row (Forget n)
+
+  abbrev one : Item
+  one = item.Forgotten n
+
+  -- by whether the bag has it
+  piece_by : (b : Bool) → is_post_deliverable state.posts n ≡ b
+      → piece setting journal row (Forget n) ≡ first ∷ (if b then one ∷ [] else nothing)
+  piece_by b is = forget_piece setting journal row n
+      ∙ ap (λ c. first ∷ (if c then one ∷ [] else nothing))
+      (deliverable_as journal state.posts n refines.bag ∙ is)
+
+  pub forgotten_refines : is_post_deliverable state.posts n ≡ true
+      → WroteOne setting journal row (Forget n) one
+      (record state { posts = with_forgotten state.posts n })
+  forgotten_refines there =
+      let is = piece_by true there in
+      let bag = subst (λ js. IsBagOf js (with_forgotten state.posts n))
+      (append_assoc journal (first ∷ []) (one ∷ []))
+      (bag_forgotten (journal ++ first ∷ []) state.posts n (some_within state.posts n there)
+      (bag_on journal (first ∷ []) state.posts (refl, tt) refines.bag)) in (
+        is,
+        refines_one refines (with_forgotten state.posts n) state.switches row (Forget n) one
+            (search (rules, switches_stay)),
+      )
+
+  -- no such message may be forgotten
+  pub unforgotten : is_post_deliverable state.posts n ≡ false
+      → WroteOne setting journal row (Forget n) item.Nothing state
+  unforgotten none =
+      nothing_happens refines row (Forget n) may (λ q. refl) (piece_by false none)

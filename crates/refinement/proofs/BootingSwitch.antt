@@ -1,0 +1,258 @@
+-- A switch that was down begins its next boot: what is written then, and what the parts are behind
+-- it.
+use Rattle.std.proofs.Common.{ℕ, ◌≡◌, ◌+◌, ◌<◌, ◌==◌, Bool, true, false, cond, List, [], ◌∷◌, ◌++◌, refl, ap, sym, subst, ◌∙◌, length, filter, get_or, set, append_assoc, arith, eq-eqb, eqb-true}
+use Rattle.std.specs.Prelude.{◌&&◌, not, Some, None, if◌then◌else◌, unwrap_or}
+use Rattle.std.specs.Option.{option_or}
+use Rattle.update_machine.specs.Folds.{last_given}
+use Rattle.std.proofs.lemmas.List.{length-set}
+use Rattle.message_bag.specs.Posts.{new_post}
+use Rattle.control_laws.proofs.SwitchOpenings.{caused_known, serving_known}
+use Rattle.refinement.proofs.ControllerUntouched.{steps_leave}
+use Rattle.controller.specs.declared.sends.Act.TheVariants.{Post as PostAct}
+use Rattle.ctrl_msg.specs.declared.message.Message.{Message}
+use Rattle.ctrl_msg.specs.declared.message.Body.TheVariants.{Hello}
+use Rattle.ctrl_msg.specs.Kinds.{to_controller}
+use Rattle.journal.specs.declared.item.Item.{Item}
+use Rattle.journal.specs.declared.item.Item.TheVariants as item
+use Rattle.net_file.specs.Owners.{links_of}
+use Rattle.net_file.specs.declared.net.LinkRow.{LinkRow}
+use Rattle.control_laws.specs.Sends.{NumbersFit}
+use Rattle.control_laws.proofs.NumbersFit.{fit_in_room}
+use Rattle.steps.specs.declared.step.Step.TheVariants.{Restart}
+use Rattle.switch_core.specs.Life.{near_changed, restarted_switch}
+use Rattle.switch_core.specs.State.{SwitchValue}
+use Rattle.refinement.specs.Asked.{CanRestart}
+use Rattle.refinement.specs.SwitchOf.{switch_of}
+use Rattle.refinement.proofs.AskedRequirements.{requirements_hold}
+use Rattle.refinement.proofs.ForgottenState.{lives_refine}
+use Rattle.refinement.proofs.SwitchLinkChanges.{kept_is, links_refine}
+use Rattle.update_machine.specs.Boots.{boot_of, is_up, gives_boot}
+use Rattle.control_laws.specs.ItemCauses.{HasItemCause}
+use Rattle.update_machine.specs.Causes.{HaveCauses}
+use Rattle.update_machine.specs.Deliveries.{has_changed}
+use Rattle.update_machine.specs.Full.{HasRoom}
+use Rattle.update_machine.specs.Links.{is_link_up, is_usable, serves, gives_serving}
+use Rattle.update_machine.specs.Messages.{next_message, send_items, sent_from}
+use Rattle.update_machine.specs.Moves.{items_then}
+use Rattle.update_machine.specs.Pieces.{hello_of, nothing, piece, restart_items}
+use Rattle.steps.specs.Steps.{IsStep}
+use Rattle.update_machine.specs.Setting.{Setting}
+use Rattle.update_machine.specs.LinkMasks.{near}
+use Rattle.update_machine.proofs.CallerLemmas.{last_given_append, messages_keep, switch_keeps}
+use Rattle.world_log.specs.Sending.{act_items, act_posts}
+use Rattle.refinement.specs.Refinement.{RefineJournal, NetworkState, is_up_link}
+use Rattle.refinement.proofs.BagDeliveries.{nothing_happens}
+use Rattle.refinement.proofs.GoneSwitches.{up_as}
+use Rattle.refinement.proofs.JournalLaws.{reached_known}
+use Rattle.refinement.proofs.OneItem.{WroteOne}
+use Rattle.refinement.proofs.PostedFrames.{bag_on}
+use Rattle.refinement.proofs.NetworkSwitches.{switch_is, switch_there}
+use Rattle.refinement.proofs.ToldSteps.{refines_told}
+use Rattle.refinement.proofs.StepRefines.{one_changes, same_links}
+use Rattle.refinement.proofs.LinksChange.{caused_first}
+
+same_filter : (now before : LinkRow → Bool) (links : List LinkRow)
+    → ((link : LinkRow) → now link ≡ before link) → filter now links ≡ filter before links
+same_filter now before [] same = refl
+same_filter now before (link ∷ links) same =
+    ap (λ b. cond b (link ∷ filter now links) (filter now links)) (same link)
+    ∙ ap (λ rest. cond (before link) (link ∷ rest) rest) (same_filter now before links same)
+
+module _ {setting : Setting} {journal : List Item} {state : NetworkState}
+    (refines : RefineJournal setting journal state) (row s : ℕ) (own : SwitchValue)
+    (may : IsStep setting.net (length setting.files) (Restart s))
+    (own_at : own ≡ get_or state.switches s own) where
+  boot_there : s < length state.switches
+  boot_there = switch_there refines s may
+
+  own_is : own ≡ switch_of setting journal s
+  own_is = switch_is refines s own may own_at
+
+  own_up : is_up journal s ≡ own.is_up
+  own_up = sym (up_as setting journal s) ∙ ap (λ (w : SwitchValue). w.is_up) (sym own_is)
+
+  abbrev rowed : List Item
+  rowed = journal ++ item.Row row (Restart s) ∷ []
+
+  rowed_up : is_up rowed s ≡ own.is_up
+  rowed_up = (switch_keeps setting s journal (item.Row row (Restart s) ∷ []) (refl, tt)).up
+      ∙ own_up
+
+  pub up_already : own.is_up ≡ true
+      → WroteOne setting journal row (Restart s) item.Nothing state
+  unfolding piece restart_items
+  up_already up =
+      nothing_happens refines row (Restart s) may
+      (λ q. refl) (ap (λ b. item.Row row (Restart s) ∷ elim b [
+        | true ↦ nothing
+        | false ↦ items_then (item.Booted s (boot_of rowed s + 1) ∷ [])
+            (λ booted. send_items booted (hello_of booted s ∷ [])) rowed
+      ]) (rowed_up ∙ up))
+
+  -- it has a next boot
+  pub boot_next : own.is_up ≡ false → length state.posts < 990_000
+      → CanRestart own
+  boot_next down room =
+      let fit : NumbersFit setting journal = subst (NumbersFit setting)
+      (sym refines.reached.written) (fit_in_room setting refines.reached.steps refines.sound.net
+      (subst HasRoom refines.reached.written (omega (arith, refines.bag.many, room)))) in
+      subst CanRestart (sym own_is)
+      (requirements_hold.restart setting journal s fit (own_up ∙ down))
+
+  abbrev boot : ℕ
+  boot = own.boot + 1
+
+  abbrev booted : Item
+  booted = item.Booted s boot
+
+  abbrev now : List Item
+  now = journal ++ item.Row row (Restart s) ∷ booted ∷ []
+
+  split : rowed ++ booted ∷ [] ≡ now
+  split = append_assoc journal (item.Row row (Restart s) ∷ []) (booted ∷ [])
+
+  own_boot : boot_of journal s ≡ own.boot
+  unfolding switch_of
+  own_boot = ap (λ (w : SwitchValue). w.boot) (sym own_is)
+
+  boot_now : boot_of now s ≡ boot
+  unfolding boot_of
+  boot_now = ap (λ js. boot_of js s) (sym split)
+      ∙ ap (λ o. unwrap_or o 1) (last_given_append (gives_boot s) rowed (booted ∷ []))
+      ∙ ap (λ b. unwrap_or (option_or (if b then Some boot else None)
+      (last_given (gives_boot s) rowed)) 1) (eq-eqb s s refl)
+
+  abbrev hello : Message
+  hello = to_controller (Hello s boot)
+
+  number_is : next_message now ≡ length state.posts + 1
+  number_is =
+      (messages_keep journal (item.Row row (Restart s) ∷ booted ∷ []) (refl, (refl, tt))).next
+      ∙ refines.bag.many
+
+  pub boot_piece : own.is_up ≡ false → piece setting journal row (Restart s)
+      ≡ item.Row row (Restart s) ∷ booted
+      ∷ item.Sent (length state.posts + 1) hello ∷ []
+  unfolding piece restart_items sent_from
+  boot_piece down =
+      ap (λ b. item.Row row (Restart s) ∷ elim b [
+        | true ↦ nothing
+        | false ↦ items_then (item.Booted s (boot_of rowed s + 1) ∷ [])
+            (λ later. send_items later (hello_of later s ∷ [])) rowed
+      ]) (rowed_up ∙ down)
+      ∙ ap (λ b. item.Row row (Restart s) ∷ items_then (item.Booted s (b + 1) ∷ [])
+      (λ later. send_items later (hello_of later s ∷ [])) rowed)
+      ((switch_keeps setting s journal (item.Row row (Restart s) ∷ []) (refl, tt)).boot ∙ own_boot)
+      ∙ ap (λ js. item.Row row (Restart s) ∷ booted ∷ send_items js (hello_of js s ∷ [])) split
+      ∙ ap (λ k. item.Row row (Restart s) ∷ booted ∷ item.Sent k (hello_of now s) ∷ []) number_is
+      ∙ ap (λ b. item.Row row (Restart s) ∷ booted
+      ∷ item.Sent (length state.posts + 1) (to_controller (Hello s b)) ∷ []) boot_now
+
+  -- a switch that is down serves not, nor does one that just booted
+  serves_now : (x : ℕ) (b : Bool) → own.is_up ≡ false → (s == x) ≡ b
+      → serves now x ≡ serves journal x
+  unfolding serves
+  serves_now x b down is =
+      ap (λ js. serves js x) (sym split)
+      ∙ ap (λ o. unwrap_or o true) (last_given_append (gives_serving x) rowed (booted ∷ []))
+      ∙ ap (λ c. unwrap_or (option_or (if c then Some false else None)
+      (last_given (gives_serving x) rowed)) true) is
+      ∙ by_own b is
+    where
+      closed : (y : ℕ) → (s == y) ≡ true → serves journal y ≡ false
+      closed y same = by_test (serves journal y) refl
+        where
+          by_test : (t : Bool) → serves journal y ≡ t → t ≡ false
+          by_test false e = refl
+          by_test true e =
+              let up : is_up journal y ≡ true =
+              (serving_known journal (caused_known setting journal
+              (reached_known setting journal refines.sound refines.reached).caused)).up y e in
+              let no : is_up journal y ≡ false =
+              subst (λ k. is_up journal k ≡ false) (eqb-true s y same) (own_up ∙ down) in
+              absurd cc
+
+      by_own : (c : Bool) → (s == x) ≡ c
+          → unwrap_or (option_or (if c then Some false else None)
+          (last_given (gives_serving x) rowed)) true ≡ serves journal x
+      by_own true same = sym (closed x same)
+      by_own false other =
+          (switch_keeps setting x journal (item.Row row (Restart s) ∷ []) (refl, tt)).serving
+
+  up_now : (link : LinkRow) → is_up_link now link ≡ is_up_link journal link
+  unfolding is_link_up
+  up_now link = ap (λ js. is_up_link js link) (sym split) ∙ search (last_given_append, append_assoc)
+
+  near_now : own.is_up ≡ false → (q : ℕ) → near setting now q ≡ near setting journal q
+  unfolding near
+  near_now down q = ap (λ rows. links_of rows q)
+      (same_filter (is_usable now) (is_usable journal) setting.net.links (λ link.
+      ap (λ u. u && serves now link.one && serves now link.two) (up_now link)
+      ∙ ap (λ u. is_up_link journal link && u && serves now link.two)
+      (serves_now link.one (s == link.one) down refl)
+      ∙ ap (λ u. is_up_link journal link && serves journal link.one && u)
+      (serves_now link.two (s == link.two) down refl)))
+
+  abbrev items : List Item
+  items = item.Row row (Restart s) ∷ booted ∷ item.Sent (length state.posts + 1) hello ∷ []
+
+  caused_rowed : own.is_up ≡ false → HaveCauses (HasItemCause setting) [] rowed
+  caused_rowed down = caused_first refines row (Restart s) []
+      (booted ∷ item.Sent (length state.posts + 1) hello ∷ []) may (boot_piece down)
+
+  own_now : own.is_up ≡ false → restarted_switch own ≡ switch_of setting now s
+  own_now down =
+      ap restarted_switch (own_is ∙ sym (kept_is setting s journal (item.Row row (Restart s) ∷ [])
+      (refl, tt) (refl, tt)))
+      ∙ sym (lives_refine.restart setting rowed s (caused_rowed down))
+      ∙ ap (λ b. switch_of setting (rowed ++ item.Booted s (b + 1) ∷ []) s)
+      ((switch_keeps setting s journal (item.Row row (Restart s) ∷ []) (refl, tt)).boot ∙ own_boot)
+      ∙ ap (λ js. switch_of setting js s) split
+
+  other_now : own.is_up ≡ false → (q : ℕ) → (s == q) ≡ false
+      → switch_of setting now q ≡ switch_of setting journal q
+  other_now down q other =
+      links_refine.relinked setting q journal row (Restart s) (booted ∷ []) (record {
+        in_step = (tt, tt);
+        apart = (refl, (other, tt));
+        calls = (refl, (refl, tt));
+      })
+      ∙ ap (λ b. if b then near_changed (switch_of setting journal q) (near setting now q)
+      else switch_of setting journal q) unchanged
+    where
+      unchanged : has_changed setting journal now q ≡ false
+      unchanged = ap (λ n. is_up now q && not (near setting journal q == n)) (near_now down q)
+          ∙ ap (λ b. is_up now q && not b) (eq-eqb (near setting journal q)
+          (near setting journal q) refl) ∙ none (is_up now q)
+        where
+          none : (b : Bool) → (b && not true) ≡ false
+          none true = refl
+          none false = refl
+
+  pub boot_refines : (changed : SwitchValue) → own.is_up ≡ false → changed ≡ restarted_switch own
+      → RefineJournal setting (journal ++ items) (record state {
+        switches = set state.switches s changed;
+        posts = state.posts ++ new_post hello ∷ [];
+      })
+  unfolding act_items act_posts
+  boot_refines changed down changed_is =
+      refines_told refines (record state {
+        switches = set state.switches s changed;
+      }) row (Restart s) (booted ∷ []) (PostAct hello ∷ []) (record {
+        may = may;
+        piece_is = boot_piece down;
+        packet = λ i. (refl, (refl, tt));
+        packets = (refl, (refl, tt));
+        as_many = length-set state.switches s changed;
+        each = λ q d below. one_changes setting journal now state.switches s q changed d (s == q)
+            refl boot_there (changed_is ∙ own_now down) (other_now down q) (refines.each q d below);
+        bag = bag_on journal (item.Row row (Restart s) ∷ booted ∷ []) state.posts
+            (refl, (refl, tt)) refines.bag;
+        number = refl;
+        controller = steps_leave setting journal row (Restart s) state.controller
+            (reached_known setting journal refines.sound refines.reached).caused refl
+            refines.controller;
+        up = λ q below. refines.up q below ∙ ap (λ rows. links_of rows q)
+            (sym (same_links now journal setting.net.links up_now));
+        usable = λ q below. refines.usable q below ∙ sym (near_now down q);
+      })

@@ -1,0 +1,334 @@
+-- What the calls by which the controller begins, hears something and confirms write.
+use Rattle.std.proofs.Common.{ℕ, ◌≡◌, ◌+◌, ◌-◌, ◌<◌, Bool, true, false, if◌then◌else◌, Some, None, List, [], ◌∷◌, ◌++◌, length, map, refl, ap, sym, subst, ◌∙◌, append-nil, append_assoc, arith}
+use Rattle.std.specs.Prelude.{IsTrue, IsFalse, nat_lt}
+use Rattle.std.proofs.lemmas.List.{get_or-set_same, length-map, length-set}
+use Rattle.std.specs.List.{range_with_len}
+use Rattle.ctrl_msg.specs.declared.message.Body.{Body}
+use Rattle.ctrl_msg.specs.declared.message.Body.TheVariants.{Hello}
+use Rattle.ctrl_msg.specs.Kinds.{to_controller}
+use Rattle.journal.specs.declared.item.Item.{Item}
+use Rattle.journal.specs.declared.item.Item.TheVariants as item
+use Rattle.steps.specs.declared.step.Step.{Step}
+use Rattle.steps.specs.declared.step.Step.TheVariants.{Confirm, Deliver}
+use Rattle.update_machine.specs.Boots.{is_up}
+use Rattle.update_machine.specs.Deliveries.{after_hello, controller_items, delivery_items, is_new_boot, received_items}
+use Rattle.update_machine.specs.Marks.{current_mark, known_boot, body_to_controller}
+use Rattle.update_machine.specs.Messages.{is_deliverable, is_to_controller}
+use Rattle.update_machine.specs.Moves.{items_then}
+use Rattle.update_machine.specs.Pieces.{confirm_items, deliver_items, nothing, piece}
+use Rattle.update_machine.specs.Setting.{Setting}
+use Rattle.update_machine.specs.Settling.{install_for, installs_to, settling, versions_from_current}
+use Rattle.update_machine.specs.Versions.{version_count}
+use Rattle.update_machine.specs.Links.{message_of}
+use Rattle.update_machine.proofs.CallerLemmas.{controller_keeps, have_append, start_laws, first_touched}
+use Rattle.control_laws.specs.ItemCauses.{HasItemCause}
+use Rattle.control_laws.proofs.FactsGrown.{count_more, current_more, message_more, up_more}
+use Rattle.control_laws.proofs.OtherSteps.{installs_reopen, sends_leave}
+use Rattle.control_laws.proofs.ControllerLeft.{leaves_keep}
+use Rattle.control_laws.proofs.MarksSettle.{in_two}
+use Rattle.version_update.specs.Marks.{MarksValue, at_switch, record_of}
+use Rattle.version_update.specs.Record.{after_over, unknown_switch, takes_hello}
+use Rattle.version_update.specs.Record as known
+use Rattle.version_update.specs.declared.record.Phase.TheVariants.{Joining}
+use Rattle.version_update.specs.declared.record.SwitchRecord.{SwitchRecord}
+use Rattle.controller.specs.Controller.{ControllerValue, KeptPlan, SettlesWith, first_controller, plans_from, current_touched}
+use Rattle.controller.specs.Plan.{PlanValue}
+use Rattle.controller.specs.Sends as acts
+use Rattle.controller.specs.Sends.{NamesThere, marks_after, hear_acts, install_act, installs_after}
+use Rattle.controller.specs.declared.sends.Act.{Act}
+use Rattle.controller.specs.declared.sends.Act.TheVariants.{Post}
+use Rattle.refinement.specs.Controller.{IsControllerOf, plan_to_keep}
+use Rattle.refinement.specs.Written.{AreWritten, written_items}
+use Rattle.refinement.proofs.ControllerHears.{marks_over, marks_told}
+use Rattle.refinement.proofs.KeptController.{marks_begun}
+use Rattle.refinement.proofs.PickedRanges.{map_twice}
+use Rattle.refinement.proofs.ControllerPlans.{controller_on, plans_on, plans_stay, settles_with}
+use Rattle.refinement.proofs.SettledMarks.{AreCaused, settled_boot, settling_caused}
+use Rattle.refinement.proofs.WrittenActs.{posted, written_in_two}
+use Rattle.ternary.specs.Word.{WordValue}
+use Rattle.switch_table.specs.Carried.{all_touched}
+
+-- ---- the start
+
+pub begins : (setting : Setting) (plan : PlanValue) → plan ≡ (plan_to_keep setting [] 1).plan
+    → IsControllerOf setting [] (first_controller (length setting.net.switches) plan)
+begins setting plan is = record {
+  marks = marks_begun setting;
+  plans = ap (λ (own : PlanValue). kept own all_touched) is
+      ∙ ap (kept (plan_to_keep setting [] 1).plan) (sym (first_touched setting []))
+      ∙ ap (λ c. map (plan_to_keep setting []) (range_with_len c 1)) (sym start_laws.current)
+      ∙ ap (λ n. map (plan_to_keep setting []) (range_with_len (current_mark []) n)) one;
+}
+  where
+    kept : PlanValue → List WordValue → List KeptPlan
+    kept own touched = (record { version = 1; plan = own; touched = touched }) ∷ []
+
+    one : 1 ≡ version_count [] + 1 - current_mark []
+    one =
+        let count = start_laws.count in
+        let current = start_laws.current in
+        omega (arith, count, current)
+
+-- ---- behind a row
+
+pub behind_row : (setting : Setting) (before : List Item) (row : ℕ) (step : Step)
+    → AreCaused setting before → AreCaused setting (before ++ item.Row row step ∷ [])
+behind_row setting before row step have =
+    have_append (HasItemCause setting) [] before (item.Row row step ∷ []) have (tt, tt)
+
+pub row_on : (setting : Setting) (before : List Item) (row : ℕ) (step : Step)
+    (controller : ControllerValue) → AreCaused setting before
+    → IsControllerOf setting before controller
+    → IsControllerOf setting (before ++ item.Row row step ∷ []) controller
+row_on setting before row step controller have is =
+    controller_on setting before (item.Row row step ∷ []) controller have
+    (controller_keeps before (item.Row row step ∷ []) (refl, tt)) is
+
+-- items that stand behind two others
+behind_two : (before : List Item) (one two : Item) (items : List Item)
+    → before ++ one ∷ two ∷ items ≡ ((before ++ one ∷ []) ++ two ∷ []) ++ items
+behind_two before one two items =
+    sym (append_assoc before (one ∷ []) (two ∷ items))
+    ∙ sym (append_assoc (before ++ one ∷ []) (two ∷ []) items)
+
+pub are_written : (setting : Setting) (before : List Item) (one two : Item)
+    (items : List Item) (acts : List Act) (new : ControllerValue)
+    → let now = (before ++ one ∷ []) ++ two ∷ [] in
+    written_items now acts ≡ items → IsControllerOf setting (now ++ items) new
+    → AreWritten setting before (one ∷ two ∷ []) acts new (one ∷ two ∷ items)
+are_written setting before one two items acts new same after = record {
+  same = ap (λ more. one ∷ two ∷ more)
+      (sym same ∙ ap (λ js. written_items js acts) (append_assoc before (one ∷ []) (two ∷ [])));
+  after = subst (λ js. IsControllerOf setting js new) (sym (behind_two before one two items)) after;
+}
+
+-- ---- what is delivered to the controller
+
+-- a switch that told a new boot
+hello_boot_is : (setting : Setting) (now : List Item) (s boot : ℕ) (old new : ControllerValue)
+    → IsControllerOf setting (now ++ settling setting now) new
+    → SettlesWith (at_switch s (known.hello_recorded boot) old.marks) old.plans new
+    → s < length old.marks.switches → takes_hello boot (record_of old.marks s) ≡ true
+    → boot ≡ known_boot (now ++ settling setting now) s
+hello_boot_is setting now s boot old new after settles there taken =
+    let changed : MarksValue = at_switch s (known.hello_recorded boot) old.marks in
+    let long = length-set old.marks.switches s
+    (known.hello_recorded boot (record_of old.marks s)) in
+    let is = settles.marks.1 in
+    let below : s < length new.marks.switches =
+    omega (
+      arith,
+      there,
+      long,
+      ap length is.switches,
+      length-map changed.switches (known.opened_record new.marks.current),
+    ) in
+    sym (ap (λ value. boot_in value) (get_or-set_same old.marks.switches s
+    (known.hello_recorded boot (record_of old.marks s)) unknown_switch there)
+    ∙ new_boot (record_of old.marks s) taken)
+    ∙ sym (settled_boot changed new.marks settles.marks.0 s is (omega (arith, there, long)))
+    ∙ (after.marks.each s below).boot
+  where
+    boot_in : SwitchRecord → ℕ
+    boot_in value = value.boot
+
+    joined : SwitchRecord
+    joined =
+        record { boot = boot; phase = Joining; acked = 0; open_version = 0; acked_stamp = 0 }
+
+    new_boot : (value : SwitchRecord) → takes_hello boot value ≡ true
+        → (known.hello_recorded boot value).boot ≡ boot
+    new_boot value taken = ap (λ b. boot_in (if b then joined else value)) taken
+
+hello_written : (setting : Setting) (before one : List Item) (body : Body)
+    (old : MarksValue) (new : ControllerValue) → AreCaused setting one
+    → IsControllerOf setting one new
+    → ((s boot : ℕ) → body ≡ Hello s boot
+    → (takes_hello boot (record_of old s) ≡ is_new_boot before s boot)
+    × (takes_hello boot (record_of old s) ≡ true → boot ≡ known_boot one s))
+    → written_items one (installs_after body old new) ≡ after_hello setting before body one
+unfolding installs_to
+hello_written setting before one (Hello s boot) old new have is told =
+    let own = told s boot refl in
+    by_new (takes_hello boot (record_of old s)) refl
+    ∙ ap (λ b. elim b [ true ↦ installs_to setting s one | false ↦ [] ]) own.0
+  where
+    versions : List ℕ
+    versions = versions_from_current one
+
+    by_new : (b : Bool) → takes_hello boot (record_of old s) ≡ b
+        → written_items one (if b then map (install_act s boot)
+        (plans_from new.marks.current new.plans)
+        else []) ≡ elim b [ true ↦ installs_to setting s one | false ↦ [] ]
+    by_new true e =
+        ap (written_items one)
+        (ap (map (install_act s boot))
+        (plans_stay setting one new.plans new.marks.current have is.marks.current is.plans)
+        ∙ map_twice (plan_to_keep setting one) (install_act s boot) versions
+        ∙ ap (λ b. map (λ v. install_act s b (plan_to_keep setting one v)) versions)
+        ((told s boot refl).1 e)
+        ∙ sym (map_twice (λ v. install_for setting one v s) Post versions))
+        ∙ posted (map (λ v. install_for setting one v s) versions) one
+    by_new false e = refl
+hello_written setting before one body old new have is told = refl
+
+installs_leave : (setting : Setting) (before one : List Item) (body : Body)
+    (new : ControllerValue) → AreCaused setting one → IsControllerOf setting one new
+    → IsControllerOf setting (one ++ after_hello setting before body one) new
+unfolding installs_to
+installs_leave setting before one (Hello s boot) new have is =
+    by_new (is_new_boot before s boot)
+  where
+    by_new : (b : Bool) → IsControllerOf setting
+        (one ++ elim b [ true ↦ installs_to setting s one | false ↦ [] ]) new
+    by_new true =
+        controller_on setting one (installs_to setting s one) new have
+        (leaves_keep one (installs_to setting s one)
+        (sends_leave one _ (installs_reopen setting one s (versions_from_current one)))) is
+    by_new false = subst (λ js. IsControllerOf setting js new) (sym (append-nil one)) is
+installs_leave setting before one body new have is =
+    subst (λ js. IsControllerOf setting js new) (sym (append-nil one)) is
+
+-- what is said, and what is known as it is
+module _ (setting : Setting) (before : List Item) (row n : ℕ) (body : Body)
+    (old new : ControllerValue) (have : AreCaused setting before)
+    (is : IsControllerOf setting before old)
+    (sent : message_of before n ≡ Some (to_controller body)) (there : NamesThere body old.marks)
+    (settles : SettlesWith (marks_after body old.marks) old.plans new) where
+  abbrev here : List Item
+  here = before ++ item.Row row (Deliver n) ∷ []
+
+  abbrev now : List Item
+  now = here ++ item.Delivered n ∷ []
+
+  abbrev one : List Item
+  one = now ++ settling setting now
+
+  here_have : AreCaused setting here
+  here_have = behind_row setting before row (Deliver n) have
+
+  now_have : AreCaused setting now
+  now_have = have_append (HasItemCause setting) [] here (item.Delivered n ∷ []) here_have (tt, tt)
+
+  here_is : IsControllerOf setting here old
+  here_is = row_on setting before row (Deliver n) old have is
+
+  said : body_to_controller here n ≡ Some body
+  said = ap (λ o. elim o [
+    | None ↦ None
+    | Some message ↦ if is_to_controller message.to then Some message.body else None
+  ]) (message_more before (item.Row row (Deliver n)) n ∙ sent)
+
+  heard_settles : (written_items now (acts.settling_acts (current_touched new) (marks_after body old.marks) new.marks)
+      ≡ settling setting now) × IsControllerOf setting one new
+  heard_settles = settles_with setting now (marks_after body old.marks) old.plans new now_have
+      (marks_told setting here n body old.marks here_have said there here_is.marks)
+      (plans_on setting here (item.Delivered n ∷ []) old.plans here_have
+      (count_more here (item.Delivered n)) (current_more here (item.Delivered n)) here_is.plans)
+      settles
+
+  hello_told : (s boot : ℕ) → body ≡ Hello s boot
+      → (takes_hello boot (record_of old.marks s) ≡ is_new_boot before s boot)
+      × (takes_hello boot (record_of old.marks s) ≡ true → boot ≡ known_boot one s)
+  hello_told s boot e =
+      let below : s < length old.marks.switches =
+      subst (λ b. NamesThere b old.marks) e there in (
+        ap (λ known. nat_lt known boot) (is.marks.each s below).boot,
+        hello_boot_is setting now s boot old new heard_settles.1
+            (subst (λ b. SettlesWith (marks_after b old.marks) old.plans new) e settles) below,
+      )
+
+  heard_so : (written_items now (hear_acts body old.marks new)
+      ≡ controller_items setting before body now)
+      × IsControllerOf setting (now ++ controller_items setting before body now) new
+  unfolding controller_items
+  heard_so = (
+    written_in_two now (settling setting) (after_hello setting before body)
+        (acts.settling_acts (current_touched new) (marks_after body old.marks) new.marks)
+        (installs_after body old.marks new) heard_settles.0
+        (hello_written setting before one body old.marks new
+        (settling_caused setting now now_have) heard_settles.1 hello_told),
+    subst (λ js. IsControllerOf setting js new)
+        (sym (in_two (settling setting) (after_hello setting before body) now))
+        (installs_leave setting before one body new (settling_caused setting now now_have)
+        heard_settles.1),
+  )
+
+deliver_piece : (setting : Setting) (before : List Item) (row n : ℕ) (body : Body)
+    → IsTrue (is_deliverable before n) → message_of before n ≡ Some (to_controller body)
+    → let now = (before ++ item.Row row (Deliver n) ∷ []) ++ item.Delivered n ∷ [] in
+    item.Row row (Deliver n) ∷ item.Delivered n ∷ controller_items setting before body now
+    ≡ piece setting before row (Deliver n)
+unfolding piece deliver_items delivery_items
+deliver_piece setting before row n body may sent =
+    let here : List Item = before ++ item.Row row (Deliver n) ∷ [] in
+    let now : List Item = here ++ item.Delivered n ∷ [] in
+    let told : elim (message_of before n) [
+      | None ↦ []
+      | Some message ↦ received_items setting before n message now
+    ] ≡ controller_items setting before body now = ap (λ o. elim o [
+      | None ↦ []
+      | Some message ↦ received_items setting before n message now
+    ]) sent in
+    ap (λ items. item.Row row (Deliver n) ∷ item.Delivered n ∷ items) (sym told)
+    ∙ ap (λ b. item.Row row (Deliver n) ∷ elim b [
+      | false ↦ nothing
+      | true ↦ items_then (item.Delivered n ∷ []) (delivery_items setting before n) here
+    ]) (sym may)
+
+pub hears : (setting : Setting) (before : List Item) (row n : ℕ) (body : Body)
+    (old new : ControllerValue) → AreCaused setting before → IsControllerOf setting before old
+    → IsTrue (is_deliverable before n) → message_of before n ≡ Some (to_controller body)
+    → NamesThere body old.marks → SettlesWith (marks_after body old.marks) old.plans new
+    → AreWritten setting before (item.Row row (Deliver n) ∷ item.Delivered n ∷ [])
+    (hear_acts body old.marks new) new (piece setting before row (Deliver n))
+hears setting before row n body old new have is may sent there settles =
+    let so = heard_so setting before row n body old new have is sent there settles in
+    subst (AreWritten setting before (item.Row row (Deliver n) ∷ item.Delivered n ∷ [])
+    (hear_acts body old.marks new) new) (deliver_piece setting before row n body may sent)
+    (are_written setting before (item.Row row (Deliver n)) (item.Delivered n) _
+    (hear_acts body old.marks new) new so.0 so.1)
+
+-- ---- a switch that is over
+
+pub confirms : (setting : Setting) (before : List Item) (row s : ℕ)
+    (old new : ControllerValue) → AreCaused setting before → IsControllerOf setting before old
+    → IsFalse (is_up before s) → s < length old.marks.switches
+    → SettlesWith (at_switch s after_over old.marks) old.plans new
+    → AreWritten setting before (item.Row row (Confirm s) ∷ item.OverNow s ∷ [])
+    (acts.settling_acts (current_touched new) (at_switch s after_over old.marks) new.marks) new
+    (piece setting before row (Confirm s))
+unfolding piece confirm_items
+confirms setting before row s old new have is down there settles =
+    subst (λ b. AreWritten setting before (item.Row row (Confirm s) ∷ item.OverNow s ∷ [])
+    (acts.settling_acts (current_touched new) (at_switch s after_over old.marks) new.marks) new (item.Row row (Confirm s)
+    ∷ elim b [
+      | true ↦ nothing
+      | false ↦ items_then (item.OverNow s ∷ []) (settling setting) here
+    ])) (sym still)
+    (are_written setting before (item.Row row (Confirm s)) (item.OverNow s) (settling setting now)
+    (acts.settling_acts (current_touched new) (at_switch s after_over old.marks) new.marks) new so.0 so.1)
+  where
+    here : List Item
+    here = before ++ item.Row row (Confirm s) ∷ []
+
+    now : List Item
+    now = here ++ item.OverNow s ∷ []
+
+    still : is_up here s ≡ false
+    still = up_more before (item.Row row (Confirm s)) s ∙ down
+
+    here_have : AreCaused setting here
+    here_have = behind_row setting before row (Confirm s) have
+
+    here_is : IsControllerOf setting here old
+    here_is = row_on setting before row (Confirm s) old have is
+
+    so : (written_items now (acts.settling_acts (current_touched new) (at_switch s after_over old.marks) new.marks)
+        ≡ settling setting now) × IsControllerOf setting (now ++ settling setting now) new
+    so = settles_with setting now (at_switch s after_over old.marks) old.plans new
+        (have_append (HasItemCause setting) [] here (item.OverNow s ∷ []) here_have (still, tt))
+        (marks_over setting here s old.marks there here_is.marks)
+        (plans_on setting here (item.OverNow s ∷ []) old.plans here_have
+        (count_more here (item.OverNow s)) (current_more here (item.OverNow s)) here_is.plans)
+        settles

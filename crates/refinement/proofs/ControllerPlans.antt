@@ -1,0 +1,246 @@
+-- The plans that a controller keeps are those of the versions from the current one to the last.
+use Rattle.std.proofs.Common.{ℕ, zero, suc, ◌≡◌, ◌+◌, ◌-◌, ◌<◌, ◌≤◌, max, Bool, true, false, if◌then◌else◌, List, [], ◌∷◌, ◌++◌, map, refl, ap, sym, ◌∙◌, append-nil, arith}
+use Rattle.std.specs.Prelude.{filter, nat_le, find}
+use Rattle.std.specs.List.{range_with_len}
+use Rattle.std.proofs.lemmas.Bool.Decides.{nat_tests}
+use Rattle.std.proofs.lemmas.List.FromFn.{map-range_with_len_more}
+use Rattle.std.specs.Option.{option_map_or}
+use Rattle.journal.specs.declared.item.Item.{Item}
+use Rattle.update_machine.specs.Laws.{ControllerKeeps}
+use Rattle.update_machine.specs.Marks.{current_mark}
+use Rattle.update_machine.specs.Numbers.{VersionsAreNumbered}
+use Rattle.update_machine.specs.Setting.{Setting}
+use Rattle.update_machine.specs.Settling.{settling, versions_from_current}
+use Rattle.update_machine.specs.Versions.{version_count}
+use Rattle.update_machine.proofs.CallerLemmas.{plan_stays, policy_stays, touched_stays}
+use Rattle.update_machine.specs.Touched.{touched_by}
+use Rattle.control_laws.proofs.VersionNumbers.{caused_numbered}
+use Rattle.control_laws.proofs.MarkLaws.{bounded}
+use Rattle.version_update.specs.Marks.{MarksValue}
+use Rattle.controller.specs.Controller.{ControllerValue, KeptPlan, SettlesWith, plans_from, current_touched}
+use Rattle.controller.specs.Sends as acts
+use Rattle.controller.proofs.NewestPolicy.{still_found}
+use Rattle.refinement.specs.Controller.{IsControllerOf, plan_to_keep}
+use Rattle.refinement.specs.Marks.{AreMarksOf}
+use Rattle.refinement.specs.Written.{written_items}
+use Rattle.refinement.proofs.KeptController.{marks_on}
+use Rattle.refinement.proofs.PickedRanges.{filter_made}
+use Rattle.refinement.proofs.SettledMarks.{AreCaused, settles_so}
+use Rattle.refinement.proofs.NewestKeptPolicy.{find_kept, is_of}
+use Rattle.switch_table.specs.Carried.{all_touched}
+
+-- ---- numbers of a range
+
+mapped_same : {X : Type 0} (f g : ℕ → X) (low n : ℕ)
+    → ((x : ℕ) → low ≤ x → x < low + n → f x ≡ g x)
+    → map f (range_with_len low n) ≡ map g (range_with_len low n)
+mapped_same f g low zero makes = refl
+mapped_same f g low (suc n) makes =
+    ap (λ y. y ∷ map f (range_with_len (low + 1) n)) (makes low (omega arith) (omega arith))
+    ∙ ap (λ ys. g low ∷ ys)
+    (mapped_same f g (low + 1) n
+    (λ x above below. makes x (omega (arith, above)) (omega (arith, below))))
+
+-- those from `to` on
+later_same : {X : Type 0} (f g : ℕ → X) (to low n : ℕ)
+    → ((x : ℕ) → low ≤ x → x < low + n → f x ≡ g x)
+    → map f (filter (nat_le to) (range_with_len low n))
+    ≡ map g (range_with_len (max to low) (low + n - max to low))
+later_same f g to low zero same =
+    let none : 0 ≡ low + 0 - max to low = omega arith in
+    ap (λ k. map g (range_with_len (max to low) k)) none
+later_same f g to low (suc n) same =
+    by_place (nat_le to low) refl
+    (later_same f g to (low + 1) n
+    (λ x above below. same x (omega (arith, above)) (omega (arith, below))))
+  where
+    rest : List ℕ
+    rest = filter (nat_le to) (range_with_len (low + 1) n)
+
+    by_place : (b : Bool) → nat_le to low ≡ b
+        → map f rest
+        ≡ map g (range_with_len (max to (low + 1)) (low + 1 + n - max to (low + 1)))
+        → map f (if b then low ∷ rest else rest)
+        ≡ map g (range_with_len (max to low) (low + suc n - max to low))
+    by_place true is more =
+        let own : low ≡ max to low = grind (arith, nat_tests) in
+        let next : max to (low + 1) ≡ low + 1 = omega (arith, own) in
+        let few : low + 1 + n - (low + 1) ≡ n = omega arith in
+        let many : suc n ≡ low + suc n - low = omega arith in
+        ap (λ y. y ∷ map f rest) (same low (omega arith) (omega arith))
+        ∙ ap (λ ys. g low ∷ ys)
+        (more ∙ ap (λ k. map g (range_with_len k (low + 1 + n - k))) next
+        ∙ ap (λ k. map g (range_with_len (low + 1) k)) few)
+        ∙ ap (λ k. map g (range_with_len low k)) many
+        ∙ ap (λ k. map g (range_with_len k (low + suc n - k))) own
+    by_place false is more =
+        let later : low < to = grind (arith, nat_tests) in
+        let own : to ≡ max to low = omega (arith, later) in
+        let next : max to (low + 1) ≡ to = omega (arith, later) in
+        let many : low + 1 + n - to ≡ low + suc n - to = omega arith in
+        more ∙ ap (λ k. map g (range_with_len k (low + 1 + n - k))) next
+        ∙ ap (λ k. map g (range_with_len to k)) many
+        ∙ ap (λ k. map g (range_with_len k (low + suc n - k))) own
+
+-- ---- plans
+
+-- a version from the current one on keeps its plan
+planned_on : (setting : Setting) (before items : List Item) (v : ℕ) → AreCaused setting before
+    → current_mark before ≤ v
+    → v < current_mark before + (version_count before + 1 - current_mark before)
+    → plan_to_keep setting before v ≡ plan_to_keep setting (before ++ items) v
+planned_on setting before items v have above below =
+    rw (
+      policy_stays setting before items v numbers last,
+      plan_stays setting before items v numbers last,
+      touched_stays setting before items v numbers last,
+    ) refl
+  where
+    numbers : VersionsAreNumbered before
+    numbers = caused_numbered setting before have
+
+    last : v ≤ version_count before
+    last = let marks = bounded setting before have in omega (arith, above, below, marks.there)
+
+-- the plans stay, where neither a version nor a rise of the current mark came
+pub plans_on : (setting : Setting) (before items : List Item) (plans : List KeptPlan)
+    → AreCaused setting before
+    → version_count (before ++ items) ≡ version_count before
+    → current_mark (before ++ items) ≡ current_mark before
+    → plans ≡ map (plan_to_keep setting before) (versions_from_current before)
+    → plans ≡ map (plan_to_keep setting (before ++ items)) (versions_from_current (before ++ items))
+plans_on setting before items plans have count current are =
+    let after : List Item = before ++ items in
+    are
+    ∙ mapped_same (plan_to_keep setting before) (plan_to_keep setting after) (current_mark before)
+    (version_count before + 1 - current_mark before)
+    (λ v above below.
+    planned_on setting before items v have above below)
+    ∙ ap (λ n. map (plan_to_keep setting after)
+    (range_with_len (current_mark before) (n + 1 - current_mark before))) (sym count)
+    ∙ ap (λ c. map (plan_to_keep setting after) (range_with_len c (version_count after + 1 - c)))
+    (sym current)
+
+-- one more version
+pub plans_pushed : (setting : Setting) (before items : List Item) (plans : List KeptPlan)
+    (kept : KeptPlan) → AreCaused setting before
+    → version_count (before ++ items) ≡ version_count before + 1
+    → current_mark (before ++ items) ≡ current_mark before
+    → kept ≡ plan_to_keep setting (before ++ items) (version_count before + 1)
+    → plans ≡ map (plan_to_keep setting before) (versions_from_current before)
+    → plans ++ kept ∷ []
+    ≡ map (plan_to_keep setting (before ++ items)) (versions_from_current (before ++ items))
+plans_pushed setting before items plans kept have count current new are =
+    let after : List Item = before ++ items in
+    let low : ℕ = current_mark before in
+    let n : ℕ = version_count before + 1 - low in
+    let there = (bounded setting before have).there in
+    let many : n + 1 ≡ version_count after + 1 - low = omega (arith, count, there) in
+    ap (λ xs. xs ++ kept ∷ [])
+    (are
+    ∙ mapped_same (plan_to_keep setting before) (plan_to_keep setting after) low n
+    (λ v above below.
+    planned_on setting before items v have above below))
+    ∙ ap (λ k. map (plan_to_keep setting after) (range_with_len low n) ++ k ∷ []) new
+    ∙ sym (map-range_with_len_more (plan_to_keep setting after) low n (version_count before + 1)
+    (omega (arith, there)))
+    ∙ ap (λ k. map (plan_to_keep setting after) (range_with_len low k)) many
+    ∙ ap (λ c. map (plan_to_keep setting after) (range_with_len c (version_count after + 1 - c)))
+    (sym current)
+
+-- those of the versions before a later current one are let go
+later_plans : (setting : Setting) (before items : List Item) (plans : List KeptPlan)
+    → AreCaused setting before
+    → version_count (before ++ items) ≡ version_count before
+    → current_mark before ≤ current_mark (before ++ items)
+    → current_mark (before ++ items) ≤ version_count before
+    → plans ≡ map (plan_to_keep setting before) (versions_from_current before)
+    → plans_from (current_mark (before ++ items)) plans
+    ≡ map (plan_to_keep setting (before ++ items)) (versions_from_current (before ++ items))
+later_plans setting before items plans have count rises bound are =
+    let after : List Item = before ++ items in
+    let to : ℕ = current_mark after in
+    let low : ℕ = current_mark before in
+    let n : ℕ = version_count before + 1 - low in
+    let own : max to low ≡ to = omega (arith, rises) in
+    let many : low + n - to ≡ version_count after + 1 - to = omega (arith, count, rises, bound) in
+    ap (plans_from to) are
+    ∙ filter_made (plan_to_keep setting before) (λ kept. nat_le to kept.version)
+    (range_with_len low n)
+    ∙ later_same (plan_to_keep setting before) (plan_to_keep setting after) to low n
+    (λ v above below.
+    planned_on setting before items v have above below)
+    ∙ ap (λ k. map (plan_to_keep setting after) (range_with_len k (low + n - k))) own
+    ∙ ap (λ k. map (plan_to_keep setting after) (range_with_len to k)) many
+
+-- none is let go twice
+pub plans_stay : (setting : Setting) (journal : List Item) (plans : List KeptPlan) (current : ℕ)
+    → AreCaused setting journal → current ≡ current_mark journal
+    → plans ≡ map (plan_to_keep setting journal) (versions_from_current journal)
+    → plans_from current plans ≡ map (plan_to_keep setting journal) (versions_from_current journal)
+plans_stay setting journal plans current have now are =
+    let marks = bounded setting journal have in
+    let same : journal ++ [] ≡ journal = append-nil journal in
+    ap (λ c. plans_from c plans) (now ∙ sym (ap current_mark same))
+    ∙ later_plans setting journal [] plans have (ap version_count same)
+    (omega (arith, ap current_mark same)) (omega (arith, ap current_mark same, marks.there)) are
+    ∙ ap (λ js. map (plan_to_keep setting js) (versions_from_current js)) same
+
+-- ---- a controller
+
+-- what leaves what it knows leaves it as it was
+pub controller_on : (setting : Setting) (before items : List Item) (controller : ControllerValue)
+    → AreCaused setting before → ControllerKeeps before (before ++ items)
+    → IsControllerOf setting before controller
+    → IsControllerOf setting (before ++ items) controller
+controller_on setting before items controller have keeps is = record {
+  marks = marks_on setting before (before ++ items) controller.marks keeps is.marks;
+  plans = plans_on setting before items controller.plans have keeps.count keeps.current is.plans;
+}
+
+-- what the controller keeps for the version that is current then is what its change touches
+settled_touched : (setting : Setting) (now : List Item) (before : MarksValue)
+    (plans : List KeptPlan) (new : ControllerValue) → AreMarksOf setting now before
+    → plans ≡ map (plan_to_keep setting now) (versions_from_current now)
+    → SettlesWith before plans new
+    → current_touched new ≡ touched_by setting now new.marks.current
+settled_touched setting now before plans new marks are settles =
+    let c = new.marks.current in
+    let is = settles.marks.1 in
+    let low = marks.current in
+    let last = marks.count in
+    ap (λ o. option_map_or (λ (kept : KeptPlan). kept.touched) o all_touched)
+    (ap (find (is_of c)) settles.plans ∙ still_found c c plans (omega arith)
+    ∙ ap (find (is_of c)) are
+    ∙ find_kept setting now (current_mark now) (version_count now + 1 - current_mark now) c
+    (omega (arith, low, is.current.rises))
+    (omega (arith, low, last, is.current.rises, is.current.bound)))
+
+-- the marks settle, and the plans are let go that no later call names
+pub settles_with : (setting : Setting) (now : List Item) (before : MarksValue)
+    (plans : List KeptPlan) (new : ControllerValue) → AreCaused setting now
+    → AreMarksOf setting now before
+    → plans ≡ map (plan_to_keep setting now) (versions_from_current now)
+    → SettlesWith before plans new
+    → (written_items now (acts.settling_acts (current_touched new) before new.marks)
+    ≡ settling setting now)
+    × IsControllerOf setting (now ++ settling setting now) new
+settles_with setting now before plans new have marks are settles =
+    let is = settles.marks.1 in
+    let so = settles_so setting now before new.marks settles.marks.0 (current_touched new)
+    (settled_touched setting now before plans new marks are settles) have marks is in
+    let after = so.1 in
+    let first = marks.current in
+    let last = marks.count in
+    let current = after.current in
+    let count : version_count (now ++ settling setting now) ≡ version_count now =
+    sym after.count ∙ is.count ∙ marks.count in (
+      so.0,
+      record {
+        marks = after;
+        plans = settles.plans ∙ ap (λ c. plans_from c plans) after.current
+            ∙ later_plans setting now (settling setting now) plans have count
+            (omega (arith, first, current, is.current.rises))
+            (omega (arith, last, current, is.current.bound)) are;
+      },
+    )

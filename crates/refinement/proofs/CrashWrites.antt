@@ -1,0 +1,300 @@
+-- A switch goes down: which packets are lost, which links change, what is told of that, and what
+-- the parts are behind it.
+use Rattle.std.proofs.Common.{ℕ, ◌≡◌, ◌+◌, ◌-◌, ◌^◌, ◌<◌, ◌==◌, true, false, if◌then◌else◌, None, List, [], ◌∷◌, ◌++◌, refl, ap, sym, subst, ◌∙◌, length, get_or, map, set, append_assoc, arith}
+use Rattle.std.specs.Prelude.{◌&&◌, not, All}
+use Rattle.std.proofs.lemmas.List.{get_or_default, length-set}
+use Rattle.std.proofs.lemmas.List.Sums.{sum_by-cons}
+use Rattle.controller.specs.declared.sends.Act.{Act}
+use Rattle.controller.specs.declared.sends.Act.TheVariants.{Post as PostAct}
+use Rattle.ctrl_msg.specs.declared.message.Message.{Message}
+use Rattle.journal.specs.declared.item.Item.{Item}
+use Rattle.journal.specs.declared.item.Item.TheVariants as item
+use Rattle.net_file.specs.Owners.{links_of}
+use Rattle.net_file.specs.declared.net.LinkRow.{LinkRow}
+use Rattle.steps.specs.declared.step.Step.TheVariants.{Crash}
+use Rattle.switch_core.specs.Life.{crashed_switch, near_changed}
+use Rattle.switch_core.specs.State.{SwitchValue}
+use Rattle.refinement.specs.Links.{LeavesSwitch}
+use Rattle.refinement.specs.SwitchOf.{switch_of}
+use Rattle.refinement.proofs.ForgottenState.{crash_is}
+use Rattle.refinement.proofs.SwitchLinkChanges.{kept_is}
+use Rattle.update_machine.specs.Boots.{is_up}
+use Rattle.update_machine.specs.Concerns.{concerns_calls, concerns_known, concerns_links, concerns_messages, concerns_policies, concerns_switch}
+use Rattle.update_machine.specs.Deliveries.{has_changed, link_changes}
+use Rattle.update_machine.specs.Folds.{count_of}
+use Rattle.update_machine.specs.Links.{is_link_up}
+use Rattle.update_machine.specs.Messages.{sent_from}
+use Rattle.update_machine.specs.Moves.{items_then}
+use Rattle.update_machine.specs.Packets.{is_packet}
+use Rattle.update_machine.specs.Pieces.{crash_items, nothing, piece}
+use Rattle.update_machine.specs.Setting.{Setting}
+use Rattle.update_machine.specs.Travels.{packets_at}
+use Rattle.update_machine.specs.PacketRoutes.{targets_of}
+use Rattle.update_machine.specs.LinkMasks.{near}
+use Rattle.update_machine.proofs.CallerLemmas.{have_append, last_given_append, links_keep}
+use Rattle.world_log.specs.Linking.{AreRelinked, all_adverts_sent, near_all}
+use Rattle.steps.specs.Steps.{IsStep}
+use Rattle.world_log.specs.Sending.{MaySend, act_items}
+use Rattle.refinement.specs.Refinement.{RefineJournal, NetworkState, is_up_link, up_links}
+use Rattle.refinement.specs.Flights.{flight_in}
+use Rattle.travelling.specs.Travelling.{Flights, WithoutAt, numbers_at, flight}
+use Rattle.refinement.proofs.ActItems.{SparesActs, acts_apart, acts_unnamed}
+use Rattle.refinement.proofs.BagDeliveries.{nothing_happens}
+use Rattle.refinement.proofs.SwitchLosses.{losts_apart, losts_bring_none, losts_no_rows, flight_lost}
+use Rattle.refinement.proofs.OneItem.{WroteOne, grown}
+use Rattle.refinement.proofs.PostedFrames.{bag_on}
+use Rattle.refinement.proofs.StandingPackets.{among, among_numbers, numbers_are}
+use Rattle.refinement.proofs.NetworkSwitches.{switch_is}
+use Rattle.refinement.proofs.StepRefines.{same_links}
+use Rattle.refinement.proofs.FactsAlong.{flight_along, flight_now}
+use Rattle.refinement.proofs.LinksChange.{relinked_state, one_relinks, one_advert, one_next, LinksChange, change_piece, change_may, change_refines}
+
+-- ---- what it writes
+
+-- a switch that is down stays as it is
+pub down_piece : (setting : Setting) (journal : List Item) (row s : ℕ) → is_up journal s ≡ false
+    → piece setting journal row (Crash s) ≡ item.Row row (Crash s) ∷ item.Nothing ∷ []
+unfolding piece crash_items
+down_piece setting journal row s down =
+    ap (λ b. item.Row row (Crash s) ∷ elim b [
+      | false ↦ nothing
+      | true ↦ items_then (item.Down s ∷ map item.Lost (packets_at journal s))
+          (link_changes setting journal) (journal ++ item.Row row (Crash s) ∷ [])
+    ]) down
+
+-- another one loses its packets with it, and its neighbours tell that
+pub up_piece : (setting : Setting) (journal : List Item) (row s : ℕ) → is_up journal s ≡ true
+    → let first = item.Down s ∷ map item.Lost (packets_at journal s) in
+    piece setting journal row (Crash s)
+    ≡ item.Row row (Crash s) ∷ first
+    ++ link_changes setting journal (journal ++ item.Row row (Crash s) ∷ first)
+unfolding piece crash_items
+up_piece setting journal row s up =
+    let first : List Item = item.Down s ∷ map item.Lost (packets_at journal s) in
+    ap (λ b. item.Row row (Crash s) ∷ elim b [
+      | false ↦ nothing
+      | true ↦ items_then first (link_changes setting journal)
+          (journal ++ item.Row row (Crash s) ∷ [])
+    ]) up
+    ∙ ap (λ js. item.Row row (Crash s) ∷ first ++ link_changes setting journal js)
+    (append_assoc journal (item.Row row (Crash s) ∷ []) first)
+
+-- no policy comes by marks and messages
+spares_policies : SparesActs concerns_policies
+spares_policies = record {
+  current = λ before v. refl;
+  retired = λ before v. refl;
+  sent = λ before n message. refl;
+}
+
+-- ---- a switch that is there
+
+-- it is the one in its place
+pub same_switch : (switches : List SwitchValue) (s : ℕ) (one other : SwitchValue)
+    → s < length switches → one ≡ get_or switches s one → other ≡ get_or switches s other
+    → one ≡ other
+same_switch switches s one other within one_at other_at =
+    one_at ∙ get_or_default switches s one other within ∙ sym other_at
+
+module _ {setting : Setting} {journal : List Item} {state : NetworkState}
+    (refines : RefineJournal setting journal state) where
+  -- nothing happens where it is down
+  pub stays_down : (row s : ℕ) (own : SwitchValue)
+      → IsStep setting.net (length setting.files) (Crash s)
+      → own ≡ get_or state.switches s own → own.is_up ≡ false
+      → WroteOne setting journal row (Crash s) item.Nothing state
+  unfolding switch_of
+  stays_down row s own may own_at down =
+      nothing_happens refines row (Crash s) may
+      (λ q. refl) (down_piece setting journal row s (sym (ap (λ (w : SwitchValue). w.is_up)
+      (switch_is refines s own may own_at)) ∙ down))
+
+-- ---- links
+
+-- links are up as before
+fallen_up : (journal : List Item) (row s : ℕ) (link : LinkRow)
+    → is_up_link (grown journal row (Crash s) (item.Down s)) link ≡ is_up_link journal link
+unfolding is_link_up
+fallen_up journal row s link = search (last_given_append)
+
+module _ {setting : Setting} {journal : List Item} {state : NetworkState}
+    (refines : RefineJournal setting journal state) (row s : ℕ) (own changed : SwitchValue)
+    (may : IsStep setting.net (length setting.files) (Crash s)) (within : s < length state.switches)
+    (own_at : own ≡ get_or state.switches s own) (changed_is : changed ≡ crashed_switch own)
+    (up : own.is_up ≡ true) where
+  abbrev packets : List ℕ
+  packets = packets_at journal s
+
+  abbrev losts : List Item
+  losts = map item.Lost packets
+
+  abbrev told : List Item
+  told = item.Down s ∷ losts
+
+  abbrev begun : List Item
+  begun = journal ++ item.Row row (Crash s) ∷ []
+
+  abbrev fallen : List Item
+  fallen = grown journal row (Crash s) (item.Down s)
+
+  abbrev now : List Item
+  now = journal ++ item.Row row (Crash s) ∷ told
+
+  split : fallen ++ losts ≡ now
+  split = append_assoc journal (item.Row row (Crash s) ∷ item.Down s ∷ []) losts
+
+  own_is : own ≡ switch_of setting journal s
+  own_is = own_at ∙ refines.each s own within
+
+  was_up : is_up journal s ≡ true
+  unfolding switch_of
+  was_up = sym (ap (λ (w : SwitchValue). w.is_up) own_is) ∙ up
+
+  -- the switch has lost what it learnt
+  crashed_is : changed ≡ switch_of setting now s
+  crashed_is =
+      let down : List Item = begun ++ item.Down s ∷ [] in
+      let whole : down ++ losts ≡ now =
+      append_assoc begun (item.Down s ∷ []) losts
+      ∙ append_assoc journal (item.Row row (Crash s) ∷ []) told in
+      changed_is ∙ ap crashed_switch own_is
+      ∙ ap crashed_switch (sym (kept_is setting s journal (item.Row row (Crash s) ∷ []) (refl, tt)
+      (refl, tt)))
+      ∙ sym (crash_is setting begun s)
+      ∙ sym (kept_is setting s down losts
+      (losts_apart (concerns_known s) (λ before k. refl) down packets)
+      (losts_apart (concerns_calls s) (λ before k. refl) down packets))
+      ∙ ap (λ js. switch_of setting js s) whole
+
+  unchanged : has_changed setting journal now s ≡ false
+  unfolding switch_of
+  unchanged =
+      let down : is_up now s ≡ false =
+      sym (ap (λ (w : SwitchValue). w.is_up) (sym changed_is ∙ crashed_is)) in
+      ap (λ b. b && not (near setting journal s == near setting now s)) down
+
+  -- another switch hears nothing
+  leaves : (q : ℕ) → (s == q) ≡ false → LeavesSwitch q journal row (Crash s) told
+  leaves q other = record {
+    in_step = (tt, losts_no_rows packets);
+    apart = (
+      refl,
+      (
+        other,
+        losts_apart (concerns_switch q) (λ before k. refl) (begun ++ item.Down s ∷ []) packets,
+      ),
+    );
+    calls = (
+      refl,
+      (
+        refl,
+        losts_apart (concerns_calls q) (λ before k. refl) (begun ++ item.Down s ∷ []) packets,
+      ),
+    );
+  }
+
+  abbrev others : List SwitchValue
+  others = set state.switches s changed
+
+  same_up : up_links setting now ≡ up_links setting journal
+  same_up = same_links now journal setting.net.links (λ link.
+      ap (λ js. is_up_link js link) (sym split)
+      ∙ (links_keep setting fallen losts
+      (losts_apart concerns_links (λ before k. refl) fallen packets)).up link.one link.two
+      ∙ fallen_up journal row s link)
+
+  none_come : count_of is_packet (item.Row row (Crash s) ∷ told) ≡ 0
+  none_come =
+      let row_sum = sum_by-cons (λ x. if is_packet x then 1 else 0) (item.Row row (Crash s)) told in
+      let down_sum = sum_by-cons (λ x. if is_packet x then 1 else 0) (item.Down s) losts in
+      omega (arith, row_sum, down_sum, losts_bring_none packets)
+
+  changes : LinksChange setting journal row (Crash s) told state others state.links state.posts
+  changes = record {
+    may = may;
+    piece_is = up_piece setting journal row s was_up;
+    not_told = refl;
+    none_come = none_come;
+    as_many = length-set state.switches s changed;
+    number = refl;
+    bag = bag_on journal (item.Row row (Crash s) ∷ told) state.posts (
+      refl,
+      (
+        refl,
+        losts_apart concerns_messages (λ before k. refl) (begun ++ item.Down s ∷ []) packets,
+      ),
+    ) refines.bag;
+    up = λ q below. refines.up q below ∙ ap (λ rows. links_of rows q) (sym same_up);
+    relinks = one_relinks refines row (Crash s) told s changed within leaves (sym crashed_is
+        ∙ sym (ap (λ b. if b then near_changed changed (near setting now s) else changed)
+        unchanged));
+    own = one_advert refines row (Crash s) told s changed within leaves
+        (λ changes. let clash : true ≡ false = sym changes ∙ unchanged in absurd cc);
+  }
+
+  abbrev messages : List Message
+  messages = all_adverts_sent state.near (near_all state.links others) others
+
+  abbrev number : ℕ
+  number = length state.posts + 1
+
+  numbers : numbers_at state.travelling s ≡ packets
+  numbers = numbers_are refines s
+
+  pub crash_piece : piece setting journal row (Crash s)
+      ≡ item.Row row (Crash s) ∷ item.Down s
+      ∷ map item.Lost (numbers_at state.travelling s) ++ sent_from number messages
+  crash_piece = change_piece refines changes
+      ∙ ap (λ all. item.Row row (Crash s) ∷ item.Down s
+      ∷ map item.Lost all ++ sent_from number messages) (sym numbers)
+
+  pub crash_may : length state.posts < 990_000
+      → MaySend state.posts messages
+  crash_may = change_may refines changes
+
+  -- each switch has a next number for its own advert
+  pub crash_next : length state.posts < 990_000
+      → All (λ (switch : SwitchValue). switch.seq < 2 ^ 32 - 1) others
+  crash_next room = one_next refines row (Crash s) told s changed within leaves room (λ next.
+      subst (λ (w : SwitchValue). w.seq < 2 ^ 32 - 1) (sym changed_is) (omega arith))
+
+  -- ---- the parts behind it
+
+  abbrev acts : List Act
+  acts = map PostAct messages
+
+  abbrev all : List Item
+  all = item.Row row (Crash s) ∷ told ++ act_items number acts
+
+  -- the packets on their way
+  left : (after : Flights) → WithoutAt state.travelling s after → (i : ℕ)
+      → flight after i ≡ flight_in setting (journal ++ all) i
+  left after without i =
+      without i
+      ∙ ap (λ b. if b then None else flight state.travelling i)
+      (sym (among_numbers state.travelling s i) ∙ ap (among i) numbers)
+      ∙ ap (λ o. if among i packets then None else o)
+      (refines.packet i ∙ flight_now setting journal i)
+      ∙ sym (flight_along setting journal all i
+      (have_append (λ js one. concerns_policies js one ≡ false) journal
+      (item.Row row (Crash s) ∷ told) (act_items number acts) (
+        refl,
+        (
+          refl,
+          losts_apart concerns_policies (λ before k. refl) (begun ++ item.Down s ∷ []) packets,
+        ),
+      ) (acts_apart concerns_policies spares_policies now number acts))
+      ∙ flight_lost (targets_of setting journal) i journal
+      (item.Row row (Crash s) ∷ item.Down s ∷ []) packets (act_items number acts) _
+      (refl, (refl, tt)) (acts_unnamed i number acts))
+
+  pub crash_refines : (others_now : List SwitchValue) (after : Flights)
+      → AreRelinked state.near (near_all state.links others) others others_now
+      → WithoutAt state.travelling s after
+      → RefineJournal setting (journal ++ (item.Row row (Crash s) ∷ item.Down s
+      ∷ map item.Lost (numbers_at state.travelling s) ++ sent_from number messages))
+      (relinked_state state others state.links state.posts others_now after)
+  crash_refines others_now after are without =
+      subst (λ (losses : List ℕ). RefineJournal setting (journal ++ (item.Row row (Crash s)
+      ∷ item.Down s ∷ map item.Lost losses ++ sent_from number messages))
+      (relinked_state state others state.links state.posts others_now after)) (sym numbers) (change_refines refines changes others_now after are (left after without))

@@ -1,0 +1,252 @@
+-- Where a packet goes on by its switch's answer: by its port, or to the targets of its partition.
+use Rattle.std.proofs.Common.{ℕ, ◌≡◌, ◌==◌, Bool, true, false, if◌then◌else◌, Option, Some, None, List, [], ◌∷◌, ◌++◌, refl, ap, sym, subst, eq-eqb}
+use Rattle.std.specs.Prelude.{⊤, option_map, unwrap_or}
+use Rattle.std.specs.Option.{ok_or}
+use Rattle.failover.specs.Routes.{route_of}
+use Rattle.net_file.specs.Joins.{owner_of}
+use Rattle.net_file.specs.Owners.{AreOwners, port_owner}
+use Rattle.net_file.specs.declared.ports.Ports.{Ports}
+use Rattle.policy_rules.specs.declared.packet.Cause.{Cause}
+use Rattle.policy_rules.specs.declared.packet.Leg.TheVariants.{Seek, Exit}
+use Rattle.policy_rules.specs.declared.policy.Action.{Action}
+use Rattle.policy_rules.specs.declared.policy.Action.TheVariants as action
+use Rattle.policy_rules.specs.declared.rules.Partition.{Partition}
+use Rattle.policy_rules.specs.declared.rules.Rule.{Rule}
+use Rattle.journal.specs.declared.item.Item.{Item}
+use Rattle.journal.specs.declared.item.Item.TheVariants as item
+use Rattle.switch_core.specs.Deciding.{by_entry, by_rule, part_numbered, rule_in}
+use Rattle.switch_core.specs.Ends.{around, cause_of, exit_by, leave_by, next_of, set_out}
+use Rattle.switch_core.specs.Answering.{answer_by, decided_at, looked_up, seek_by}
+use Rattle.switch_core.specs.Answers.{Answer}
+use Rattle.switch_core.specs.Answers as answer
+use Rattle.switch_core.specs.State.{SwitchValue, stamp_tables}
+use Rattle.switch_core.specs.declared.answers.Decision.{Decision}
+use Rattle.switch_core.specs.declared.answers.Next.TheVariants.{Out}
+use Rattle.switch_core.specs.declared.packet.Packet.{Packet}
+use Rattle.switch_table.specs.declared.search.Found.{Found}
+use Rattle.switch_table.specs.declared.search.Found.TheVariants as found
+use Rattle.tunnel.specs.Moves.{tunnel_begun}
+use Rattle.tunnel.specs.Tunnel.{TunnelValue}
+use Rattle.update_machine.specs.Caches.{lookup_at}
+use Rattle.update_machine.specs.Marks.{retired_mark}
+use Rattle.update_machine.specs.Messages.{sent_from}
+use Rattle.update_machine.specs.PacketRoutes.{no_switch, owner, targets_of}
+use Rattle.update_machine.specs.Setting.{Setting}
+use Rattle.update_machine.specs.Versions.{stamp_of, tables_at}
+use Rattle.packet_laws.specs.OnWay.{IsUnknown}
+use Rattle.packet_laws.specs.Facts.{PacketFacts, facts_after}
+use Rattle.packet_laws.proofs.HeaderLookups.{FindsTargets, redirect_found}
+use Rattle.world_log.specs.Writing.{answer_items, answer_flight, cache_message, entered_items, entered_flight, message_list}
+use Rattle.travelling.specs.Travelling.{Standing}
+use Rattle.refinement.proofs.TakenLegs.{at_switch}
+use Rattle.refinement.proofs.LookupRefines.{IsAsked, targets_are, its_stamp}
+use Rattle.refinement.proofs.OtherPackets.{sends_unnamed}
+use Rattle.refinement.proofs.OwnPacketAnswers.{GoesOnward, IsSeen, decided_goes}
+use Rattle.refinement.proofs.FactsAlong.{Targets, flight_by, facts_along}
+
+-- ---- once it is decided
+
+exit_goes : (setting : Setting) (journal : List Item) (s : SwitchValue) (near : ℕ) (packet : Packet) (at : ℕ)
+    (port its : ℕ)
+    (decision : Decision) (cause : Cause) (route : Option (List ℕ))
+    → decision.action ≡ action.Out port → owner setting port ≡ its
+    → GoesOnward (targets_of setting journal) (at_switch at packet) packet.ingress decision
+    (exit_by (ok_or (option_map (λ way. tunnel_begun packet.number packet.header packet.ingress
+    (Exit port) (its ∷ []) way packet.down) route) cause))
+exit_goes setting journal s near packet at port its decision cause None acts owns = tt
+exit_goes setting journal s near packet at port its decision cause (Some route) acts owns = (
+  port,
+  acts,
+  record {
+    route = route;
+    is = ap (λ o. tunnel_begun packet.number packet.header packet.ingress (Exit port) (o ∷ []) route
+        packet.down) (sym owns);
+  },
+)
+
+leave_goes : (setting : Setting) (journal : List Item) (s : SwitchValue) (near : ℕ) (packet : Packet) (at : ℕ) (port : ℕ)
+    (decision : Decision) (its : Option ℕ)
+    → decision.action ≡ action.Out port → owner_of setting.net.switches port ≡ its
+    → GoesOnward (targets_of setting journal) (at_switch at packet) packet.ingress decision
+    (leave_by s near packet port its)
+unfolding leave_by set_out
+leave_goes setting journal s near packet at port decision None acts owns = tt
+leave_goes setting journal s near packet at port decision (Some its) acts owns =
+    by_place (its == s.number)
+    (exit_goes setting journal s near packet at port its decision
+    (cause_of s near packet.down (Exit port) (its ∷ []))
+    (route_of s.database s.number (its ∷ []) near packet.down) acts
+    (ap (λ o. unwrap_or o no_switch) owns))
+  where
+    by_place : (here : Bool)
+        → GoesOnward (targets_of setting journal) (at_switch at packet) packet.ingress decision
+        (exit_by (set_out s near packet (Exit port) (its ∷ [])))
+        → GoesOnward (targets_of setting journal) (at_switch at packet) packet.ingress decision
+        (if here then Out port else exit_by (set_out s near packet (Exit port) (its ∷ [])))
+    by_place true goes = tt
+    by_place false goes = goes
+
+pub next_goes : (setting : Setting) (journal : List Item) (s : SwitchValue) (near : ℕ) (ports : Ports) (packet : Packet)
+    (at : ℕ) (decision : Decision) (what : Action) → AreOwners setting.net.switches ports
+    → decision.action ≡ what
+    → GoesOnward (targets_of setting journal) (at_switch at packet) packet.ingress decision
+    (next_of s (around near ports) packet what)
+unfolding next_of
+next_goes setting journal s near ports packet at decision action.Drop owners acts = tt
+next_goes setting journal s near ports packet at decision (action.Out port) owners acts =
+    leave_goes setting journal s near packet at port decision (port_owner ports port) acts
+    (sym (owners port))
+
+-- ---- by a lookup
+
+-- a tunnel to the targets of a partition, at the beginning of its route
+pub record IsWay (targets : Targets) (at : Standing) (tunnel : TunnelValue) : Type 0 where
+  pub version : ℕ
+  pub partition : ℕ
+  pub route : List ℕ
+  pub is : tunnel ≡ tunnel_begun at.packet at.header at.ingress (Seek version partition)
+      (targets (Seek version partition)) route at.down
+
+abbrev pub IsComing : Targets → Standing → Answer → Type 0
+IsComing targets at (answer.Decided decision cache onward) =
+    GoesOnward targets at at.ingress decision onward
+IsComing targets at (answer.Seek tunnel) = IsWay targets at tunnel
+IsComing targets at (answer.Stuck cause leg) = ⊤
+
+seek_goes : (targets : Targets) (packet : Packet) (s version partition : ℕ) (to : List ℕ)
+    (cause : Cause) (route : Option (List ℕ)) → targets (Seek version partition) ≡ to
+    → IsComing targets (at_switch s packet) (seek_by (Seek version partition)
+    (ok_or (option_map (λ way. tunnel_begun packet.number packet.header packet.ingress
+    (Seek version partition) to way packet.down) route) cause))
+seek_goes targets packet s version partition to cause None is = tt
+seek_goes targets packet s version partition to cause (Some route) is = record {
+  version = version;
+  partition = partition;
+  route = route;
+  is = ap (λ t. tunnel_begun packet.number packet.header packet.ingress (Seek version partition) t route
+      packet.down) (sym is);
+}
+
+-- by a rule of a partition of the switch's own
+pub ruled_goes : (setting : Setting) (journal : List Item) (s version place : ℕ) (w : SwitchValue)
+    (mask : ℕ) (ports : Ports) (packet : Packet) (part : Partition)
+    → AreOwners setting.net.switches ports
+    → IsComing (targets_of setting journal) (at_switch s packet)
+    (decided_at w (around mask ports) packet version part place)
+unfolding decided_at
+ruled_goes setting journal s version place w mask ports packet part owners =
+    let rule : Rule = rule_in part place in
+    next_goes setting journal w mask ports packet s (by_rule w.number version part.number rule)
+    rule.action owners refl
+
+module _ (setting : Setting) (journal : List Item) (s : ℕ) (w : SwitchValue) (mask : ℕ)
+    (ports : Ports) (packet : Packet) (asked : IsAsked setting journal s w mask ports packet) where
+  abbrev leads : Targets
+  leads = targets_of setting journal
+
+  found_goes : (what : Found) → lookup_at setting journal s packet.header ≡ what
+      → IsComing leads (at_switch s packet)
+      (answer_by w (around mask ports) packet (tables_at setting journal (stamp_of journal s) s)
+      what)
+  unfolding answer_by set_out
+  found_goes (found.Cached entry) answer =
+      next_goes setting journal w mask ports packet s (by_entry entry) entry.action asked.owners refl
+  found_goes (found.Authority partition place) answer =
+      ruled_goes setting journal s (stamp_of journal s) place w mask ports packet
+      (part_numbered (tables_at setting journal (stamp_of journal s) s) partition) asked.owners
+  found_goes (found.Redirect partition to) answer =
+      let version : ℕ = stamp_of journal s in
+      let own : FindsTargets setting journal s packet.header partition to =
+      redirect_found setting journal s packet.header partition to
+      (its_stamp setting journal s w mask ports packet asked) asked.sound answer in
+      seek_goes leads packet s version partition to
+      (cause_of w mask packet.down (Seek version partition) to)
+      (route_of w.database w.number to mask packet.down)
+      (targets_are setting journal version partition to own.part.hosted own.part.finds.at
+      own.part.number own.own)
+
+  pub looked_goes : IsComing (targets_of setting journal) (at_switch s packet)
+      (looked_up w (around mask ports) packet)
+  unfolding looked_up
+  looked_goes =
+      let what : Found = lookup_at setting journal s packet.header in
+      subst (λ f. IsComing leads (at_switch s packet)
+      (answer_by w (around mask ports) packet (stamp_tables w) f))
+      (sym (asked.sees.lookup packet.header asked.serving))
+      (subst (λ t. IsComing leads (at_switch s packet)
+      (answer_by w (around mask ports) packet t what)) (sym (asked.sees.stamped asked.serving))
+      (found_goes what refl))
+
+-- ---- so what is known of it then is what the items say
+
+-- the version and the rule of its decision, as its facts have them
+pub record AreOfFacts (version : ℕ) (rule : Option ℕ) (facts : PacketFacts) : Type 0 where
+  pub its_version : version ≡ unwrap_or (option_map (λ decision. decision.version) facts.decision) 0
+  pub its_rule : rule ≡ unwrap_or (option_map (λ decision. decision.rule) facts.decision) None
+
+by_way : (targets : Targets) (before : List Item) (number : ℕ) (at : Standing)
+    (version partition : ℕ) (route : List ℕ) (facts : PacketFacts) → IsSeen at at.ingress facts
+    → (let tunnel : TunnelValue = tunnel_begun at.packet at.header at.ingress (Seek version partition)
+    (targets (Seek version partition)) route at.down in
+    answer_flight (unwrap_or (option_map (λ decision. decision.version) facts.decision) 0)
+    (unwrap_or (option_map (λ decision. decision.rule) facts.decision) None) (answer.Seek tunnel)
+    ≡ flight_by targets at.packet
+    (facts_along at.packet before (answer_items number at (answer.Seek tunnel)) facts))
+by_way targets before number at version partition route facts seen =
+    let own : (at.packet == at.packet) ≡ true = eq-eqb _ _ refl in
+    rw (own, seen.on, seen.header, seen.came, seen.found) refl
+
+pub answer_goes : (targets : Targets) (before : List Item) (number : ℕ) (at : Standing)
+    (version : ℕ) (rule : Option ℕ) (what : Answer) (facts : PacketFacts)
+    → IsSeen at at.ingress facts → AreOfFacts version rule facts → IsComing targets at what
+    → answer_flight version rule what
+    ≡ flight_by targets at.packet
+    (facts_along at.packet before (answer_items number at what) facts)
+answer_goes targets before number at version rule (answer.Decided decision cache onward) facts seen
+    of comes =
+    decided_goes targets before
+    (sent_from number (message_list (cache_message at.ingress cache))) at at.ingress decision onward
+    facts (sends_unnamed at.packet number (cache_message at.ingress cache)) seen comes
+answer_goes targets before number at version rule (answer.Seek tunnel) facts seen of comes =
+    let P : ℕ → Option ℕ → TunnelValue → Type 0 = λ v r t. answer_flight v r (answer.Seek t)
+    ≡ flight_by targets at.packet
+    (facts_along at.packet before (answer_items number at (answer.Seek t)) facts) in
+    subst (λ v. P v rule tunnel) (sym of.its_version)
+    (subst (λ r. P (unwrap_or (option_map (λ decision. decision.version) facts.decision) 0) r
+    tunnel) (sym of.its_rule)
+    (subst (P (unwrap_or (option_map (λ decision. decision.version) facts.decision) 0)
+    (unwrap_or (option_map (λ decision. decision.rule) facts.decision) None)) (sym comes.is)
+    (by_way targets before number at comes.version comes.partition comes.route facts seen)))
+answer_goes targets before number at version rule (answer.Stuck cause leg) facts seen of comes =
+    let own : (at.packet == at.packet) ≡ true = eq-eqb _ _ refl in
+    rw own refl
+
+-- a packet that just came in
+abbrev pub GoesIn : Targets → Standing → Option Answer → Type 0
+GoesIn targets at None = ⊤
+GoesIn targets at (Some what) =
+    (at.ingress ≡ at.switch) × IsComing targets at what
+
+pub entered_goes : (targets : Targets) (before : List Item) (number : ℕ) (at : Standing)
+    (what : Option Answer) (facts : PacketFacts) → IsUnknown facts → facts.found ≡ at.down
+    → GoesIn targets at what
+    → entered_flight what
+    ≡ flight_by targets at.packet
+    (facts_along at.packet before (entered_items number at what) facts)
+entered_goes targets before number at None facts unknown unmarked comes =
+    rw unknown.travels refl
+entered_goes targets before number at (Some what) facts unknown unmarked comes =
+    let own : (at.packet == at.packet) ≡ true = eq-eqb _ _ refl in
+    let came : Item = item.Entered at.packet at.switch at.header in
+    let seen : PacketFacts = facts_after (retired_mark before) came facts in
+    let P : Bool → Type 0 = λ b. answer_flight 0 None what
+    ≡ flight_by targets at.packet (facts_along at.packet (before ++ came ∷ [])
+    (answer_items number at what)
+    (if b then facts_after (retired_mark before) came facts else facts)) in
+    subst P (sym own)
+    (answer_goes targets (before ++ came ∷ []) number at 0 None what seen
+    (record { on = refl; header = refl; came = ap Some (sym comes.0); found = unmarked })
+    (record {
+      its_version = rw unknown.decision refl;
+      its_rule = rw unknown.decision refl;
+    }) comes.1)

@@ -1,0 +1,159 @@
+-- A message that is delivered opens its switch: which links change, what is told of that, and what
+-- the parts are behind it.
+use Rattle.std.proofs.Common.{ℕ, ◌≡◌, ◌+◌, ◌-◌, ◌^◌, ◌<◌, ◌==◌, false, Some, List, [], ◌∷◌, ◌++◌, refl, ap, sym, subst, ◌∙◌, length, get_or, set, append_assoc}
+use Rattle.std.specs.Prelude.{All}
+use Rattle.std.specs.Option.{option_map_or}
+use Rattle.std.proofs.lemmas.List.{length-set}
+use Rattle.message_bag.specs.Posts.{IsMessageOf, Post, with_delivered}
+use Rattle.ctrl_msg.specs.declared.message.Message.{Message}
+use Rattle.ctrl_msg.specs.declared.message.Place.TheVariants as receiver
+use Rattle.journal.specs.declared.item.Item.{Item}
+use Rattle.journal.specs.declared.item.Item.TheVariants as item
+use Rattle.net_file.specs.Owners.{links_of}
+use Rattle.net_file.specs.declared.net.LinkRow.{LinkRow}
+use Rattle.steps.specs.declared.step.Step.TheVariants.{Deliver}
+use Rattle.switch_core.specs.Hearing.{with_message, opening_stamp}
+use Rattle.switch_core.specs.Life.{next_advert}
+use Rattle.switch_core.specs.State.{SwitchValue}
+use Rattle.refinement.specs.Hearing.{HearsOpening}
+use Rattle.refinement.specs.Links.{LeavesSwitch, relinked_switch}
+use Rattle.refinement.specs.SwitchOf.{switch_of}
+use Rattle.refinement.proofs.DeliveredRecords.{hearing_refines}
+use Rattle.update_machine.specs.Deliveries.{link_changes}
+use Rattle.update_machine.specs.Links.{is_link_up}
+use Rattle.update_machine.specs.Messages.{is_to_controller, sent_from}
+use Rattle.update_machine.specs.Pieces.{piece}
+use Rattle.steps.specs.Steps.{IsStep}
+use Rattle.update_machine.specs.Setting.{Setting}
+use Rattle.update_machine.specs.Boots.{is_to_switch}
+use Rattle.update_machine.specs.LinkMasks.{near}
+use Rattle.update_machine.proofs.CallerLemmas.{last_given_append}
+use Rattle.world_log.specs.Linking.{AreRelinked, all_adverts_sent, near_all}
+use Rattle.refinement.specs.Refinement.{RefineJournal, NetworkState, is_up_link, up_links}
+use Rattle.refinement.specs.Bags.{IsBagOf}
+use Rattle.refinement.proofs.HeardBy.{IsThere, as_sent, deliver_piece, is_there, row_keeps}
+use Rattle.refinement.proofs.OneItem.{grown}
+use Rattle.refinement.proofs.JournalLaws.{reached_known}
+use Rattle.refinement.proofs.PostedFrames.{bag_on}
+use Rattle.refinement.proofs.StepRefines.{same_links}
+use Rattle.refinement.proofs.LinksChange.{relinked_state, one_relinks, one_advert, one_next, LinksChange, change_piece, change_may, unmoved, change_refines}
+use Rattle.world_log.specs.Sending.{MaySend}
+
+-- links are up as before, where none is told to be up or down
+same_up : (journal : List Item) (row n s stamp : ℕ) (link : LinkRow)
+    → is_up_link (grown journal row (Deliver n) (item.Delivered n) ++ item.Opened s stamp ∷ []) link
+    ≡ is_up_link journal link
+unfolding is_link_up
+same_up journal row n s stamp link = search (last_given_append, append_assoc)
+
+module _ {setting : Setting} {journal : List Item} {state : NetworkState}
+    (refines : RefineJournal setting journal state) (row n s stamp : ℕ) (message : Message)
+    (own changed : SwitchValue) (may : IsStep setting.net (length setting.files) (Deliver n))
+    (there : IsMessageOf state.posts n message) (to : message.to ≡ receiver.Switch s)
+    (within : s < length state.switches) (own_at : own ≡ get_or state.switches s own)
+    (changed_is : changed ≡ with_message own n message.body)
+    (opens : opening_stamp own message.body ≡ Some stamp) where
+  its : IsThere setting journal state.posts row n message
+  its = is_there refines row n message there
+
+  own_is : own ≡ switch_of setting journal s
+  own_is = own_at ∙ refines.each s own within
+
+  changed_so : changed ≡ with_message (switch_of setting journal s) n message.body
+  changed_so = changed_is ∙ ap (λ w. with_message w n message.body) own_is
+
+  abbrev told : List Item
+  told = item.Delivered n ∷ item.Opened s stamp ∷ []
+
+  abbrev now : List Item
+  now = journal ++ item.Row row (Deliver n) ∷ told
+
+  split : grown journal row (Deliver n) (item.Delivered n) ++ item.Opened s stamp ∷ [] ≡ now
+  split = append_assoc journal (item.Row row (Deliver n) ∷ item.Delivered n ∷ [])
+      (item.Opened s stamp ∷ [])
+
+  hears_open : HearsOpening setting journal n s message.body stamp
+  hears_open = hearing_refines.opening setting journal n s stamp message.body (record {
+    sent = its.sent ∙ ap Some (as_sent message s to);
+    names = (reached_known setting journal refines.sound refines.reached).tables.names;
+    touched = (reached_known setting journal refines.sound refines.reached).touched;
+  }) (ap (λ w. opening_stamp w message.body) (sym own_is) ∙ opens)
+
+  piece_so : piece setting journal row (Deliver n)
+      ≡ item.Row row (Deliver n) ∷ told ++ link_changes setting journal now
+  piece_so = deliver_piece setting journal row n its.deliverable
+      ∙ ap (λ items. item.Row row (Deliver n) ∷ item.Delivered n ∷ items) (hears_open.items row
+      ∙ ap (λ js. item.Opened s stamp ∷ link_changes setting journal js) split)
+
+  -- another switch hears nothing
+  leaves : (q : ℕ) → (s == q) ≡ false → LeavesSwitch q journal row (Deliver n) told
+  leaves q other = record {
+    in_step = (tt, (tt, tt));
+    apart = (
+      refl,
+      (
+        ap (λ o. option_map_or (λ (m : Message). is_to_switch q m.to) o false)
+            (row_keeps journal row n ∙ its.sent) ∙ ap (is_to_switch q) to ∙ other,
+        (other, tt),
+      ),
+    );
+    calls = (refl, (refl, (refl, tt)));
+  }
+
+  abbrev others : List SwitchValue
+  others = set state.switches s changed
+
+  abbrev posts : List Post
+  posts = with_delivered state.posts n
+
+  same : up_links setting now ≡ up_links setting journal
+  same = same_links now journal setting.net.links (λ link.
+      ap (λ js. is_up_link js link) (sym split) ∙ same_up journal row n s stamp link)
+
+  changes : LinksChange setting journal row (Deliver n) told state others state.links posts
+  changes = record {
+    may = may;
+    piece_is = piece_so;
+    not_told = ap (λ o. option_map_or (λ (m : Message). is_to_controller m.to) o false) its.sent
+        ∙ ap is_to_controller to;
+    none_come = refl;
+    as_many = length-set state.switches s changed;
+    number = its.as_many;
+    bag = subst (λ js. IsBagOf js posts) split
+        (bag_on (grown journal row (Deliver n) (item.Delivered n)) (item.Opened s stamp ∷ [])
+        posts (refl, tt) its.bag);
+    up = λ q below. refines.up q below ∙ ap (λ rows. links_of rows q) (sym same);
+    relinks = one_relinks refines row (Deliver n) told s changed within leaves
+        (hears_open.record_of row ∙ ap (relinked_switch setting journal now s) (sym changed_so));
+    own = one_advert refines row (Deliver n) told s changed within leaves
+        (λ changes. hears_open.advert row changes
+        ∙ ap (λ w. next_advert w (near setting now s)) (sym changed_so));
+  }
+
+  abbrev messages : List Message
+  messages = all_adverts_sent state.near (near_all state.links others) others
+
+  pub opening_piece : piece setting journal row (Deliver n)
+      ≡ item.Row row (Deliver n) ∷ item.Delivered n ∷ item.Opened s stamp
+      ∷ sent_from (length state.posts + 1) messages
+  opening_piece = change_piece refines changes
+
+  pub opening_may : length state.posts < 990_000
+      → MaySend (with_delivered state.posts n) messages
+  opening_may = change_may refines changes
+
+  -- each switch has a next number for its own advert
+  pub opening_next : length state.posts < 990_000
+      → All (λ (switch : SwitchValue). switch.seq < 2 ^ 32 - 1) others
+  opening_next room = one_next refines row (Deliver n) told s changed within leaves room
+      (λ next. subst (λ (w : SwitchValue). w.seq < 2 ^ 32 - 1) (sym changed_so)
+      (next.then n message.body))
+
+  -- the parts behind the step, where these are the switches
+  pub opening_refines : (relinked_switch : List SwitchValue)
+      → AreRelinked state.near (near_all state.links others) others relinked_switch
+      → RefineJournal setting (journal ++ item.Row row (Deliver n) ∷ item.Delivered n
+      ∷ item.Opened s stamp ∷ sent_from (length state.posts + 1) messages)
+      (relinked_state state others state.links posts relinked_switch state.travelling)
+  opening_refines relinked_switch are = change_refines refines changes relinked_switch
+      state.travelling are (unmoved refines changes (λ i. (refl, (refl, (refl, tt)))))

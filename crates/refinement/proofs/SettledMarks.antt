@@ -1,0 +1,585 @@
+-- The marks settle as the journal's rule says, and what is sent then is what the definition says.
+use Rattle.std.proofs.Common.{ℕ, ◌≡◌, ◌+◌, ◌-◌, ◌<◌, ◌≤◌, ◌&&◌, ◌==◌, Bool, true, false, not, if◌then◌else◌, Option, Some, None, List, [], ◌∷◌, ◌++◌, length, map, refl, ap, sym, subst, ◌∙◌, append-nil, append_assoc, arith, rules}
+use Rattle.std.specs.Prelude.{◌||◌, IsTrue, IsFalse, filter, is_some, nat_lt, slice_get, unwrap_or}
+use Rattle.std.specs.List.{list_all, list_any, range_with_len}
+use Rattle.std.specs.Option.{option_map_or, option_or}
+use Rattle.std.proofs.lemmas.Bool.{eq-eqb, eqb-true}
+use Rattle.std.proofs.lemmas.Bool.Decides.{nat_tests}
+use Rattle.std.proofs.lemmas.List.{get_or-map, length-map}
+use Rattle.std.proofs.lemmas.List.Folds.{list_all-map}
+use Rattle.std.proofs.lemmas.List.FromFn.{fill_by_all}
+use Rattle.std.proofs.lemmas.Option.{slice_get-get_or}
+use Rattle.ctrl_msg.specs.declared.message.Body.{Body}
+use Rattle.ctrl_msg.specs.declared.message.Body.TheVariants.{Collect, OpenAt, Stamp}
+use Rattle.ctrl_msg.specs.declared.message.Message.{Message}
+use Rattle.journal.specs.declared.item.Item.{Item}
+use Rattle.journal.specs.declared.item.Item.TheVariants as item
+use Rattle.update_machine.specs.Causes.{HaveCauses}
+use Rattle.update_machine.specs.Marks as machine
+use Rattle.update_machine.specs.Marks.{acked_stamp, controller_heard, current_mark, first_number, known_boot, least_number, next_current, next_retired, open_in, open_version, opened_at, retired_mark}
+use Rattle.update_machine.specs.Messages.{next_message, send_items, sent_from}
+use Rattle.update_machine.specs.Moves.{items_then}
+use Rattle.update_machine.specs.Setting.{Setting}
+use Rattle.update_machine.specs.SwitchNumbers.{switches_of}
+use Rattle.update_machine.specs.Settling.{current_items, open_for, open_items, opening_switches, retired_items, settling, to_switch}
+use Rattle.update_machine.specs.Versions.{version_count}
+use Rattle.update_machine.proofs.CallerLemmas.{have_append}
+use Rattle.update_machine.specs.Touched.{touched_by}
+use Rattle.control_laws.specs.ItemCauses.{HasItemCause}
+use Rattle.control_laws.proofs.ControllerBlocks.{settling_have}
+use Rattle.control_laws.proofs.ItemFacts.{have_front}
+use Rattle.control_laws.proofs.FactsGrown.{count_more, current_more, known_more, opened_at_more, over_more, retired_more, told_more}
+use Rattle.control_laws.proofs.MessageSends.{acked_same, each, each_map}
+use Rattle.control_laws.proofs.SwitchOpenings.{member_of, member_parts}
+use Rattle.control_laws.specs.Bounds.{MarksAreBounded}
+use Rattle.control_laws.proofs.GreatestNumbers.{acked_stamp_opened}
+use Rattle.control_laws.proofs.MarkLaws.{bounded}
+use Rattle.control_laws.proofs.MarkRises.{behind}
+use Rattle.control_laws.proofs.ControllerLeft.{leaves_keep, stamp_same}
+use Rattle.control_laws.proofs.OtherSteps.{ReopensAlone, sends_leave}
+use Rattle.control_laws.proofs.MarksSettle.{in_three}
+use Rattle.version_update.specs.Marks as marks
+use Rattle.version_update.specs.Marks.{MarksValue, record_of}
+use Rattle.version_update.specs.Record as known
+use Rattle.version_update.specs.Record.{has_acked, is_joining, is_member, is_over, unknown_switch, opens_at}
+use Rattle.version_update.specs.Settling.{RisesTo, Settles}
+use Rattle.version_update.specs.declared.marks.Settled.{Settled}
+use Rattle.version_update.specs.declared.record.Phase.{Phase}
+use Rattle.version_update.specs.declared.record.Phase.TheVariants.{Joining, Member, Over}
+use Rattle.version_update.specs.declared.record.SwitchRecord.{SwitchRecord}
+use Rattle.controller.specs.Sends as acts
+use Rattle.controller.specs.Sends.{boot_recorded, posts_to, switches_where}
+use Rattle.controller.specs.declared.sends.Act.{Act}
+use Rattle.controller.specs.declared.sends.Act.TheVariants.{Current, Post, Retired}
+use Rattle.refinement.specs.Marks.{AreMarksOf, IsKnown}
+use Rattle.refinement.specs.Written.{item_of, written_items}
+use Rattle.refinement.proofs.KeptController.{current_on, known_on, marks_on, retired_on}
+use Rattle.refinement.proofs.PickedRanges.{any_picked, filter_made, map_twice, passing_is, picked_same}
+use Rattle.refinement.proofs.WrittenActs.{posted, written_in_three}
+use Rattle.ternary.specs.Word.{WordValue}
+
+-- ---- members, and what is told
+
+made : (value : MarksValue)
+    → value.switches ≡ map (record_of value) (range_with_len 0 (length value.switches))
+made value = fill_by_all (record_of value) value.switches (length value.switches) unknown_switch refl
+    (λ k below. refl)
+
+-- what is made of the members is the same
+members_made : {X : Type 0} (f : SwitchRecord → X) (g : ℕ → X) (setting : Setting)
+    (journal : List Item) (value : MarksValue) → AreMarksOf setting journal value
+    → ((s : ℕ) → IsKnown journal s (record_of value s) → IsTrue (machine.is_member journal s)
+    → f (record_of value s) ≡ g s)
+    → map f (marks.member_records value.switches) ≡ map g (machine.members setting journal)
+members_made f g setting journal value are makes =
+    let of : ℕ → SwitchRecord = record_of value in
+    let n : ℕ = length value.switches in
+    ap (λ xs. map f (marks.member_records xs)) (made value)
+    ∙ ap (map f) (filter_made of (λ known. is_member known.phase) (range_with_len 0 n))
+    ∙ map_twice of f (filter (λ s. is_member (of s).phase) (range_with_len 0 n))
+    ∙ ap (λ k. map (λ s. f (of s)) (filter (λ s. is_member (of s).phase) (range_with_len 0 k)))
+    are.many
+    ∙ picked_same (λ s. f (of s)) g (λ s. is_member (of s).phase) (machine.is_member journal) 0
+    (length setting.net.switches)
+    (λ s above below. (are.each s (omega (arith, below, are.many))).member)
+    (λ s above below is. makes s (are.each s (omega (arith, below, are.many))) is)
+
+-- a version that all members acknowledged
+all_same : (setting : Setting) (journal : List Item) (value : MarksValue) (v : ℕ) → 1 ≤ v
+    → AreMarksOf setting journal value
+    → marks.all_have_acked v value.switches ≡ machine.all_acked setting journal v
+all_same setting journal value v low are =
+    sym (list_all-map (λ b. b) (λ known. has_acked known v) (marks.member_records value.switches))
+    ∙ ap (list_all (λ b. b))
+    (members_made (λ known. has_acked known v) (λ s. machine.has_acked journal s v) setting journal
+    value are (λ s is member. is.acked (member_parts journal s member).0 v low))
+    ∙ list_all-map (λ b. b) (λ s. machine.has_acked journal s v)
+    (machine.members setting journal)
+
+-- what switches are told that pass a test
+pub told_posted : (f : ℕ → Act) (g : ℕ → Message) (passes : SwitchRecord → Bool) (q : ℕ → Bool)
+    (setting : Setting) (journal : List Item) (value : MarksValue)
+    → length value.switches ≡ length setting.net.switches
+    → ((s : ℕ) → s < length value.switches → passes (record_of value s) ≡ q s)
+    → ((s : ℕ) → s < length value.switches → f s ≡ Post (g s))
+    → written_items journal (map f (switches_where passes value.switches))
+    ≡ send_items journal (map g (filter q (switches_of setting)))
+told_posted f g passes q setting journal value many tests makes =
+    let p : ℕ → Bool = λ s. option_map_or passes (slice_get value.switches s) false in
+    ap (written_items journal)
+    (ap (λ n. map f (filter p (range_with_len 0 n))) many
+    ∙ picked_same f (λ s. Post (g s)) p q 0 (length setting.net.switches)
+    (λ s above below.
+    let there : s < length value.switches = omega (arith, below, many) in
+    ap (λ o. option_map_or passes o false) (slice_get-get_or value.switches s unknown_switch there)
+    ∙ tests s there)
+    (λ s above below is. makes s (omega (arith, below, many)))
+    ∙ sym (map_twice g Post (filter q (switches_of setting))))
+    ∙ posted (map g (filter q (switches_of setting))) journal
+
+-- messages that open no switch leave the marks
+pub leave_on : (setting : Setting) (journal : List Item) (value : MarksValue)
+    (message : ℕ → Message) (switches : List ℕ)
+    → ((s : ℕ) → ReopensAlone journal (message s)) → AreMarksOf setting journal value
+    → AreMarksOf setting (journal ++ send_items journal (map message switches)) value
+leave_on setting journal value message switches leaves are =
+    marks_on setting journal (journal ++ send_items journal (map message switches)) value
+    (leaves_keep journal (send_items journal (map message switches))
+    (sends_leave journal (map message switches)
+    (each_map (ReopensAlone journal) message switches
+    (each (λ s. ReopensAlone journal (message s)) leaves switches)))) are
+
+-- ---- current rises
+
+rises_same : (setting : Setting) (now : List Item) (before : MarksValue) (current : ℕ)
+    → AreMarksOf setting now before → RisesTo before current
+    → current ≡ next_current setting now
+unfolding next_current
+rises_same setting now before current are rises =
+    let first = are.current in
+    let last = are.count in
+    let many = passing_is (machine.all_acked setting now) (current_mark now + 1)
+    (version_count now - current_mark now) (current - before.current)
+    (omega (arith, first, last, rises.bound, rises.rises))
+    (λ v above below.
+    subst IsTrue (all_same setting now before v (omega (arith, above)) are)
+    (rises.acknowledged v (omega (arith, first, above))
+    (omega (arith, first, below, rises.rises))))
+    (λ more.
+    let next : current_mark now + 1 + (current - before.current) ≡ current + 1 =
+    omega (arith, first, rises.rises) in
+    subst (λ v. IsFalse (machine.all_acked setting now v)) (sym next)
+    (sym (all_same setting now before (current + 1) (omega arith) are)
+    ∙ rises.stopped (omega (arith, first, last, more, rises.rises)))) in
+    omega (arith, first, many, rises.rises)
+
+-- the boots that are known stay so
+abbrev SameBoots : List Item → MarksValue → ℕ → Type 0
+SameBoots journal after n = (s : ℕ) → s < n → boot_recorded after s ≡ known_boot journal s
+
+-- members are told of a mark
+abbrev adverts_over : (ℕ → Body) → List Item → ℕ → Message
+adverts_over body journal s = to_switch s (body (known_boot journal s))
+
+-- a mark rises and members are told of it, or it stays
+abbrev risen_items : Setting → List Item → Item → (ℕ → Body) → Bool → List Item
+risen_items setting journal next body b = elim b [
+  | false ↦ []
+  | true ↦ items_then (next ∷ []) (λ raised.
+      send_items raised (map (adverts_over body journal) (machine.members setting journal))) journal
+]
+
+-- then the marks are the risen ones
+rises_by : (setting : Setting) (journal : List Item) (after value risen : MarksValue) (act : Act)
+    (body : ℕ → Body)
+    → AreMarksOf setting journal value → SameBoots journal after (length value.switches)
+    → ((s : ℕ) → ReopensAlone (journal ++ item_of journal act ∷ []) (adverts_over body journal s))
+    → AreMarksOf setting (journal ++ item_of journal act ∷ []) risen
+    → (b : Bool) → (b ≡ false → AreMarksOf setting journal risen)
+    → (written_items journal (if b
+    then act ∷ posts_to after body (switches_where (λ known. is_member known.phase) value.switches)
+    else []) ≡ risen_items setting journal (item_of journal act) body b)
+    × AreMarksOf setting (journal ++ risen_items setting journal (item_of journal act) body b) risen
+rises_by setting journal after value risen act body are boots leaves rises false stays = (
+  refl,
+  subst (λ js. AreMarksOf setting js risen) (sym (append-nil journal)) (stays refl),
+)
+rises_by setting journal after value risen act body are boots leaves rises true stays =
+    let next : Item = item_of journal act in
+    let raised : List Item = journal ++ next ∷ [] in
+    let message : ℕ → Message = adverts_over body journal in (
+      ap (λ items. next ∷ items)
+          (told_posted (λ s. acts.post_act s (body (boot_recorded after s))) message
+          (λ known. is_member known.phase) (machine.is_member journal) setting raised value are.many
+          (λ s there. (are.each s there).member)
+          (λ s there. ap (λ boot. Post (to_switch s (body boot))) (boots s there))),
+      subst (λ js. AreMarksOf setting js risen)
+          (append_assoc journal (next ∷ [])
+          (send_items raised (map message (machine.members setting journal))))
+          (leave_on setting raised risen message (machine.members setting journal) leaves rises),
+    )
+
+-- so it is where a mark rises to what the journal says
+rises_on : (setting : Setting) (journal : List Item) (after value : MarksValue)
+    (risen : ℕ → MarksValue) (act : ℕ → Act) (body : ℕ → ℕ → Body) (low high mark version : ℕ)
+    → low ≡ mark → high ≡ version → AreMarksOf setting journal value
+    → SameBoots journal after (length value.switches)
+    → ((s : ℕ) → ReopensAlone (journal ++ item_of journal (act version) ∷ [])
+    (adverts_over (body version) journal s))
+    → AreMarksOf setting (journal ++ item_of journal (act version) ∷ []) (risen version)
+    → (nat_lt mark version ≡ false → AreMarksOf setting journal (risen version))
+    → (let items = risen_items setting journal (item_of journal (act version)) (body version)
+    (nat_lt mark version) in
+    (written_items journal (if nat_lt low high
+    then act high ∷ posts_to after (body high)
+    (switches_where (λ known. is_member known.phase) value.switches)
+    else []) ≡ items) × AreMarksOf setting (journal ++ items) (risen high))
+rises_on setting journal after value risen act body low high mark version low_is high_is are boots
+    leaves rises stays =
+    rw (low_is, high_is) (rises_by setting journal after value (risen version) (act version)
+    (body version) are boots leaves rises (nat_lt mark version) stays)
+
+raises_on : (setting : Setting) (now : List Item) (before after : MarksValue)
+    (touched : List WordValue) → touched ≡ touched_by setting now after.current
+    → AreMarksOf setting now before → before.current ≤ after.current
+    → after.current ≡ next_current setting now
+    → SameBoots now after (length before.switches)
+    → (written_items now (acts.stamp_acts touched before after) ≡ current_items setting now)
+    × AreMarksOf setting (now ++ current_items setting now)
+    (record before { current = after.current })
+unfolding current_items
+raises_on setting now before after touched says are up is boots =
+    subst (λ words. (written_items now (acts.stamp_acts words before after)
+    ≡ current_items setting now)
+    × AreMarksOf setting (now ++ current_items setting now)
+    (record before { current = after.current })) (sym says)
+    (rises_on setting now after before (λ v. record before { current = v }) Current
+    (λ v boot. Stamp boot v (touched_by setting now v)) before.current after.current (current_mark now)
+    (next_current setting now) are.current is are boots (λ s. tt)
+    (current_on setting now (next_current setting now) before are) (λ e.
+    let stays : next_current setting now ≡ current_mark now =
+    let first = are.current in grind (arith, nat_tests) in
+    search (rules, are.each)))
+
+-- ---- joining switches open
+
+phase_joins : (phase : Phase) → is_joining phase ≡ (not (is_over phase) && not (is_member phase))
+phase_joins Joining = refl
+phase_joins Member = refl
+phase_joins Over = refl
+
+joining_parts : (journal : List Item) (s : ℕ) → IsTrue (machine.is_joining journal s)
+    → IsFalse (machine.is_over journal s) × (opened_at journal s ≡ None)
+unfolding machine.is_member
+joining_parts journal s joins = grind arith
+
+opens_same : (journal : List Item) (s version : ℕ) (value : SwitchRecord)
+    → IsKnown journal s value → 1 ≤ version → opens_at version value
+    ≡ (machine.is_joining journal s && machine.has_acked journal s version)
+opens_same journal s version value is low =
+    ap (λ j. j && has_acked value version)
+    (phase_joins value.phase ∙ ap (λ o. not o && not (is_member value.phase)) is.over
+    ∙ ap (λ m. not (machine.is_over journal s) && not m) is.member)
+    ∙ by_joining (machine.is_joining journal s) refl
+  where
+    by_joining : (b : Bool) → machine.is_joining journal s ≡ b
+        → (b && has_acked value version) ≡ (b && machine.has_acked journal s version)
+    by_joining true e = is.acked (joining_parts journal s e).0 version low
+    by_joining false e = refl
+
+-- what messages leave, whichever they are
+record SentStay (before after : List Item) : Type 0 where
+  heard : controller_heard after ≡ controller_heard before
+  known : (s : ℕ) → known_boot after s ≡ known_boot before s
+  over : (s : ℕ) → machine.is_over after s ≡ machine.is_over before s
+  count : version_count after ≡ version_count before
+  current : current_mark after ≡ current_mark before
+  retired : retired_mark after ≡ retired_mark before
+
+sent_stay : (messages : List Message) (journal : List Item) (n : ℕ)
+    → SentStay journal (journal ++ sent_from n messages)
+unfolding sent_from
+sent_stay [] journal n = subst (SentStay journal) (sym (append-nil journal)) (record {
+  heard = refl;
+  known = λ s. refl;
+  over = λ s. refl;
+  count = refl;
+  current = refl;
+  retired = refl;
+})
+sent_stay (message ∷ messages) journal n =
+    let next : Item = item.Sent n message in
+    let rest = sent_stay messages (journal ++ next ∷ []) (n + 1) in
+    subst (SentStay journal) (append_assoc journal (next ∷ []) (sent_from (n + 1) messages))
+    (record {
+      heard = rest.heard ∙ told_more journal next;
+      known = λ s. rest.known s ∙ known_more journal next s;
+      over = λ s. rest.over s ∙ over_more journal next s;
+      count = rest.count ∙ count_more journal next;
+      current = rest.current ∙ current_more journal next;
+      retired = rest.retired ∙ retired_more journal next;
+    })
+
+abbrev some_if : Bool → ℕ → Option ℕ
+some_if true version = Some version
+some_if false version = None
+
+or_twice : (o : Option ℕ) (b c : Bool) (version : ℕ)
+    → option_or (option_or o (some_if b version)) (some_if c version)
+    ≡ option_or o (some_if (b || c) version)
+or_twice None true true version = refl
+or_twice None true false version = refl
+or_twice None false c version = refl
+or_twice (Some w) b c version = refl
+
+or_none : (o : Option ℕ) → option_or o None ≡ o
+or_none None = refl
+or_none (Some x) = refl
+
+-- switches that are opened one after another
+opened_many : (base journal : List Item) (n version s : ℕ) (switches : List ℕ)
+    → ((t : ℕ) → known_boot journal t ≡ known_boot base t)
+    → opened_at (journal ++ sent_from n (map (open_for base version) switches)) s
+    ≡ option_or (opened_at journal s) (some_if (list_any (λ t. t == s) switches) version)
+unfolding sent_from
+opened_many base journal n version s [] same =
+    ap (λ js. opened_at js s) (append-nil journal) ∙ sym (or_none (opened_at journal s))
+opened_many base journal n version s (t ∷ switches) same =
+    ap (λ js. opened_at js s) (sym (append_assoc journal (next ∷ []) (sent_from (n + 1) messages)))
+    ∙ opened_many base (journal ++ next ∷ []) (n + 1) version s switches
+    (λ u. known_more journal next u ∙ same u)
+    ∙ ap (λ o. option_or o (some_if (list_any (λ u. u == s) switches) version))
+    (opened_at_more journal next s (known_more journal next s)
+    ∙ ap (option_or (opened_at journal s)) (opens (t == s) refl))
+    ∙ or_twice (opened_at journal s) (t == s) (list_any (λ u. u == s) switches) version
+  where
+    next : Item
+    next = item.Sent n (open_for base version t)
+
+    messages : List Message
+    messages = map (open_for base version) switches
+
+    opens : (b : Bool) → (t == s) ≡ b
+        → first_number (if b then open_in (known_boot journal s) (OpenAt (known_boot base t) version)
+        else []) ≡ some_if b version
+    opens true e =
+        let own : known_boot base t ≡ known_boot journal s =
+        ap (known_boot base) (eqb-true t s e) ∙ sym (same s) in
+        ap (λ b. first_number (if b then version ∷ [] else []))
+        (eq-eqb (known_boot base t) (known_boot journal s) own)
+    opens false e = refl
+
+-- a switch behind its opening
+opened_known : (one two : List Item) (s version : ℕ) (value : SwitchRecord)
+    → IsKnown one s value → 1 ≤ version → SentStay one two
+    → opened_at two s ≡ option_or (opened_at one s)
+    (some_if (machine.is_joining one s && machine.has_acked one s version) version)
+    → acked_stamp two s ≤ version → IsKnown two s (known.opened_record version value)
+opened_known one two s version value is low stay now most =
+    by_opens (opens_at version value) refl
+  where
+    tests : opens_at version value
+        ≡ (machine.is_joining one s && machine.has_acked one s version)
+    tests = opens_same one s version value is low
+
+    joins : (b c : Bool) → IsTrue (b && c) → IsTrue b
+    joins true c is = refl
+    joins false c is = cc
+
+    acked : (v : ℕ) → machine.has_acked two s v ≡ machine.has_acked one s v
+    acked v = acked_same two one s v stay.heard
+
+    by_opens : (b : Bool) → opens_at version value ≡ b → IsKnown two s
+        (if b then record value { phase = Member; open_version = version; acked_stamp = version }
+        else value)
+    by_opens true e =
+        let passes = sym tests ∙ e in
+        let parts = joining_parts one s
+        (joins (machine.is_joining one s) (machine.has_acked one s version) passes) in
+        let opened : opened_at two s ≡ Some version = now
+        ∙ ap (λ b. option_or (opened_at one s) (some_if b version)) passes
+        ∙ ap (λ o. option_or o (Some version)) parts.1 in
+        let over : machine.is_over two s ≡ false = stay.over s ∙ parts.0 in
+        let member : machine.is_member two s ≡ true =
+        member_of two s over (ap (λ o. is_some o) opened) in
+        let opening_switches : open_version two s ≡ version = ap (λ o. unwrap_or o 0) opened in
+        record {
+          boot = is.boot ∙ sym (stay.known s);
+          over = sym over;
+          member = sym member;
+          acked = λ none v first. is.acked parts.0 v first ∙ sym (acked v);
+          opened = λ is. sym opening_switches;
+          stamp = λ is. omega (arith, opening_switches, acked_stamp_opened two s, most);
+        }
+    by_opens false e =
+        let same : opened_at two s ≡ opened_at one s = now
+        ∙ ap (λ b. option_or (opened_at one s) (some_if b version)) (sym tests ∙ e)
+        ∙ or_none (opened_at one s) in
+        known_on one two s value
+        (record {
+          boot = stay.known s;
+          over = stay.over s;
+          opened = same;
+          acked = acked;
+          stamp = stamp_same one two s stay.heard (stay.known s) same;
+        }) is
+
+-- what is known of a switch behind the openings
+record_opened : (before after : MarksValue) (version s : ℕ)
+    → after.switches ≡ map (known.opened_record version) before.switches
+    → s < length before.switches
+    → record_of after s ≡ known.opened_record version (record_of before s)
+record_opened before after version s switches there =
+    ap (λ xs. marks.record_of (record after { switches = xs }) s) switches
+    ∙ get_or-map (known.opened_record version) before.switches s unknown_switch unknown_switch there
+
+opens_on : (setting : Setting) (one : List Item) (before after : MarksValue)
+    → AreMarksOf setting one before → 1 ≤ before.current
+    → after.count ≡ before.count → after.current ≡ before.current
+    → after.switches ≡ map (known.opened_record before.current) before.switches
+    → SameBoots one after (length before.switches)
+    → MarksAreBounded setting (one ++ open_items setting one)
+    → (written_items one (acts.open_acts before after) ≡ open_items setting one)
+    × AreMarksOf setting (one ++ open_items setting one) (record after { retired = before.retired })
+unfolding open_items
+opens_on setting one before after are low count current switches boots bounds = (
+  told_posted (λ s. acts.post_act s (OpenAt (boot_recorded after s) after.current))
+      (open_for one (current_mark one)) (opens_at after.current) test setting one before are.many
+      (λ s there.
+      ap (λ v. opens_at v (record_of before s)) (current ∙ are.current)
+      ∙ opens_same one s (current_mark one) (record_of before s) (are.each s there) first)
+      (λ s there.
+      ap (λ boot. Post (to_switch s (OpenAt boot after.current))) (boots s there)
+      ∙ ap (λ v. Post (open_for one v s)) (current ∙ are.current)),
+  record {
+    count = count ∙ are.count ∙ sym stay.count;
+    current = current ∙ are.current ∙ sym stay.current;
+    retired = are.retired ∙ sym stay.retired;
+    many = long ∙ are.many;
+    each = λ s there.
+        let below : s < length before.switches = omega (arith, there, long) in
+        subst (IsKnown two s) (sym (record_opened before after before.current s switches below))
+        (subst (λ v. IsKnown two s (known.opened_record v (record_of before s))) (sym are.current)
+        (opened_known one two s (current_mark one) (record_of before s) (are.each s below) first
+        stay (now s below) (omega (arith, bounds.known s, stay.current))));
+  },
+)
+  where
+    test : ℕ → Bool
+    test s = machine.is_joining one s && machine.has_acked one s (current_mark one)
+
+    two : List Item
+    two = one ++ send_items one (map (open_for one (current_mark one))
+        (opening_switches setting one))
+
+    first : 1 ≤ current_mark one
+    first = let is = are.current in omega (arith, low, is)
+
+    stay : SentStay one two
+    stay = sent_stay (map (open_for one (current_mark one)) (opening_switches setting one)) one
+        (next_message one)
+
+    long : length after.switches ≡ length before.switches
+    long = ap length switches ∙ length-map before.switches (known.opened_record before.current)
+
+    now : (s : ℕ) → s < length before.switches → opened_at two s
+        ≡ option_or (opened_at one s) (some_if (test s) (current_mark one))
+    now s below =
+        opened_many one one (next_message one) (current_mark one) s (opening_switches setting one)
+        (λ t. refl)
+        ∙ ap (λ b. option_or (opened_at one s) (some_if b (current_mark one)))
+        (any_picked test s 0 (length setting.net.switches) (omega arith)
+        (omega (arith, below, are.many)))
+
+-- ---- retired rises
+
+retires_same : (setting : Setting) (two : List Item) (value : MarksValue)
+    → AreMarksOf setting two value → marks.retired_of value ≡ next_retired setting two
+unfolding next_retired
+retires_same setting two value are =
+    ap (λ xs. unwrap_or (least_number xs) value.current - 1)
+    (members_made (λ known. known.acked_stamp) (acked_stamp two) setting two value are
+    (λ s is member. is.stamp member))
+    ∙ ap (λ c. unwrap_or (least_number (map (acked_stamp two) (machine.members setting two))) c - 1)
+    are.current
+
+retires_on : (setting : Setting) (two : List Item) (before after : MarksValue)
+    → AreMarksOf setting two (record after { retired = before.retired })
+    → after.retired ≡ next_retired setting two
+    → retired_mark two ≤ next_retired setting two
+    → SameBoots two after (length after.switches)
+    → (written_items two (acts.collect_acts before after) ≡ retired_items setting two)
+    × AreMarksOf setting (two ++ retired_items setting two) after
+unfolding retired_items
+retires_on setting two before after are is least_is boots =
+    rises_on setting two after (record after { retired = before.retired })
+    (λ v. record after { retired = v }) Retired (λ v boot. Collect boot v) before.retired
+    after.retired (retired_mark two) (next_retired setting two) are.retired is are boots (λ s. tt)
+    (retired_on setting two (next_retired setting two) (record after { retired = before.retired })
+    are) (λ e.
+    let stays : next_retired setting two ≡ retired_mark two = grind (arith, nat_tests) in
+    search (rules, are.each))
+
+-- ---- together
+
+boot_opened : (b : Bool) (version : ℕ) (value : SwitchRecord)
+    → (if b then record value { phase = Member; open_version = version; acked_stamp = version }
+    else value).boot ≡ value.boot
+boot_opened true version value = refl
+boot_opened false version value = refl
+
+-- each item has its cause
+abbrev pub AreCaused : Setting → List Item → Type 0
+AreCaused setting journal = HaveCauses (HasItemCause setting) [] journal
+
+-- settling changes no boot
+pub settled_boot : (before after : MarksValue) (answer : Settled) (s : ℕ)
+    → Settles before after answer → s < length before.switches
+    → boot_recorded after s ≡ boot_recorded before s
+settled_boot before after answer s is there =
+    ap (λ value. value.boot) (record_opened before after after.current s is.switches there)
+    ∙ boot_opened (opens_at after.current (record_of before s)) after.current (record_of before s)
+
+pub settling_caused : (setting : Setting) (now : List Item) → AreCaused setting now
+    → AreCaused setting (now ++ settling setting now)
+settling_caused setting now have =
+    have_append (HasItemCause setting) [] now (settling setting now) have
+    (settling_have setting now)
+
+pub settles_so : (setting : Setting) (now : List Item) (before after : MarksValue)
+    (answer : Settled) (touched : List WordValue)
+    → touched ≡ touched_by setting now after.current → AreCaused setting now
+    → AreMarksOf setting now before → Settles before after answer
+    → (written_items now (acts.settling_acts touched before after) ≡ settling setting now)
+    × AreMarksOf setting (now ++ settling setting now) after
+unfolding settling
+settles_so setting now before after answer touched says have are is = (
+  written_in_three now (current_items setting) (open_items setting) (retired_items setting)
+      (acts.stamp_acts touched before after) (acts.open_acts before after) (acts.collect_acts before after)
+      raises.0
+      opens.0 retires.0,
+  subst (λ js. AreMarksOf setting js after)
+      (sym (in_three (current_items setting) (open_items setting) (retired_items setting) now))
+      retires.1,
+)
+  where
+    one : List Item
+    one = now ++ current_items setting now
+
+    two : List Item
+    two = one ++ open_items setting one
+
+    two_have : AreCaused setting two
+    two_have = have_front (HasItemCause setting) [] two (retired_items setting two)
+        (subst (AreCaused setting)
+        (in_three (current_items setting) (open_items setting) (retired_items setting) now)
+        (settling_caused setting now have))
+
+    low : 1 ≤ after.current
+    low =
+        let first = are.current in
+        omega (arith, first, (bounded setting now have).first, is.current.rises)
+
+    boots : SameBoots now after (length before.switches)
+    boots s there = settled_boot before after answer s is there ∙ (are.each s there).boot
+
+    raises : (written_items now (acts.stamp_acts touched before after)
+        ≡ current_items setting now)
+        × AreMarksOf setting one (record before { current = after.current })
+    raises = raises_on setting now before after touched says are is.current.rises
+        (rises_same setting now before after.current are is.current) boots
+
+    same : (s : ℕ) → s < length before.switches → known_boot one s ≡ known_boot now s
+    same s there = sym (raises.1.each s there).boot ∙ (are.each s there).boot
+
+    opens : (written_items one (acts.open_acts before after) ≡ open_items setting one)
+        × AreMarksOf setting two (record after { retired = before.retired })
+    opens = opens_on setting one (record before { current = after.current }) after raises.1 low
+        is.count refl is.switches (λ s there. boots s there ∙ sym (same s there))
+        (bounded setting two two_have)
+
+    retires : (written_items two (acts.collect_acts before after) ≡ retired_items setting two)
+        × AreMarksOf setting (two ++ retired_items setting two) after
+    retires = retires_on setting two before after opens.1
+        (is.retired ∙ retires_same setting two (record after { retired = before.retired }) opens.1)
+        (behind setting two two_have) (λ s there. (opens.1.each s there).boot)

@@ -1,0 +1,232 @@
+-- One more step keeps the tie of a world to its journal.
+use Rattle.std.proofs.Common.{ℕ, ◌≡◌, ◌≢◌, ◌+◌, ◌<◌, ◌==◌, Bool, true, false, cond, refl, List, [], ◌∷◌, ◌++◌, ap, sym, append-nil, subst, ◌∙◌, length, filter, get_or, set, arith, eq-eqb, eqb-true}
+use Rattle.std.specs.Prelude.{IsFalse}
+use Rattle.std.proofs.lemmas.List.{get_or-set_other, get_or-set_same}
+use Rattle.refinement.specs.Controller.{IsControllerOf}
+use Rattle.refinement.proofs.ControllerUntouched.{steps_leave}
+use Rattle.journal.specs.declared.item.Item.{Item}
+use Rattle.journal.specs.declared.item.Item.TheVariants as item
+use Rattle.net_file.specs.Owners.{links_of}
+use Rattle.net_file.specs.declared.net.LinkRow.{LinkRow}
+use Rattle.control_laws.specs.Steps.{asks_controller}
+use Rattle.steps.specs.declared.step.Step.{Step}
+use Rattle.switch_core.specs.State.{SwitchValue}
+use Rattle.refinement.specs.SwitchOf.{switch_of}
+use Rattle.refinement.proofs.SwitchLinkChanges.{kept_is}
+use Rattle.update_machine.specs.Answers.{IsReached}
+use Rattle.update_machine.specs.Concerns.{NoneConcern, concerns_calls, concerns_known, concerns_links}
+use Rattle.update_machine.specs.Folds.{count_of}
+use Rattle.update_machine.specs.Messages.{next_message}
+use Rattle.update_machine.specs.Packets.{is_packet, next_packet}
+use Rattle.update_machine.specs.Pieces.{piece}
+use Rattle.steps.specs.Steps.{IsStep}
+use Rattle.update_machine.specs.Setting.{Setting}
+use Rattle.update_machine.proofs.CallerLemmas.{count_of_append, links_keep, near_stays}
+use Rattle.refinement.specs.Refinement.{RefineJournal, AreUp, AreUsable, NetworkState, is_up_link}
+use Rattle.refinement.specs.Bags.{IsBagOf}
+use Rattle.refinement.specs.Flights.{flight_in}
+use Rattle.travelling.specs.Travelling.{Flights, flight}
+use Rattle.refinement.proofs.JournalLaws.{reached_known, reached_more}
+use Rattle.refinement.proofs.PostedFrames.{SendFrom, are_apart, bag_sends, posts_in}
+
+-- where one switch became what it is now, and another one stays if it isn't that one
+pub one_changes : (setting : Setting) (journal after : List Item) (switches : List SwitchValue)
+    (s q : ℕ) (changed d : SwitchValue) (b : Bool) → (s == q) ≡ b → s < length switches
+    → changed ≡ switch_of setting after s
+    → ((s == q) ≡ false → switch_of setting after q ≡ switch_of setting journal q)
+    → get_or switches q d ≡ switch_of setting journal q
+    → get_or (set switches s changed) q d ≡ switch_of setting after q
+one_changes setting journal after switches s q changed d true is there own others its =
+    subst (λ k. get_or (set switches s changed) k d ≡ switch_of setting after k) (eqb-true s q is)
+    (get_or-set_same switches s changed d there ∙ own)
+one_changes setting journal after switches s q changed d false is there own others its =
+    let other : q ≢ s = λ e. let yes : (s == q) ≡ true = eq-eqb s q (sym e) in cc in
+    get_or-set_other switches s q changed d other ∙ its ∙ sym (others is)
+
+-- ---- what a step leaves
+
+-- the journal behind a step
+abbrev pub stepped : List Item → ℕ → Step → List Item → List Item
+stepped journal row step items = journal ++ item.Row row step ∷ items
+
+module _ {setting : Setting} {journal : List Item} {state : NetworkState}
+    (refines : RefineJournal setting journal state) where
+  -- the controller, where the step isn't for it
+  pub controller_stays : (row : ℕ) (step : Step) (items : List Item)
+      → piece setting journal row step ≡ item.Row row step ∷ items
+      → IsFalse (asks_controller journal step)
+      → IsControllerOf setting (stepped journal row step items) state.controller
+  controller_stays row step items is not_told =
+      subst (λ more. IsControllerOf setting (journal ++ more) state.controller) is
+      (steps_leave setting journal row step state.controller
+      (reached_known setting journal refines.sound refines.reached).caused not_told
+      refines.controller)
+
+-- links that are up as before are the same
+pub same_links : (now before : List Item) (links : List LinkRow)
+    → ((link : LinkRow) → is_up_link now link ≡ is_up_link before link)
+    → filter (is_up_link now) links ≡ filter (is_up_link before) links
+same_links now before [] same = refl
+same_links now before (link ∷ links) same =
+    ap (λ b. cond b (link ∷ filter (is_up_link now) links) (filter (is_up_link now) links))
+    (same link)
+    ∙ ap (λ rest. cond (is_up_link before link) (link ∷ rest) rest)
+    (same_links now before links same)
+
+pub up_stays : (setting : Setting) (journal items : List Item) (links : List ℕ)
+    → NoneConcern concerns_links journal items → AreUp setting journal links
+    → AreUp setting (journal ++ items) links
+up_stays setting journal items links none up = λ s below. up s below
+    ∙ ap (λ rows. links_of rows s) (sym (same_links (journal ++ items) journal setting.net.links
+    (λ link. (links_keep setting journal items none).up link.one link.two)))
+
+-- and the links and the switches, where it does nothing to them
+module _ {setting : Setting} {journal : List Item} {state : NetworkState}
+    (refines : RefineJournal setting journal state) (items : List Item) where
+  pub links_stay : NoneConcern concerns_links journal items
+      → AreUsable setting (journal ++ items) state.near
+  links_stay none = λ s below. refines.usable s below
+      ∙ sym (near_stays setting s journal items none)
+
+  pub up_stay : NoneConcern concerns_links journal items
+      → AreUp setting (journal ++ items) state.links
+  up_stay none = up_stays setting journal items state.links none refines.up
+
+  pub switches_stay : ((s : ℕ) → NoneConcern (concerns_known s) journal items)
+      → ((s : ℕ) → NoneConcern (concerns_calls s) journal items)
+      → (s : ℕ) (d : SwitchValue) → s < length state.switches
+      → get_or state.switches s d ≡ switch_of setting (journal ++ items) s
+  switches_stay none calls s d there =
+      refines.each s d there ∙ sym (kept_is setting s journal items (none s) (calls s))
+
+-- what a step writes, and what the switches, the packets on their way and the control plane are
+-- behind it
+pub record IsTaken (setting : Setting) (journal : List Item) (row : ℕ) (step : Step)
+    (items : List Item) (state later : NetworkState) : Type 0 where
+  pub may : IsStep setting.net (length setting.files) step
+  pub piece_is : piece setting journal row step ≡ item.Row row step ∷ items
+  pub as_many : length later.switches ≡ length state.switches
+  pub each : (s : ℕ) (d : SwitchValue) → s < length state.switches
+      → get_or later.switches s d ≡ switch_of setting (stepped journal row step items) s
+  pub travels : (i : ℕ) → flight later.travelling i
+      ≡ flight_in setting (stepped journal row step items) i
+  pub counted : later.packets ≡ state.packets + count_of is_packet (item.Row row step ∷ items)
+  pub controller : IsControllerOf setting (stepped journal row step items) later.controller
+  pub bag : IsBagOf (stepped journal row step items) later.posts
+  pub up : AreUp setting (stepped journal row step items) later.links
+  pub usable : AreUsable setting (stepped journal row step items) later.near
+
+-- what a step of packets writes, and what it makes of the switches and of the packets on their way
+pub record Steps (setting : Setting) (journal : List Item) (row : ℕ) (step : Step)
+    (items : List Item) (switches others : List SwitchValue) (after : Flights) : Type 0 where
+  pub may : IsStep setting.net (length setting.files) step
+  pub piece_is : piece setting journal row step ≡ item.Row row step ∷ items
+  pub not_told : IsFalse (asks_controller journal step)
+  -- the messages that it sends have the next numbers
+  pub sends : SendFrom (next_message journal) items
+  pub as_many : length others ≡ length switches
+  pub each : (s : ℕ) (d : SwitchValue) → s < length switches
+      → get_or others s d ≡ switch_of setting (stepped journal row step items) s
+  pub travels : (i : ℕ) → flight after i
+      ≡ flight_in setting (stepped journal row step items) i
+
+reached_on : (setting : Setting) (journal : List Item) (row : ℕ) (step : Step) (items : List Item)
+    → IsReached setting journal → IsStep setting.net (length setting.files) step
+    → piece setting journal row step ≡ item.Row row step ∷ items
+    → IsReached setting (journal ++ item.Row row step ∷ items)
+reached_on setting journal row step items reached may is =
+    let P : List Item → Type 0 = λ more. IsReached setting (journal ++ more) in
+    subst P is (reached_more setting journal row step reached may)
+
+next_on : (journal items : List Item) (count next : ℕ) → next_packet journal ≡ count + 1
+    → next ≡ count + count_of is_packet items → next_packet (journal ++ items) ≡ next + 1
+unfolding next_packet
+next_on journal items count next is more =
+    rw (count_of_append is_packet journal items) (omega (arith, is, more))
+
+module _ {setting : Setting} {journal : List Item} {state : NetworkState}
+    (refines : RefineJournal setting journal state) where
+  pub refines_taken : (later : NetworkState) (row : ℕ) (step : Step) (items : List Item)
+      → IsTaken setting journal row step items state later
+      → RefineJournal setting (journal ++ item.Row row step ∷ items) later
+  refines_taken later row step items taken =
+      record {
+        sound = refines.sound;
+        reached = reached_on setting journal row step items refines.reached taken.may
+            taken.piece_is;
+        many = taken.as_many ∙ refines.many;
+        each = λ s d there. taken.each s d (omega (arith, there, taken.as_many));
+        packet = taken.travels;
+        counted = next_on journal (item.Row row step ∷ items) state.packets later.packets
+            refines.counted taken.counted;
+        controller = taken.controller;
+        bag = taken.bag;
+        up = taken.up;
+        usable = taken.usable;
+      }
+
+-- what the tie says of one packet, of one switch and of the next message's number
+module _ {setting : Setting} {journal : List Item} {state : NetworkState}
+    (refines : RefineJournal setting journal state) where
+  pub packets_are : (i : ℕ) → flight state.travelling i ≡ flight_in setting journal i
+  packets_are = refines.packet
+
+  pub switches_are : (s : ℕ) (d : SwitchValue) → s < length state.switches
+      → get_or state.switches s d ≡ switch_of setting journal s
+  switches_are = refines.each
+
+  pub numbered : next_message journal ≡ length state.posts + 1
+  numbered = refines.bag.many
+
+-- ---- a step of packets
+
+module _ {setting : Setting} {journal : List Item} {state : NetworkState}
+    (refines : RefineJournal setting journal state) where
+  pub refines_more : (others : List SwitchValue) (after : Flights) (next row : ℕ) (step : Step)
+      (items : List Item) → Steps setting journal row step items state.switches others after
+      → next ≡ state.packets + count_of is_packet (item.Row row step ∷ items)
+      → RefineJournal setting (journal ++ item.Row row step ∷ items) (record state {
+        switches = others;
+        travelling = after;
+        packets = next;
+        posts = state.posts ++ posts_in items;
+      })
+  refines_more others after next row step items steps counted =
+      refines_taken refines (record state {
+        switches = others;
+        travelling = after;
+        packets = next;
+        posts = state.posts ++ posts_in items;
+      }) row step items (record {
+        may = steps.may;
+        piece_is = steps.piece_is;
+        as_many = steps.as_many;
+        each = steps.each;
+        travels = steps.travels;
+        counted = counted;
+        controller = controller_stays refines row step items steps.piece_is steps.not_told;
+        up = up_stay refines (item.Row row step ∷ items) (
+          refl,
+          (are_apart (next_message journal) (journal ++ item.Row row step ∷ []) items
+              steps.sends).links,
+        );
+        usable = links_stay refines (item.Row row step ∷ items) (
+          refl,
+          (are_apart (next_message journal) (journal ++ item.Row row step ∷ []) items
+              steps.sends).links,
+        );
+        bag = bag_sends (next_message journal) journal (item.Row row step ∷ items) state.posts
+            steps.sends refl refines.bag;
+      })
+
+  -- a step that sends nothing
+  pub refines_silent : (others : List SwitchValue) (after : Flights) (next row : ℕ) (step : Step)
+      (items : List Item) → Steps setting journal row step items state.switches others after
+      → next ≡ state.packets + count_of is_packet (item.Row row step ∷ items) → posts_in items ≡ []
+      → RefineJournal setting (journal ++ item.Row row step ∷ items)
+      (record state { switches = others; travelling = after; packets = next })
+  refines_silent others after next row step items steps counted none =
+      subst (λ posts. RefineJournal setting (journal ++ item.Row row step ∷ items)
+      (record state { switches = others; travelling = after; packets = next; posts = posts }))
+      (ap (λ more. state.posts ++ more) none ∙ append-nil state.posts)
+      (refines_more others after next row step items steps counted)

@@ -1,0 +1,270 @@
+-- What a switch has and knows is what the journal says.
+use Rattle.std.proofs.Common.{ℕ, ◌≡◌, ◌^◌, ◌<◌, ◌≤◌, ◌==◌, Bool, true, false, ◌&&◌, ◌||◌, not, if◌then◌else◌, Option, Some, None, List, [], ◌∷◌, ◌++◌, length, refl, ap, sym, subst, ◌∙◌, arith, All}
+use Rattle.std.specs.Prelude.{filter, filter_map, find, fold, is_some, unwrap_or}
+use Rattle.std.specs.List.{AllByRecursion, list_any}
+use Rattle.std.proofs.lemmas.Bool.{eqb-true}
+use Rattle.std.proofs.lemmas.Bool.Decides.{nat_tests}
+use Rattle.std.proofs.Math.Bool.{or-false, or_assoc, or_comm}
+use Rattle.std.proofs.lemmas.List.Elements.{All-contains, All-from_recursion, recursion_from_All}
+use Rattle.std.proofs.lemmas.List.Folds.{list_any-append}
+use Rattle.ctrl_msg.specs.declared.message.Body.{Body}
+use Rattle.ctrl_msg.specs.declared.message.Body.TheVariants.{Install}
+use Rattle.partition.specs.Plan.{IsPlan}
+use Rattle.policy_rules.specs.declared.policy.Row.{Row}
+use Rattle.journal.specs.declared.item.Item.{Item}
+use Rattle.switch_core.specs.State.{SwitchValue, held_tables, holds_version, no_tables}
+use Rattle.switch_table.specs.Tables.{AreSoundTables, Hosted, tables_of}
+use Rattle.switch_table.specs.declared.tables.Tables.{Tables}
+use Rattle.switch_table.proofs.TableLemmas.{find-there, tables_are_sound}
+use Rattle.switch_table.specs.Lookup.{lookup_of}
+use Rattle.update_machine.specs.Adverts.{is_cut_off, route_from}
+use Rattle.update_machine.specs.Caches.{lookup_at}
+use Rattle.update_machine.specs.Boots.{boot_of, heard, is_up}
+use Rattle.update_machine.specs.Setting.{Setting}
+use Rattle.update_machine.specs.Versions.{collects_version, holds_version as holds_in, installs_version, stamp_of, policy_at, tables_at, version_count, plan_at}
+use Rattle.update_machine.proofs.CallerLemmas.{begins_planned, first_plan_stays, version_is_planned}
+use Rattle.control_laws.proofs.MessageSends.{each_kept}
+use Rattle.control_laws.specs.Planned.{BringsTables}
+use Rattle.refinement.specs.Knowing.{KnowledgeRefines, TablesAreKnown}
+use Rattle.refinement.specs.SwitchOf.{switch_of, tables_in, with_tables}
+use Rattle.refinement.proofs.HeldTables.{with_each}
+use Rattle.refinement.proofs.SwitchFacts.{all_by, came_by, first_tables, stamp_shown, switch_is}
+
+-- ---- which versions it has
+
+abbrev of_version : ℕ → Tables → Bool
+of_version v tables = tables.version == v
+
+-- one more, where there is none of its version
+with_one : (v : ℕ) (all : List Tables) (tables : Tables)
+    → list_any (of_version v) (with_tables all tables)
+    ≡ (list_any (of_version v) all || (tables.version == v))
+with_one v all tables =
+    by_there (list_any (of_version tables.version) all) refl (tables.version == v) refl
+  where
+    by_there : (there : Bool) → list_any (of_version tables.version) all ≡ there → (same : Bool)
+        → (tables.version == v) ≡ same
+        → list_any (of_version v) (if there then all else all ++ tables ∷ [])
+        ≡ (list_any (of_version v) all || same)
+    by_there true is true e =
+        let v_is : tables.version ≡ v = eqb-true tables.version v e in
+        let yes : list_any (of_version v) all ≡ true =
+        subst (λ w. list_any (of_version w) all ≡ true) v_is is in
+        rw yes refl
+    by_there true is false e = sym (or-false (list_any (of_version v) all))
+    by_there false is same e =
+        list_any-append (of_version v) all (tables ∷ [])
+        ∙ ap (λ b. list_any (of_version v) all || b) (or-false (tables.version == v) ∙ e)
+
+came_as : (v : ℕ) (all : List Tables) (bodies : List Body)
+    → list_any (of_version v) (fold with_tables all (filter_map tables_in bodies))
+    ≡ (list_any (of_version v) all || list_any (installs_version v) bodies)
+came_as v all [] = sym (or-false (list_any (of_version v) all))
+came_as v all (Install boot tables ∷ bodies) =
+    came_as v (with_tables all tables) bodies
+    ∙ ap (λ b. b || list_any (installs_version v) bodies) (with_one v all tables)
+    ∙ or_assoc (list_any (of_version v) all) (tables.version == v)
+    (list_any (installs_version v) bodies)
+came_as v all (_ ∷ bodies) = came_as v all bodies
+
+all_came : (tables : Tables) (first : Bool) (bodies : List Body) (v : ℕ) → tables.version ≡ 1
+    → list_any (of_version v) (all_by tables first bodies) ≡ came_by first bodies v
+all_came tables first bodies v one =
+    came_as v (if first then tables ∷ [] else []) bodies
+    ∙ or_comm (list_any (of_version v) (if first then tables ∷ [] else []))
+    (list_any (installs_version v) bodies)
+    ∙ ap (λ b. list_any (installs_version v) bodies || b) (begun first)
+  where
+    begun : (b : Bool) → list_any (of_version v) (if b then tables ∷ [] else []) ≡ (v == 1 && b)
+    begun true = or-false (tables.version == v) ∙ turned
+      where
+        turned : (tables.version == v) ≡ (v == 1 && true)
+        turned = rw one (grind (arith, nat_tests))
+    begun false = none (v == 1)
+      where
+        none : (b : Bool) → false ≡ (b && false)
+        none true = refl
+        none false = refl
+
+-- of tables whose versions pass a test
+found_in : (p : ℕ → Bool) (v : ℕ) (all : List Tables)
+    → is_some (find (of_version v) (filter (λ tables. p tables.version) all))
+    ≡ (list_any (of_version v) all && p v)
+found_in p v [] = refl
+found_in p v (tables ∷ all) =
+    by_test (found_in p v all) (tables.version == v) refl (p tables.version) refl
+  where
+    kept : List Tables
+    kept = filter (λ tables. p tables.version) all
+
+    rest : Bool
+    rest = list_any (of_version v) all
+
+    none : (b : Bool) → (b && false) ≡ false
+    none true = refl
+    none false = refl
+
+    by_test : is_some (find (of_version v) kept) ≡ (rest && p v) → (same : Bool)
+        → (tables.version == v) ≡ same → (b : Bool) → p tables.version ≡ b
+        → is_some (find (of_version v) (if b then tables ∷ kept else kept))
+        ≡ ((same || rest) && p v)
+    by_test found true is true e =
+        let passes : p v ≡ true = subst (λ w. p w ≡ true) (eqb-true tables.version v is) e in
+        rw (is, passes) refl
+    by_test found true is false e =
+        let fails : p v ≡ false = subst (λ w. p w ≡ false) (eqb-true tables.version v is) e in
+        found ∙ rw fails (none rest)
+    by_test found false is true e = rw is found
+    by_test found false is false e = found
+
+twice : (a b : Bool) → (a && (a && b)) ≡ (a && b)
+twice true b = refl
+twice false b = refl
+
+holds_facts : (journal : List Item) (s v : ℕ)
+    → holds_in journal s v
+    ≡ (came_by (is_up journal s && boot_of journal s == 1) (heard journal s) v
+    && not (list_any (collects_version v) (heard journal s)))
+unfolding holds_in
+holds_facts journal s v = refl
+
+pub held_shown : (setting : Setting) (journal : List Item) (s v : ℕ)
+    → holds_version (switch_of setting journal s) v ≡ holds_in journal s v
+held_shown setting journal s v =
+    let first : Bool = is_up journal s && boot_of journal s == 1 in
+    let bodies : List Body = heard journal s in
+    let kept : ℕ → Bool = λ u. came_by first bodies u
+    && not (list_any (collects_version u) bodies) in
+    ap (λ (switch : SwitchValue). holds_version switch v) (switch_is setting journal s)
+    ∙ found_in kept v (all_by (first_tables setting s) first bodies)
+    ∙ ap (λ b. b && kept v) (all_came (first_tables setting s) first bodies v refl)
+    ∙ twice (came_by first bodies v) (not (list_any (collects_version v) bodies))
+    ∙ sym (holds_facts journal s v)
+
+-- ---- plans
+
+pub record IsOfPlan (setting : Setting) (journal : List Item) (version : ℕ) : Type 0 where
+  pub rows : List Row
+  pub plan : IsPlan rows setting.net (plan_at setting journal version)
+
+pub planned : (setting : Setting) (journal : List Item) (version : ℕ)
+    → TablesAreKnown setting journal → 1 ≤ version → version ≤ version_count journal
+    → IsOfPlan setting journal version
+planned setting journal version known first last = record {
+  rows = policy_at setting journal version;
+  plan = version_is_planned setting journal version known.sound
+      (known.versions.planned (begins_planned setting known.sound) version first last);
+}
+
+pub tables_sound : (setting : Setting) (journal : List Item) (version s : ℕ)
+    → TablesAreKnown setting journal → 1 ≤ version → version ≤ version_count journal
+    → AreSoundTables (tables_at setting journal version s)
+tables_sound setting journal version s known first last =
+    let of = planned setting journal version known first last in
+    let plan : List Hosted = plan_at setting journal version in
+    let few : length plan < 2 ^ 32 = omega (arith, of.plan.few) in
+    let few_rules : All (λ hosted. length hosted.0.rules < 2 ^ 32) plan =
+    λ k d within. omega (arith, of.plan.leaves k d within, known.sound.net.leaf_rules) in
+    tables_are_sound of.rows plan version s of.plan.sound of.plan.ended few few_rules
+
+-- ---- the tables of a version
+
+-- tables as they are planned for the switch
+record IsPlanned (setting : Setting) (journal : List Item) (s : ℕ) (tables : Tables)
+    : Type 0 where
+  first : 1 ≤ tables.version
+  last : tables.version ≤ version_count journal
+  planned : tables ≡ tables_at setting journal tables.version s
+
+brought : (setting : Setting) (journal : List Item) (s : ℕ) (bodies : List Body)
+    → AllByRecursion (BringsTables setting journal s) bodies
+    → AllByRecursion (IsPlanned setting journal s) (filter_map tables_in bodies)
+brought setting journal s [] all = tt
+brought setting journal s (Install boot tables ∷ bodies) all = (
+  record { first = all.0.first; last = all.0.last; planned = all.0.planned },
+  brought setting journal s bodies all.1,
+)
+brought setting journal s (_ ∷ bodies) all = brought setting journal s bodies all.1
+
+first_planned : (setting : Setting) (journal : List Item) (s : ℕ)
+    → IsPlanned setting journal s (first_tables setting s)
+unfolding version_count
+first_planned setting journal s = record {
+  first = omega arith;
+  last = omega arith;
+  planned = sym (ap (λ plan. tables_of plan 1 s) (first_plan_stays setting journal));
+}
+
+all_planned : (setting : Setting) (journal : List Item) (s : ℕ) → TablesAreKnown setting journal
+    → All (IsPlanned setting journal s) (switch_of setting journal s).tables
+all_planned setting journal s known =
+    let bodies : List Body = heard journal s in
+    let first : Bool = is_up journal s && boot_of journal s == 1 in
+    let P : Tables → Type 0 = IsPlanned setting journal s in
+    subst (All P) (sym (ap (λ (switch : SwitchValue). switch.tables) (switch_is setting journal s)))
+    (All-from_recursion P _ (each_kept P
+    (λ tables. came_by first bodies tables.version
+    && not (list_any (collects_version tables.version) bodies))
+    (all_by (first_tables setting s) first bodies)
+    (with_each P (if first then first_tables setting s ∷ [] else []) (filter_map tables_in bodies)
+    (begun first)
+    (brought setting journal s bodies (recursion_from_All (BringsTables setting journal s) bodies
+    (known.tables.heard s))))))
+  where
+    begun : (b : Bool) → AllByRecursion (IsPlanned setting journal s)
+        (if b then first_tables setting s ∷ [] else [])
+    begun true = (first_planned setting journal s, tt)
+    begun false = tt
+
+-- of a version that it has they are those of the plan
+pub planned_tables : (setting : Setting) (journal : List Item) (s version : ℕ) (tables : Tables)
+    → TablesAreKnown setting journal
+    → held_tables (switch_of setting journal s) version ≡ Some tables
+    → (tables ≡ tables_at setting journal version s) × (1 ≤ version)
+    × (version ≤ version_count journal)
+planned_tables setting journal s version tables known is =
+    let there = find-there (λ (tables : Tables). tables.version == version)
+    (switch_of setting journal s).tables tables is in
+    let are : IsPlanned setting journal s tables =
+    All-contains (IsPlanned setting journal s) (switch_of setting journal s).tables tables
+    (all_planned setting journal s known) there.0 in
+    let v_is : tables.version ≡ version = eqb-true tables.version version there.1 in (
+      are.planned ∙ ap (λ v. tables_at setting journal v s) v_is,
+      subst (λ v. 1 ≤ v) v_is are.first,
+      subst (λ v. v ≤ version_count journal) v_is are.last,
+    )
+
+held_are : (setting : Setting) (journal : List Item) (s v : ℕ) → TablesAreKnown setting journal
+    → held_tables (switch_of setting journal s) v
+    ≡ (if holds_in journal s v then Some (tables_at setting journal v s) else None)
+held_are setting journal s v known =
+    by_held (held_tables (switch_of setting journal s) v) refl (held_shown setting journal s v)
+  where
+    by_held : (o : Option Tables) → held_tables (switch_of setting journal s) v ≡ o
+        → is_some (held_tables (switch_of setting journal s) v) ≡ holds_in journal s v
+        → o ≡ (if holds_in journal s v then Some (tables_at setting journal v s) else None)
+    by_held None is holds =
+        let none : holds_in journal s v ≡ false = sym holds ∙ ap (λ o. is_some o) is in
+        rw none refl
+    by_held (Some tables) is holds =
+        let some : holds_in journal s v ≡ true = sym holds ∙ ap (λ o. is_some o) is in
+        rw some (ap Some (planned_tables setting journal s v tables known is).0)
+
+-- ---- what it knows
+
+pub knowledge_refines : KnowledgeRefines
+unfolding switch_of lookup_at route_from is_cut_off
+knowledge_refines = record {
+  held = held_shown;
+  tables = held_are;
+  lookup = λ setting journal s header known holds.
+      let switch : SwitchValue = switch_of setting journal s in
+      let stamp : switch.stamp ≡ stamp_of journal s = stamp_shown setting journal s in
+      ap (λ tables. lookup_of switch.cache.entries tables header)
+      (ap (λ v. unwrap_or (held_tables switch v) no_tables) stamp
+      ∙ ap (λ o. unwrap_or o no_tables) (held_are setting journal s (stamp_of journal s) known)
+      ∙ ap (λ b. unwrap_or (if b then Some (tables_at setting journal (stamp_of journal s) s)
+      else None) no_tables) holds);
+  route = λ setting journal s targets down. refl;
+  cut_off = λ setting journal s target down. refl;
+}

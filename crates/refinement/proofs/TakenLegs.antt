@@ -1,0 +1,89 @@
+-- A switch takes a leg as the journal's definitions say.
+use Rattle.std.proofs.Common.{ℕ, ◌≡◌, Bool, ◌&&◌, Option, Some, None, if◌then◌else◌, List, [], ◌∷◌, refl, ap, ◌∙◌, sym}
+use Rattle.std.specs.Prelude.{option_map}
+use Rattle.std.specs.List.{list_all}
+use Rattle.std.specs.Option.{ok_or}
+use Rattle.failover.specs.Isolated.{is_isolated}
+use Rattle.failover.specs.Routes.{route_of}
+use Rattle.policy_rules.specs.declared.packet.Cause.{Cause}
+use Rattle.policy_rules.specs.declared.packet.Cause.TheVariants.{NoAuthority, NoRoute}
+use Rattle.policy_rules.specs.declared.packet.Leg.{Leg}
+use Rattle.policy_rules.specs.declared.packet.Leg.TheVariants.{Seek, Exit}
+use Rattle.journal.specs.declared.item.Item.{Item}
+use Rattle.journal.specs.declared.item.Item.TheVariants as item
+use Rattle.switch_core.specs.Ends.{are_isolated, cause_of, set_out}
+use Rattle.switch_core.specs.State.{SwitchValue}
+use Rattle.switch_core.specs.declared.packet.Packet.{Packet}
+use Rattle.tunnel.specs.Moves.{tunnel_begun}
+use Rattle.update_machine.specs.Adverts.{is_cut_off, route_from}
+use Rattle.update_machine.specs.Moves.{cause_at, leg_items, takes_route}
+use Rattle.update_machine.specs.PacketRoutes.{found_down, targets_of}
+use Rattle.update_machine.specs.Setting.{Setting}
+use Rattle.travelling.specs.Travelling.{Standing}
+use Rattle.world_log.specs.Writing.{set_item}
+use Rattle.refinement.proofs.SeenWithinStep.{Sees}
+
+abbrev pub at_switch : ℕ → Packet → Standing
+at_switch s packet = record {
+  packet = packet.number;
+  header = packet.header;
+  ingress = packet.ingress;
+  switch = s;
+  down = packet.down;
+}
+
+all_same : (one other : ℕ → Bool) → ((x : ℕ) → one x ≡ other x) → (xs : List ℕ)
+    → list_all one xs ≡ list_all other xs
+all_same one other same [] = refl
+all_same one other same (x ∷ xs) =
+    ap (λ b. b && list_all one xs) (same x)
+    ∙ ap (λ b. other x && b) (all_same one other same xs)
+
+pub cause_law : (setting : Setting) (journal : List Item) (s : ℕ) (w : SwitchValue) (mask : ℕ)
+    → Sees setting journal s w mask → (down : List ℕ) (leg : Leg)
+    → cause_at setting journal s down leg
+    ≡ cause_of w mask down leg (targets_of setting journal leg)
+unfolding cause_of are_isolated
+cause_law setting journal s w mask sees down (Seek version partition) =
+    ap (λ b. if b then NoAuthority else NoRoute)
+    (all_same (is_cut_off setting journal s down)
+    (λ target. is_isolated w.database w.number target mask down)
+    (λ target. sym (sees.cut_off target down))
+    (targets_of setting journal (Seek version partition)))
+cause_law setting journal s w mask sees down (Exit port) = refl
+
+-- by the route that the switch knows
+by_route : (s : ℕ) (packet : Packet) (leg : Leg) (targets : List ℕ) (cause : Cause)
+    (route : Option (List ℕ)) →
+    elim route [
+      | None ↦ item.Stuck packet.number s cause leg packet.down ∷ []
+      | Some way ↦ takes_route packet.number leg way ∷ []
+    ]
+    ≡ set_item (at_switch s packet) leg (ok_or (option_map (λ way.
+    tunnel_begun packet.number packet.header packet.ingress leg targets way packet.down) route) cause)
+    ∷ []
+by_route s packet leg targets cause None = refl
+by_route s packet leg targets cause (Some route) = refl
+
+pub leg_law : (setting : Setting) (journal : List Item) (s : ℕ) (w : SwitchValue) (mask : ℕ)
+    → Sees setting journal s w mask → (packet : Packet)
+    → found_down journal packet.number ≡ packet.down → (leg : Leg)
+    → leg_items setting journal packet.number s leg
+    ≡ set_item (at_switch s packet) leg
+    (set_out w mask packet leg (targets_of setting journal leg)) ∷ []
+unfolding leg_items set_out
+leg_law setting journal s w mask sees packet found leg =
+    let targets : List ℕ = targets_of setting journal leg in
+    let by : Cause → List ℕ → Option (List ℕ) → List Item = λ cause down route. elim route [
+      | None ↦ item.Stuck packet.number s cause leg down ∷ []
+      | Some way ↦ takes_route packet.number leg way ∷ []
+    ] in
+    ap (λ down. by (cause_at setting journal s down leg) down
+    (route_from setting journal s targets down)) found
+    ∙ ap (by (cause_at setting journal s packet.down leg) packet.down)
+    (sym (sees.route targets packet.down))
+    ∙ ap (λ cause. by cause packet.down
+    (route_of w.database w.number targets mask packet.down))
+    (cause_law setting journal s w mask sees packet.down leg)
+    ∙ by_route s packet leg targets (cause_of w mask packet.down leg targets)
+    (route_of w.database w.number targets mask packet.down)

@@ -1,0 +1,124 @@
+-- Where a packet goes that was decided.
+use Rattle.std.proofs.Common.{ℕ, ◌≡◌, ◌≢◌, ◌∙◌, ◌↔◌, ◌==◌, Bool, true, false, cond, Option, Some, None, [], ◌∷◌, refl, ap, sym, arith, eqb-true, eq-eqb}
+use Rattle.std.specs.Option.{MatchOption}
+use Rattle.std.specs.Prelude.{Result, Ok, Err}
+use Rattle.std.proofs.lemmas.Bool.Decides.{nat_tests}
+use Rattle.policy_rules.specs.declared.packet.Cause.{Cause}
+use Rattle.policy_rules.specs.declared.packet.Cause.TheVariants.{NoRoute}
+use Rattle.policy_rules.specs.declared.packet.Leg.TheVariants.{Exit as ExitLeg}
+use Rattle.policy_rules.specs.declared.policy.Action.{Action}
+use Rattle.policy_rules.specs.declared.policy.Action.TheVariants.{Drop, Out as OutBy}
+use Rattle.net_file.specs.Owners.{port_owner}
+use Rattle.tunnel.specs.Tunnel.{TunnelValue}
+use Rattle.switch_core.specs.AnswerLaws.{route_known, setting_out}
+use Rattle.switch_core.specs.Ends.{Site, cause_of, exit_by, leave_by, next_of, set_out}
+use Rattle.switch_core.specs.State.{SwitchValue}
+use Rattle.switch_core.specs.declared.answers.Next.{Next}
+use Rattle.switch_core.specs.declared.answers.Next.TheVariants.{Dropped, Exit, Out, Stuck}
+use Rattle.switch_core.specs.declared.packet.Packet.{Packet}
+use Rattle.switch_core.proofs.LookupAnswers.{either_way, sets_out}
+
+-- ---- by the port's owner
+
+leaves_here : (s : SwitchValue) (near : ℕ) (packet : Packet) (port owner : ℕ) →
+    owner ≡ s.number → leave_by s near packet port (Some owner) ≡ Out port
+unfolding leave_by
+leaves_here s near packet port owner is =
+    let way = exit_by (set_out s near packet (ExitLeg port) (owner ∷ [])) in
+    ap (λ (test : Bool). cond test (Out port) way) (eq-eqb owner s.number is)
+
+leaves_for : (s : SwitchValue) (near : ℕ) (packet : Packet) (port owner : ℕ) →
+    owner ≢ s.number → leave_by s near packet port (Some owner)
+    ≡ exit_by (set_out s near packet (ExitLeg port) (owner ∷ []))
+unfolding leave_by
+leaves_for s near packet port owner other =
+    let way = exit_by (set_out s near packet (ExitLeg port) (owner ∷ [])) in
+    let no_test : (owner == s.number) ≡ false = grind (arith, nat_tests) in
+    ap (λ (test : Bool). cond test (Out port) way) no_test
+
+-- an answer is one of these, where the port has an owner
+exits : (s : SwitchValue) (near : ℕ) (packet : Packet) (port owner : ℕ) (P : Next → Type 0) →
+    (owner ≡ s.number → P (Out port)) → ((tunnel : TunnelValue) → P (Exit tunnel)) →
+    ((cause : Cause) → P (Stuck cause)) → P (leave_by s near packet port (Some owner))
+unfolding leave_by
+exits s near packet port owner P here on stuck =
+    by_test (owner == s.number) refl
+    (set_out s near packet (ExitLeg port) (owner ∷ []))
+  where
+    by_test : (test : Bool) → (owner == s.number) ≡ test → (way : Result TunnelValue Cause) →
+        P (cond test (Out port) (exit_by way))
+    by_test true is way = here (eqb-true owner s.number is)
+    by_test false is (Ok tunnel) = on tunnel
+    by_test false is (Err cause) = stuck cause
+
+-- ---- by the action
+
+not_dropped : (s : SwitchValue) (near : ℕ) (packet : Packet) (port : ℕ) (owner : Option ℕ) →
+    leave_by s near packet port owner ≡ Dropped → ⊥
+unfolding leave_by
+not_dropped s near packet port None is = cc
+not_dropped s near packet port (Some owner) is =
+    exits s near packet port owner (λ answer. answer ≡ Dropped → ⊥)
+    (λ here is. cc) (λ tunnel is. cc) (λ cause is. cc) is
+
+pub next_dropped : (s : SwitchValue) (site : Site) (packet : Packet) (action : Action) →
+    (next_of s site packet action ≡ Dropped) ↔ (action ≡ Drop)
+unfolding next_of
+next_dropped s site packet Drop = (λ is. refl, λ is. refl)
+next_dropped s site packet (OutBy port) = (
+  λ is. absurd (not_dropped s site.near packet port (port_owner site.ports port) is),
+  λ is. cc,
+)
+
+out_by_owner : (s : SwitchValue) (near : ℕ) (packet : Packet) (by port : ℕ)
+    (owner : Option ℕ) → leave_by s near packet by owner ≡ Out port →
+    (OutBy by ≡ OutBy port) × (owner ≡ Some s.number)
+unfolding leave_by
+out_by_owner s near packet by port None is = cc
+out_by_owner s near packet by port (Some owner) is =
+    exits s near packet by owner
+    (λ answer. answer ≡ Out port → (OutBy by ≡ OutBy port) × (Some owner ≡ Some s.number))
+    (λ here is. (let same : by ≡ port = cc in ap OutBy same, ap Some here))
+    (λ tunnel is. absurd (cc)) (λ cause is. absurd (cc)) is
+
+pub next_out : (s : SwitchValue) (site : Site) (packet : Packet) (action : Action)
+    (port : ℕ) →
+    (next_of s site packet action ≡ Out port)
+    ↔ ((action ≡ OutBy port) × (port_owner site.ports port ≡ Some s.number))
+unfolding next_of
+next_out s site packet Drop port = (λ is. absurd (cc), λ both. absurd (cc (both.0)))
+next_out s site packet (OutBy by) port = (
+  λ is.
+      let out = out_by_owner s site.near packet by port (port_owner site.ports by) is in
+      let same : by ≡ port = cc (out.0) in
+      (out.0, ap (port_owner site.ports) (sym same) ∙ out.1),
+  λ both.
+      let same : by ≡ port = cc (both.0) in
+      ap (λ (p : ℕ). next_of s site packet (OutBy p)) same
+      ∙ ap (leave_by s site.near packet port) both.1
+      ∙ leaves_here s site.near packet port s.number refl,
+)
+
+pub next_exit : (s : SwitchValue) (site : Site) (packet : Packet) (action : Action)
+    (port owner : ℕ) → action ≡ OutBy port →
+    port_owner site.ports port ≡ Some owner → owner ≢ s.number →
+    MatchOption (route_known s site.near packet (owner ∷ []))
+    (next_of s site packet action ≡ Stuck NoRoute)
+    (λ route. next_of s site packet action
+    ≡ Exit (setting_out packet (ExitLeg port) (owner ∷ []) route))
+unfolding next_of cause_of
+next_exit s site packet action port owner by has other =
+    let is : next_of s site packet action
+    ≡ exit_by (set_out s site.near packet (ExitLeg port) (owner ∷ [])) =
+    ap (next_of s site packet) by ∙ ap (leave_by s site.near packet port) has
+    ∙ leaves_for s site.near packet port owner other in
+    either_way (route_known s site.near packet (owner ∷ []))
+    (λ none. is ∙ ap exit_by none) (λ way some. is ∙ ap exit_by some)
+    (sets_out s site.near packet (ExitLeg port) (owner ∷ []))
+
+pub next_no_owner : (s : SwitchValue) (site : Site) (packet : Packet) (action : Action)
+    (port : ℕ) → action ≡ OutBy port → port_owner site.ports port ≡ None →
+    next_of s site packet action ≡ Stuck NoRoute
+unfolding next_of leave_by
+next_no_owner s site packet action port by none =
+    ap (next_of s site packet) by ∙ ap (leave_by s site.near packet port) none

@@ -1,0 +1,213 @@
+-- The relations of the laws allow one answer.
+use Rattle.std.proofs.Common.{ℕ, ◌≡◌, ◌≢◌, ◌∙◌, ◌==◌, Bool, true, false, cond, Option, Some, None, is_some, List, [], ◌∷◌, position, slice_get, refl, ap, sym, eqb-true, eq-eqb}
+use Rattle.std.specs.Bool.{IsTrue}
+use Rattle.std.specs.Option.{MatchOption}
+use Rattle.five_tuple.specs.Header.{number_of}
+use Rattle.five_tuple.specs.declared.header.Header.{Header}
+use Rattle.policy_rules.specs.Rules.{first_rule, is_held}
+use Rattle.policy_rules.specs.declared.packet.Cause.TheVariants.{NoRoute}
+use Rattle.policy_rules.specs.declared.packet.Leg.{Leg}
+use Rattle.policy_rules.specs.declared.packet.Leg.TheVariants.{Seek as SeekLeg, Exit as ExitLeg}
+use Rattle.policy_rules.specs.declared.policy.Action.{Action}
+use Rattle.policy_rules.specs.declared.policy.Action.TheVariants.{Drop, Out as OutBy}
+use Rattle.policy_rules.specs.declared.rules.Partition.{Partition}
+use Rattle.policy_rules.specs.declared.rules.Rule.{Rule}
+use Rattle.net_file.specs.Owners.{port_owner}
+use Rattle.base.specs.Masks.{has}
+use Rattle.cache_maker.specs.Independent.{widen}
+use Rattle.tunnel.specs.Moves.{next}
+use Rattle.tunnel.specs.Tunnel.{TunnelValue}
+use Rattle.switch_table.specs.declared.search.Found.{Found}
+use Rattle.switch_table.specs.declared.search.Found.TheVariants.{Cached, Authority, Redirect}
+use Rattle.switch_table.specs.declared.tables.Tables.{Tables}
+use Rattle.ctrl_msg.specs.declared.message.Body.TheVariants.{CacheRule}
+use Rattle.switch_core.specs.AnswerLaws.{IsRightAnswer, IsArrival, IsArriving, IsDecidedIn, IsEntry, IsHop, IsReady, IsNextOf, OwnRule, down_with, lookup_by_stamp, route_known, setting_out, route_around}
+use Rattle.switch_core.specs.Answering.{arrive_answer, enter_answer, looked_up, packet_of}
+use Rattle.switch_core.specs.Deciding.{by_rule, own_part}
+use Rattle.switch_core.specs.Ends.{Site, cause_of, next_of}
+use Rattle.switch_core.specs.Moving.{Moved, link_found_down, hop_answer}
+use Rattle.switch_core.specs.State.{SwitchValue, held_tables, serves, stamp_tables}
+use Rattle.switch_core.specs.Answers.{Answer, Decided, Seek, Stuck, arrived_with, entered_with}
+use Rattle.switch_core.specs.declared.answers.Arrived.{Arrived}
+use Rattle.switch_core.specs.declared.answers.Entered.{Entered}
+use Rattle.switch_core.specs.declared.answers.HopEnd.TheVariants as hop
+use Rattle.switch_core.specs.declared.answers.Next.{Next}
+use Rattle.switch_core.specs.declared.answers.Next.TheVariants as goes
+use Rattle.switch_core.specs.declared.packet.Packet.{Packet}
+use Rattle.switch_core.proofs.LookupAnswers.{lookup_is}
+use Rattle.switch_core.proofs.PacketArrivals.{arrive_anew, arrive_held, arrive_out, entry_is}
+use Rattle.switch_core.proofs.LeavingPackets.{next_dropped, next_exit, next_no_owner, next_out}
+use Rattle.switch_core.proofs.OnWay.{down_is, hop_arrives, hop_moves, hop_stuck, hop_turns}
+
+-- ---- alternatives
+
+-- two values that are both what an option says are equal
+same_of : {X Y : Type 0} (o : Option Y) (a b none : X) (some : Y → X) →
+    MatchOption o (a ≡ none) (λ y. a ≡ some y) → MatchOption o (b ≡ none) (λ y. b ≡ some y) →
+    a ≡ b
+same_of None a b none some one other = one ∙ sym other
+same_of (Some y) a b none some one other = one ∙ sym other
+
+-- one first hit in one partition of a number
+same_part : (tables : Tables) (header : Header) (own other : OwnRule tables header) →
+    own.part.number ≡ other.part.number → own.part ≡ other.part
+same_part tables header own other number =
+    let both : Some own.part ≡ Some other.part =
+    sym own.own ∙ ap (own_part tables) number ∙ other.own in
+    cc
+
+-- ---- the answer of a lookup
+
+same_decided : (s : SwitchValue) (site : Site) (packet : Packet) (version partition : ℕ)
+    (tables : Tables) (answer other : Answer) →
+    IsDecidedIn s site packet version tables partition answer →
+    IsDecidedIn s site packet version tables partition other → answer ≡ other
+same_decided s site packet version partition tables answer other one two =
+    let part : one.own.part ≡ two.own.part =
+    same_part tables packet.header one.own two.own (one.numbered ∙ sym two.numbered) in
+    let places : Some one.own.place ≡ Some two.own.place =
+    sym one.own.hit.first
+    ∙ ap (λ (part : Partition). position (is_held (number_of packet.header)) part.rules) part
+    ∙ two.own.hit.first in
+    let place : one.own.place ≡ two.own.place = cc in
+    let rules : Some one.own.rule ≡ Some two.own.rule =
+    sym one.own.first ∙ ap (λ (part : Partition). first_rule part.rules packet.header) part
+    ∙ two.own.first in
+    let rule : one.own.rule ≡ two.own.rule = cc in
+    let by = λ (part : Partition) (place : ℕ) (rule : Rule).
+    Decided (by_rule s.number version part.number rule)
+    (cond (packet.ingress == s.number) None (Some (CacheRule version
+    (widen (number_of packet.header) part.region part.rules place) rule.rule rule.action)))
+    (next_of s site packet rule.action) in
+    one.answered
+    ∙ ap (λ (part : Partition). by part one.own.place one.own.rule) part
+    ∙ ap (λ (place : ℕ). by two.own.part place one.own.rule) place
+    ∙ ap (λ (rule : Rule). by two.own.part two.own.place rule) rule
+    ∙ sym two.answered
+
+same_answer : (s : SwitchValue) (site : Site) (packet : Packet) (answer other : Answer) →
+    IsRightAnswer s site packet answer → IsRightAnswer s site packet other → answer ≡ other
+same_answer s site packet answer other one two = by_found (lookup_by_stamp s packet.header) refl
+  where
+    by_found : (found : Found) → lookup_by_stamp s packet.header ≡ found → answer ≡ other
+    by_found (Cached cached) is = one.cached cached is ∙ sym (two.cached cached is)
+    by_found (Authority partition place) is =
+        same_decided s site packet s.stamp partition (stamp_tables s) answer other
+        (one.authority partition place is).0 (two.authority partition place is).0
+    by_found (Redirect partition targets) is =
+        let leg = SeekLeg s.stamp partition in
+        same_of (route_known s site.near packet targets) answer other
+        (Stuck (cause_of s site.near packet.down leg targets) leg)
+        (λ (route : List ℕ). Seek (setting_out packet leg targets route))
+        (one.redirect partition targets is) (two.redirect partition targets is)
+
+pub one_answer : (s : SwitchValue) (site : Site) (packet : Packet) (answer : Answer) →
+    IsReady s packet.header → IsRightAnswer s site packet answer → answer ≡ looked_up s site packet
+one_answer s site packet answer ready law =
+    same_answer s site packet answer _ law (lookup_is s site packet ready)
+
+-- ---- of a packet that comes in
+
+pub one_entry : (s : SwitchValue) (site : Site) (packet : Packet) (answer : Entered) →
+    (IsTrue (serves s) → IsReady s packet.header) → IsEntry s site packet answer →
+    answer ≡ enter_answer s site packet
+one_entry s site packet answer ready law = by_test (serves s) refl
+  where
+    by_test : (test : Bool) → serves s ≡ test → answer ≡ enter_answer s site packet
+    by_test false shut = law.closed.1 shut ∙ sym ((entry_is s site packet).closed.1 shut)
+    by_test true serving =
+        let one = law.answered (ready serving) in
+        let two = (entry_is s site packet).answered (ready serving) in
+        one.1 ∙ ap entered_with (same_answer s site packet one.0 two.0 one.2 two.2)
+        ∙ sym two.1
+
+-- ---- of a packet that arrives
+
+pub one_arrival : (s : SwitchValue) (site : Site) (t : TunnelValue) (answer : Arrived) →
+    IsArriving s t → IsArrival s site t answer → answer ≡ arrive_answer s site t
+one_arrival s site t answer arriving law = by_leg t.leg refl
+  where
+    by_tables : (version partition : ℕ) → t.leg ≡ SeekLeg version partition →
+        (held : Option Tables) → held_tables s version ≡ held → answer ≡ arrive_answer s site t
+    by_tables version partition leg (Some tables) held =
+        let one = law.decided version partition tables arriving leg held in
+        let two = arrive_held s site t version partition tables arriving leg held in
+        one.1 ∙ ap arrived_with (same_decided s site (packet_of t) version partition tables
+        one.0 two.0 one.2 two.2) ∙ sym two.1
+    by_tables version partition leg None held =
+        let gone = ap (λ (o : Option Tables). is_some o) held in
+        let one = law.anew version partition arriving leg gone in
+        let two = arrive_anew s site t version partition arriving leg gone in
+        one.1 ∙ ap arrived_with (same_answer s site (packet_of t) one.0 two.0 one.2 two.2)
+        ∙ sym two.1
+
+    by_leg : (leg : Leg) → t.leg ≡ leg → answer ≡ arrive_answer s site t
+    by_leg (ExitLeg port) leg = law.out port leg ∙ sym (arrive_out s site t port leg)
+    by_leg (SeekLeg version partition) leg =
+        by_tables version partition leg (held_tables s version) refl
+
+-- ---- of a packet that was decided
+
+pub one_way_on : (s : SwitchValue) (site : Site) (packet : Packet) (action : Action)
+    (way : Next) → IsNextOf s site packet action way → way ≡ next_of s site packet action
+one_way_on s site packet action way law = by_action action refl
+  where
+    by_owner : (port : ℕ) → action ≡ OutBy port → (owner : Option ℕ) →
+        port_owner site.ports port ≡ owner → way ≡ next_of s site packet action
+    by_owner port by None none =
+        law.no_owner port by none ∙ sym (next_no_owner s site packet action port by none)
+    by_owner port by (Some owner) has = by_test (owner == s.number) refl
+      where
+        by_test : (test : Bool) → (owner == s.number) ≡ test →
+            way ≡ next_of s site packet action
+        by_test true is =
+            let here : port_owner site.ports port ≡ Some s.number =
+            has ∙ ap Some (eqb-true owner s.number is) in
+            (law.out port).1 (by, here)
+            ∙ sym ((next_out s site packet action port).1 (by, here))
+        by_test false is =
+            let other : owner ≢ s.number = λ same. (let test = eq-eqb owner s.number same in
+            cc) in
+            same_of (route_known s site.near packet (owner ∷ [])) way
+            (next_of s site packet action) (goes.Stuck NoRoute)
+            (λ (route : List ℕ). goes.Exit
+            (setting_out packet (ExitLeg port) (owner ∷ []) route))
+            (law.exit port owner by has other)
+            (next_exit s site packet action port owner by has other)
+
+    by_action : (a : Action) → action ≡ a → way ≡ next_of s site packet action
+    by_action Drop by = law.dropped.1 by ∙ sym ((next_dropped s site packet action).1 by)
+    by_action (OutBy port) by = by_owner port by (port_owner site.ports port) refl
+
+-- ---- of a packet on its way
+
+pub one_hop : (s : SwitchValue) (near : ℕ) (t : TunnelValue) (after : Moved) →
+    IsHop s near t after → after ≡ hop_answer s near t
+one_hop s near t after law = by_next (next t) refl
+  where
+    by_way : (other : ℕ) → link_found_down near (next t) ≡ Some other → (way : Option (List ℕ)) →
+        route_around s near t other ≡ way → after ≡ hop_answer s near t
+    by_way other found None is =
+        law.stuck other found is ∙ sym (hop_stuck s near t other found is)
+    by_way other found (Some way) is =
+        same_of (slice_get way 1) after (hop_answer s near t)
+        (record {
+          end = hop.Arrive;
+          tunnel = record t { route = way; place = 0; down = down_with t other };
+        })
+        (λ (second : ℕ). record {
+          end = hop.Move second;
+          tunnel = record t { route = way; place = 1; down = down_with t other };
+        })
+        (law.turns other way found is) (hop_turns s near t other way found is)
+
+    by_test : (other : ℕ) → next t ≡ Some other → (test : Bool) → has near other ≡ test →
+        after ≡ hop_answer s near t
+    by_test other onward true usable =
+        law.moves other onward usable ∙ sym (hop_moves s near t other onward usable)
+    by_test other onward false down =
+        by_way other ((down_is near t other).1 (onward, down)) (route_around s near t other) refl
+
+    by_next : (after_it : Option ℕ) → next t ≡ after_it → after ≡ hop_answer s near t
+    by_next None none = law.arrives none ∙ sym (hop_arrives s near t none)
+    by_next (Some other) onward = by_test other onward (has near other) refl

@@ -1,0 +1,124 @@
+-- What a switch answers as a packet comes in and as it arrives.
+use Rattle.std.proofs.Common.{ℕ, ◌≡◌, ◌∙◌, ◌↔◌, Bool, true, false, cond, Option, Some, None, is_some, unwrap_or, refl, ap, subst}
+use Rattle.std.specs.Bool.{IsTrue, IsFalse}
+use Rattle.std.specs.Option.{IfSome, IsSomeAnd, option_map_or}
+use Rattle.policy_rules.specs.Hosted.{is_in}
+use Rattle.policy_rules.specs.declared.packet.Leg.{Leg}
+use Rattle.policy_rules.specs.declared.packet.Leg.TheVariants.{Seek, Exit}
+use Rattle.policy_rules.specs.declared.rules.Partition.{Partition}
+use Rattle.tunnel.specs.Tunnel.{TunnelValue}
+use Rattle.switch_table.specs.declared.tables.Tables.{Tables}
+use Rattle.switch_core.specs.AnswerLaws.{IsRightAnswer, IsArriving, IsDecidedIn, IsEntry}
+use Rattle.switch_core.specs.Answering.{IsAtAuthority, admitted, arrive_answer, arrived_on, decided_in, enter_answer, looked_up, packet_of, received}
+use Rattle.switch_core.specs.Deciding.{IsFirstHit, place_of_first, no_part, own_part, part_numbered}
+use Rattle.switch_core.specs.Ends.{Site}
+use Rattle.switch_core.specs.State.{SwitchValue, held_tables, holds_version, serves}
+use Rattle.switch_core.specs.Answers.{Answer, Answered, Decided, Seek as SeekBy, Stuck, arrival_of, arrived_with, entered_with, entry_of}
+use Rattle.switch_core.specs.declared.answers.Arrived.TheVariants as arrival
+use Rattle.switch_core.specs.declared.answers.Entered.TheVariants as entry
+use Rattle.switch_core.specs.declared.packet.Packet.{Packet}
+use Rattle.switch_core.proofs.LookupAnswers.{hit_in, lookup_is, sound_held, version_held}
+use Rattle.switch_core.proofs.OwnTables.{own_hit}
+
+-- ---- a packet comes in
+
+pub entry_by : (s : SwitchValue) (site : Site) (packet : Packet) (test : Bool) →
+    serves s ≡ test → admitted s site packet ≡ cond test (Some (looked_up s site packet)) None
+unfolding admitted
+entry_by s site packet test is =
+    ap (λ (b : Bool). cond b (Some (looked_up s site packet)) None) is
+
+-- a switch that answers isn't closed
+not_closed : (answer : Answer) → entered_with answer ≡ entry.Closed → ⊥
+not_closed (Decided decision cache way) is = cc
+not_closed (SeekBy tunnel) is = cc
+not_closed (Stuck cause leg) is = cc
+
+pub entry_is : (s : SwitchValue) (site : Site) (packet : Packet) →
+    IsEntry s site packet (enter_answer s site packet)
+unfolding admitted
+entry_is s site packet = record {
+  closed = by_test (serves s);
+  answered = λ ready. (
+    looked_up s site packet,
+    ap entry_of (entry_by s site packet true ready.serving),
+    lookup_is s site packet ready,
+  );
+}
+  where
+    by_test : (test : Bool) →
+        (entry_of (cond test (Some (looked_up s site packet)) None) ≡ entry.Closed)
+        ↔ IsFalse test
+    by_test true = (λ is. absurd (not_closed (looked_up s site packet) is), λ is. cc)
+    by_test false = (λ is. refl, λ is. refl)
+
+-- ---- a packet is at the end of its route
+
+pub arrive_out : (s : SwitchValue) (site : Site) (t : TunnelValue) (port : ℕ) →
+    t.leg ≡ Exit port → arrive_answer s site t ≡ arrival.Out port
+unfolding received
+arrive_out s site t port leg = ap (λ leg. arrival_of (arrived_on s site (packet_of t) leg)) leg
+
+-- by the tables of the leg's version, if they are held
+arrived_by : (s : SwitchValue) (site : Site) (t : TunnelValue) (version partition : ℕ)
+    (held : Option Tables) → t.leg ≡ Seek version partition → held_tables s version ≡ held →
+    received s site t ≡ Answered
+    (option_map_or (decided_in s site (packet_of t) partition) held
+    (looked_up s site (packet_of t)))
+unfolding received
+arrived_by s site t version partition held leg is =
+    ap (arrived_on s site (packet_of t)) leg
+    ∙ ap (λ (o : Option Tables). Answered
+    (option_map_or (decided_in s site (packet_of t) partition) o
+    (looked_up s site (packet_of t)))) is
+
+-- the first hit of the leg's partition
+hit_on : (s : SwitchValue) (t : TunnelValue) (version partition : ℕ) (tables : Tables) →
+    IsArriving s t → t.leg ≡ Seek version partition → held_tables s version ≡ Some tables →
+    IsSomeAnd (own_part tables partition) (λ part. IsFirstHit t.header part
+    (place_of_first t.header (part_numbered tables partition)))
+hit_on s t version partition tables arriving leg held =
+    let at : IsAtAuthority s t.header (Seek version partition) =
+    subst (λ (leg : Leg). IsAtAuthority s t.header leg) leg arriving.authority in
+    by_part (own_part tables partition) refl
+    (subst (λ (o : Option Tables). IfSome o (λ tables.
+    IsSomeAnd (own_part tables partition) (λ part. IsTrue (is_in t.header part)))) held at)
+  where
+    by_part : (part : Option Partition) → own_part tables partition ≡ part →
+        IsSomeAnd part (λ part. IsTrue (is_in t.header part)) →
+        IsSomeAnd part (λ own. IsFirstHit t.header own
+        (place_of_first t.header (unwrap_or part no_part)))
+    by_part (Some part) is inside = own_hit tables partition part t.header
+        (sound_held s version tables arriving.ready.switch held) arriving.ready.is_header is
+        inside
+    by_part None is inside = absurd inside
+
+pub arrive_held : (s : SwitchValue) (site : Site) (t : TunnelValue) (version partition : ℕ)
+    (tables : Tables) →
+    IsArriving s t → t.leg ≡ Seek version partition → held_tables s version ≡ Some tables →
+    (answer : Answer) × (arrive_answer s site t ≡ arrived_with answer)
+    × IsDecidedIn s site (packet_of t) version tables partition answer
+unfolding decided_in
+arrive_held s site t version partition tables arriving leg held = (
+  decided_in s site (packet_of t) partition tables,
+  ap arrival_of (arrived_by s site t version partition (Some tables) leg held),
+  subst (λ (v : ℕ). IsDecidedIn s site (packet_of t) v tables partition
+      (decided_in s site (packet_of t) partition tables)) (version_held s version tables held)
+      (hit_in s site (packet_of t) tables.version tables partition _
+      (hit_on s t version partition tables arriving leg held)).0,
+)
+
+pub none_held : (o : Option Tables) → is_some o ≡ false → o ≡ None
+none_held None is = refl
+none_held (Some tables) is = cc
+
+pub arrive_anew : (s : SwitchValue) (site : Site) (t : TunnelValue) (version partition : ℕ) →
+    IsArriving s t → t.leg ≡ Seek version partition → IsFalse (holds_version s version) →
+    (answer : Answer) × (arrive_answer s site t ≡ arrived_with answer)
+    × IsRightAnswer s site (packet_of t) answer
+arrive_anew s site t version partition arriving leg gone = (
+  looked_up s site (packet_of t),
+  ap arrival_of (arrived_by s site t version partition None leg
+      (none_held (held_tables s version) gone)),
+  lookup_is s site (packet_of t) arriving.ready,
+)

@@ -1,0 +1,36 @@
+-- A word at the beginning of a text, with a blank behind it.
+use Rattle.std.proofs.Common.{◌≡◌, ◌∙◌, ◌+◌, ◌<◌, ◌==◌, ◌++◌, ℕ, List, [], ◌∷◌, length, get_or, take, drop, ap, arith, refl, sym, suc, true, false, not, drop-cons}
+use Rattle.std.specs.Prelude.{Option, None, Some, MatchBool, is_some}
+use Rattle.std.specs.Borrow.{Bor}
+use Rattle.std.specs.List.{All}
+use Rattle.std.proofs.lemmas.Bool.{not-true}
+use Rattle.std.proofs.lemmas.List.{take-append-drop}
+use Rattle.std.proofs.lemmas.List.Elements.{All-weaker}
+use Rattle.std.proofs.lemmas.List.Splits.{slice_split_at}
+use Rattle.std.proofs.lemmas.List.Sums.{AllPass-from_list_all}
+use Rattle.trace_audit.specs.Told.{has_no_blank, words_left, words_of}
+use Rattle.trace_audit.proofs.TraceLines.{first_part}
+
+pub word_before : (word text : List ℕ) → has_no_blank word ≡ true → length word < length text
+    → take (length word) text ≡ word → get_or text (length word) 0 ≡ 32
+    → words_of text ≡ word ∷ words_of (drop (length word + 1) text)
+word_before word text plain room front blank =
+    let n = length word in
+    let rest = drop (n + 1) text in
+    let lacks : All (λ b. (b == 32) ≡ false) word =
+    All-weaker (λ b. not (b == 32) ≡ true) (λ b. (b == 32) ≡ false) (λ b e. not-true (b == 32) e) word
+    (AllPass-from_list_all (λ b. not (b == 32)) word plain) in
+    let next : suc n ≡ n + 1 = omega arith in
+    let back : drop n text ≡ 32 ∷ rest =
+    drop-cons text n 0 room
+    ∙ ap (λ b. b ∷ drop (suc n) text) blank ∙ ap (λ k. 32 ∷ drop k text) next in
+    let whole : text ≡ word ++ 32 ∷ rest =
+    sym (take-append-drop n text) ∙ ap (λ x. x ++ drop n text) front ∙ ap (λ x. word ++ x) back in
+    ap words_of whole ∙ slice_split_at (λ b. b == 32) word 32 rest lacks refl
+
+-- of a text that is left there are words
+pub more_left : (rest : Option (Bor (List ℕ))) → MatchBool (is_some rest)
+    ((word : List ℕ) × (others : List (List ℕ)) × (words_left rest ≡ word ∷ others))
+    (words_left rest ≡ [])
+more_left None = refl
+more_left (Some text) = first_part 32 text.now

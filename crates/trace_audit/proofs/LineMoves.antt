@@ -1,0 +1,57 @@
+-- Moves of the machine that a line may tell, and such that it may not.
+use Rattle.std.proofs.Common.{◌≡◌, ℕ, Option, Some, None, option_map, true, false, is_some, List, length, ltb, get_or, slice_get, refl, sym, ap, subst, ◌∙◌}
+use Rattle.std.proofs.lemmas.Bool.{ltb-true}
+use Rattle.std.proofs.lemmas.Option.{slice_get_read}
+use Rattle.policy_rules.specs.Policy.{IsFirstMatch}
+use Rattle.policy_rules.specs.declared.policy.Hit.{Hit}
+use Rattle.policy_rules.specs.declared.policy.Row.{Row}
+use Rattle.update_machine.specs.Machine.{Decides, Machine, Packet, submitted_policy}
+use Rattle.trace_audit.specs.Reading.{IsPrinted}
+use Rattle.trace_audit.specs.Seen.{packets_seen, with_one}
+use Rattle.trace_audit.specs.declared.auditor.Auditor.{Auditor}
+use Rattle.trace_audit.proofs.LineReadings.{some_same}
+
+-- what is known, but for the packets
+abbrev with_packets : Auditor → (ℕ → Option Packet) → Machine
+with_packets a packets = record { policies = a.policies.items; mark = a.mark; packets = packets }
+
+-- a number of which nothing is known
+pub none_seen : {A B : Type 0} (seen : A → B) (found : Option A) (there : Option B)
+    → option_map seen found ≡ there → is_some found ≡ false → there ≡ None
+none_seen seen None there e f = sym e
+none_seen seen (Some x) there e f = absurd cc
+
+-- what is made of an item is there where the item is
+pub none_made_of : {A B : Type 0} (of : A → B) (item : Option A) (made : Option B)
+    → made ≡ option_map of item → is_some made ≡ false → item ≡ None
+none_made_of of None made e none = refl
+none_made_of of (Some x) made e none = absurd (let no = ap is_some e in cc)
+
+-- the item at a place of a slice is there in the list
+pub policy_there : (slice items : List (List Row)) (place : ℕ) (rows : List Row) → slice ≡ items
+    → ltb place (length slice) ≡ true → rows ≡ get_or slice place rows
+    → slice_get items place ≡ Some rows
+policy_there slice items place rows e within there =
+    subst (λ xs. slice_get xs place ≡ Some rows) e
+    (slice_get_read slice (length slice) place rows refl (ltb-true _ _ within) there)
+
+-- a decision that isn't printed in the texts of the first match is none
+pub not_decided : (old new : Machine) (number version : ℕ) (rule action : List ℕ) (packet : Packet)
+    (rows : List Row) (hit g : Hit) → old.packets number ≡ Some packet
+    → submitted_policy old version ≡ Some rows
+    → ((h : Hit) → IsFirstMatch rows packet.header h → h ≡ hit)
+    → (IsPrinted rule action hit → ⊥) → IsPrinted rule action g
+    → Decides old number version g new → ⊥
+not_decided old new number version rule action packet rows hit g there submitted only bad printed d =
+    let packets : d.packet ≡ packet = some_same d.packet packet _ d.entered there in
+    let policies : d.policy ≡ rows = some_same d.policy rows _ d.submitted submitted in
+    let first = subst (λ x. IsFirstMatch x packet.header g) policies
+    (subst (λ x. IsFirstMatch d.policy x.header g) packets d.first_match) in
+    bad (subst (IsPrinted rule action) (only g first) printed)
+
+-- a packet is put, and nothing else changes
+pub put_after : (a : Auditor) (number : ℕ) (after : ℕ → Option Packet) (put packet : Packet)
+    → put ≡ packet → after ≡ with_one (packets_seen a.packets) number put
+    → with_packets a after ≡ with_packets a (with_one (packets_seen a.packets) number packet)
+put_after a number after put packet is done = ap (with_packets a)
+    (done ∙ ap (with_one (packets_seen a.packets) number) is)

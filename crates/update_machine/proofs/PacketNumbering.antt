@@ -1,0 +1,104 @@
+-- Items that take the next numbers leave no gap.
+use Rattle.std.proofs.Common.{ℕ, zero, suc, ◌≡◌, ◌+◌, Bool, true, false, List, [], ◌∷◌, ◌++◌, refl, ap, sym, subst, ◌∙◌, arith, append_assoc, append-nil, add-zero}
+use Rattle.std.specs.List.{range_with_len}
+use Rattle.journal.specs.declared.item.Item.{Item}
+use Rattle.journal.specs.declared.item.Item.TheVariants as item
+use Rattle.steps.specs.declared.step.Event.{Event}
+use Rattle.update_machine.specs.Answers.{BeginsAnswer}
+use Rattle.update_machine.specs.Causes.{HaveCauses}
+use Rattle.update_machine.specs.Folds.{all_given, count_of}
+use Rattle.update_machine.specs.Messages.{is_sending, next_message}
+use Rattle.update_machine.specs.Numbers.{AreNumbered, TakesNext, VersionsAreNumbered, message_number, packet_number}
+use Rattle.update_machine.specs.Packets.{is_packet, next_packet}
+use Rattle.update_machine.specs.Setting.{Setting}
+use Rattle.update_machine.proofs.AnswerCauses.{begun_has}
+use Rattle.update_machine.proofs.FoldLemmas.{all_given_append, count_of_append}
+use Rattle.update_machine.proofs.NumberPieces.{piece_next}
+use Rattle.update_machine.proofs.VersionPolicies.{numbered_at_first, other_more, submitted_more}
+
+range_more : (a n : ℕ) → range_with_len a (n + 1) ≡ range_with_len a n ++ (a + n) ∷ []
+range_more a zero = ap (λ x. x ∷ []) (sym (add-zero a))
+range_more a (suc n) =
+    let longer : suc n + 1 ≡ suc (n + 1) = omega arith in
+    let last : a + 1 + n ≡ a + suc n = omega arith in
+    ap (range_with_len a) longer ∙ ap (λ xs. a ∷ xs) (range_more (a + 1) n)
+    ∙ ap (λ x. a ∷ (range_with_len (a + 1) n ++ x ∷ [])) last
+
+-- the numbers that a journal's items give are 1, 2 and so on, as many as there are items that count
+abbrev Numbered : (Item → List ℕ) → (Item → Bool) → List Item → Type 0
+Numbered gives counts journal = all_given gives journal ≡ range_with_len 1 (count_of counts journal)
+
+-- an item that gives no number doesn't count
+not_counted : (gives : Item → List ℕ) (counts : Item → Bool) (journal : List Item) (item : Item)
+    → gives item ≡ [] → counts item ≡ false →
+    Numbered gives counts journal → Numbered gives counts (journal ++ item ∷ [])
+not_counted gives counts journal item none apart known =
+    let given : all_given gives (item ∷ []) ≡ [] = ap (λ xs. xs ++ []) none in
+    let count : count_of counts (item ∷ []) ≡ 0 = rw apart refl in
+    let more : count_of counts (journal ++ item ∷ []) ≡ count_of counts journal =
+    count_of_append counts journal (item ∷ []) ∙ ap (λ k. count_of counts journal + k) count
+    ∙ add-zero (count_of counts journal) in
+    all_given_append gives journal (item ∷ []) ∙ ap (λ xs. all_given gives journal ++ xs) given
+    ∙ append-nil (all_given gives journal)
+    ∙ known ∙ ap (range_with_len 1) (sym more)
+
+-- an item that counts gives the next number
+counted : (gives : Item → List ℕ) (counts : Item → Bool) (journal : List Item) (item : Item) (n : ℕ)
+    → gives item ≡ n ∷ [] → counts item ≡ true →
+    n ≡ count_of counts journal + 1 → Numbered gives counts journal
+    → Numbered gives counts (journal ++ item ∷ [])
+counted gives counts journal item n one counting next known =
+    let given : all_given gives (item ∷ []) ≡ n ∷ [] = ap (λ xs. xs ++ []) one in
+    let count : count_of counts (item ∷ []) ≡ 1 = rw counting refl in
+    let more : count_of counts (journal ++ item ∷ []) ≡ count_of counts journal + 1 =
+    count_of_append counts journal (item ∷ []) ∙ ap (λ k. count_of counts journal + k) count in
+    let last : n ≡ 1 + count_of counts journal = omega (arith, next) in
+    all_given_append gives journal (item ∷ []) ∙ ap (λ xs. all_given gives journal ++ xs) given
+    ∙ ap (λ x. all_given gives journal ++ x ∷ []) last
+    ∙ ap (λ xs. xs ++ (1 + count_of counts journal) ∷ []) known
+    ∙ sym (range_more 1 (count_of counts journal)) ∙ ap (range_with_len 1) (sym more)
+
+packet_more : (journal : List Item) (item : Item) → TakesNext journal item
+    → Numbered packet_number is_packet journal → Numbered packet_number is_packet
+    (journal ++ item ∷ [])
+unfolding next_packet
+packet_more journal (item.Entered packet switch header) next known = counted packet_number is_packet
+    journal (item.Entered packet switch header) packet refl refl next known
+packet_more journal (item.Closed packet switch) next known = counted packet_number is_packet journal
+    (item.Closed packet switch) packet refl refl next known
+packet_more journal other next known = not_counted packet_number is_packet journal other refl refl
+    known
+
+message_more : (journal : List Item) (item : Item) → TakesNext journal item
+    → Numbered message_number is_sending journal → Numbered message_number is_sending
+    (journal ++ item ∷ [])
+unfolding next_message
+message_more journal (item.Sent number message) next known = counted message_number is_sending
+    journal (item.Sent number message) number refl refl next known
+message_more journal other next known = not_counted message_number is_sending journal other refl
+    refl known
+
+version_more : (journal : List Item) (item : Item) → TakesNext journal item
+    → VersionsAreNumbered journal → VersionsAreNumbered (journal ++ item ∷ [])
+version_more journal (item.Submitted file version) next known =
+    submitted_more journal file version next known
+version_more journal other next known = other_more journal other refl known
+
+numbered_on : (journal items : List Item) → HaveCauses TakesNext journal items → AreNumbered journal
+    → AreNumbered (journal ++ items)
+numbered_on journal [] causes known = subst AreNumbered (sym (append-nil journal)) known
+numbered_on journal (item ∷ items) causes known =
+    let more : AreNumbered (journal ++ item ∷ []) = record {
+      packets = packet_more journal item causes.0 known.packets;
+      messages = message_more journal item causes.0 known.messages;
+      versions = version_more journal item causes.0 known.versions;
+    } in
+    subst AreNumbered (append_assoc journal (item ∷ []) items)
+    (numbered_on (journal ++ item ∷ []) items causes.1 more)
+
+-- so it is in each beginning of an answer
+pub begun_is_numbered : (setting : Setting) (events : List Event) (journal : List Item)
+    → BeginsAnswer setting events journal → AreNumbered journal
+begun_is_numbered setting events journal begins =
+    numbered_on [] journal (begun_has TakesNext setting (piece_next setting) events journal begins)
+    (record { packets = refl; messages = refl; versions = numbered_at_first })

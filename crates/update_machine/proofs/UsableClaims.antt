@@ -1,0 +1,183 @@
+-- What switches can use and know of links, what packets found down, and the plans of versions, as
+-- items say it: against the masks, sets and functions that compute them.
+use Rattle.std.proofs.Common.{ℕ, ◌≡◌, ◌^◌, ◌<◌, ◌⊎◌, min, max, Bool, true, false, ◌&&◌, ◌||◌, ◌==◌, Option, Some, None, List, [], ◌∷◌, ◌++◌, length, get_or, set, refl, ap, sym, ◌∙◌, arith, inl, inr, get_or-set_other, get_or-set_same}
+use Rattle.std.specs.Prelude.{Contains, IsFalse, IsTrue, Result, Ok, Err, bit_or, filter}
+use Rattle.std.specs.List.{list_any}
+use Rattle.std.specs.Option.{option_map_or}
+use Rattle.std.proofs.lemmas.Bool.{cases_eq, cases_lt, false_from_ne_true, or_left, or_right}
+use Rattle.std.proofs.lemmas.Bool.Decides.{nat_tests}
+use Rattle.std.proofs.lemmas.List.{set_past}
+use Rattle.failover.specs.Links.{has_link, no_links, with_link}
+use Rattle.failover.proofs.LinkBalls.{or_cases}
+use Rattle.failover.proofs.LinkSets.{has_link-none}
+use Rattle.base.specs.Masks.{has}
+use Rattle.base.proofs.CallerLemmas.{has_mask, has-or, has-pow_other}
+use Rattle.net_file.specs.Joins.{are_linked, joins}
+use Rattle.partition.specs.Plan.{Hosted}
+use Rattle.policy_rules.specs.declared.policy.Row.{Row}
+use Rattle.policy_rules.specs.Hosted.{NoPlan}
+use Rattle.journal.specs.declared.item.Item.{Item}
+use Rattle.journal.specs.declared.item.Item.TheVariants as item
+use Rattle.update_machine.specs.Causes.{finds_down}
+use Rattle.update_machine.specs.Folds.{folded_from}
+use Rattle.update_machine.specs.Versions.{hosted_in, plan_at}
+use Rattle.update_machine.specs.LinkMasks.{near, usable_links}
+use Rattle.update_machine.specs.Links.{can_use, is_usable}
+use Rattle.update_machine.specs.Setting.{IsPlanOf, Setting, policy_in}
+use Rattle.update_machine.specs.PacketRoutes.{changes_found, found_down}
+
+-- ---- links that switches can use
+
+any_filtered : {X : Type 0} (test passes : X → Bool) (xs : List X)
+    → list_any test (filter passes xs) ≡ list_any (λ x. test x && passes x) xs
+any_filtered test passes [] = refl
+any_filtered {X = X} test passes (x ∷ xs) =
+    by_tests (passes x) (test x) refl refl (any_filtered test passes xs)
+  where
+    by_tests : (b c : Bool) → passes x ≡ b → test x ≡ c
+        → list_any test (filter passes xs) ≡ list_any (λ y. test y && passes y) xs
+        → list_any test (filter passes (x ∷ xs))
+        ≡ list_any (λ y. test y && passes y) (x ∷ xs)
+    by_tests true true e f rest = rw (e, f) refl
+    by_tests true false e f rest = rw (e, f) rest
+    by_tests false true e f rest = rw (e, f) rest
+    by_tests false false e f rest = rw (e, f) rest
+
+-- a switch can use the links to those that are near, and no others
+pub near_usable : (setting : Setting) (journal : List Item) (one two : ℕ) → two < 64
+    → has (near setting journal one) two ≡ can_use setting journal one two
+unfolding near
+near_usable setting journal one two small =
+    has_mask (are_linked (usable_links setting journal) one) two small
+    ∙ any_filtered (joins one two) (is_usable journal) setting.net.links
+
+any_weaker : {X : Type 0} (test passes : X → Bool) (xs : List X)
+    → IsTrue (list_any (λ x. test x && passes x) xs) → IsTrue (list_any test xs)
+any_weaker test passes [] is = is
+any_weaker {X = X} test passes (x ∷ xs) is =
+    by_test (test x) refl (any_weaker test passes xs) is
+  where
+    by_test : (b : Bool) → test x ≡ b
+        → (IsTrue (list_any (λ y. test y && passes y) xs) → IsTrue (list_any test xs))
+        → IsTrue (list_any (λ y. test y && passes y) (x ∷ xs)) → IsTrue (list_any test (x ∷ xs))
+    by_test true e rest is = rw e refl
+    by_test false e rest is = rw e (rest (rw e at is))
+
+-- a link that can be used is of the network
+pub usable_linked : (setting : Setting) (journal : List Item) (one two : ℕ)
+    → IsTrue (can_use setting journal one two) → IsTrue (are_linked setting.net.links one two)
+usable_linked setting journal one two is =
+    any_weaker (joins one two) (is_usable journal) setting.net.links is
+
+-- ---- links that packets found down
+
+same_ends : (one two x y : ℕ) → min x y ≡ min one two → max x y ≡ max one two
+    → ((one == x && two == y) || (one == y && two == x)) ≡ true
+same_ends one two x y low high = grind (arith, nat_tests)
+
+-- a row has what it had, or it is that of the lower end, and gained the higher one
+row_gained : (links : List ℕ) (low high k x : ℕ)
+    → IsTrue (has (get_or (set links low (bit_or (get_or links low 0) (2 ^ high))) k 0) x)
+    → IsTrue (has (get_or links k 0) x) ⊎ ((k ≡ low) × (x ≡ high))
+row_gained links low high k x is = elim (cases_lt low (length links)) [
+  | inr past ↦ inl (ap (λ rows. has (get_or rows k 0) x)
+      (sym (set_past links low (bit_or (get_or links low 0) (2 ^ high)) past)) ∙ is)
+  | inl within ↦ elim (cases_eq k low) [
+    | inr apart ↦ inl (ap (λ row. has row x)
+        (sym (get_or-set_other links low k (bit_or (get_or links low 0) (2 ^ high)) 0 apart)) ∙ is)
+    | inl same ↦
+        let row : get_or (set links low (bit_or (get_or links low 0) (2 ^ high))) k 0
+        ≡ bit_or (get_or links low 0) (2 ^ high) =
+        ap (λ n. get_or (set links low (bit_or (get_or links low 0) (2 ^ high))) n 0) same
+        ∙ get_or-set_same links low (bit_or (get_or links low 0) (2 ^ high)) 0 within in
+        elim (or_cases _ _ (sym (has-or (get_or links low 0) (2 ^ high) x)
+        ∙ ap (λ n. has n x) (sym row) ∙ is)) [
+          | inl old ↦ inl (ap (λ n. has (get_or links n 0) x) same ∙ old)
+          | inr new ↦ elim (cases_eq x high) [
+            | inl at ↦ inr (same, at)
+            | inr apart ↦
+                let none : has (2 ^ high) x ≡ false = has-pow_other high x apart in absurd cc
+          ]
+        ]
+  ]
+]
+
+link_gained : (links : List ℕ) (one two x y : ℕ) → IsTrue (has_link (with_link links one two) x y)
+    → IsTrue (has_link links x y)
+    ⊎ (((one == x && two == y) || (one == y && two == x)) ≡ true)
+unfolding has_link with_link
+link_gained links one two x y is =
+    elim (row_gained links (min one two) (max one two) (min x y) (max x y) is) [
+      | inl old ↦ inl old
+      | inr new ↦ inr (same_ends one two x y new.0 new.1)
+    ]
+
+-- each link that items add to a set was found down by one of them
+found_by : (i x y : ℕ) (before : List Item) (links : List ℕ) (items : List Item)
+    → IsTrue (has_link (folded_from (changes_found i) before links items) x y)
+    → (has_link links x y || list_any (finds_down i x y) items) ≡ true
+found_by i x y before links [] is = or_left _ _ is
+found_by i x y before links (item.FoundDown packet one two ∷ items) is =
+    by_packet (packet == i) refl
+    (found_by i x y (before ++ item.FoundDown packet one two ∷ [])
+    (changes_found i before links (item.FoundDown packet one two)) items is)
+  where
+    by_packet : (b : Bool) → (packet == i) ≡ b
+        → (has_link (changes_found i before links (item.FoundDown packet one two)) x y
+        || list_any (finds_down i x y) items) ≡ true
+        → (has_link links x y
+        || list_any (finds_down i x y) (item.FoundDown packet one two ∷ items)) ≡ true
+    by_packet false e rest = rw e (rw e at rest)
+    by_packet true e rest = elim (or_cases _ _ (rw e at rest)) [
+      | inl there ↦ elim (link_gained links one two x y there) [
+        | inl old ↦ or_left _ _ old
+        | inr new ↦ or_right (has_link links x y) _ (rw (e, new) refl)
+      ]
+      | inr later ↦ or_right (has_link links x y) _
+          (or_right (finds_down i x y (item.FoundDown packet one two)) _ later)
+    ]
+found_by i x y before links (next ∷ items) is =
+    found_by i x y (before ++ next ∷ []) links items is
+
+-- a link of the set was found down
+pub link_found : (journal : List Item) (i one two : ℕ)
+    → IsTrue (has_link (found_down journal i) one two)
+    → IsTrue (list_any (finds_down i one two) journal)
+unfolding found_down
+link_found journal i one two is =
+    ap (λ b. b || list_any (finds_down i one two) journal) (sym (has_link-none one two))
+    ∙ found_by i one two [] no_links journal is
+
+-- so what wasn't found down isn't in the set
+pub link_not_found : (journal : List Item) (i one two : ℕ)
+    → IsFalse (list_any (finds_down i one two) journal)
+    → IsFalse (has_link (found_down journal i) one two)
+link_not_found journal i one two none =
+    false_from_ne_true (has_link (found_down journal i) one two)
+    (λ is. let there = link_found journal i one two is in cc)
+
+-- ---- plans of versions
+
+-- a plan that has a partition is that of its version's policy
+pub plan_is : (setting : Setting) (journal : List Item) (version : ℕ) (hosted : Hosted)
+    → Contains (plan_at setting journal version) hosted
+    → IsPlanOf setting journal version (plan_at setting journal version)
+unfolding plan_at
+plan_is setting journal version hosted there =
+    by_policy (policy_in setting journal version) refl there
+  where
+    plan_by : Option (List Row) → List Hosted
+    plan_by policy = option_map_or (λ rows. hosted_in (setting.plan rows)) policy []
+
+    by_plan : (rows : List Row) (plan : Result (List Hosted) NoPlan)
+        → policy_in setting journal version ≡ Some rows → setting.plan rows ≡ plan
+        → Contains (hosted_in plan) hosted
+        → IsPlanOf setting journal version (hosted_in plan)
+    by_plan rows (Err why) policy is there = absurd (omega (arith, there.1))
+    by_plan rows (Ok plan) policy is there = (rows, policy, is)
+
+    by_policy : (policy : Option (List Row)) → policy_in setting journal version ≡ policy
+        → Contains (plan_by policy) hosted
+        → IsPlanOf setting journal version (plan_by policy)
+    by_policy None is there = absurd (omega (arith, there.1))
+    by_policy (Some rows) is there = by_plan rows (setting.plan rows) is refl there

@@ -1,0 +1,220 @@
+-- What a kind of step owes to the frame that all of them share: its row stands behind the journal,
+-- and it writes the rest.
+use Rattle.std.proofs.Common.{ℕ, ◌≡◌, ◌+◌, List, [], ◌∷◌, ◌++◌, refl, ap, sym, subst, ◌∙◌, arith, rules}
+use Rattle.std.specs.Prelude.{Err, IsErr, Ok, OnErr, OnOk, Result, Some}
+use Rattle.std.proofs.lemmas.Result.{on_err_weaker, on_ok_weaker}
+use Rattle.message_bag.specs.Posts.{Post}
+use Rattle.controller.specs.Controller.{newest_policy}
+use Rattle.journal.specs.declared.item.Item.{Item}
+use Rattle.journal.specs.declared.item.Item.TheVariants as item
+use Rattle.steps.specs.declared.step.Step.{Step}
+use Rattle.update_machine.specs.Pieces.{piece, step_items}
+use Rattle.update_machine.specs.Setting.{Setting}
+use Rattle.world.specs.Files.{FilesValue}
+use Rattle.world.specs.Parts.{PartsRefineJournal, BeginsStep, Goes, HasBegun, HoldNewest, IsReadyForStep, KeepNet, Plays, setting_in, state_in}
+use Rattle.world.specs.State.{comes_in}
+use Rattle.refinement.specs.Refinement.{RefineJournal, NetworkState}
+use Rattle.world_log.specs.Writing.{IsPart}
+use Rattle.world.specs.declared.parts.Parts.{Parts}
+use Rattle.refinement.proofs.OneItem.{grown}
+use Rattle.world_log.proofs.StepWrites.{both_ok, grown_more, none_ok, part_none, step_part, step_written, on_err}
+
+-- nothing was done to the files and the ports
+pub record KeepFiles (old new : Parts) : Type 0 where
+  pub files : new.files ≡ old.files
+  pub ports : new.ports ≡ old.ports
+
+pub files_stay : {old new : Parts} → new.files ≡ old.files → new.ports ≡ old.ports
+    → KeepFiles old new
+files_stay files ports = record { files = files; ports = ports }
+
+-- so the network stays, and the files
+pub net_stays : {old new : Parts} → new.files ≡ old.files → new.ports ≡ old.ports
+    → KeepNet old new
+net_stays files ports = record {
+  same_net = ap (λ (f : FilesValue). f.net) files;
+  same_files = ap (λ (f : FilesValue). f.files) files;
+  same_ports = ports;
+}
+
+-- they do, and changes are still applied to the newest policy
+pub record Follows (old new : Parts) : Type 0 where
+  pub net : KeepNet old new
+  pub newest : HoldNewest new
+
+-- as where the newest policy is the one from before
+pub follows : {before : List Item} {row : ℕ} {step : Step} {old new : Parts}
+    → BeginsStep before row step old → new.files ≡ old.files → new.ports ≡ old.ports
+    → newest_policy new.controller ≡ newest_policy old.controller → Follows old new
+follows begins files ports newest = record {
+  net = net_stays files ports;
+  newest = newest ∙ begins.ready.newest ∙ ap (λ (f : FilesValue). Some f.newest) (sym files);
+}
+
+-- the network and the files stayed
+as_kept : (old new : Parts) → KeepNet old new
+    → RefineJournal (setting_in old) new.log.journal (state_in new) → PartsRefineJournal new
+as_kept old new keeps refines = rw (keeps.same_net, keeps.same_files) refines
+
+-- the controller stayed, and which links are up and can be used
+pub record KeepControl (old new : Parts) : Type 0 where
+  pub same_controller : new.controller ≡ old.controller
+  pub same_links : new.links ≡ old.links
+  pub same_near : new.near ≡ old.near
+
+pub plane_stays : {old new : Parts} → new.controller ≡ old.controller → new.links ≡ old.links
+    → new.near ≡ old.near → KeepControl old new
+plane_stays controller links near = record {
+  same_controller = controller;
+  same_links = links;
+  same_near = near;
+}
+
+-- so only switches, packets on their way and messages changed
+abbrev pub with_posts : Parts → Parts → List Post → NetworkState
+with_posts old new posts = record (state_in old) {
+  switches = new.switches.items;
+  travelling = new.log.travelling;
+  packets = new.packets;
+  posts = posts;
+}
+
+pub by_posts : (old new : Parts) (journal : List Item) → KeepControl old new
+    → RefineJournal (setting_in old) journal (with_posts old new new.log.bag)
+    → RefineJournal (setting_in old) journal (state_in new)
+by_posts old new journal keeps refines =
+    rw (keeps.same_controller, keeps.same_links, keeps.same_near) refines
+
+-- no packet comes in
+pub none_in : (n : ℕ) → n ≡ n + 0
+none_in n = omega arith
+
+-- a call that succeeded didn't fail
+pub not_err : {T E : Type 0} (x : T) (e : E) → Ok x ≡ Err e → ⊥
+not_err x e is = absurd cc
+
+piece_split : (setting : Setting) (before : List Item) (row : ℕ) (step : Step)
+    → piece setting before row step
+    ≡ item.Row row step ∷ [] ++ step_items setting before step (before ++ item.Row row step ∷ [])
+unfolding piece
+piece_split setting before row step = refl
+
+-- the step writes these items behind its row
+module _ {T E : Type 0} {r : Result T E} {before : List Item} {row : ℕ} {step : Step}
+    {old new : Parts} (begins : BeginsStep before row step old) (keeps : Follows old new) where
+  pub goes : (items : List Item)
+      → piece (setting_in old) before row step ≡ item.Row row step ∷ items
+      → OnOk r (new.packets ≡ old.packets + comes_in step)
+      → OnOk r (new.log.journal ≡ old.log.journal ++ items)
+      → OnErr r (IsPart old.log.journal items new.log.journal)
+      → OnOk r (RefineJournal (setting_in old) (before ++ item.Row row step ∷ items) (state_in new))
+      → Goes r before row step old new
+  goes items is counted written part refines = record {
+    net = keeps.net;
+    newest = on_ok_weaker r (λ grown. keeps.newest) written;
+    counted = counted;
+    written = step_written r before old.log.journal new.log.journal items
+        (piece (setting_in old) before row step) (item.Row row step) is begins.rowed written;
+    refines = both_ok r (λ grown kept. as_kept old new keeps.net
+        (subst (λ js. RefineJournal (setting_in old) js (state_in new))
+        (sym (grown_more before old.log.journal new.log.journal items (item.Row row step)
+        begins.rowed grown)) kept)) written refines;
+    part = step_part r before old.log.journal new.log.journal items
+        (piece (setting_in old) before row step) (item.Row row step) is begins.rowed part;
+  }
+
+module _ {T E : Type 0} {r : Result T E} {before : List Item} {row : ℕ} {step : Step}
+    {old new : Parts} (begins : BeginsStep before row step old) (keeps : KeepFiles old new) where
+  -- and of the control plane it changes messages alone
+  pub goes_quiet : (items : List Item) → KeepControl old new
+      → piece (setting_in old) before row step ≡ item.Row row step ∷ items
+      → OnOk r (new.packets ≡ old.packets + comes_in step)
+      → OnOk r (new.log.journal ≡ old.log.journal ++ items)
+      → OnErr r (IsPart old.log.journal items new.log.journal)
+      → OnOk r (RefineJournal (setting_in old) (before ++ item.Row row step ∷ items)
+      (with_posts old new new.log.bag)) → Goes r before row step old new
+  goes_quiet items control is counted written part refines =
+      goes begins (follows begins keeps.files keeps.ports
+      (ap newest_policy control.same_controller)) items is counted written part
+      (on_ok_weaker r (by_posts old new (before ++ item.Row row step ∷ items) control) refines)
+
+  -- it writes one item, and no packet comes in
+  pub goes_one : (one : Item) (posts : List Post) → KeepControl old new → new.log.bag ≡ posts
+      → new.packets ≡ old.packets + comes_in step
+      → (piece (setting_in old) before row step ≡ item.Row row step ∷ one ∷ [])
+      × RefineJournal (setting_in old) (grown before row step one) (with_posts old new posts)
+      → OnOk r (new.log.journal ≡ old.log.journal ++ one ∷ [])
+      → OnErr r (new.log.journal ≡ old.log.journal) → Goes r before row step old new
+  goes_one one posts control same counted is pushed unchanged =
+      goes_quiet (one ∷ []) control is.0 (on_ok_weaker r (λ grown. counted) pushed) pushed
+      (on_err_weaker r (λ same. part_none old.log.journal (one ∷ []) new.log.journal same)
+      unchanged) (on_ok_weaker r (λ grown. subst (λ bag. RefineJournal (setting_in old)
+      (before ++ item.Row row step ∷ one ∷ []) (with_posts old new bag)) (sym same) is.1) pushed)
+
+module _ {T E : Type 0} {r : Result T E} {before : List Item} {row : ℕ} {step : Step}
+    {old new : Parts} (keeps : KeepNet old new) where
+  -- it gives up for want of memory, and a part of its items is written
+  pub part_goes : IsErr r → IsPart before (piece (setting_in old) before row step) new.log.journal
+      → Goes r before row step old new
+  part_goes failed part = record {
+    net = keeps;
+    newest = none_ok _ r failed;
+    counted = none_ok _ r failed;
+    written = none_ok _ r failed;
+    refines = none_ok _ r failed;
+    part = on_err r part;
+  }
+
+module _ {T E : Type 0} {r : Result T E} {before : List Item} {row : ℕ} {step : Step}
+    {old new : Parts} (begins : BeginsStep before row step old) (keeps : KeepNet old new) where
+  -- behind its row
+  pub nothing_goes : IsErr r → new.log.journal ≡ old.log.journal → Goes r before row step old new
+  nothing_goes failed same = part_goes keeps failed (record {
+    written = item.Row row step ∷ [];
+    rest = step_items (setting_in old) before step (before ++ item.Row row step ∷ []);
+    split = piece_split (setting_in old) before row step;
+    grown = same ∙ begins.rowed;
+  })
+
+-- only the journal is another
+abbrev pub with_journal : Parts → List Item → Parts
+with_journal parts journal = record parts { log = record parts.log { journal = journal } }
+
+-- nothing happens: of all parts the journal alone changes, which says so
+pub goes_nothing : {T E : Type 0} {r : Result T E} {before : List Item} {row : ℕ} {step : Step}
+    {old : Parts} {journal : List Item} → BeginsStep before row step old → comes_in step ≡ 0
+    → (piece (setting_in old) before row step ≡ item.Row row step ∷ item.Nothing ∷ [])
+    × RefineJournal (setting_in old) (grown before row step item.Nothing) (state_in old)
+    → OnOk r (journal ≡ old.log.journal ++ item.Nothing ∷ []) → OnErr r (journal ≡ old.log.journal)
+    → Goes r before row step old (with_journal old journal)
+goes_nothing {old} begins none is pushed unchanged =
+    goes_one begins (files_stay refl refl) item.Nothing old.log.bag (plane_stays refl refl refl)
+    refl (omega (arith, none)) is pushed unchanged
+
+-- ---- the row is written, and then the rest
+
+ready_behind : (before : List Item) (step : Step) (parts : Parts) (journal : List Item)
+    → IsReadyForStep before step parts → IsReadyForStep before step (with_journal parts journal)
+ready_behind before step parts journal ready = search rules
+
+module _ (row : ℕ) (step kind : Step) (old : Parts) (rowed : List Item)
+    (ready : IsReadyForStep old.log.journal step old)
+    (is : rowed ≡ old.log.journal ++ item.Row row step ∷ []) (kind_is : step ≡ kind) where
+  begins_kind : BeginsStep old.log.journal row kind (with_journal old rowed)
+  begins_kind = subst (λ (k : Step). BeginsStep old.log.journal row k (with_journal old rowed))
+      kind_is (record {
+        ready = ready_behind old.log.journal step old rowed ready;
+        rowed = is;
+      })
+
+  -- the method of its kind may take it
+  pub begun : HasBegun kind (with_journal old rowed)
+  begun = record { before = old.log.journal; row = row; begins = begins_kind }
+
+  -- and plays it
+  pub played : {T E : Type 0} (r : Result T E) (new : Parts)
+      → Plays kind r (with_journal old rowed) new → Goes r old.log.journal row step old new
+  played r new plays =
+      let its : Goes r old.log.journal row kind (with_journal old rowed) new =
+      plays old.log.journal row begins_kind in
+      subst (λ (k : Step). Goes r old.log.journal row k old new) (sym kind_is) (search rules)

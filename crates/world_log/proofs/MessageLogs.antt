@@ -1,0 +1,268 @@
+-- What messages and acts write, one part after another.
+use Rattle.std.proofs.Common.{ℕ, ◌≡◌, ◌+◌, ◌<◌, ◌≤◌, List, [], ◌∷◌, ◌++◌, refl, ap, sym, ◌∙◌, length, length-append, append-nil, append_assoc, get_or, map, subst, arith}
+use Rattle.std.specs.Prelude.{All, IsErr, Result}
+use Rattle.std.proofs.lemmas.List.{get_or-append-add, get_or-map, get_or_append_left, length-map, map-append}
+use Rattle.message_bag.specs.Posts.{Post, new_post}
+use Rattle.controller.specs.declared.sends.Act.{Act}
+use Rattle.controller.specs.declared.sends.Act.TheVariants as act
+use Rattle.ctrl_msg.specs.declared.message.Message.{Message}
+use Rattle.message_bag.specs.Feeding.{HasShortSpelling}
+use Rattle.journal.specs.declared.item.Item.{Item}
+use Rattle.journal.specs.declared.item.Item.TheVariants as item
+use Rattle.update_machine.specs.Messages.{sent_from}
+use Rattle.world_log.specs.Sending.{HasNoted, IsSpelled, MayNote, act_item, act_items, act_post, act_posts, number_after}
+use Rattle.world_log.specs.Writing.{IsPart}
+use Rattle.world_log.specs.declared.log.Log.{Log}
+use Rattle.world_log.proofs.StepWrites.{both_written, none_ok, on_err, part_of_first, part_of_rest}
+
+number_on : (number : ℕ) (one : Act) → number_after number one ≡ number + length (act_post one)
+number_on number (act.Current version) = omega arith
+number_on number (act.Retired version) = omega arith
+number_on number (act.Post message) = refl
+
+pub acts_append : (number : ℕ) (first later : List Act)
+    → act_items number (first ++ later)
+    ≡ act_items number first ++ act_items (number + length (act_posts first)) later
+unfolding act_items act_posts
+acts_append number [] later = ap (λ n. act_items n later) (omega arith)
+acts_append number (one ∷ first) later =
+    ap (λ items. act_item number one ∷ items)
+    (acts_append (number_after number one) first later
+    ∙ ap (λ n. act_items (number_after number one) first ++ act_items n later)
+    (omega (arith, number_on number one, length-append (act_post one) (act_posts first))))
+
+pub posts_append : (first later : List Act)
+    → act_posts (first ++ later) ≡ act_posts first ++ act_posts later
+unfolding act_posts
+posts_append [] later = refl
+posts_append (one ∷ first) later =
+    ap (λ posts. act_post one ++ posts) (posts_append first later)
+    ∙ sym (append_assoc (act_post one) (act_posts first) (act_posts later))
+
+pub acts_one : (number : ℕ) (one : Act)
+    → act_items number (one ∷ []) ≡ act_item number one ∷ []
+unfolding act_items
+acts_one number one = refl
+
+pub posts_one : (one : Act) → act_posts (one ∷ []) ≡ act_post one
+unfolding act_posts
+posts_one (act.Current version) = refl
+posts_one (act.Retired version) = refl
+posts_one (act.Post message) = refl
+
+-- ---- loops
+
+-- the first items came, and the others are to come, so many
+pub record HaveCome {A : Type 0} (all first rest : List A) (left : ℕ) : Type 0 where
+  pub parts : first ++ rest ≡ all
+  pub many : length first + left ≡ length all
+
+pub come_next : {A : Type 0} (all first rest later : List A) (one : A) (left : ℕ)
+    → HaveCome all first rest left → rest ≡ one ∷ later → first ++ one ∷ later ≡ all
+come_next all first rest later one left come next =
+    ap (λ xs. first ++ xs) (sym next) ∙ come.parts
+
+pub come_more : {A : Type 0} (all first rest later : List A) (one : A) (left after : ℕ)
+    → HaveCome all first rest left → (rest ≡ one ∷ later) × (after + 1 ≡ left)
+    → HaveCome all (first ++ one ∷ []) later after
+come_more all first rest later one left after come step = record {
+  parts = append_assoc first (one ∷ []) later
+      ∙ come_next all first rest later one left come step.0;
+  many = omega (arith, length-append first (one ∷ []), come.many, step.1);
+}
+
+-- once none is left
+pub come_all : {A : Type 0} (all first rest : List A) (left : ℕ) → HaveCome all first rest left
+    → left ≡ 0 → first ≡ all
+come_all all first [] left come none = sym (append-nil first) ∙ come.parts
+come_all all first (one ∷ rest) left come none =
+    absurd (omega (arith, come.many, none, ap length come.parts, length-append first (one ∷ rest)))
+
+-- what holds of all holds of the next one
+pub holds_next : {A : Type 0} (P : A → Type 0) (all first later : List A) (one : A)
+    → first ++ one ∷ later ≡ all → All P all → P one
+holds_next P all first later one parts holds =
+    subst P
+    (ap (λ xs. get_or xs (length first + 0) one) (sym parts)
+    ∙ get_or-append-add first (one ∷ later) 0 one)
+    (holds (length first + 0) one
+    (omega (arith, ap length parts, length-append first (one ∷ later))))
+
+-- the first acts are done, behind this journal and these posts
+pub record AreDone (journal : List Item) (bag : List Post) (acts : List Act)
+    (now : List Item) (posts : List Post) : Type 0 where
+  pub written : now ≡ journal ++ act_items (length bag + 1) acts
+  pub posted : posts ≡ bag ++ act_posts acts
+
+pub done_begun : (journal : List Item) (bag : List Post) → AreDone journal bag [] journal bag
+unfolding act_items act_posts
+done_begun journal bag = record {
+  written = sym (append-nil journal);
+  posted = sym (append-nil bag);
+}
+
+module _ (journal now : List Item) (bag posts : List Post) (first : List Act)
+    (so : AreDone journal bag first now posts) where
+  pub done_more : (after : List Item) (later : List Post) (one : Act)
+      → after ≡ now ++ act_item (length posts + 1) one ∷ [] → later ≡ posts ++ act_post one
+      → AreDone journal bag (first ++ one ∷ []) after later
+  done_more after later one done post =
+      let number : length posts + 1 ≡ length bag + 1 + length (act_posts first) =
+      omega (arith, ap length so.posted, length-append bag (act_posts first)) in record {
+        written = both_written journal now after (act_items (length bag + 1) first)
+            (act_item (length posts + 1) one ∷ []) so.written done
+            ∙ ap (λ items. journal ++ (act_items (length bag + 1) first ++ items))
+            (sym (acts_one (length posts + 1) one) ∙ ap (λ n. act_items n (one ∷ [])) number)
+            ∙ ap (λ items. journal ++ items)
+            (sym (acts_append (length bag + 1) first (one ∷ [])));
+        posted = both_written bag posts later (act_posts first) (act_post one) so.posted post
+            ∙ ap (λ more. bag ++ (act_posts first ++ more)) (sym (posts_one one))
+            ∙ ap (λ more. bag ++ more) (sym (posts_append first (one ∷ [])));
+      }
+
+  pub done_part : (rest acts : List Act) → first ++ rest ≡ acts
+      → IsPart journal (act_items (length bag + 1) acts) now
+  done_part rest acts all = record {
+    written = act_items (length bag + 1) first;
+    rest = act_items (length bag + 1 + length (act_posts first)) rest;
+    split = ap (act_items (length bag + 1)) (sym all) ∙ acts_append (length bag + 1) first rest;
+    grown = so.written;
+  }
+
+  pub done_few : (rest acts : List Act) (one : Act) → first ++ one ∷ rest ≡ acts
+      → length posts + length (act_post one) ≤ length bag + length (act_posts acts)
+  unfolding act_posts
+  done_few rest acts one all =
+      let those : act_posts acts ≡ act_posts first ++ (act_post one ++ act_posts rest) =
+      ap act_posts (sym all) ∙ posts_append first (one ∷ rest) in
+      omega (
+        arith,
+        ap length so.posted,
+        length-append bag (act_posts first),
+        ap length those,
+        length-append (act_posts first) (act_post one ++ act_posts rest),
+        length-append (act_post one) (act_posts rest),
+      )
+
+-- memory ran out where a part was written
+pub noting_failed : {T E : Type 0} (r : Result T E) (acts : List Act) (old new : Log) → IsErr r
+    → IsPart old.journal (act_items (length old.bag + 1) acts) new.journal
+    → new.travelling ≡ old.travelling → HasNoted r acts old new
+noting_failed r acts old new failed part same = record {
+  written = none_ok _ r failed;
+  posted = none_ok _ r failed;
+  part = on_err r part;
+  travelling = same;
+}
+
+-- ---- what is noted, each as an act
+
+module _ {A : Type 0} (act : A → Act) (first : List A) where
+  pub acts_of : (rest all : List A) → first ++ rest ≡ all → map act first ++ map act rest ≡ map act all
+  acts_of rest all parts = sym (map-append act first rest) ∙ ap (map act) parts
+
+  pub noted_more : (journal now : List Item) (bag posts : List Post)
+      → AreDone journal bag (map act first) now posts → (after : List Item) (later : List Post)
+      (one : A) → after ≡ now ++ act_item (length posts + 1) (act one) ∷ []
+      → later ≡ posts ++ act_post (act one)
+      → AreDone journal bag (map act (first ++ one ∷ [])) after later
+  noted_more journal now bag posts so after later one done post =
+      subst (λ acts. AreDone journal bag acts after later) (sym (map-append act first (one ∷ [])))
+      (done_more journal now bag posts (map act first) so after later (act one) done post)
+
+-- ---- messages, and then acts
+
+-- if the acts are spelled, the messages of the first ones are
+pub messages_spelled : (messages : List Message) (later : List Act)
+    → All IsSpelled (map act.Post messages ++ later) → All HasShortSpelling messages
+messages_spelled messages later all = λ k d within.
+    subst IsSpelled (get_or_append_left (map act.Post messages) later (act.Post d) k
+    (omega (arith, within, length-map messages act.Post))
+    ∙ get_or-map act.Post messages k d (act.Post d) within)
+    (all k (act.Post d) (omega (
+      arith,
+      within,
+      length-map messages act.Post,
+      length-append (map act.Post messages) later,
+    )))
+
+-- what may be done may be done one part after another
+module _ (bag : List Post) (first later : List Act) (may : MayNote bag (first ++ later)) where
+  counted : length (act_posts (first ++ later))
+      ≡ length (act_posts first) + length (act_posts later)
+  counted = ap length (posts_append first later)
+      ∙ length-append (act_posts first) (act_posts later)
+
+  pub may_first : MayNote bag first
+  may_first = record {
+    few = omega (arith, may.few, counted);
+    spelled = λ k d within. subst IsSpelled (get_or_append_left first later d k within)
+        (may.spelled k d (omega (arith, within, length-append first later)));
+  }
+
+  pub may_later : (posts : List Post) → posts ≡ bag ++ act_posts first → MayNote posts later
+  may_later posts posted = record {
+    few = omega (arith, may.few, counted, ap length posted, length-append bag (act_posts first));
+    spelled = λ k d within. subst IsSpelled (get_or-append-add first later k d)
+        (may.spelled (length first + k) d (omega (arith, within, length-append first later)));
+  }
+
+-- messages alone
+pub sent_as_acts : (number : ℕ) (messages : List Message)
+    → act_items number (map act.Post messages) ≡ sent_from number messages
+unfolding act_items sent_from
+sent_as_acts number [] = refl
+sent_as_acts number (message ∷ messages) =
+    ap (λ items. item.Sent number message ∷ items) (sent_as_acts (number + 1) messages)
+
+pub posts_as_acts : (messages : List Message)
+    → act_posts (map act.Post messages) ≡ map new_post messages
+unfolding act_posts
+posts_as_acts [] = refl
+posts_as_acts (message ∷ messages) = ap (λ posts. new_post message ∷ posts) (posts_as_acts messages)
+
+-- messages are acts too
+pub spelled_as_acts : (messages : List Message) → All HasShortSpelling messages
+    → All IsSpelled (map act.Post messages)
+spelled_as_acts [] all = λ k d within. absurd (omega (arith, within))
+spelled_as_acts (message ∷ messages) all = λ k d within.
+    let inside : k < length (message ∷ messages) =
+    omega (arith, within, length-map (message ∷ messages) act.Post) in
+    subst IsSpelled (sym (get_or-map act.Post (message ∷ messages) k message d inside))
+    (all k message inside)
+
+module _ (journal now : List Item) (bag posts : List Post) (first later : List Act)
+    (so : AreDone journal bag first now posts) where
+  both_are : act_items (length bag + 1) (first ++ later)
+      ≡ act_items (length bag + 1) first ++ act_items (length posts + 1) later
+  both_are = acts_append (length bag + 1) first later
+      ∙ ap (λ n. act_items (length bag + 1) first ++ act_items n later)
+      (omega (arith, ap length so.posted, length-append bag (act_posts first)))
+
+  pub done_both : (after : List Item) (final : List Post)
+      → after ≡ now ++ act_items (length posts + 1) later → final ≡ posts ++ act_posts later
+      → AreDone journal bag (first ++ later) after final
+  done_both after final done post = record {
+    written = both_written journal now after (act_items (length bag + 1) first)
+        (act_items (length posts + 1) later) so.written done
+        ∙ ap (λ items. journal ++ items) (sym both_are);
+    posted = both_written bag posts final (act_posts first) (act_posts later) so.posted post
+        ∙ ap (λ more. bag ++ more) (sym (posts_append first later));
+  }
+
+  -- memory runs out among the later ones
+  pub later_part : (after : List Item) → IsPart now (act_items (length posts + 1) later) after
+      → IsPart journal (act_items (length bag + 1) (first ++ later)) after
+  later_part after part =
+      subst (λ items. IsPart journal items after) (sym both_are)
+      (part_of_rest journal now (act_items (length bag + 1) first)
+      (act_items (length posts + 1) later) after so.written part)
+
+-- or among the first ones
+pub first_part : (journal now : List Item) (number : ℕ) (first later : List Act)
+    → IsPart journal (act_items number first) now
+    → IsPart journal (act_items number (first ++ later)) now
+first_part journal now number first later part =
+    subst (λ items. IsPart journal items now) (sym (acts_append number first later))
+    (part_of_first journal (act_items number first)
+    (act_items (number + length (act_posts first)) later) now part)

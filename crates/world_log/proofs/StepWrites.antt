@@ -1,0 +1,80 @@
+-- What a step writes behind its row, and parts of it.
+use Rattle.std.proofs.Common.{◌≡◌, List, [], ◌∷◌, ◌++◌, refl, ap, sym, ◌∙◌, append-nil, append_assoc, subst}
+use Rattle.std.specs.Prelude.{IsErr, OnErr, OnOk, Result, Ok, Err}
+use Rattle.std.proofs.lemmas.Result.{on_ok_weaker}
+pub use Rattle.wire.proofs.FramesHeld.{on_err}
+use Rattle.journal.specs.declared.item.Item.{Item}
+use Rattle.world_log.specs.Writing.{IsPart}
+
+-- a call that failed owes nothing of what holds where it succeeds
+pub none_ok : {T E : Type 0} (P : Type 0) (r : Result T E) → IsErr r → OnOk r P
+none_ok P (Ok x) failed = absurd cc
+none_ok P (Err e) failed = tt
+
+-- nothing was written
+pub part_none : (old items new : List Item) → new ≡ old → IsPart old items new
+part_none old items new is =
+    record { written = []; rest = items; split = refl; grown = is ∙ sym (append-nil old) }
+
+-- the first item was written
+pub part_first : (old new rest : List Item) (first : Item) → new ≡ old ++ first ∷ []
+    → IsPart old (first ∷ rest) new
+part_first old new rest first is =
+    record { written = first ∷ []; rest = rest; split = refl; grown = is }
+
+-- the first items were written, and then the rest
+pub both_written : {A : Type 0} (old begun new first rest : List A) → begun ≡ old ++ first
+    → new ≡ begun ++ rest → new ≡ old ++ (first ++ rest)
+both_written old begun new first rest first_is grown =
+    grown ∙ ap (λ js. js ++ rest) first_is ∙ append_assoc old first rest
+
+-- a part of the first items is a part of all of them
+pub part_of_first : (old first rest new : List Item) → IsPart old first new
+    → IsPart old (first ++ rest) new
+part_of_first old first rest new part = record {
+  written = part.written;
+  rest = part.rest ++ rest;
+  split = ap (λ items. items ++ rest) part.split ∙ append_assoc part.written part.rest rest;
+  grown = part.grown;
+}
+
+-- the first items were written, and then a part of the rest
+pub part_of_rest : (old begun first rest new : List Item) → begun ≡ old ++ first
+    → IsPart begun rest new → IsPart old (first ++ rest) new
+part_of_rest old begun first rest new first_is part = record {
+  written = first ++ part.written;
+  rest = part.rest;
+  split = ap (λ items. first ++ items) part.split ∙ sym (append_assoc first part.written part.rest);
+  grown = part.grown ∙ ap (λ js. js ++ part.written) first_is
+      ∙ append_assoc old first part.written;
+}
+
+-- ---- the row, and then the rest
+
+pub both_ok : {T E P Q R : Type 0} (r : Result T E) → (P → Q → R) → OnOk r P → OnOk r Q → OnOk r R
+both_ok (Ok x) f p q = f p q
+both_ok (Err e) f p q = tt
+
+pub three_ok : {T E P Q R S : Type 0} (r : Result T E) → (P → Q → R → S) → OnOk r P → OnOk r Q
+    → OnOk r R → OnOk r S
+three_ok (Ok x) f p q s = f p q s
+three_ok (Err e) f p q s = tt
+
+pub grown_more : (journal begun new items : List Item) (first : Item)
+    → begun ≡ journal ++ first ∷ [] → new ≡ begun ++ items → new ≡ journal ++ first ∷ items
+grown_more journal begun new items first = both_written journal begun new (first ∷ []) items
+
+pub step_written : {T E : Type 0} (r : Result T E) (journal begun new items all : List Item)
+    (first : Item) → all ≡ first ∷ items → begun ≡ journal ++ first ∷ []
+    → OnOk r (new ≡ begun ++ items) → OnOk r (new ≡ journal ++ all)
+step_written r journal begun new items all first all_is row_is written =
+    on_ok_weaker r (λ grown. grown_more journal begun new items first row_is grown
+    ∙ ap (λ more. journal ++ more) (sym all_is)) written
+
+pub step_part : {T E : Type 0} (r : Result T E) (journal begun new items all : List Item)
+    (first : Item) → all ≡ first ∷ items → begun ≡ journal ++ first ∷ []
+    → OnErr r (IsPart begun items new) → OnErr r (IsPart journal all new)
+step_part (Ok x) journal begun new items all first all_is row_is part = tt
+step_part (Err e) journal begun new items all first all_is row_is part =
+    subst (λ more. IsPart journal more new) (sym all_is)
+    (part_of_rest journal begun (first ∷ []) items new row_is part)
