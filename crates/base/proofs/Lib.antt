@@ -1,3 +1,14 @@
 pub mod RefusalWeakening
 pub mod ListLemmas
 pub mod CallerLemmas
+pub mod ListsByPlace
+pub mod ListsFiltered
+pub mod ListsFound
+pub mod ListsJoined
+pub mod ListsOfAll
+pub mod ListsOfAny
+pub mod ListsOfEach
+pub mod ListsOfRanges
+pub mod OptionsByTest
+pub mod OptionsMade
+pub mod ResultsMade

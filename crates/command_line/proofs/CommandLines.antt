@@ -2,6 +2,7 @@
 use Rattle.std.specs.Prelude.{nat_le, option_and_then}
 use Rattle.std.proofs.Common.{ap, drop, ◌≡◌, ℕ, ◌==◌, ◌<◌, ◌≤◌, ◌^◌, Bool, true, false, cond, ◌||◌, Option, Some, None, is_some, List, [], ◌∷◌, ◌∙◌, length, refl, sym, true≢false, eqb-true, leb-true, arith}
 use Rattle.std.proofs.lemmas.Bool.{not-true}
+use Rattle.base.proofs.OptionsByTest.{passes_from_is_some}
 use Rattle.clap.specs.Matches.{found_of}
 use Rattle.clap.specs.Simple.{App, HasMatchesOf}
 use Rattle.clap.specs.Takes.{takes}
@@ -22,15 +23,11 @@ use Rattle.command_line.specs.declared.report.Report.TheVariants as report
 abbrev pub HaveNames : List (List ℕ) → Type 0
 HaveNames names = (0 < length names) × (length names < 2 ^ 16)
 
-passes : {X : Type 0} (b : Bool) (o : Option X) → is_some (cond b o None) ≡ true → b ≡ true
-passes true o e = refl
-passes false o e = absurd (true≢false (sym e))
-
 play_names : (told : Report) (line : StatedLine) (names : List (List ℕ))
     → is_some (play_from told line names) ≡ true → HaveNames names
 play_names told line [] e = absurd (true≢false (sym e))
 play_names told line (s ∷ ps) e =
-    let may = both (nat_le 1 (length ps)) _ (passes _ _ e) in
+    let may = both (nat_le 1 (length ps)) _ (passes_from_is_some _ _ e) in
     let most : length ps ≤ 64 = leb-true (length ps) 64 may.1 in
     (omega arith, omega (arith, most))
 
@@ -44,7 +41,7 @@ print_names : (count : ℕ) (line : StatedLine) → 0 < count → count < 3
     → is_some (print_of count line) ≡ true → HaveNames line.names
 print_names count line some few e =
     let is : length line.names ≡ count =
-    eqb-true _ _ (both (length line.names == count) _ (passes _ _ e)).0 in
+    eqb-true _ _ (both (length line.names == count) _ (passes_from_is_some _ _ e)).0 in
     (omega (arith, is, some), omega (arith, is, few))
 
 load_names : (line : StatedLine) → is_some (load_of line) ≡ true → HaveNames line.names
@@ -65,7 +62,7 @@ audit_names line e = go (is_some line.net || line.quiet) line.names e
     go true names e = absurd (true≢false (sym e))
     go false [] e = absurd (true≢false (sym e))
     go false (s ∷ ps) e =
-        let may = both (nat_le 1 (length ps)) _ (passes _ _ e) in
+        let may = both (nat_le 1 (length ps)) _ (passes_from_is_some _ _ e) in
         let most : length ps ≤ 64 = leb-true (length ps) 64 may.1 in
         (omega arith, omega (arith, most))
 
@@ -94,7 +91,7 @@ print_within : (count : ℕ) (line : StatedLine) → is_some (print_of count lin
     → IsWithin (net_and false) line.net line.quiet
 print_within count line e =
     let none : line.quiet ≡ false =
-    not-true line.quiet (both (length line.names == count) _ (passes _ _ e)).1 in
+    not-true line.quiet (both (length line.names == count) _ (passes_from_is_some _ _ e)).1 in
     record { has_net = λ some. refl; has_flag = λ some. sym none ∙ some }
 
 bare_within : (line : StatedLine) (o : Option Command)

@@ -4,6 +4,7 @@ use Rattle.std.specs.Prelude.{IsTrue, nat_eq, unwrap_or}
 use Rattle.std.specs.List.{list_any}
 use Rattle.std.proofs.lemmas.Bool.{cases_lt}
 use Rattle.std.proofs.lemmas.List.Folds.{list_any-append}
+use Rattle.base.proofs.ListsOfEach.{each_of_all}
 use Rattle.ctrl_msg.specs.declared.message.Message.{Message}
 use Rattle.journal.specs.declared.item.Item.{Item}
 use Rattle.journal.specs.declared.item.Item.TheVariants as item
@@ -12,7 +13,7 @@ use Rattle.update_machine.specs.Setting.{Setting}
 use Rattle.update_machine.proofs.CallerLemmas.{start_laws}
 use Rattle.control_laws.specs.ItemCauses.{IsFirstOpening}
 use Rattle.control_laws.proofs.FactsGrown.{current_more, known_more}
-use Rattle.control_laws.proofs.ToldToController.{tells, told_by, told_by_more, each_in_range, each_of_all}
+use Rattle.control_laws.proofs.ToldToController.{tells, told_by, told_by_more, each_in_range}
 use Rattle.control_laws.proofs.MemberFacts.{LeavesMember, MemberFact, member_was, open_was}
 
 -- what is acknowledged in a known boot that stays: what was, and what the item tells

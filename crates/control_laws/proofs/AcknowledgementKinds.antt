@@ -5,6 +5,7 @@ use Rattle.std.proofs.lemmas.Bool.Decides.{nat_tests}
 use Rattle.std.proofs.Common.{ℕ, ◌≡◌, ◌≤◌, ◌<◌, Option, Some, None, List, [], ◌∷◌, ◌++◌, refl, ap, sym, subst, ◌∙◌, arith, inl, inr}
 use Rattle.std.specs.Prelude.{IfSome, IsTrue, IsFalse, option_and_then, option_to_list}
 use Rattle.std.specs.List.{AllByRecursion, list_any}
+use Rattle.base.proofs.ListsOfEach.{each_append, each_option}
 use Rattle.ctrl_msg.specs.declared.message.Body.{Body}
 use Rattle.ctrl_msg.specs.declared.message.Body.TheVariants.{Installed, Stamped}
 use Rattle.ctrl_msg.specs.Kinds.{to_controller}
@@ -20,9 +21,8 @@ use Rattle.update_machine.proofs.CallerLemmas.{start_laws}
 use Rattle.control_laws.specs.BootLaws.{BootsAreKnown}
 use Rattle.control_laws.specs.ItemCauses.{HasItemCause, IsPresentIn, IsRightFrom}
 use Rattle.control_laws.proofs.BootsKnown.{boot_rises, by_number}
-use Rattle.control_laws.proofs.MessageSends.{each_append}
 use Rattle.control_laws.proofs.SwitchKeeps.{GoesOn, goes_on, heard_kept, stamp_kept, turns}
-use Rattle.control_laws.proofs.ToldToController.{each_if, each_weaker, tells, told_by, told_by_more, told_sent}
+use Rattle.control_laws.proofs.ToldToController.{each_weaker, tells, told_by, told_by_more, told_sent}
 
 -- the bodies by which a switch acknowledges versions in a boot, and what it acknowledges
 pub record AckKind : Type 1 where
@@ -85,7 +85,7 @@ tells_true : (kind : AckKind) (before : List Item) (next : Item) (s boot : ℕ)
     → AreTrue kind before → IsTrue (is_up before s) → boot ≡ boot_of before s
     → AllByRecursion (kind.Holds before s) (tells (kind.reads s boot) before next)
 tells_true kind before (item.Delivered number) s boot true up own =
-    each_if (kind.Holds before s)
+    each_option (kind.Holds before s)
     (option_and_then (kind.reads s boot) (body_to_controller before number))
     (λ version told. true.sent s boot version number
     (ack_sent kind before s boot number version told) up own)

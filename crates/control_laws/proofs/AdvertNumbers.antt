@@ -1,8 +1,8 @@
 -- How far boots and the numbers of own adverts rise with the messages that are sent.
-use Rattle.std.proofs.Common.{ℕ, zero, suc, ◌≡◌, ◌+◌, ◌*◌, ◌^◌, ◌<◌, ◌≤◌, ◌==◌, Bool, true, false, not, ◌&&◌, cond, if◌then◌else◌, Option, Some, None, List, [], ◌∷◌, ◌++◌, length, map, get_or, refl, ap, sym, subst, ◌∙◌, arith, inl, inr, append_assoc, sum_by}
-use Rattle.std.specs.Prelude.{All, count_by, filter, filter_map, unwrap_or}
-use Rattle.std.specs.List.{cons_option, range_with_len}
-use Rattle.std.proofs.lemmas.Bool.{cases_eq, eqb-true, ne_eqb}
+use Rattle.std.proofs.Common.{ℕ, zero, suc, ◌≡◌, ◌+◌, ◌*◌, ◌^◌, ◌<◌, ◌≤◌, ◌==◌, Bool, true, false, not, ◌&&◌, cond, if◌then◌else◌, Some, None, List, [], ◌∷◌, ◌++◌, length, map, get_or, refl, ap, sym, subst, ◌∙◌, arith, inl, inr, append_assoc, sum_by}
+use Rattle.std.specs.Prelude.{All, count_by, filter, unwrap_or}
+use Rattle.std.specs.List.{range_with_len}
+use Rattle.std.proofs.lemmas.Bool.{eqb-true, ne_eqb}
 use Rattle.std.proofs.lemmas.List.{length-map}
 use Rattle.std.proofs.lemmas.List.Concat.{length-flat_map}
 use Rattle.std.proofs.lemmas.List.Elements.{All-cons, All-head, All-nil, All-tail, All-weaker}
@@ -13,6 +13,8 @@ use Rattle.failover.specs.Adverts.{held_advert}
 use Rattle.base.specs.Masks.{has, switches}
 use Rattle.base.specs.ComputedMasks.{least_in}
 use Rattle.base.proofs.CallerLemmas.{has_least, mask_of_lt}
+use Rattle.base.proofs.ListsFiltered.{sum_filter}
+use Rattle.base.proofs.ListsOfRanges.{given_some}
 use Rattle.net_file.specs.Net.{IsNet}
 use Rattle.net_file.specs.Joins.{are_linked}
 use Rattle.net_file.proofs.RowPlaces.{links}
@@ -46,7 +48,7 @@ use Rattle.control_laws.proofs.MessageCounts.{sent}
 use Rattle.control_laws.proofs.LinkPieces.{IsLinkPiece, OwnAfter}
 use Rattle.control_laws.proofs.LinkSends.{all_adverts_sent}
 use Rattle.control_laws.proofs.PieceKinds.{IsBootPiece, IsQuietPiece, PieceKind, link_changes_few, piece_kind}
-use Rattle.control_laws.proofs.PairSums.{once, sum_filter}
+use Rattle.control_laws.proofs.PairSums.{once}
 
 -- ---- steps began in past boots
 
@@ -159,26 +161,6 @@ quiet_few setting before items quiet few =
     }
 
 -- ---- a switch whose links changed tells somebody, if it can reach anybody
-
-given_some : {Y : Type 0} (gives : ℕ → Option Y) (low n x : ℕ) (y : Y) → low ≤ x → x < low + n
-    → gives x ≡ Some y → 1 ≤ length (filter_map gives (range_with_len low n))
-given_some gives low zero x y above below is = absurd (omega arith)
-given_some {Y = Y} gives low (suc n) x y above below is =
-    elim (cases_eq x low) [
-      | inl same ↦ here (gives low) (ap gives (sym same) ∙ is)
-      | inr apart ↦ later (gives low) (given_some gives (low + 1) n x y
-          (omega (arith, above, apart)) (omega (arith, below)) is)
-    ]
-  where
-    here : (o : Option Y) → o ≡ Some y
-        → 1 ≤ length (cons_option o (filter_map gives (range_with_len (low + 1) n)))
-    here None e = absurd cc
-    here (Some z) e = omega arith
-
-    later : (o : Option Y) → 1 ≤ length (filter_map gives (range_with_len (low + 1) n))
-        → 1 ≤ length (cons_option o (filter_map gives (range_with_len (low + 1) n)))
-    later None some = some
-    later (Some z) some = omega arith
 
 -- one of a range that passes a test counts
 at_least : (f : ℕ → ℕ) (test : ℕ → Bool) (n x : ℕ) → x < n → test x ≡ true

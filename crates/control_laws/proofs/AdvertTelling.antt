@@ -1,13 +1,15 @@
 -- The blocks of a piece in which adverts are sent have their causes.
-use Rattle.std.proofs.Common.{ℕ, zero, suc, ◌≡◌, ◌+◌, ◌<◌, ◌≤◌, ◌==◌, Bool, true, false, Option, Some, None, List, [], ◌∷◌, ◌++◌, map, refl, ap, sym, ◌∙◌, arith, inl, inr}
+use Rattle.std.proofs.Common.{ℕ, ◌≡◌, ◌==◌, Bool, true, false, List, [], ◌∷◌, ◌++◌, map, refl, ap, sym, ◌∙◌, inl, inr}
 use Rattle.std.specs.Prelude.{IsTrue, filter, filter_map}
-use Rattle.std.specs.List.{AllByRecursion, cons_option, flat_map, range_with_len}
+use Rattle.std.specs.List.{AllByRecursion, flat_map}
 use Rattle.std.proofs.lemmas.List.Elements.{filter_map-append}
 use Rattle.ctrl_msg.specs.declared.message.Body.{Body}
 use Rattle.ctrl_msg.specs.declared.message.Body.TheVariants.{Advertise}
 use Rattle.ctrl_msg.specs.declared.message.Message.{Message}
 use Rattle.failover.specs.Adverts.{held_advert}
 use Rattle.base.specs.Masks.{has, switches}
+use Rattle.base.proofs.ListsOfEach.{each_filter, each_flat_map, each_flat_map_in, each_map}
+use Rattle.base.proofs.ListsOfRanges.{each_given}
 use Rattle.failover.specs.declared.advert.Advert.{Advert}
 use Rattle.journal.specs.declared.item.Item.{Item}
 use Rattle.journal.specs.declared.item.Item.TheVariants as item
@@ -20,7 +22,7 @@ use Rattle.update_machine.specs.Messages.{send_items}
 use Rattle.update_machine.specs.Setting.{Setting}
 use Rattle.update_machine.specs.SwitchNumbers.{switches_of}
 use Rattle.update_machine.proofs.CallerLemmas.{known_keeps, links_keep, switch_keeps}
-use Rattle.control_laws.proofs.MessageSends.{each_append, each_filter, each_flat_map, each_map, sends_kept}
+use Rattle.control_laws.proofs.MessageSends.{sends_kept}
 use Rattle.control_laws.proofs.LinkCauses.{HasLinkCause, HaveLinkCauses, IsHeard, IsHeld, IsTold, IsToldIn}
 
 -- ---- what is told stays so while other messages are sent
@@ -88,27 +90,6 @@ sends_told setting =
 
 -- ---- what a switch holds
 
-each_flat_in : {X Y : Type 0} (P : Y → Type 0) (f : X → List Y) (xs : List X)
-    → AllByRecursion (λ x. AllByRecursion P (f x)) xs → AllByRecursion P (flat_map f xs)
-each_flat_in P f [] all = tt
-each_flat_in P f (x ∷ xs) all =
-    each_append P (f x) (flat_map f xs) all.0 (each_flat_in P f xs all.1)
-
-each_given : {Y : Type 0} (P : Y → Type 0) (gives : ℕ → Option Y) (low n : ℕ)
-    → ((x : ℕ) → low ≤ x → x < low + n → (y : Y) → gives x ≡ Some y → P y)
-    → AllByRecursion P (filter_map gives (range_with_len low n))
-each_given P gives low zero all = tt
-each_given {Y = Y} P gives low (suc n) all =
-    by_given (gives low) (all low (omega arith) (omega arith))
-    (each_given P gives (low + 1) n
-    (λ x above below. all x (omega (arith, above)) (omega (arith, below))))
-  where
-    by_given : (o : Option Y) → ((y : Y) → o ≡ Some y → P y)
-        → AllByRecursion P (filter_map gives (range_with_len (low + 1) n))
-        → AllByRecursion P (cons_option o (filter_map gives (range_with_len (low + 1) n)))
-    by_given None all rest = rest
-    by_given (Some y) all rest = (all y refl, rest)
-
 -- each advert that it holds is told by it, where it has a neighbour
 each_held : (setting : Setting) (journal : List Item) (s neighbour : ℕ)
     → IsTrue (has (near setting journal s) neighbour)
@@ -138,7 +119,7 @@ pub each_neighbour : (setting : Setting) (journal : List Item) (s : ℕ) (told :
     → AllByRecursion (Tells setting journal)
     (flat_map told (switches_in setting (near setting journal s)))
 each_neighbour setting journal s told all =
-    each_flat_in (Tells setting journal) told (switches_in setting (near setting journal s))
+    each_flat_map_in (Tells setting journal) told (switches_in setting (near setting journal s))
     (each_filter (λ neighbour. AllByRecursion (Tells setting journal) (told neighbour))
     (has (near setting journal s)) all (switches_of setting))
 

@@ -13,6 +13,7 @@ use Rattle.ctrl_msg.specs.declared.message.Body.TheVariants.{Advertise}
 use Rattle.ctrl_msg.specs.declared.message.Message.{Message}
 use Rattle.failover.specs.Adverts.{first_advert, first_adverts, held_advert, no_adverts}
 use Rattle.base.specs.Masks.{has}
+use Rattle.base.proofs.ListsOfEach.{each_append}
 use Rattle.failover.specs.declared.advert.Advert.{Advert}
 use Rattle.failover.specs.Newest.{IsNewest}
 use Rattle.failover.proofs.HeldAdverts.{held-first}
@@ -33,7 +34,6 @@ use Rattle.update_machine.proofs.CallerLemmas.{known_link_laws, start_laws}
 use Rattle.control_laws.proofs.BootsKnown.{by_number}
 use Rattle.control_laws.proofs.ItemFacts.{AreKept, fact_on}
 use Rattle.control_laws.proofs.FactsGrown.{heard_more}
-use Rattle.control_laws.proofs.MessageSends.{each_append}
 use Rattle.control_laws.proofs.SwitchBlocks.{said_parts}
 use Rattle.control_laws.specs.Adverts.{AllAdverts}
 use Rattle.control_laws.proofs.BothCauses.{HasBothCauses}

@@ -5,6 +5,7 @@ use Rattle.std.specs.List.{range_with_len}
 use Rattle.std.proofs.lemmas.Bool.{cases_eq}
 use Rattle.std.proofs.lemmas.Bool.Decides.{nat_tests}
 use Rattle.std.proofs.lemmas.List.Sums.{take_while-cons}
+use Rattle.base.proofs.ListsOfEach.{each_filter, each_map}
 use Rattle.journal.specs.declared.item.Item.{Item}
 use Rattle.journal.specs.declared.item.Item.TheVariants as item
 use Rattle.update_machine.specs.Marks.{MayRise, all_acked, current_mark, has_acked, is_joining, is_member, is_over, next_current, next_retired, opened_at}
@@ -17,7 +18,7 @@ use Rattle.control_laws.specs.ItemCauses.{HasItemCause}
 use Rattle.control_laws.proofs.ItemFacts.{Has}
 use Rattle.control_laws.proofs.FactsGrown.{current_more, retired_more}
 use Rattle.control_laws.proofs.SettlingCauses.{SettlingHas, parts_have, settling_has}
-use Rattle.control_laws.proofs.MessageSends.{IsRight, each_filter, each_map, each_range, sends_have}
+use Rattle.control_laws.proofs.MessageSends.{IsRight, each_range, sends_have}
 
 -- ---- how far current may rise
 

@@ -2,6 +2,7 @@
 use Rattle.std.proofs.Common.{ℕ, ◌≡◌, ◌+◌, ◌++◌, ◌∙◌, refl, Option, Some, None, List, [], ◌∷◌, map, arith}
 use Rattle.std.specs.Prelude.{⊤, IsTrue, is_some}
 use Rattle.std.specs.List.{AllByRecursion}
+use Rattle.base.proofs.ListsOfEach.{each_always, each_map}
 use Rattle.ctrl_msg.specs.declared.message.Body.{Body}
 use Rattle.ctrl_msg.specs.declared.message.Body.TheVariants.{Install, OpenAt, Stamp, Collect, Hello}
 use Rattle.ctrl_msg.specs.declared.message.Message.{Message}
@@ -20,7 +21,7 @@ use Rattle.update_machine.proofs.CallerLemmas.{have_first, have_in_turn}
 use Rattle.control_laws.proofs.ItemFacts.{fact_on, have_weaker}
 use Rattle.control_laws.proofs.FactsGrown.{count_more, known_more, over_more, told_more}
 use Rattle.control_laws.proofs.SwitchOpenings.{member_on, still_opened}
-use Rattle.control_laws.proofs.MessageSends.{acked_same, each, each_map}
+use Rattle.control_laws.proofs.MessageSends.{acked_same}
 use Rattle.control_laws.proofs.SettlingCauses.{PartsHave, parts_have, settling_has}
 use Rattle.control_laws.proofs.ResentBySwitches.{sends_each}
 
@@ -40,7 +41,7 @@ pub each_command : {X : Type 0} (to : X → Message) → ((x : X) → IsCommand 
     → (xs : List X) → AreCommands (map to xs)
 each_command to commands xs =
     each_map (λ message. IsCommand message.body) to xs
-    (each (λ x. IsCommand (to x).body) commands xs)
+    (each_always (λ x. IsCommand (to x).body) commands xs)
 
 -- ---- settling
 

@@ -5,6 +5,7 @@ use Rattle.std.specs.List.{AllByRecursion}
 use Rattle.std.specs.Option.{option_or}
 use Rattle.std.proofs.lemmas.Bool.Decides.{nat_tests}
 use Rattle.std.proofs.lemmas.Option.{IfSome_then}
+use Rattle.base.proofs.ListsOfEach.{each_always, each_append, each_map, each_option}
 use Rattle.ctrl_msg.specs.declared.message.Body.{Body}
 use Rattle.ctrl_msg.specs.declared.message.Body.TheVariants.{OpenAt, Stamp, Stamped}
 use Rattle.ctrl_msg.specs.declared.message.Message.{Message}
@@ -24,13 +25,12 @@ use Rattle.control_laws.specs.ItemCauses.{HasItemCause, IsRightMessage, IsRightO
 use Rattle.control_laws.proofs.BootsKnown.{known_rises, new_or_old}
 use Rattle.control_laws.proofs.ItemFacts.{AreKept}
 use Rattle.control_laws.proofs.FactsGrown.{opens_by, current_more, retired_more, opened_in, opened_is, opened_more, raised, stamp_told}
-use Rattle.control_laws.proofs.MessageSends.{each, each_append, each_map}
 use Rattle.control_laws.proofs.SwitchBlocks.{said_parts}
 use Rattle.control_laws.proofs.AcknowledgementKinds.{stamped_is}
 use Rattle.control_laws.proofs.GreatestNumbers.{acked_stamp_within, least_within, open_within}
 use Rattle.control_laws.proofs.BoundedVersions.{IsThere, current_rises, there_at_first, there_kept}
 use Rattle.control_laws.proofs.SwitchKeeps.{stamp_less}
-use Rattle.control_laws.proofs.ToldToController.{each_if, each_weaker, tells, told_by, told_by_more, told_sent}
+use Rattle.control_laws.proofs.ToldToController.{each_weaker, tells, told_by, told_by_more, told_sent}
 
 -- a message that lets a switch stamp, or says that it does, is of a version that is current or was
 abbrev pub IsOfCurrent : List Item → Place → Body → Type 0
@@ -157,7 +157,7 @@ gives_current : (before : List Item) (next : Item) (s boot : ℕ) → StampsAreC
     → AllByRecursion (λ version. version ≤ current_mark before)
     (tells (stamped_in s boot) before next)
 gives_current before (item.Delivered number) s boot are =
-    each_if (λ version. version ≤ current_mark before)
+    each_option (λ version. version ≤ current_mark before)
     (option_and_then (stamped_in s boot) (body_to_controller before number))
     (λ version told. are.sent number (to_controller (Stamped s boot version))
     (told_sent (stamped_in s boot) (Stamped s boot) (stamped_is s boot) before number version told))
@@ -197,7 +197,7 @@ next_below setting journal are =
     let within = least_within (map (acked_stamp journal) (members setting journal))
     (current_mark journal)
     (each_map (λ x. x ≤ current_mark journal) (acked_stamp journal) (members setting journal)
-    (each (λ s. acked_stamp journal s ≤ current_mark journal)
+    (each_always (λ s. acked_stamp journal s ≤ current_mark journal)
     (λ s. acked_current journal s are) (members setting journal))) in
     omega (arith, within, are.marks.first)
 

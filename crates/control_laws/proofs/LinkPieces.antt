@@ -4,6 +4,7 @@ use Rattle.std.specs.Prelude.{IsFalse, unwrap_or}
 use Rattle.std.specs.Option.{option_or}
 use Rattle.std.proofs.lemmas.Bool.{ne_eqb}
 use Rattle.std.proofs.lemmas.Bool.Decides.{nat_tests}
+use Rattle.base.proofs.OptionsByTest.{none_where_other}
 use Rattle.net_file.specs.declared.net.LinkRow.{LinkRow}
 use Rattle.journal.specs.declared.item.Item.{Item}
 use Rattle.journal.specs.declared.item.Item.TheVariants as item
@@ -80,13 +81,6 @@ ChangesLinksOf t (item.Opened s version) = s ≡ t
 ChangesLinksOf t (item.LinkIs one two up) = one ≡ t
 ChangesLinksOf t _ = ⊥
 
--- an end that isn't the switch
-other_end : {X : Type 0} (s t end : ℕ) (told : X) → s ≡ t → end ≢ t
-    → (if s == end then Some told else None) ≡ None
-other_end {X = X} s t end told is other =
-    let apart : (s == end) ≡ false = ne_eqb s end (λ same. other (sym same ∙ is)) in
-    ap (λ (b : Bool). if b then Some told else None) apart
-
 other_link : (low high t a b : ℕ) (up : Bool) → low ≡ t → a ≢ t → b ≢ t
     → (if low == min a b && high == max a b then Some up else None) ≡ None
 other_link low high t a b up is one two =
@@ -98,11 +92,11 @@ usable_on : (before : List Item) (next : Item) (t : ℕ) → ChangesLinksOf t ne
     → (link : LinkRow) → link.one ≢ t → link.two ≢ t
     → is_usable (before ++ next ∷ []) link ≡ is_usable before link
 usable_on before (item.Down s) t is link one two =
-    usable_same before (item.Down s) link refl (other_end s t link.one false is one)
-    (other_end s t link.two false is two)
+    usable_same before (item.Down s) link refl (none_where_other s t link.one false is one)
+    (none_where_other s t link.two false is two)
 usable_on before (item.Opened s version) t is link one two =
-    usable_same before (item.Opened s version) link refl (other_end s t link.one true is one)
-    (other_end s t link.two true is two)
+    usable_same before (item.Opened s version) link refl (none_where_other s t link.one true is one)
+    (none_where_other s t link.two true is two)
 usable_on before (item.LinkIs low high up) t is link one two =
     usable_same before (item.LinkIs low high up) link
     (other_link low high t link.one link.two up is one two) refl refl

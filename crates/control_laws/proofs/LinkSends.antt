@@ -13,6 +13,7 @@ use Rattle.failover.specs.Adverts.{held_advert}
 use Rattle.base.specs.Masks.{has, switches}
 use Rattle.base.proofs.CallerLemmas.{mask_of_lt}
 use Rattle.base.proofs.ListLemmas.{length-filter_map}
+use Rattle.base.proofs.ListsFiltered.{length_filter_less, sum_each, sum_filter, sum_some}
 use Rattle.net_file.specs.Net.{IsNet}
 use Rattle.net_file.specs.declared.net.LinkRow.{LinkRow}
 use Rattle.net_file.specs.Joins.{are_linked, joins}
@@ -26,7 +27,7 @@ use Rattle.update_machine.specs.Setting.{Setting}
 use Rattle.update_machine.specs.SwitchNumbers.{switches_of}
 use Rattle.update_machine.specs.LinkMasks.{near, usable_links}
 use Rattle.control_laws.proofs.NetLinks.{linked_by_mask}
-use Rattle.control_laws.proofs.PairSums.{length_filter_less, met_once, once, pairs_few, sum_each, sum_filter, sum_plus, sum_some, sum_times}
+use Rattle.control_laws.proofs.PairSums.{met_once, once, pairs_few, sum_plus, sum_times}
 
 -- ---- which links change
 

@@ -3,6 +3,7 @@
 use Rattle.std.proofs.Common.{ℕ, ◌+◌, ◌≤◌, List, [], ◌∷◌, map, min, arith}
 use Rattle.std.specs.Prelude.{fold, unwrap_or}
 use Rattle.std.specs.List.{AllByRecursion}
+use Rattle.base.proofs.ListsOfEach.{each_map}
 use Rattle.journal.specs.declared.item.Item.{Item}
 use Rattle.journal.specs.declared.item.Item.TheVariants as item
 use Rattle.update_machine.specs.Causes.{HaveCauses}
@@ -10,7 +11,7 @@ use Rattle.update_machine.specs.Marks.{acked_stamp, current_mark, is_member, lea
 use Rattle.update_machine.specs.Setting.{Setting}
 use Rattle.control_laws.specs.ItemCauses.{HasItemCause}
 use Rattle.control_laws.proofs.ItemFacts.{FromCauses, have_weaker}
-use Rattle.control_laws.proofs.MessageSends.{each_map, each_of_network}
+use Rattle.control_laws.proofs.MessageSends.{each_of_network}
 use Rattle.control_laws.proofs.MarkLaws.{bounded}
 use Rattle.control_laws.specs.Rises.{RisesRightly}
 

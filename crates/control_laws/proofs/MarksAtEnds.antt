@@ -2,6 +2,7 @@
 use Rattle.std.proofs.Common.{ℕ, ◌≡◌, ◌+◌, Bool, true, false, Option, Some, None, List, [], ◌∷◌, ◌++◌, refl, sym, subst, ◌∙◌, arith, inl}
 use Rattle.std.specs.Prelude.{IsTrue}
 use Rattle.std.proofs.lemmas.List.Elements.{All-from_recursion}
+use Rattle.base.proofs.ListsOfEach.{each_always}
 use Rattle.ctrl_msg.specs.declared.message.Body.{Body}
 use Rattle.ctrl_msg.specs.declared.message.Body.TheVariants.{Hello}
 use Rattle.ctrl_msg.specs.declared.message.Message.{Message}
@@ -30,7 +31,6 @@ use Rattle.control_laws.proofs.BehindItems.{at_ends}
 use Rattle.control_laws.proofs.ItemFacts.{have_front}
 use Rattle.control_laws.proofs.PieceCauses.{pieces_have}
 use Rattle.control_laws.proofs.ReachedCauses.{behind_piece}
-use Rattle.control_laws.proofs.MessageSends.{each}
 use Rattle.control_laws.proofs.StepCases.{confirm_cases, deliver_cases, update_cases}
 use Rattle.control_laws.proofs.CurrentVersions.{current_at_first, next_below}
 use Rattle.control_laws.proofs.MarkLaws.{bounded}
@@ -196,7 +196,7 @@ first_settled : (setting : Setting) → AreSettled setting []
 first_settled setting = record {
   current = inl (start_laws.current ∙ sym start_laws.count);
   joining = All-from_recursion (NoneJoins []) (switches_of setting)
-      (each (NoneJoins []) none_joins_first (switches_of setting));
+      (each_always (NoneJoins []) none_joins_first (switches_of setting));
   retired =
       let first = start_laws.retired in
       let current = start_laws.current in

@@ -10,6 +10,7 @@ use Rattle.ctrl_msg.specs.declared.message.Body.{Body}
 use Rattle.ctrl_msg.specs.declared.message.Body.TheVariants.{Hello}
 use Rattle.ctrl_msg.specs.declared.message.Message.{Message}
 use Rattle.base.specs.Masks.{has}
+use Rattle.base.proofs.ListsFiltered.{length_filter_less, sum_each}
 use Rattle.failover.specs.declared.advert.Advert.{Advert}
 use Rattle.five_tuple.specs.declared.header.Header.{Header}
 use Rattle.net_file.specs.Net.{IsNet}
@@ -40,7 +41,6 @@ use Rattle.control_laws.proofs.ControllerCommands.{IsOfSettling, settling_settle
 use Rattle.control_laws.proofs.ItemFacts.{have_weaker}
 use Rattle.control_laws.proofs.TrafficItems.{IsWorkStep, work_cases}
 use Rattle.control_laws.proofs.LinkSends.{held_few}
-use Rattle.control_laws.proofs.PairSums.{length_filter_less, sum_each}
 
 abbrev pub sent : List Item → ℕ
 sent items = count_of is_sending items

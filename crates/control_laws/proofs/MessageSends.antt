@@ -1,8 +1,9 @@
 -- Messages that are sent one after another: each has its cause behind those before it.
-use Rattle.std.proofs.Common.{ℕ, ◌≡◌, ◌+◌, ◌<◌, ◌≤◌, Bool, true, false, zero, suc, ◌⊎◌, if◌then◌else◌, Option, Some, None, List, [], length, ◌∷◌, ◌++◌, refl, ap, sym, ◌∙◌, arith, inl, inr, map, subst}
-use Rattle.std.specs.Prelude.{⊤, IsTrue, filter}
+use Rattle.std.proofs.Common.{ℕ, ◌≡◌, ◌+◌, ◌<◌, ◌≤◌, Bool, zero, suc, ◌⊎◌, Option, Some, None, List, [], length, ◌∷◌, ◌++◌, refl, ap, sym, ◌∙◌, arith, inl, inr, subst}
+use Rattle.std.specs.Prelude.{IsTrue, filter}
 use Rattle.std.specs.Option.{option_or}
-use Rattle.std.specs.List.{AllByRecursion, flat_map, range_with_len}
+use Rattle.std.specs.List.{AllByRecursion, range_with_len}
+use Rattle.base.proofs.ListsOfEach.{each_passing}
 pub use Rattle.policy_rules.proofs.CallerLemmas.{each_weaker}
 use Rattle.ctrl_msg.specs.declared.message.Body.{Body}
 use Rattle.ctrl_msg.specs.declared.message.Body.TheVariants.{Install, OpenAt, Stamp, Collect, CacheRule, Advertise, Hello, Installed, Stamped}
@@ -26,48 +27,6 @@ use Rattle.control_laws.proofs.SwitchOpenings.{member_on}
 use Rattle.update_machine.specs.Touched.{touched_by}
 
 -- ---- facts of each element
-
-pub each_map : {X Y : Type 0} (P : Y → Type 0) (f : X → Y) (xs : List X)
-    → AllByRecursion (λ x. P (f x)) xs → AllByRecursion P (map f xs)
-each_map P f [] all = tt
-each_map P f (x ∷ xs) all = (all.0, each_map P f xs all.1)
-
-pub each_append : {X : Type 0} (P : X → Type 0) (xs ys : List X) → AllByRecursion P xs
-    → AllByRecursion P ys → AllByRecursion P (xs ++ ys)
-each_append P [] ys all others = others
-each_append P (x ∷ xs) ys all others = (all.0, each_append P xs ys all.1 others)
-
-pub each_flat_map : {X Y : Type 0} (P : Y → Type 0) (f : X → List Y)
-    → ((x : X) → AllByRecursion P (f x)) → (xs : List X) → AllByRecursion P (flat_map f xs)
-each_flat_map P f all [] = tt
-each_flat_map P f all (x ∷ xs) = each_append P (f x) (flat_map f xs) (all x)
-    (each_flat_map P f all xs)
-
-pub each : {X : Type 0} (P : X → Type 0) → ((x : X) → P x) → (xs : List X) → AllByRecursion P xs
-each P all [] = tt
-each P all (x ∷ xs) = (all x, each P all xs)
-
--- what passes a test has what follows from it and from what all have
-each_passing : {X : Type 0} (Q P : X → Type 0) (test : X → Bool)
-    → ((x : X) → Q x → IsTrue (test x) → P x) → (xs : List X) → AllByRecursion Q xs
-    → AllByRecursion P (filter test xs)
-each_passing Q P test so [] all = tt
-each_passing Q P test so (x ∷ xs) all =
-    by_test (test x) refl (each_passing Q P test so xs all.1)
-  where
-    by_test : (b : Bool) → test x ≡ b → AllByRecursion P (filter test xs)
-        → AllByRecursion P (if b then x ∷ filter test xs else filter test xs)
-    by_test true e rest = (so x all.0 e, rest)
-    by_test false e rest = rest
-
-pub each_filter : {X : Type 0} (P : X → Type 0) (test : X → Bool)
-    → ((x : X) → IsTrue (test x) → P x) → (xs : List X) → AllByRecursion P (filter test xs)
-each_filter P test so xs =
-    each_passing (λ x. ⊤) P test (λ x any. so x) xs (each (λ x. ⊤) (λ x. tt) xs)
-
-pub each_kept : {X : Type 0} (P : X → Type 0) (test : X → Bool) (xs : List X)
-    → AllByRecursion P xs → AllByRecursion P (filter test xs)
-each_kept P test = each_passing P P test (λ x all is. all)
 
 -- numbers of a range
 pub each_range : (P : ℕ → Type 0) (low n : ℕ)

@@ -5,6 +5,7 @@ use Rattle.std.specs.List.{AllByRecursion}
 use Rattle.std.specs.Option.{option_or}
 use Rattle.std.proofs.lemmas.List.Elements.{All-from_recursion}
 use Rattle.std.proofs.lemmas.Option.{IfSome_then}
+use Rattle.base.proofs.ListsOfEach.{each_append, each_option}
 use Rattle.ctrl_msg.specs.Kinds.{body_version, to_controller}
 use Rattle.ctrl_msg.specs.declared.message.Body.{Body}
 use Rattle.ctrl_msg.specs.declared.message.Body.TheVariants.{Install, OpenAt, Stamp, Collect, CacheRule, Advertise, Hello, Installed, Stamped}
@@ -30,11 +31,10 @@ use Rattle.control_laws.proofs.ItemFacts.{Both, fact_on, have_both}
 use Rattle.control_laws.proofs.FactsGrown.{known_more, opened_in, opened_is, opened_more, opens_by, raised, told_more}
 use Rattle.control_laws.proofs.PieceCauses.{pieces_have}
 use Rattle.control_laws.proofs.ReachedCauses.{reached}
-use Rattle.control_laws.proofs.MessageSends.{each_append}
 use Rattle.control_laws.proofs.TrafficItems.{IsIngress}
 use Rattle.control_laws.proofs.CurrentVersions.{StampsAreCurrent, current_at_first, current_kept, first_opened, right_current}
 use Rattle.control_laws.proofs.BoundedVersions.{count_rises, right_planned}
-use Rattle.control_laws.proofs.ToldToController.{each_if, each_weaker}
+use Rattle.control_laws.proofs.ToldToController.{each_weaker}
 use Rattle.control_laws.proofs.HeardAsSaid.{heard_on}
 use Rattle.control_laws.proofs.PlannedTables.{IsPlanned, all_at_first, all_kept, own_tables}
 use Rattle.control_laws.specs.Named.{BodiesNameThere, NamesOnlyThere}
@@ -239,7 +239,7 @@ told_named setting before (item.Delivered number) are =
     (controller_heard before ++ option_to_list (body_to_controller before number))
     (each_append (IsTold setting before) (controller_heard before)
     (option_to_list (body_to_controller before number)) are.told
-    (each_if (IsTold setting before) (body_to_controller before number)
+    (each_option (IsTold setting before) (body_to_controller before number)
     (λ body said. are.sent number (to_controller body) (said_sent before number body said)))))
 told_named setting before next are =
     subst (AllByRecursion (IsTold setting (before ++ next ∷ []))) (sym (told_more before next))

@@ -3,6 +3,7 @@ use Rattle.std.proofs.Common.{ℕ, ◌≡◌, ◌<◌, ◌≤◌, ◌⊎◌, Boo
 use Rattle.std.specs.Prelude.{⊤, IsTrue, not, filter}
 use Rattle.std.specs.List.{AllByRecursion, flat_map}
 use Rattle.std.proofs.lemmas.Bool.Decides.{nat_tests}
+use Rattle.base.proofs.ListsOfEach.{each_map}
 use Rattle.ctrl_msg.specs.declared.message.Body.{Body}
 use Rattle.ctrl_msg.specs.declared.message.Body.TheVariants.{Install, OpenAt, Stamp, Collect, CacheRule, Advertise, Hello, Installed, Stamped}
 use Rattle.ctrl_msg.specs.declared.message.Message.{Message}
@@ -36,7 +37,7 @@ use Rattle.control_laws.proofs.ItemFacts.{have_weaker, piece_has}
 use Rattle.control_laws.proofs.FactsGrown.{known_more, message_more}
 use Rattle.control_laws.proofs.ReachedCauses.{NamesOwn, OwnPiecesHave}
 use Rattle.control_laws.proofs.ResentParts.{each_by_controller, each_to_member, later_versions, resent_has}
-use Rattle.control_laws.proofs.MessageSends.{each_map, each_of_network, sends_kept}
+use Rattle.control_laws.proofs.MessageSends.{each_of_network, sends_kept}
 use Rattle.control_laws.proofs.SettlingCauses.{SettlingHas, parts_have, settling_has}
 use Rattle.control_laws.proofs.SwitchBlocks.{said_parts}
 use Rattle.control_laws.proofs.TrafficItems.{IsAdvert, IsAdvertTo, IsIngress, IsTraffic, Traffic, adverts_to, between_cases, each_told, links_traffic, masked_there, packet_has, passed_traffic, step_traffic}

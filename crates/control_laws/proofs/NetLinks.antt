@@ -11,6 +11,7 @@ use Rattle.base.specs.Masks.{has}
 use Rattle.failover.specs.Paths.{IsRoute}
 use Rattle.failover.specs.declared.advert.Advert.{Advert}
 use Rattle.base.proofs.CallerLemmas.{has-zero, mask_of_lt}
+use Rattle.base.proofs.ListsOfAny.{any_filter}
 use Rattle.net_file.specs.Joins.{are_linked, joins}
 use Rattle.net_file.specs.declared.net.LinkRow.{LinkRow}
 use Rattle.net_file.specs.declared.net.Net.{Net}
@@ -41,19 +42,6 @@ linked_by_mask links s k is = elim (cases_lt k 64) [
       in_mask_past (links_of links s) k (mask_of_lt (are_linked links s)) past in
       absurd cc
 ]
-
-pub any_filter : {X : Type 0} (test passes : X → Bool) (xs : List X)
-    → list_any test (filter passes xs) ≡ true → list_any test xs ≡ true
-any_filter test passes [] is = is
-any_filter {X = X} test passes (x ∷ xs) is =
-    by_tests (passes x) (test x) refl refl (any_filter test passes xs) is
-  where
-    by_tests : (b c : Bool) → passes x ≡ b → test x ≡ c
-        → (list_any test (filter passes xs) ≡ true → list_any test xs ≡ true)
-        → list_any test (filter passes (x ∷ xs)) ≡ true → list_any test (x ∷ xs) ≡ true
-    by_tests b true e f rest is = rw f refl
-    by_tests true false e f rest is = rw f (rest (rw (e, f) at is))
-    by_tests false false e f rest is = rw f (rest (rw e at is))
 
 pub near_linked : (setting : Setting) (journal : List Item) (s k : ℕ)
     → IsTrue (has (near setting journal s) k) → HasLink setting.net s k

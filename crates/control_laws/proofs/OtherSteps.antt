@@ -2,6 +2,7 @@
 use Rattle.std.proofs.Common.{ℕ, ◌≡◌, ◌+◌, true, false, List, [], ◌∷◌, ◌++◌, map, arith}
 use Rattle.std.specs.Prelude.{IsFalse, filter, not}
 use Rattle.std.specs.List.{AllByRecursion}
+use Rattle.base.proofs.ListsOfEach.{each_always, each_flat_map, each_map}
 use Rattle.ctrl_msg.specs.declared.message.Body.{Body}
 use Rattle.ctrl_msg.specs.declared.message.Body.TheVariants.{OpenAt}
 use Rattle.ctrl_msg.specs.declared.message.Message.{Message}
@@ -29,7 +30,6 @@ use Rattle.control_laws.proofs.DeliveryCauses.{deliver_has}
 use Rattle.control_laws.proofs.ItemFacts.{have_weaker, piece_has}
 use Rattle.control_laws.proofs.FactsGrown.{known_more, message_more}
 use Rattle.control_laws.proofs.ResentParts.{each_by_controller, each_to_member, later_versions, resent_has}
-use Rattle.control_laws.proofs.MessageSends.{each, each_flat_map, each_map}
 use Rattle.control_laws.proofs.ResentBySwitches.{each_by_switch}
 use Rattle.control_laws.proofs.SwitchOpenings.{member_parts, still_opened}
 use Rattle.control_laws.proofs.TrafficItems.{IsTraffic, Traffic, between_cases, links_traffic, packet_has, passed_traffic, step_traffic}
@@ -138,7 +138,7 @@ pub installs_reopen : (setting : Setting) (journal : List Item) (s : ℕ) (versi
     (map (λ version. install_for setting journal version s) versions)
 installs_reopen setting journal s versions =
     each_map (ReopensAlone journal) (λ version. install_for setting journal version s) versions
-    (each (λ version. ReopensAlone journal (install_for setting journal version s)) (λ version. tt)
+    (each_always (λ version. ReopensAlone journal (install_for setting journal version s)) (λ version. tt)
     versions)
 
 unacked_reopen : (setting : Setting) (journal : List Item) (s : ℕ) (versions : List ℕ)
@@ -156,7 +156,7 @@ resend_leaves setting s journal =
     (λ neighbour. map (advert_to neighbour) (held_adverts setting journal s))
     (λ neighbour. each_map (ReopensAlone journal) (advert_to neighbour)
     (held_adverts setting journal s)
-    (each (λ advert. ReopensAlone journal (advert_to neighbour advert)) (λ advert. tt)
+    (each_always (λ advert. ReopensAlone journal (advert_to neighbour advert)) (λ advert. tt)
     (held_adverts setting journal s)))
     (switches_in setting (near setting journal s))))
     (each_by_controller (ReopensAlone journal) setting journal s

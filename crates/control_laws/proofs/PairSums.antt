@@ -1,11 +1,10 @@
 -- Sums over switches, and how many pairs of switches links join.
-use Rattle.std.proofs.Common.{ℕ, zero, suc, ◌≡◌, ◌+◌, ◌*◌, ◌<◌, ◌≤◌, ◌==◌, Bool, true, false, not, ◌&&◌, ◌||◌, cond, List, [], ◌∷◌, length, get_or, refl, ap, sym, ◌∙◌, arith, inl, inr, sum_by}
-use Rattle.std.specs.Prelude.{filter}
+use Rattle.std.proofs.Common.{ℕ, zero, suc, ◌≡◌, ◌+◌, ◌*◌, ◌<◌, ◌≤◌, ◌==◌, Bool, true, false, ◌&&◌, ◌||◌, cond, List, [], ◌∷◌, length, refl, ap, sym, ◌∙◌, arith, inl, inr, sum_by}
 use Rattle.std.specs.List.{range_with_len}
 use Rattle.std.proofs.Math.Nat.{mul-add}
 use Rattle.std.proofs.lemmas.Bool.{cases_eq, eq-eqb, ne_eqb}
-use Rattle.std.proofs.lemmas.List.Filters.{sum_by-filter_both}
-use Rattle.std.proofs.lemmas.List.Sums.{count_by-le-length, length-filter, sum_by-cons, sum_by-le, sum_by-le-sum_by}
+use Rattle.std.proofs.lemmas.List.Sums.{sum_by-cons, sum_by-le-sum_by}
+use Rattle.base.proofs.ListsFiltered.{sum_each}
 use Rattle.net_file.specs.Joins.{are_linked, joins}
 use Rattle.net_file.specs.declared.net.LinkRow.{LinkRow}
 
@@ -33,38 +32,6 @@ sum_times c f [] = omega arith
 sum_times c f (x ∷ xs) =
     sum_by-cons (λ y. c * f y) x xs ∙ ap (λ n. c * f x + n) (sum_times c f xs)
     ∙ sym (mul-add c (f x) (sum_by f xs)) ∙ ap (λ n. c * n) (sym (sum_by-cons f x xs))
-
--- each is at most the bound
-pub sum_each : {X : Type 0} (f : X → ℕ) (most : ℕ) (xs : List X) → ((x : X) → f x ≤ most)
-    → sum_by f xs ≤ length xs * most
-sum_each f most xs few = sum_by-le f most xs (λ k d within. few (get_or xs k d))
-
-zero_plus : (n : ℕ) → 0 + n ≡ n
-zero_plus n = omega arith
-
--- a sum over those that pass a test
-pub sum_filter : {X : Type 0} (f : X → ℕ) (test : X → Bool) (xs : List X)
-    → sum_by f (filter test xs) ≡ sum_by (λ x. cond (test x) (f x) 0) xs
-sum_filter f test [] = refl
-sum_filter f test (x ∷ xs) = by_test (test x) refl (sum_filter f test xs)
-  where
-    by_test : (b : Bool) → test x ≡ b
-        → sum_by f (filter test xs) ≡ sum_by (λ y. cond (test y) (f y) 0) xs
-        → sum_by f (cond b (x ∷ filter test xs) (filter test xs))
-        ≡ sum_by (λ y. cond (test y) (f y) 0) (x ∷ xs)
-    by_test true e rest =
-        sum_by-cons f x (filter test xs) ∙ ap (λ k. f x + k) rest
-        ∙ ap (λ b. cond b (f x) 0 + sum_by (λ y. cond (test y) (f y) 0) xs) (sym e)
-        ∙ sym (sum_by-cons (λ y. cond (test y) (f y) 0) x xs)
-    by_test false e rest =
-        rest ∙ sym (zero_plus (sum_by (λ y. cond (test y) (f y) 0) xs))
-        ∙ ap (λ b. cond b (f x) 0 + sum_by (λ y. cond (test y) (f y) 0) xs) (sym e)
-        ∙ sym (sum_by-cons (λ y. cond (test y) (f y) 0) x xs)
-
-pub sum_some : {X : Type 0} (f : X → ℕ) (test : X → Bool) (xs : List X)
-    → sum_by f (filter test xs) ≤ sum_by f xs
-sum_some f test xs =
-    omega (arith, sum_by-filter_both test (λ x. not (test x)) (λ x. refl) f xs)
 
 -- ---- one place
 
@@ -173,9 +140,3 @@ pairs_few (link ∷ links) n m =
       met_once link.two 0 n,
       pairs_few links n m,
     )
-
--- ---- lengths
-
-pub length_filter_less : {X : Type 0} (test : X → Bool) (xs : List X)
-    → length (filter test xs) ≤ length xs
-length_filter_less test xs = omega (arith, length-filter test xs, count_by-le-length test xs)

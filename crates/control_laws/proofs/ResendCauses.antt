@@ -2,6 +2,7 @@
 use Rattle.std.proofs.Common.{ℕ, ◌≡◌, ◌+◌, ◌-◌, ◌≤◌, Bool, true, false, not, Option, Some, None, List, [], ◌∷◌, map, refl, arith, inr}
 use Rattle.std.specs.Prelude.{IsTrue, IsFalse, is_some, filter, unwrap_or}
 use Rattle.std.specs.List.{AllByRecursion, flat_map}
+use Rattle.base.proofs.ListsOfEach.{each_always, each_flat_map, each_kept, each_map}
 use Rattle.failover.specs.declared.advert.Advert.{Advert}
 use Rattle.journal.specs.declared.item.Item.{Item}
 use Rattle.update_machine.specs.Adverts.{held_adverts}
@@ -16,7 +17,7 @@ use Rattle.update_machine.specs.Versions.{version_count}
 use Rattle.control_laws.specs.ItemCauses.{HasItemCause, IsForKnown}
 use Rattle.control_laws.proofs.ItemFacts.{Has}
 use Rattle.control_laws.proofs.ResentParts.{each_by_controller, each_to_member, later_versions, resent_has}
-use Rattle.control_laws.proofs.MessageSends.{IsRight, each, each_flat_map, each_kept, each_map, each_range, sends_have}
+use Rattle.control_laws.proofs.MessageSends.{IsRight, each_range, sends_have}
 use Rattle.control_laws.proofs.SwitchOpenings.{member_parts}
 
 -- adverts may be sent at any time
@@ -24,7 +25,7 @@ adverts_right : (setting : Setting) (journal : List Item) (s : ℕ) (adverts : L
     → AllByRecursion (IsRight setting journal) (map (advert_to s) adverts)
 adverts_right setting journal s adverts =
     each_map (IsRight setting journal) (advert_to s) adverts
-    (each (λ advert. IsRight setting journal (advert_to s advert)) (λ advert. tt) adverts)
+    (each_always (λ advert. IsRight setting journal (advert_to s advert)) (λ advert. tt) adverts)
 
 resend_by_switch : (setting : Setting) (journal : List Item) (s : ℕ)
     → AllByRecursion (IsRight setting journal) (resent_by_switch setting journal s)

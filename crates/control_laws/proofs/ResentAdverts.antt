@@ -2,6 +2,7 @@
 use Rattle.std.proofs.Common.{ℕ, List, map}
 use Rattle.std.specs.Prelude.{filter, not}
 use Rattle.std.specs.List.{AllByRecursion}
+use Rattle.base.proofs.ListsOfEach.{each_always, each_map}
 use Rattle.journal.specs.declared.item.Item.{Item}
 use Rattle.update_machine.specs.Adverts.{held_adverts}
 use Rattle.update_machine.specs.Deliveries.{advert_to}
@@ -10,7 +11,6 @@ use Rattle.update_machine.specs.Pieces.{resend_items}
 use Rattle.update_machine.specs.Setting.{Setting}
 use Rattle.update_machine.specs.Settling.{install_for, unacked_installs, versions_from_current}
 use Rattle.control_laws.proofs.ResentParts.{each_by_controller, each_to_member, later_versions, resent_has}
-use Rattle.control_laws.proofs.MessageSends.{each, each_map}
 use Rattle.control_laws.proofs.ResentBySwitches.{each_by_switch}
 use Rattle.control_laws.proofs.LinkCauses.{HasLinkCause, HaveLinkCauses}
 use Rattle.control_laws.proofs.AdvertTelling.{Tells, each_neighbour, held_told, sends_told}
@@ -20,7 +20,7 @@ unacked_told : (setting : Setting) (journal : List Item) (s : ℕ) (versions : L
 unacked_told setting journal s versions =
     each_map (Tells setting journal) (λ version. install_for setting journal version s)
     (filter (λ version. not (has_acked journal s version)) versions)
-    (each (λ version. Tells setting journal (install_for setting journal version s))
+    (each_always (λ version. Tells setting journal (install_for setting journal version s))
     (λ version. tt) (filter (λ version. not (has_acked journal s version)) versions))
 
 pub resend_caused : (setting : Setting) (s : ℕ) (journal : List Item)

@@ -2,6 +2,7 @@
 use Rattle.std.proofs.Common.{ℕ, ◌≡◌, Bool, true, false, List, [], ◌∷◌, map, refl}
 use Rattle.std.specs.Prelude.{⊤}
 use Rattle.std.specs.List.{AllByRecursion, flat_map}
+use Rattle.base.proofs.ListsOfEach.{each_always}
 use Rattle.ctrl_msg.specs.declared.message.Message.{Message}
 use Rattle.journal.specs.declared.item.Item.{Item}
 use Rattle.journal.specs.declared.item.Item.TheVariants as item
@@ -13,7 +14,7 @@ use Rattle.update_machine.specs.LinkMasks.{near}
 use Rattle.update_machine.specs.Messages.{send_items}
 use Rattle.update_machine.specs.Pieces.{hello_of, resend_items, resent_by_switch, sends_or_nothing}
 use Rattle.update_machine.specs.Setting.{Setting}
-use Rattle.control_laws.proofs.MessageSends.{each, sends_kept}
+use Rattle.control_laws.proofs.MessageSends.{sends_kept}
 
 -- each has the cause that follows from a property of messages
 pub sends_each : (cause : List Item → Item → Type 0) (P : Message → Type 0) →
@@ -31,7 +32,7 @@ pub sends_any : (cause : List Item → Item → Type 0) →
     → HaveCauses cause journal (send_items journal messages)
 sends_any cause has journal messages =
     sends_each cause (λ message. ⊤) (λ before n message any. has before n message) journal messages
-    (each (λ message. ⊤) (λ message. tt) messages)
+    (each_always (λ message. ⊤) (λ message. tt) messages)
 
 -- and the same of what is sent again
 pub resends_any : (cause : List Item → Item → Type 0) →

@@ -2,6 +2,7 @@
 use Rattle.std.proofs.Common.{ℕ, ◌≡◌, ◌+◌, ◌-◌, ◌==◌, Bool, true, false, if◌then◌else◌, List, [], ◌∷◌, ◌++◌, refl}
 use Rattle.std.specs.Prelude.{IsTrue, IsFalse, nat_lt}
 use Rattle.std.specs.List.{AllByRecursion, range_with_len}
+use Rattle.base.proofs.ListsOfEach.{each_append}
 use Rattle.ctrl_msg.specs.declared.message.Message.{Message}
 use Rattle.journal.specs.declared.item.Item.{Item}
 use Rattle.journal.specs.declared.item.Item.TheVariants as item
@@ -12,7 +13,6 @@ use Rattle.update_machine.specs.Pieces.{resend_items, resent_by_switch, sends_or
 use Rattle.update_machine.specs.Setting.{Setting}
 use Rattle.update_machine.specs.Settling.{collect_for, open_for, resent_by_controller, resent_to_member, stamp_for, unacked_installs, versions_from_current}
 use Rattle.update_machine.specs.Versions.{version_count}
-use Rattle.control_laws.proofs.MessageSends.{each_append}
 
 -- the versions after the current one
 abbrev pub later_versions : List Item → List ℕ

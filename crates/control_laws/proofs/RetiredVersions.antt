@@ -1,6 +1,7 @@
 -- Retired versions are below the acknowledged stamp of each member.
 use Rattle.std.proofs.Common.{ℕ, ◌≡◌, ◌≤◌, ◌<◌, ◌-◌, Some, None, List, [], ◌∷◌, ◌++◌, length, map, ap, subst, arith, inl, inr}
 use Rattle.std.specs.Prelude.{IsTrue, unwrap_or}
+use Rattle.base.proofs.ListsOfEach.{each_unmap}
 use Rattle.ctrl_msg.specs.declared.message.Body.TheVariants.{Collect}
 use Rattle.ctrl_msg.specs.declared.message.Message.{Message}
 use Rattle.journal.specs.declared.item.Item.{Item}
@@ -17,7 +18,7 @@ use Rattle.control_laws.proofs.FactsGrown.{retired_more}
 use Rattle.control_laws.proofs.CurrentVersions.{StampsAreCurrent}
 use Rattle.control_laws.proofs.GreatestNumbers.{acked_stamp_opened, acked_stamp_rises, least_below}
 use Rattle.control_laws.proofs.MemberFacts.{LeavesMember, MemberFact, member_was, open_was}
-use Rattle.control_laws.proofs.ToldToController.{each_in_range, each_unmap}
+use Rattle.control_laws.proofs.ToldToController.{each_in_range}
 
 -- ---- members
 

@@ -2,6 +2,7 @@
 use Rattle.std.proofs.Common.{ℕ, ◌≡◌, ◌<◌, ◌&&◌, Bool, true, false, List, [], ◌∷◌, ◌++◌, length, map, refl, sym}
 use Rattle.std.specs.Prelude.{IsTrue, nat_lt}
 use Rattle.std.specs.List.{AllByRecursion}
+use Rattle.base.proofs.ListsOfEach.{each_map}
 use Rattle.ctrl_msg.specs.declared.message.Message.{Message}
 use Rattle.journal.specs.declared.item.Item.{Item}
 use Rattle.journal.specs.declared.item.Item.TheVariants as item
@@ -15,7 +16,7 @@ use Rattle.update_machine.proofs.CallerLemmas.{have_first, have_in_turn}
 use Rattle.control_laws.specs.ItemCauses.{IsForKnown}
 use Rattle.control_laws.proofs.FactsGrown.{known_more, over_more}
 use Rattle.control_laws.proofs.SwitchOpenings.{member_on, member_parts}
-use Rattle.control_laws.proofs.MessageSends.{each_map, each_of_network}
+use Rattle.control_laws.proofs.MessageSends.{each_of_network}
 
 -- a mark may rise, and what each member of the network is told of it is right behind it
 pub record Rises (cause : List Item → Item → Type 0) (Tells : List Item → Message → Type 0)

@@ -1,8 +1,8 @@
 -- What was told to the controller, item by item.
-use Rattle.std.proofs.Common.{ℕ, zero, suc, ◌≡◌, ◌+◌, ◌≤◌, ◌<◌, ◌&&◌, Bool, true, false, if◌then◌else◌, Option, Some, None, List, [], ◌∷◌, ◌++◌, refl, ap, map, sym, subst, ◌∙◌, append-nil, arith, inl, inr}
+use Rattle.std.proofs.Common.{ℕ, zero, suc, ◌≡◌, ◌+◌, ◌≤◌, ◌<◌, Bool, true, false, if◌then◌else◌, Option, Some, None, List, [], ◌∷◌, ◌++◌, refl, ap, sym, subst, ◌∙◌, append-nil, arith, inl, inr}
 use Rattle.std.proofs.lemmas.Bool.{cases_eq, eqb-true}
 use Rattle.std.specs.Prelude.{◌||◌, IsTrue, filter, filter_map, nat_eq, option_and_then, option_to_list}
-use Rattle.std.specs.List.{AllByRecursion, list_all, list_any, range_with_len}
+use Rattle.std.specs.List.{AllByRecursion, list_any, range_with_len}
 use Rattle.std.proofs.lemmas.List.Elements.{filter_map-append}
 use Rattle.ctrl_msg.specs.declared.message.Body.{Body}
 use Rattle.ctrl_msg.specs.Kinds.{to_controller}
@@ -61,11 +61,6 @@ told_sent reads writes is before number x told = by_said (body_to_controller bef
 
 -- ---- facts of each element
 
-pub each_if : {X : Type 0} (P : X → Type 0) (o : Option X) → ((x : X) → o ≡ Some x → P x)
-    → AllByRecursion P (option_to_list o)
-each_if P None all = tt
-each_if P (Some x) all = (all x refl, tt)
-
 -- a number that is among them has it
 pub each_at : (P : ℕ → Type 0) (v : ℕ) (xs : List ℕ) → AllByRecursion P xs
     → IsTrue (list_any (nat_eq v) xs) → P v
@@ -98,19 +93,3 @@ each_in_range P test low (suc n) x all above below is =
       | inl own ↦ let no : test x ≡ false = ap test own ∙ e in absurd cc
       | inr apart ↦ later all (omega (arith, above, apart)) (omega (arith, below)) is
     ]
-
-pub each_of_all : {X : Type 0} (test : X → Bool) (xs : List X) → IsTrue (list_all test xs)
-    → AllByRecursion (λ x. IsTrue (test x)) xs
-each_of_all test [] all = tt
-each_of_all test (x ∷ xs) all = by_test (test x) refl all (each_of_all test xs)
-  where
-    by_test : (b : Bool) → test x ≡ b → IsTrue (b && list_all test xs)
-        → (IsTrue (list_all test xs) → AllByRecursion (λ y. IsTrue (test y)) xs)
-        → AllByRecursion (λ y. IsTrue (test y)) (x ∷ xs)
-    by_test true e all rest = (e, rest all)
-    by_test false e all rest = absurd cc
-
-pub each_unmap : {X Y : Type 0} (P : Y → Type 0) (f : X → Y) (xs : List X)
-    → AllByRecursion P (map f xs) → AllByRecursion (λ x. P (f x)) xs
-each_unmap P f [] all = tt
-each_unmap P f (x ∷ xs) all = (all.0, each_unmap P f xs all.1)

@@ -9,6 +9,7 @@ use Rattle.ctrl_msg.specs.declared.message.Message.{Message}
 use Rattle.ctrl_msg.specs.declared.message.Place.{Place}
 use Rattle.ctrl_msg.specs.declared.message.Place.TheVariants as receiver
 use Rattle.base.specs.Masks.{has}
+use Rattle.base.proofs.ListsOfEach.{each_append, each_flat_map, each_map}
 use Rattle.failover.specs.declared.advert.Advert.{Advert}
 use Rattle.policy_rules.specs.declared.packet.Leg.{Leg}
 use Rattle.policy_rules.specs.declared.policy.Action.{Action}
@@ -42,7 +43,7 @@ use Rattle.switch_table.specs.Tables.{part_of}
 use Rattle.update_machine.specs.Versions.{holds_version, is_version, stamp_of, plan_at}
 use Rattle.control_laws.specs.ItemCauses.{HasItemCause, IsRightMessage}
 use Rattle.control_laws.proofs.ItemFacts.{Has, have_weaker}
-use Rattle.control_laws.proofs.MessageSends.{each_flat_map, each_map, each_append, each_of_network}
+use Rattle.control_laws.proofs.MessageSends.{each_of_network}
 use Rattle.control_laws.proofs.ResentBySwitches.{sends_each}
 
 -- the switch where some packet came in

@@ -1,7 +1,6 @@
 -- The plan of a policy is sound.
-use Rattle.std.proofs.Common.{ℕ, ◌≡◌, ◌∙◌, ◌+◌, ◌^◌, ◌<◌, ◌≤◌, List, [], ◌∷◌, ◌++◌, length, take, get_or, map, Ok, Err, refl, sym, ap, subst, arith, All, take_all}
+use Rattle.std.proofs.Common.{ℕ, ◌≡◌, ◌∙◌, ◌^◌, ◌<◌, ◌≤◌, List, [], length, get_or, map, Ok, Err, sym, ap, subst, arith, All}
 use Rattle.std.specs.List.{zip}
-use Rattle.std.proofs.lemmas.Grind.{take_at_read}
 use Rattle.std.proofs.lemmas.List.{get_or-map, length-map}
 use Rattle.std.proofs.lemmas.Slice.Zip.{firsts-zip, get_or-zip, length-zip}
 use Rattle.std.proofs.lemmas.List.Elements.{All-weaker}
@@ -111,24 +110,6 @@ pub small_rules : (most : ℕ) (parts : List Partition) → most ≤ 8192
     → All (λ part. length part.rules ≤ most) parts → All (λ part. length part.rules < 2 ^ 32) parts
 small_rules most parts few = All-weaker (λ part. length part.rules ≤ most)
     (λ part. length part.rules < 2 ^ 32) (λ part small. omega (arith, small, few)) parts
-
--- ---- two lists as one of pairs
-
-pub zip_read : {A B : Type 0} (ks : List A) (vs : List B) (i : ℕ) (a : A) (b : B) → i < length ks
-    → i < length vs → (get_or ks i a ≡ get_or ks i a) × (get_or vs i b ≡ get_or vs i b)
-    × (take (i + 1) (zip ks vs) ≡ take i (zip ks vs) ++ (get_or ks i a, get_or vs i b) ∷ [])
-zip_read ks vs i a b here there =
-    let within : i < length (zip ks vs) = grind (arith, length-zip ks vs) in (
-      refl,
-      refl,
-      (take_at_read (zip ks vs) i (a, b) within).1
-          ∙ ap (λ x. take i (zip ks vs) ++ x ∷ []) (get_or-zip ks vs i (a, b) here there),
-    )
-
-pub zip_all : {A B : Type 0} (ks : List A) (vs : List B) → length vs ≡ length ks
-    → take (length ks) (zip ks vs) ≡ zip ks vs
-zip_all ks vs same = let all : length (zip ks vs) ≤ length ks = grind (arith, length-zip ks vs) in
-    take_all (length ks) (zip ks vs) all
 
 -- ---- the refusals of the way are those of the plan
 

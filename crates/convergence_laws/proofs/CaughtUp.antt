@@ -5,6 +5,7 @@ use Rattle.std.specs.Prelude.{IsTrue, IsFalse, All, fold, is_some, unwrap_or}
 use Rattle.std.specs.List.{AllByRecursion, list_all}
 use Rattle.std.proofs.lemmas.Bool.{cases_lt}
 use Rattle.std.proofs.lemmas.List.Elements.{All-from_recursion}
+use Rattle.base.proofs.ListsOfEach.{each_map}
 use Rattle.journal.specs.declared.item.Item.{Item}
 use Rattle.update_machine.specs.Boots.{boot_of, is_up}
 use Rattle.update_machine.specs.Causes.{HaveCauses}
@@ -20,7 +21,7 @@ use Rattle.control_laws.specs.ItemCauses.{HasItemCause}
 use Rattle.control_laws.proofs.ItemFacts.{have_weaker}
 use Rattle.control_laws.proofs.MarkLaws.{acknowledged}
 use Rattle.control_laws.proofs.SwitchOpenings.{member_parts}
-use Rattle.control_laws.proofs.MessageSends.{each_map, each_range}
+use Rattle.control_laws.proofs.MessageSends.{each_range}
 use Rattle.convergence_laws.specs.Updated.{IsUpdated}
 use Rattle.convergence_laws.proofs.AnsweredMessages.{HaveSpoken}
 use Rattle.convergence_laws.proofs.DownSwitches.{AreRecorded}

@@ -4,6 +4,7 @@ use Rattle.std.proofs.Common.{ℕ, ◌≡◌, ◌+◌, ◌-◌, ◌≤◌, ◌<�
 use Rattle.std.specs.Prelude.{⊤, IsTrue, IsFalse, nat_lt, option_and_then}
 use Rattle.std.specs.Option.{option_map_or}
 use Rattle.std.proofs.lemmas.Bool.{cases_eq}
+use Rattle.base.proofs.ListsOfEach.{each_always, each_map}
 use Rattle.ctrl_msg.specs.declared.message.Body.{Body}
 use Rattle.ctrl_msg.specs.declared.message.Body.TheVariants.{Hello, Install}
 use Rattle.ctrl_msg.specs.declared.message.Message.{Message}
@@ -32,7 +33,6 @@ use Rattle.control_laws.proofs.ControllerCommands.{grows, settling_settles}
 use Rattle.control_laws.proofs.ControllerBlocks.{settling_have}
 use Rattle.control_laws.proofs.ItemFacts.{AreKept, Both, fact_on, have_both}
 use Rattle.control_laws.proofs.FactsGrown.{count_more, current_more, known_more, message_more, over_more}
-use Rattle.control_laws.proofs.MessageSends.{each, each_map}
 use Rattle.control_laws.proofs.ResentBySwitches.{sends_any}
 use Rattle.control_laws.proofs.StepCases.{confirm_cases, deliver_cases, update_cases}
 use Rattle.control_laws.proofs.MemberFacts.{unraised_same}
@@ -426,7 +426,7 @@ pub all_keep : (setting : Setting) (now : List Item)
 unfolding installs_to_all
 all_keep setting now = leaves_keep now _ (sends_leave now _
     (each_map (ReopensAlone now) (install_for setting now (version_count now)) _
-    (each (λ s. ReopensAlone now (install_for setting now (version_count now) s)) (λ s. tt) _)))
+    (each_always (λ s. ReopensAlone now (install_for setting now (version_count now) s)) (λ s. tt) _)))
 
 all_installs : (setting : Setting) (last : ℕ) (now : List Item)
     → last + 1 ≡ version_count now → HaveInstalls setting (λ s. ⊥) last now

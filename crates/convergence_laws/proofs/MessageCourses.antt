@@ -7,6 +7,7 @@ use Rattle.std.specs.Option.{option_map_or}
 use Rattle.std.proofs.lemmas.Bool.{eq-eqb, eqb-true}
 use Rattle.std.proofs.lemmas.Bool.Decides.{nat_tests}
 use Rattle.std.proofs.lemmas.Option.{IfSome_then}
+use Rattle.base.proofs.ListsOfEach.{each_append}
 use Rattle.ctrl_msg.specs.Bodies.{body_boot}
 use Rattle.ctrl_msg.specs.declared.message.Body.{Body}
 use Rattle.ctrl_msg.specs.declared.message.Message.{Message}
@@ -30,7 +31,6 @@ use Rattle.control_laws.proofs.BootsKnown.{boot_rises}
 use Rattle.control_laws.proofs.ItemFacts.{AreKept, Both, fact_on, have_both}
 use Rattle.control_laws.proofs.FactsGrown.{boot_more, counted_more, heard_more, message_more, some_more, told_more}
 use Rattle.control_laws.proofs.PieceCauses as boots
-use Rattle.control_laws.proofs.MessageSends.{each_append}
 use Rattle.control_laws.proofs.SwitchOpenings.{IsKnown, known_at_first, known_kept}
 use Rattle.control_laws.proofs.SwitchKeeps.{GoesOn, goes_on, turns}
 use Rattle.control_laws.proofs.ToldToController.{each_weaker}

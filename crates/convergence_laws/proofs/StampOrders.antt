@@ -2,6 +2,7 @@
 -- it.
 use Rattle.std.proofs.Common.{ℕ, ◌≡◌, ◌+◌, ◌<◌, ◌⊎◌, Bool, true, false, Some, List, [], ◌∷◌, ◌++◌, length, map, refl, ap, sym, subst, ◌∙◌, append-nil, append_assoc, arith, inl, inr}
 use Rattle.std.specs.Prelude.{⊤, IsTrue, nat_lt}
+use Rattle.base.proofs.ListsOfEach.{each_always, each_map}
 use Rattle.ctrl_msg.specs.declared.message.Body.{Body}
 use Rattle.ctrl_msg.specs.declared.message.Body.TheVariants.{Hello}
 use Rattle.ctrl_msg.specs.declared.message.Message.{Message}
@@ -28,7 +29,6 @@ use Rattle.control_laws.proofs.ReachedCauses.{behind_piece}
 use Rattle.control_laws.proofs.ControllerBlocks.{settling_have}
 use Rattle.control_laws.proofs.ItemFacts.{AreKept, Both, fact_on, have_both, have_rest}
 use Rattle.control_laws.proofs.FactsGrown.{current_more, known_more, over_more}
-use Rattle.control_laws.proofs.MessageSends.{each, each_map}
 use Rattle.control_laws.proofs.ResentBySwitches.{sends_any}
 use Rattle.control_laws.proofs.StepCases.{confirm_cases, deliver_cases, update_cases}
 use Rattle.control_laws.proofs.CurrentVersions.{StampsAreCurrent, current_kept}
@@ -190,7 +190,7 @@ raised_stamps setting now version = record {
     keeps : ControllerKeeps raised after
     keeps = leaves_keep raised _ (sends_leave raised stamps
         (each_map (ReopensAlone raised) (stamp_for setting now version) (members setting now)
-        (each (λ s. ReopensAlone raised (stamp_for setting now version s)) (λ s. tt)
+        (each_always (λ s. ReopensAlone raised (stamp_for setting now version s)) (λ s. tt)
         (members setting now))))
 
     leaves : (s : ℕ) → LeavesMember now next s

@@ -9,12 +9,12 @@ use Rattle.std.proofs.lemmas.Bool.Decides.{nat_tests}
 use Rattle.std.proofs.lemmas.Nat.Bits.{bit_at-lt, same_from_bits}
 use Rattle.std.proofs.lemmas.List.{at_drop_all}
 use Rattle.std.proofs.lemmas.List.Elements.{All-nil, All-cons, All-head, All-tail, All-same}
+use Rattle.base.proofs.ListsByPlace.{at_item}
 use Rattle.ternary.specs.Word.{WordValue}
 use Rattle.ternary.specs.WordBits.{IsWord}
 use Rattle.ternary.specs.Meets.{meets, meet_of, covers_of}
 use Rattle.ternary.proofs.CallerLemmas.{covers_decides, covers_full, covers_reflexive, meet_greatest, meet_within, meet_word, meet_none, meet_some, met_joined}
 use Rattle.policy_rules.specs.declared.rules.Rule.{Rule}
-use Rattle.policy_rules.proofs.CallerLemmas.{at_item}
 use Rattle.cut_tree.specs.Narrow.{narrowed_rule, narrow}
 use Rattle.cut_tree.specs.Nodes.{AreNodeRules, AreWords, IsOneHeader, LiesIn}
 

@@ -19,5 +19,4 @@ mod WorkStatus
 mod ReplayReports
 mod ProposedPlans
 mod AsksFlows
-mod EachPort
 mod MeteredFlows

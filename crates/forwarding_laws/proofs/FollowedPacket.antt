@@ -5,6 +5,7 @@ use Rattle.std.specs.Option.{option_or}
 use Rattle.std.proofs.lemmas.Bool.{eq-eqb, eqb-true, ne_eqb}
 use Rattle.std.proofs.lemmas.List.Elements.{Contains-append_left, Contains-push}
 use Rattle.base.specs.Masks.{has}
+use Rattle.base.proofs.OptionsMade.{some_same}
 use Rattle.five_tuple.specs.declared.header.Header.{Header}
 use Rattle.net_file.specs.Net.{IsNet}
 use Rattle.policy_rules.specs.Hosted.{Hosted, is_in}
@@ -38,7 +39,7 @@ use Rattle.packet_laws.specs.StrongCauses.{FurtherCause, SeeksRightly, StrongCau
 use Rattle.packet_laws.specs.PacketCauses.{PacketCause}
 use Rattle.packet_laws.proofs.AllKept.{Before, known_before, knows}
 use Rattle.packet_laws.proofs.PacketEnds.{stands_known}
-use Rattle.packet_laws.proofs.PacketsHere.{IsHere, some_same}
+use Rattle.packet_laws.proofs.PacketsHere.{IsHere}
 use Rattle.packet_laws.proofs.KeptFacts.{here_known}
 use Rattle.packet_laws.proofs.PacketBlocks.{standing_more, travels_more}
 use Rattle.packet_laws.proofs.RestingPackets.{IsWayItem, Past}

@@ -1,12 +1,13 @@
 -- A packet that comes in behind a quiet journal is followed over its step and the hops of a drain,
 -- and has ended then.
-use Rattle.std.proofs.Common.{ℕ, ◌≡◌, ◌+◌, ◌-◌, ◌<◌, ◌≤◌, ◌==◌, ◌∙◌, Bool, true, false, cond, Option, Some, None, List, [], ◌∷◌, ◌++◌, All, Contains, length, refl, ap, sym, subst, append_assoc, arith, inl, inr, ◌⊎◌}
+use Rattle.std.proofs.Common.{ℕ, ◌≡◌, ◌+◌, ◌-◌, ◌<◌, ◌≤◌, ◌==◌, ◌∙◌, true, false, Option, Some, None, List, [], ◌∷◌, ◌++◌, Contains, length, refl, ap, sym, subst, append_assoc, arith, inl, inr, ◌⊎◌}
 use Rattle.std.specs.Prelude.{IsTrue, find, option_map}
 use Rattle.std.specs.List.{range_with_len}
 use Rattle.std.specs.Option.{option_or}
 use Rattle.std.proofs.lemmas.Bool.{eq-eqb}
-use Rattle.std.proofs.lemmas.List.Elements.{All-cons, All-contains, All-nil}
+use Rattle.std.proofs.lemmas.List.Elements.{All-contains}
 use Rattle.std.proofs.lemmas.List.FromFn.{get_or-range_with_len, length-range_with_len}
+use Rattle.base.proofs.ListsFound.{find_none}
 use Rattle.five_tuple.specs.Header.{IsHeader}
 use Rattle.five_tuple.specs.declared.header.Header.{Header}
 use Rattle.policy_rules.specs.Policy.{IsFirstMatch}
@@ -78,16 +79,6 @@ in_range low n x above below =
       omega (arith, length-range_with_len low n, above, below),
       get_or-range_with_len low n (x - low) x (omega (arith, above, below)) ∙ place,
     )
-
-find_none : {X : Type 0} (p : X → Bool) (xs : List X) → find p xs ≡ None
-    → All (λ x. p x ≡ false) xs
-find_none p [] none = All-nil (λ x. p x ≡ false)
-find_none {X} p (x ∷ xs) none = by (p x) refl none (find_none p xs)
-  where
-    by : (b : Bool) → p x ≡ b → cond b (Some x) (find p xs) ≡ None
-        → (find p xs ≡ None → All (λ y. p y ≡ false) xs) → All (λ y. p y ≡ false) (x ∷ xs)
-    by true is none rest = absurd cc
-    by false is none rest = All-cons (λ y. p y ≡ false) x xs is (rest none)
 
 unmapped : (o : Option ℕ) → option_map Hop o ≡ None → o ≡ None
 unmapped None none = refl

@@ -10,7 +10,7 @@ use Rattle.std.proofs.lemmas.Nat.Bits.{bit_at_above}
 use Rattle.base.specs.Masks.{has, switches}
 use Rattle.base.specs.ComputedMasks.{least_in}
 use Rattle.base.proofs.CallerLemmas.{least_below}
-use Rattle.policy_rules.proofs.CallerLemmas.{filter_more}
+use Rattle.base.proofs.ListsOfRanges.{filter_more}
 use Rattle.net_file.specs.Net.{name_of, names_text}
 use Rattle.net_file.specs.declared.net.Net.{Net}
 

@@ -1,5 +1,5 @@
 -- Frames of all beside what became of each message.
-use Rattle.std.proofs.Common.{◌≡◌, ◌-◌, ◌<◌, ◌≤◌, ℕ, Bool, true, false, Option, Some, None, List, [], ◌∷◌, ◌++◌, zero, suc, length, min, set, refl, ap, sym, ◌∙◌, arith}
+use Rattle.std.proofs.Common.{◌≡◌, ◌-◌, ◌<◌, ◌≤◌, ℕ, Bool, true, false, Option, Some, None, List, [], ◌∷◌, zero, suc, length, min, set, refl, ap, sym, ◌∙◌, arith}
 use Rattle.std.specs.Prelude.{is_some, not, slice_get, if◌then◌else◌}
 use Rattle.std.specs.List.{zip}
 use Rattle.std.specs.Option.{option_and_then, option_map_or}
@@ -8,14 +8,6 @@ use Rattle.message_bag.specs.Deliveries.{is_deliverable, may_be_delivered}
 use Rattle.message_bag.specs.Numbered.{with_changed}
 use Rattle.message_bag.specs.Posts.{Post, frames_posted, remembered_frames, statuses_of, with_status}
 use Rattle.message_bag.specs.declared.deliveries.MessageState.{MessageState}
-
-pub zip_pushed : {A B : Type 0} (xs : List A) (ys : List B) (x : A) (y : B) → length xs ≡ length ys
-    → zip (xs ++ x ∷ []) (ys ++ y ∷ []) ≡ zip xs ys ++ (x, y) ∷ []
-zip_pushed [] [] x y same = refl
-zip_pushed [] (b ∷ ys) x y same = absurd (omega (arith, same))
-zip_pushed (a ∷ xs) [] x y same = absurd (omega (arith, same))
-zip_pushed (a ∷ xs) (b ∷ ys) x y same =
-    ap (λ more. (a, b) ∷ more) (zip_pushed xs ys x y (omega (arith, same)))
 
 -- what became of one changes
 zip_set : (change : MessageState → MessageState) (all : List (List (List ℕ))) (statuses : List MessageState) (i : ℕ)

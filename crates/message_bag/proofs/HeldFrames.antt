@@ -3,9 +3,9 @@ use Rattle.std.proofs.Common.{◌≡◌, ◌≢◌, ℕ, zero, suc, ◌+◌, ◌
 use Rattle.std.specs.Prelude.{IsSome, slice_index_or}
 use Rattle.std.specs.List.{Contains}
 use Rattle.std.proofs.lemmas.Bool.{cases_lt, cases_eq, le-ltb, lt-ltb, ne_eqb}
+use Rattle.base.proofs.OptionsMade.{none_is_not}
 use Rattle.wire.specs.Frames.{place_in_frame}
 use Rattle.wire.specs.Assembly.{held_at, with_frame, AreRising}
-use Rattle.wire.proofs.MessageDecoding.{none_is_not}
 use Rattle.wire.proofs.FramesHeld.{all_higher, first_is, held_above, none_lower, step_held, same_place}
 
 abbrev pub part : (ℕ → Bool) → List (List ℕ) → List (List ℕ)
@@ -154,12 +154,3 @@ found_from (g ∷ gs) f (suc k) lt is =
 -- where a frame is in a list, one is found at its place
 pub is_found : (fs : List (List ℕ)) (f : List ℕ) → Contains fs f → IsSome (held_at fs (place_in_frame f))
 is_found fs f there = found_from fs f there.0 there.1 there.2
-
-pub the_some : {A : Type 0} (o : Option A) → IsSome o → (x : A) × (o ≡ Some x)
-the_some None some = absurd (cc some)
-the_some (Some x) some = (x, refl)
-
--- what is there under a test passes it
-pub some_passes : {A : Type 0} (b : Bool) (o : Option A) → IsSome (cond b o None) → b ≡ true
-some_passes true o some = refl
-some_passes false o some = absurd (cc some)

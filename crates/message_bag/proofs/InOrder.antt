@@ -5,6 +5,7 @@ use Rattle.std.specs.Prelude.{IsSome, slice_get}
 use Rattle.std.specs.List.{Contains}
 use Rattle.std.proofs.lemmas.Bool.{cases_lt, le-ltb, lt-ltb}
 use Rattle.std.proofs.lemmas.Option.{slice_get_within, same_Some}
+use Rattle.base.proofs.OptionsByTest.{some_passes}
 use Rattle.ctrl_msg.specs.declared.message.Message.{Message}
 use Rattle.wire.specs.Frames.{count_in_frame, frame, frames, frames_from, chunks, place_in_frame}
 use Rattle.wire.specs.Assembly.{held_at, with_frame, AreAllHeld, IsRefusedFrame}
@@ -12,7 +13,7 @@ use Rattle.wire.proofs.FrameBytes.{place_of_frame}
 use Rattle.wire.proofs.FramesHeld.{all_held}
 use Rattle.message_bag.specs.Feeding.{HasFrames}
 use Rattle.message_bag.proofs.FrameArrivals.{IsOneOf, is_one_of, never_refused}
-use Rattle.message_bag.proofs.HeldFrames.{held_part, part, part_all, part_none, some_passes, with_part}
+use Rattle.message_bag.proofs.HeldFrames.{held_part, part, part_all, part_none, with_part}
 use Rattle.message_bag.proofs.FrameSizes.{few_frames, frames_rise, length_frames}
 
 -- the frames of the places before this one

@@ -3,12 +3,13 @@ use Rattle.std.proofs.Common.{◌≡◌, ℕ, ◌+◌, ◌<◌, ◌≤◌, List,
 use Rattle.std.specs.List.{flat_map, remove}
 use Rattle.std.proofs.Math.ListN.{drop_of_length-le}
 use Rattle.std.proofs.lemmas.List.{append-nil, append_assoc}
+use Rattle.base.proofs.ListsByPlace.{drop_at_item, drop_removed, drop_set}
 use Rattle.policy_rules.specs.declared.packet.Leaving.{Leaving}
 use Rattle.meters.specs.Gone.{BoardValue, board_after, gone_after, gone_records, leaving_records}
 use Rattle.meters.specs.Meters.{PortLeavings, kept_meters, meters_after}
 use Rattle.meters.specs.Seen.{Seen}
 use Rattle.meters.specs.declared.flows.FlowRecord.{FlowRecord}
-use Rattle.meters.proofs.MetersKept.{drop_at, drop_removed, drop_set, kept-nothing, kept_on}
+use Rattle.meters.proofs.MetersKept.{kept-nothing, kept_on}
 
 -- ---- one more leaving, of which the meters before a place have told already
 
@@ -20,7 +21,7 @@ module _ {M : Type 0} (seen : M → Seen) (one : ℕ × Leaving) where
       → at < length meters → get_or meters at old ≡ old → leaving_records one (seen old) ≡ told_now
       → gone ++ told (drop at meters) ≡ (gone ++ told_now) ++ told (drop (at + 1) meters)
   first_tells gone told_now meters at old within is_old tells =
-      ap (λ rest. gone ++ told rest) (drop_at meters at old within is_old)
+      ap (λ rest. gone ++ told rest) (drop_at_item meters at old within is_old)
       ∙ ap (λ first. gone ++ (first ++ told (drop (at + 1) meters))) tells
       ∙ sym (append_assoc gone told_now (told (drop (at + 1) meters)))
 

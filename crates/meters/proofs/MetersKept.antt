@@ -3,11 +3,11 @@ use Rattle.std.proofs.Common.{◌≡◌, ◌≢◌, ℕ, zero, suc, ◌+◌, ◌
 use Rattle.std.specs.List.{list_any, range_with_len, remove}
 use Rattle.std.proofs.Math.Bool.{or_assoc}
 use Rattle.std.proofs.Math.ListN.{drop_of_length-le}
-use Rattle.std.proofs.Math.Seq.{drop-cons, take-append_seam, drop-append_seam}
-use Rattle.std.proofs.lemmas.List.{append-nil, append_assoc, length-take-le, map-append, take_all, take-set, take_more_set, drop-set-lt}
+use Rattle.std.proofs.lemmas.List.{append-nil, append_assoc, length-take-le, map-append, take_all, take_more_set}
 use Rattle.std.proofs.lemmas.Bool.Decides.{nat_tests}
 use Rattle.std.proofs.lemmas.List.Elements.{filter-append}
 use Rattle.std.proofs.lemmas.Bool.{ne_eqb}
+use Rattle.base.proofs.ListsByPlace.{drop_at_item, drop_set, remove-set, seam_at}
 use Rattle.policy_rules.specs.declared.packet.Leaving.{Leaving}
 use Rattle.meters.specs.Meters.{PortLeavings, meter_with, has_ended, is_ended_within, leavings_of, meters_after, IsNoted}
 use Rattle.meters.specs.Seen.{Seen}
@@ -147,15 +147,6 @@ kept_elsewhere port leaving meter apart =
 
 -- ---- a step over a list whose meters before a place noted the leavings already
 
-pub drop_at : {M : Type 0} (meters : List M) (at : ℕ) (meter : M) → at < length meters
-    → get_or meters at meter ≡ meter → drop at meters ≡ meter ∷ drop (at + 1) meters
-drop_at meters at meter within is_meter =
-    rw add-one (drop-cons meters at meter within ∙ ap (λ m. m ∷ drop (suc at) meters) is_meter)
-
-pub drop_set : {M : Type 0} (meters : List M) (at : ℕ) (new : M)
-    → drop (at + 1) (set meters at new) ≡ drop (at + 1) meters
-drop_set meters at new = drop-set-lt (at + 1) meters at new (omega arith)
-
 pub after_stay : {M : Type 0} (seen : M → Seen) (left : PortLeavings) (meters : List M) (at : ℕ)
     → (old new : M) → at < length meters → get_or meters at old ≡ old
     → meters_after left (seen old ∷ []) ≡ seen new ∷ []
@@ -166,7 +157,7 @@ after_stay seen left meters at old new within is_old stays =
     let first = map seen (take at meters) in
     let rest = map seen (drop (at + 1) meters) in
     rw (
-      drop_at meters at old within is_old,
+      drop_at_item meters at old within is_old,
       take_more_set meters at new within,
       drop_set meters at new,
       map-append,
@@ -175,23 +166,6 @@ after_stay seen left meters at old new within is_old stays =
     (ap (λ more. first ++ more) (kept-append left (seen old ∷ []) rest
     ∙ ap (λ one. one ++ meters_after left rest) stays))
 
-seam : {M : Type 0} (front back : List M) (at : ℕ) → length front ≡ at
-    → (take at (front ++ back) ≡ front) × (drop at (front ++ back) ≡ back)
-seam front back at long =
-    (rw (← long) (take-append_seam front back), rw (← long) (drop-append_seam front back))
-
-removed : {M : Type 0} (meters : List M) (at : ℕ) (new : M) → at < length meters
-    → remove (set meters at new) at ≡ take at meters ++ drop (at + 1) meters
-removed meters at new within =
-    rw (take-set, add-one) (ap (λ rest. take at meters ++ rest)
-    (drop-set-lt (suc at) meters at new (omega arith)))
-
-pub drop_removed : {M : Type 0} (meters : List M) (at : ℕ) (new : M) → at < length meters
-    → drop at (remove (set meters at new) at) ≡ drop (at + 1) meters
-drop_removed meters at new within =
-    ap (drop at) (removed meters at new within)
-    ∙ (seam (take at meters) (drop (at + 1) meters) at (length-take-le at meters (omega arith))).1
-
 pub after_leave : {M : Type 0} (seen : M → Seen) (left : PortLeavings) (meters : List M) (at : ℕ)
     → (old new : M) (after : List M) → at < length meters → get_or meters at old ≡ old
     → meters_after left (seen old ∷ []) ≡ [] → after ≡ remove (set meters at new) at
@@ -199,14 +173,14 @@ pub after_leave : {M : Type 0} (seen : M → Seen) (left : PortLeavings) (meters
     ≡ map seen (take at after) ++ meters_after left (map seen (drop at after))
 after_leave seen left meters at old new after within is_old leaves is_after =
     let rest = map seen (drop (at + 1) meters) in
-    let parts = seam (take at meters) (drop (at + 1) meters) at
+    let parts = seam_at (take at meters) (drop (at + 1) meters) at
     (length-take-le at meters (omega arith)) in
     rw (
       is_after,
-      removed meters at new within,
+      remove-set meters at new within,
       parts.0,
       parts.1,
-      drop_at meters at old within is_old,
+      drop_at_item meters at old within is_old,
     )
     (ap (λ more. map seen (take at meters) ++ more) (kept-append left (seen old ∷ []) rest
     ∙ ap (λ one. one ++ meters_after left rest) leaves))

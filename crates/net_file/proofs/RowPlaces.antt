@@ -1,18 +1,15 @@
 -- The place of the first row that passes a test, and the laws of numbers, owners and links.
-use Rattle.std.proofs.Common.{ℕ, zero, suc, ◌≡◌, ◌+◌, ◌<◌, ◌≤◌, Bool, true, false, not, cond, ◌&&◌, ◌||◌, Option, Some, None, List, [], ◌∷◌, length, get_or, refl, ap, sym, subst, ◌∙◌, inl, inr, arith}
-use Rattle.std.specs.Prelude.{All, bytes_eq, codes, is_some, nat_le, position, slice_get, ◌==◌}
+use Rattle.std.proofs.Common.{ℕ, zero, suc, ◌≡◌, ◌<◌, ◌≤◌, true, false, not, ◌&&◌, Option, Some, None, List, [], ◌∷◌, length, get_or, refl, ap, sym, subst, ◌∙◌, inl, inr, arith}
+use Rattle.std.specs.Prelude.{All, bytes_eq, codes, is_some, nat_le, slice_get, ◌==◌}
 use Rattle.std.specs.Char.{is_ascii_alphabetic}
-use Rattle.std.specs.List.{list_any, position_from}
-use Rattle.std.proofs.lemmas.Bool.{and_parts, both_ways, cases_lt, false_from_ne_true, false≢true, leb-true, lt-ltb, not-true, or_cases, eqb-true}
-use Rattle.std.proofs.lemmas.Iterator.Adapters.{position_from-zero}
+use Rattle.std.proofs.lemmas.Bool.{and_parts, both_ways, cases_lt, false_from_ne_true, false≢true, leb-true, not-true, or_cases, eqb-true}
 use Rattle.std.proofs.lemmas.List.Folds.{Any-from_list_any, list_any_none}
 use Rattle.std.proofs.lemmas.List.Quantifiers.{position-Some}
-use Rattle.std.proofs.lemmas.List.Sums.{position_or_len_is}
-use Rattle.std.proofs.lemmas.Option.{get_or_from_slice_get, slice_get-get_or, slice_get_within}
+use Rattle.std.proofs.lemmas.Option.{get_or_from_slice_get, slice_get_within}
 use Rattle.std.proofs.lemmas.Slice.Eq.{bytes_eq-Decides}
 use Rattle.std.proofs.Math.Bool.{or_comm}
-use Rattle.base.proofs.ListLemmas.{none_from_not_some}
 use Rattle.base.proofs.CallerLemmas.{mask_of_lt}
+use Rattle.base.proofs.ListsFound.{position_at, position_none, position_row, some_position}
 use Rattle.net_file.specs.declared.net.SwitchRow.{SwitchRow}
 use Rattle.net_file.specs.declared.net.LinkRow.{LinkRow}
 use Rattle.net_file.specs.declared.net.Net.{Net}
@@ -23,37 +20,6 @@ use Rattle.net_file.specs.Joins.{are_linked, has_port, joins, owner_of}
 use Rattle.net_file.proofs.MaskBits.{in_mask, in_mask_of, in_mask_past}
 
 -- ---- places
-
-some_from : {X : Type 0} (test : X → Bool) (i : ℕ) (xs : List X) → is_some (position_from test i xs)
-    ≡ list_any test xs
-some_from test i [] = refl
-some_from test i (x ∷ xs) =
-    elim (test x) as (λ b. is_some (cond b (Some i) (position_from test (i + 1) xs))
-    ≡ (b || list_any test xs)) [ true ↦ refl | false ↦ some_from test (i + 1) xs ]
-
-pub some_position : {X : Type 0} (test : X → Bool) (xs : List X) → is_some (position test xs)
-    ≡ list_any test xs
-some_position test xs = ap is_some (position_from-zero test xs) ∙ some_from test 0 xs
-
-pub position_none : {X : Type 0} (test : X → Bool) (xs : List X) → list_any test xs ≡ false
-    → position test xs ≡ None
-position_none test xs none = none_from_not_some (position test xs) (some_position test xs ∙ none)
-
--- the first place that passes
-position_at : {X : Type 0} (test : X → Bool) (xs : List X) (s : ℕ) (x : X) → slice_get xs s ≡ Some x
-    → test x ≡ true → ((k : ℕ) → k < s → test (get_or xs k x) ≡ false) → position test xs ≡ Some s
-position_at test xs s x there passes before =
-    let within = slice_get_within xs s x there in
-    let here : test (get_or xs s x) ≡ true = ap test (get_or_from_slice_get xs s x x there)
-    ∙ passes in
-    let first = position_or_len_is test xs s x (omega (arith, within)) before (λ _. here) in
-    rw (first, lt-ltb s (length xs) within) refl
-
-position_row : {X : Type 0} (test : X → Bool) (xs : List X) (s : ℕ) (d : X)
-    → position test xs ≡ Some s → (x : X) × (slice_get xs s ≡ Some x) × (test x ≡ true)
-position_row test xs s d e =
-    let found = position-Some test xs s d e in
-    (get_or xs s d, slice_get-get_or xs s d found.0, found.1)
 
 no_switch : SwitchRow
 no_switch = record { name = []; ports = 0; room = 0 }

@@ -1,9 +1,8 @@
 -- What a text states is a network.
-use Rattle.std.proofs.Common.{ℕ, ℤ, pos, negsuc, ◌≡◌, ◌+◌, ◌<◌, ◌≤◌, Bool, true, false, not, ◌&&◌, nat_le, Ok, Err, Result, Option, Some, None, List, [], ◌∷◌, ◌++◌, length, length-append, get_or, refl, ap, sym, subst, ◌∙◌, inl, inr, arith}
+use Rattle.std.proofs.Common.{ℕ, ℤ, pos, negsuc, ◌≡◌, ◌+◌, ◌<◌, ◌≤◌, Bool, true, false, not, ◌&&◌, nat_le, Ok, Err, Result, Option, Some, None, List, [], ◌∷◌, ◌++◌, length, length-append, refl, ap, sym, subst, ◌∙◌, inl, inr, arith}
 use Rattle.std.specs.Prelude.{All, AllPairs, bytes_eq, codes, if◌then◌else◌, is_ok, nat_eq, nat_lt, ok_or, ◌==◌}
 use Rattle.std.specs.List.{list_any}
 use Rattle.std.specs.Option.{option_map_or}
-use Rattle.std.specs.Result.{result_unwrap_or}
 use Rattle.std.proofs.lemmas.Bool.{and_parts, both_ways, cases_lt, false_from_ne_true, false≢true, leb-true, ltb-true, not-true, or_parts, or_cases, eqb-false, eqb-true}
 use Rattle.std.proofs.lemmas.List.Elements.{All-push}
 use Rattle.std.proofs.lemmas.List.Folds.{list_any_at}
@@ -21,14 +20,13 @@ use Rattle.net_file.specs.Net.{AreApart, AreOther, IsLink, IsNet, IsSwitchRow, i
 use Rattle.net_file.specs.Reading.{are_distinct, are_new, array_in, document_of, end_read, ends_in, link_array, link_of, link_with, name_in, net_read, net_of, number_stated, ports_in, rows_read, number_or_default, switch_array, switch_read, switch_with}
 use Rattle.net_file.specs.Refusals.{require, with_value}
 use Rattle.base.specs.Refusals.{in_row}
+use Rattle.base.proofs.ListsOfAny.{none_passes}
+use Rattle.base.proofs.ResultsMade.{ok_value}
 use Rattle.net_file.specs.Owners.{have_name, have_port, switch_number}
 use Rattle.net_file.specs.Joins.{are_linked, has_port, joins}
 use Rattle.net_file.proofs.MaskBits.{in_mask, in_mask_of, in_mask_past}
 
 -- ---- what led to a value
-
-ok_value : {X E : Type 0} (x y : X) → ◌≡◌ {A = Result X E} (Ok x) (Ok y) → x ≡ y
-ok_value x y e = ap (λ r. result_unwrap_or r x) e
 
 not_ok : {X E P : Type 0} (e : E) (y : X) → ◌≡◌ {A = Result X E} (Err e) (Ok y) → P
 not_ok e y h = absurd (false≢true (ap is_ok h))
@@ -194,11 +192,6 @@ switch_new earlier d row e =
 
 abbrev AreSwitches : List SwitchRow → Type 0
 AreSwitches rows = All IsSwitchRow rows × AllPairs AreApart rows
-
-none_passes : {X : Type 0} (test : X → Bool) (xs : List X) (i : ℕ) (d : X) → i < length xs
-    → list_any test xs ≡ false → test (get_or xs i d) ≡ false
-none_passes test xs i d within none = false_from_ne_true _
-    (λ passes. both_ways _ none (list_any_at test xs i d within passes))
 
 switches_push : (earlier : List SwitchRow) (d : Data) (row : SwitchRow) → AreSwitches earlier
     → switch_read earlier d ≡ Ok row → AreSwitches (earlier ++ row ∷ [])

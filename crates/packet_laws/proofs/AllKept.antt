@@ -4,6 +4,7 @@ use Rattle.std.proofs.Common.{ℕ, ◌≡◌, ◌+◌, ◌≤◌, ◌==◌, Bool
 use Rattle.std.specs.Prelude.{All, IsTrue}
 use Rattle.std.proofs.lemmas.Bool.{eqb-true}
 use Rattle.std.proofs.lemmas.List.Elements.{All-nil, All-weaker}
+use Rattle.base.proofs.OptionsMade.{some_same}
 use Rattle.cache_maker.specs.Independent.{widen}
 use Rattle.ctrl_msg.specs.declared.message.Body.{Body}
 use Rattle.ctrl_msg.specs.declared.message.Body.TheVariants.{CacheRule}
@@ -46,7 +47,7 @@ use Rattle.packet_laws.specs.PacketCauses.{SendsRightRule, SendsRule, PacketCaus
 use Rattle.packet_laws.proofs.CacheRules.{cache_rule_right}
 use Rattle.packet_laws.proofs.CachedEntries.{cache_holds}
 use Rattle.packet_laws.proofs.GrowingFacts.{Grows, grows, kept_on, right_on}
-use Rattle.packet_laws.proofs.PacketsHere.{IsHere, Rules, here_of, rules_of, some_same}
+use Rattle.packet_laws.proofs.PacketsHere.{IsHere, Rules, here_of, rules_of}
 use Rattle.packet_laws.proofs.KeptFacts.{Knows, decided_after, entered_after, exiting_after, found_after, gone, hopped_after, rerouted_after, seeking_after}
 use Rattle.packet_laws.proofs.HeaderLookups.{deciding}
 use Rattle.packet_laws.proofs.PacketBlocks.{stage_more, stage_stays}

@@ -4,6 +4,7 @@ use Rattle.std.proofs.Common.{ℕ, ◌≡◌, ◌+◌, ◌≤◌, ◌==◌, ◌�
 use Rattle.std.specs.Prelude.{unwrap_or}
 use Rattle.std.specs.Option.{option_or}
 use Rattle.std.proofs.lemmas.Bool.{eqb-true}
+use Rattle.base.proofs.OptionsMade.{some_same}
 use Rattle.five_tuple.specs.declared.header.Header.{Header}
 use Rattle.policy_rules.specs.Laws.{AmendmentLaws}
 use Rattle.policy_rules.specs.Scan.{scan}
@@ -27,7 +28,7 @@ use Rattle.packet_laws.specs.Stages.{stage_of}
 use Rattle.packet_laws.specs.PacketCauses.{IsDecided, PacketCause}
 use Rattle.packet_laws.proofs.AllKept.{Before, kept_before, known_before, knows}
 use Rattle.packet_laws.proofs.GrowingFacts.{Grows, grows}
-use Rattle.packet_laws.proofs.PacketsHere.{IsHere, here_of, some_same}
+use Rattle.packet_laws.proofs.PacketsHere.{IsHere, here_of}
 use Rattle.packet_laws.proofs.KeptFacts.{IsDecidedNow, Knows, decided_now}
 use Rattle.packet_laws.proofs.RestingPackets.{IsWayItem, Past, switches_of_all}
 

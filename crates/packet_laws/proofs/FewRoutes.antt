@@ -3,6 +3,7 @@ use Rattle.std.proofs.Common.{ℕ, ◌≡◌, ◌+◌, ◌<◌, ◌≤◌, Bool,
 use Rattle.std.specs.Prelude.{⊤}
 use Rattle.std.specs.Option.{option_or}
 use Rattle.std.proofs.lemmas.Bool.{eqb-true}
+use Rattle.base.proofs.OptionsMade.{some_same}
 use Rattle.failover.specs.DownSet.{IsLinkSet}
 use Rattle.failover.specs.Links.{no_links}
 use Rattle.failover.proofs.LinkSets.{none_is_link_set}
@@ -30,7 +31,7 @@ use Rattle.packet_laws.specs.Stages.{Blocked, Judged, Stage, stage_of, gives_sta
 use Rattle.packet_laws.specs.StrongCauses.{FindsLinkDown, FurtherCause, StrongCause}
 use Rattle.packet_laws.specs.PacketCauses.{IsLookedUp, MeetsDown, TakesRoute, PacketCause}
 use Rattle.packet_laws.proofs.AllKept.{Before, kept_before, known_before, knows}
-use Rattle.packet_laws.proofs.PacketsHere.{IsHere, decision_in, here_of, leg_in, next_in, seeking_of, some_same}
+use Rattle.packet_laws.proofs.PacketsHere.{IsHere, decision_in, here_of, leg_in, next_in, seeking_of}
 use Rattle.packet_laws.proofs.KeptFacts.{Knows, seeking_after}
 use Rattle.packet_laws.proofs.RestingPackets.{IsWayItem, Past, switches_of_all}
 use Rattle.packet_laws.proofs.StronglyCaused.{strongly_caused}

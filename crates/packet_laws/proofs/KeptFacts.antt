@@ -11,6 +11,8 @@ use Rattle.net_file.specs.Joins.{are_linked, joins, owner_of}
 use Rattle.net_file.proofs.RowPlaces.{joined_below}
 use Rattle.std.specs.List.{Any}
 use Rattle.std.proofs.lemmas.List.Folds.{Any-from_list_any}
+use Rattle.base.proofs.ListsFound.{find-there}
+use Rattle.base.proofs.OptionsMade.{some_same}
 use Rattle.policy_rules.specs.Hosted.{is_in}
 use Rattle.policy_rules.specs.Scan.{scan}
 use Rattle.policy_rules.specs.declared.packet.How.{How}
@@ -26,7 +28,6 @@ use Rattle.switch_table.specs.Tables.{Hosted}
 use Rattle.switch_table.specs.declared.cache.CacheEntry.{CacheEntry}
 use Rattle.switch_table.specs.declared.search.Found.TheVariants as found
 use Rattle.switch_table.specs.declared.tables.Tables.{Tables}
-use Rattle.switch_table.proofs.TableLemmas.{find-there}
 use Rattle.ternary.specs.Word.{holds}
 use Rattle.journal.specs.declared.item.Item.{Item}
 use Rattle.journal.specs.declared.item.Item.TheVariants as item
@@ -48,7 +49,7 @@ use Rattle.packet_laws.specs.Facts.{PacketFacts, facts_after, what_is_known}
 use Rattle.packet_laws.specs.KeptFacts.{Avoids, IsRightlyDecided, HasKeptFacts}
 use Rattle.packet_laws.specs.Stages.{Blocked, CameIn, Judged, OnWay, Stage, stage_of}
 use Rattle.packet_laws.specs.PacketCauses.{AuthorityDecides, CacheDecides, DecidesBy, IsAt, IsDecided, IsLookedUp, IsRedirected, MeetsDown, MovesOver, TakesDetour, TakesExit, TakesRoute}
-use Rattle.packet_laws.proofs.PacketsHere.{IsHere, Rules, found_in, here_of, leg_in, next_in, decision_in, rules_of, seeking_of, some_same}
+use Rattle.packet_laws.proofs.PacketsHere.{IsHere, Rules, found_in, here_of, leg_in, next_in, decision_in, rules_of, seeking_of}
 use Rattle.packet_laws.proofs.HeaderLookups.{FindsTargets, redirect_found}
 use Rattle.packet_laws.proofs.PacketBlocks.{WhenDecided}
 use Rattle.packet_laws.proofs.PlanLookups.{scan_named}

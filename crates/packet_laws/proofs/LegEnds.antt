@@ -2,6 +2,7 @@
 use Rattle.std.proofs.Common.{ℕ, ◌≡◌, Some, List, [], ◌∷◌, ap, sym, subst, ◌∙◌, inl}
 use Rattle.std.specs.Prelude.{IsTrue, nat_eq}
 use Rattle.std.specs.List.{list_any}
+use Rattle.base.proofs.OptionsMade.{some_same}
 use Rattle.five_tuple.specs.declared.header.Header.{Header}
 use Rattle.policy_rules.specs.declared.packet.Leg.{Leg}
 use Rattle.policy_rules.specs.declared.packet.Leg.TheVariants.{Seek, Exit}
@@ -14,7 +15,7 @@ use Rattle.packet_laws.specs.Facts.{PacketFacts, what_is_known}
 use Rattle.packet_laws.specs.Arriving.{IsAtEnd, PacketsArrive}
 use Rattle.packet_laws.specs.KeptFacts.{AllKept}
 use Rattle.packet_laws.proofs.PacketEnds.{last_here, one_target}
-use Rattle.packet_laws.proofs.PacketsHere.{header_in_facts, leg_in, next_in, stands_in, some_same, travels_in}
+use Rattle.packet_laws.proofs.PacketsHere.{header_in_facts, leg_in, next_in, stands_in, travels_in}
 
 -- it stands at a target of its leg
 at_target : (setting : Setting) (journal : List Item) (i s : ℕ) (header : Header) (leg : Leg)

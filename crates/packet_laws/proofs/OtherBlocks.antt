@@ -6,6 +6,7 @@ use Rattle.ctrl_msg.specs.declared.message.Body.{Body}
 use Rattle.ctrl_msg.specs.declared.message.Body.TheVariants.{CacheRule}
 use Rattle.ctrl_msg.specs.declared.message.Message.{Message}
 use Rattle.base.specs.Masks.{has}
+use Rattle.base.proofs.ListsOfEach.{each_always, each_flat_map, each_map}
 use Rattle.journal.specs.declared.item.Item.{Item}
 use Rattle.journal.specs.declared.item.Item.TheVariants as item
 use Rattle.steps.specs.declared.step.Step.{Step}
@@ -24,7 +25,6 @@ use Rattle.control_laws.proofs.ControllerCommands.{Control, IsCommand, IsControl
 use Rattle.control_laws.proofs.DeliveryCauses.{deliver_has}
 use Rattle.control_laws.proofs.ItemFacts.{have_weaker}
 use Rattle.control_laws.proofs.ResentParts.{each_by_controller, each_to_member, later_versions, resent_has}
-use Rattle.control_laws.proofs.MessageSends.{each, each_flat_map, each_map}
 use Rattle.control_laws.proofs.ResentBySwitches.{each_by_switch, sends_each}
 use Rattle.control_laws.proofs.SwitchCases.{switch_cases}
 use Rattle.packet_laws.specs.PacketCauses.{PacketCause}
@@ -99,7 +99,7 @@ each_other : {X : Type 0} (to : X → Message) → ((x : X) → IsOther (to x).b
     → AreOther (map to xs)
 each_other to other xs =
     each_map TellsOther to xs
-    (each (λ x. IsOther (to x).body) other xs)
+    (each_always (λ x. IsOther (to x).body) other xs)
 
 to_each : {X : Type 0} (journal : List Item) (to : X → Message)
     → ((x : X) → IsOther (to x).body) → (xs : List X)

@@ -9,6 +9,7 @@ use Rattle.std.proofs.lemmas.Option.{get_or_from_slice_get, slice_get_within, sl
 use Rattle.failover.specs.Links.{IsReachable}
 use Rattle.failover.proofs.RouteSearch.{length-known_links}
 use Rattle.base.specs.Masks.{has}
+use Rattle.base.proofs.OptionsMade.{some_same}
 use Rattle.net_file.specs.Joins.{are_linked, owner_of}
 use Rattle.policy_rules.specs.declared.packet.Cause.{Cause}
 use Rattle.policy_rules.specs.declared.packet.Leaving.{Leaving}
@@ -40,7 +41,7 @@ use Rattle.packet_laws.specs.KeptFacts.{IsRightlyDecided}
 use Rattle.packet_laws.specs.Stages.{stage_of}
 use Rattle.packet_laws.specs.StrongCauses.{SeeksRightly}
 use Rattle.packet_laws.specs.PacketCauses.{FindsNoRoute, IsAt, IsAtPort, IsBlockedOn, IsLostHere, LeavesHere, MeetsDown, TakesLeg, PacketCause}
-use Rattle.packet_laws.proofs.PacketsHere.{IsHere, decision_in, exiting_of, header_in_facts, leg_in, next_in, stands_in, seeking_of, some_same}
+use Rattle.packet_laws.proofs.PacketsHere.{IsHere, decision_in, exiting_of, header_in_facts, leg_in, next_in, stands_in, seeking_of}
 use Rattle.packet_laws.proofs.KeptFacts.{Knows, here_known, port_named, redirected_to, stage_looked, undecided_of}
 use Rattle.packet_laws.proofs.OpenWays.{Sees, none_leads, open_joined}
 

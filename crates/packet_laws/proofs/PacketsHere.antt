@@ -1,6 +1,7 @@
 -- What is known of a packet at its switch, where something is kept of each packet.
 use Rattle.std.proofs.Common.{ℕ, ◌≡◌, ◌+◌, ◌<◌, ◌≤◌, Option, Some, List, [], length, refl, ap, sym, subst, ◌∙◌, arith, inl, inr}
 use Rattle.std.specs.Prelude.{IsTrue, option_and_then, position, slice_get, unwrap_or}
+use Rattle.base.proofs.OptionsMade.{some_same}
 use Rattle.five_tuple.specs.Header.{number_of}
 use Rattle.five_tuple.specs.declared.header.Header.{Header}
 use Rattle.policy_rules.specs.Rules.{is_held}
@@ -27,9 +28,6 @@ use Rattle.packet_laws.proofs.HeaderLookups.{FindsRule, IsStamped, authority_fou
 use Rattle.packet_laws.proofs.PlanLookups.{Finds, IsPlanned, in_plan}
 
 -- ---- facts
-
-pub some_same : {X : Type 0} (o : Option X) (x y : X) → o ≡ Some x → o ≡ Some y → x ≡ y
-some_same o x y p q = cc
 
 pub travels_in : (journal : List Item) (i : ℕ) → IsTrue (travels journal i)
     → IsTrue (what_is_known journal i).travels

@@ -1,10 +1,12 @@
 -- What the plan of a version says of a header: the partition whose region holds it, and the rule
 -- there that decides it as the version's policy does.
 use Rattle.std.proofs.Common.{ℕ, ◌≡◌, ◌<◌, true, Option, Some, None, List, length, map, get_or, refl, ap, sym, subst, ◌∙◌, arith}
-use Rattle.std.specs.Prelude.{All, Contains, IsTrue, filter, find, option_and_then, option_map, position, slice_get, unwrap_or}
+use Rattle.std.specs.Prelude.{All, Contains, IsTrue, filter, find, option_map, position, slice_get, unwrap_or}
 use Rattle.std.proofs.lemmas.List.Elements.{All-filter}
 use Rattle.std.proofs.lemmas.List.{get_or-map, length-map}
 use Rattle.std.proofs.lemmas.Option.{slice_get-get_or}
+use Rattle.base.proofs.ListsFound.{find-position, find-there}
+use Rattle.base.proofs.OptionsMade.{some_of_map, some_of_then}
 use Rattle.five_tuple.specs.Header.{IsHeader, fields_of, number_of}
 use Rattle.five_tuple.specs.declared.header.Header.{Header}
 use Rattle.partition.specs.Plan.{IsPlan}
@@ -16,10 +18,9 @@ use Rattle.policy_rules.specs.declared.policy.Row.{Row}
 use Rattle.policy_rules.specs.declared.rules.Partition.{Partition}
 use Rattle.policy_rules.specs.declared.rules.Rule.{Rule}
 use Rattle.policy_rules.specs.Scan.{highest_row, hit_of, is_highest, scan}
-use Rattle.policy_rules.proofs.CallerLemmas.{find-position}
 use Rattle.switch_table.specs.Lookup.{lookup_in, plan_lookup, table_lookup}
 use Rattle.switch_table.specs.Tables.{Hosted, part_of, tables_of}
-use Rattle.switch_table.proofs.TableLemmas.{find-there, tables_planned}
+use Rattle.switch_table.proofs.TableLemmas.{tables_planned}
 use Rattle.journal.specs.declared.item.Item.{Item}
 use Rattle.update_machine.specs.Setting.{Setting, IsSetting, NamesOwnPort}
 use Rattle.update_machine.specs.Versions.{HasPlan, policy_at, plan_at}
@@ -75,16 +76,6 @@ pub record Finds (rows : List Row) (plan : List Hosted) (header : Header) (hoste
   pub ruled : slice_get hosted.0.rules place ≡ Some rule
   pub decides : hit_of_rule rule ≡ scan rows header
 
-some_of : {X Y : Type 0} (f : X → Y) (o : Option X) (y : Y) → option_map f o ≡ Some y → (x : X)
-    × (o ≡ Some x) × (f x ≡ y)
-some_of f None y e = absurd cc
-some_of f (Some x) y e = (x, refl, cc)
-
-then_of : {X Y : Type 0} (f : X → Option Y) (o : Option X) (y : Y) → option_and_then f o ≡ Some y
-    → (x : X) × (o ≡ Some x) × (f x ≡ Some y)
-then_of f None y e = absurd cc
-then_of f (Some x) y e = (x, refl, e)
-
 -- a partition of a plan that holds the header
 abbrev pub OfPlan : List Hosted → Header → Hosted → Type 0
 OfPlan plan header hosted = Contains plan hosted
@@ -117,12 +108,12 @@ in_plan setting rows plan header hosted is sound found =
     (is.parts.sound.decides header sound k (part_of hosted) within) there.1 in
     let rule : (rule : Rule) × (first_rule hosted.0.rules header ≡ Some rule)
     × (hit_of_rule rule ≡ scan rows header) =
-    some_of hit_of_rule (first_rule hosted.0.rules header) (scan rows header)
+    some_of_map hit_of_rule (first_rule hosted.0.rules header) (scan rows header)
     decided in
     let position_of : (place : ℕ)
     × (position (is_held (number_of header)) hosted.0.rules ≡ Some place)
     × (slice_get hosted.0.rules place ≡ Some rule.0) =
-    then_of (slice_get hosted.0.rules) (position (is_held (number_of header)) hosted.0.rules) rule.0
+    some_of_then (slice_get hosted.0.rules) (position (is_held (number_of header)) hosted.0.rules) rule.0
     (find-position (is_held (number_of header)) hosted.0.rules ∙ rule.1) in
     record {
       place = position_of.0;
@@ -153,7 +144,7 @@ looks_up setting rows plan version switch header is sound =
     × (find (λ other. is_in header (part_of other)) plan ≡ Some hosted)
     × (lookup_in switch header hosted ≡ table_lookup (tables_of plan version switch)
     header) =
-    some_of (lookup_in switch header)
+    some_of_map (lookup_in switch header)
     (find (λ other. is_in header (part_of other)) plan)
     (table_lookup (tables_of plan version switch) header) planned in
     record { hosted = own.0; finds = in_plan setting rows plan header own.0 is sound own.1; says = sym own.2 }

@@ -1,6 +1,7 @@
 -- The strong causes follow from those that are read off the items, and from what is kept.
 use Rattle.std.proofs.Common.{ℕ, ◌≡◌, ◌<◌, Option, Some, None, List, [], length, sym, subst, ◌∙◌, arith, inl, inr, ◌⊎◌}
 use Rattle.std.specs.Prelude.{IsFalse, IsTrue}
+use Rattle.base.proofs.OptionsMade.{some_same}
 use Rattle.failover.specs.Paths.{IsRoute}
 use Rattle.policy_rules.specs.declared.packet.Cause.{Cause}
 use Rattle.policy_rules.specs.declared.packet.How.{How}
@@ -29,7 +30,7 @@ use Rattle.packet_laws.specs.StrongCauses.{FindsLinkDown, FurtherCause, IsLeastR
 use Rattle.packet_laws.specs.PacketCauses.{FindsNoRoute, IsAt, IsBlockedOn, IsDecided, IsLookedUp, IsRedirected, MeetsDown, TakesLeg, PacketCause}
 use Rattle.packet_laws.proofs.AllKept.{Before, kept_before, known_before, knows}
 use Rattle.packet_laws.proofs.PacketEnds.{decision_out, leaves_rightly, mark_in, meets_link, seeks_rightly, stands_known, stuck_rightly}
-use Rattle.packet_laws.proofs.PacketsHere.{IsHere, here_of, leg_in, seeking_of, some_same}
+use Rattle.packet_laws.proofs.PacketsHere.{IsHere, here_of, leg_in, seeking_of}
 use Rattle.packet_laws.proofs.KeptFacts.{IsDecidedNow, Knows, decided_now, stage_when, undecided_of}
 use Rattle.packet_laws.proofs.PacketBlocks.{WhenDecided}
 use Rattle.packet_laws.proofs.RestingPackets.{IsWayItem, Past}

@@ -22,7 +22,7 @@ use Rattle.policy_rules.specs.declared.policy.Row.{Row}
 use Rattle.policy_rules.specs.declared.policy.Hit.{Hit}
 use Rattle.policy_rules.specs.declared.rules.Partition.{Partition}
 use Rattle.policy_rules.specs.declared.rules.Rule.{Rule}
-use Rattle.policy_rules.proofs.CallerLemmas.{IsRuleList-rules_of, at_item, first_rule-rules_of}
+use Rattle.policy_rules.proofs.CallerLemmas.{IsRuleList-rules_of, first_rule-rules_of, at_item}
 use Rattle.cut_tree.specs.Cuts.{side_of}
 use Rattle.cut_tree.specs.DefinedTree.{IsTreeOf, IsDefinedTree, tree_of}
 use Rattle.cut_tree.specs.Narrow.{narrow, narrowed_rule}

@@ -22,7 +22,7 @@ use Rattle.policy_rules.specs.declared.policy.Row.{Row}
 use Rattle.policy_rules.specs.declared.rules.Partition.{Partition}
 use Rattle.policy_rules.specs.declared.rules.Rule.{Rule}
 use Rattle.policy_rules.specs.Hosted.{TooManyWords, TooManyLeaves, NoRoom}
-use Rattle.policy_rules.proofs.CallerLemmas.{IsRuleList-rules_of}
+use Rattle.policy_rules.proofs.CallerLemmas.{IsRuleList-rules_of, cond_if_above, cond_if_below}
 use Rattle.partition.specs.Parts.{numbered_from, parts_of}
 use Rattle.partition.specs.Plan.{IsPlan, Hosted, hosted_on, plan_of, plan_of_tree, rooms_of, sizes_of}
 use Rattle.partition.proofs.EndLemmas.{parts_ended}
@@ -167,33 +167,27 @@ pub parts_small : (rules : List Rule) (most : ℕ) (tree : Shape) → IsDefinedT
 parts_small rules most tree is = small_parts most 0 (leaves_of tree)
     (small_leaves tree rules any_word most is)
 
-if_many : {X : Type 0} (low n : ℕ) (a b : X) → low < n → cond (ltb low n) a b ≡ a
-if_many low n a b many = grind (arith, nat_tests)
-
-if_few : {X : Type 0} (low n : ℕ) (a b : X) → n ≤ low → cond (ltb low n) a b ≡ b
-if_few low n a b few = grind (arith, nat_tests)
-
 pub no_words : (rows : List Row) (net : Net) → 4096 < word_total rows
     → plan_of rows net ≡ Err (TooManyWords (word_total rows))
 unfolding plan_of
-no_words rows net many = if_many 4096 (word_total rows) _ _ many
+no_words rows net many = cond_if_below 4096 (word_total rows) _ _ many
 
 worded : (rows : List Row) (net : Net) → word_total rows ≤ 4096
     → plan_of rows net ≡ plan_of_tree net (tree_of (rules_of rows) net.leaf_rules)
 unfolding plan_of
-worded rows net few = if_few 4096 (word_total rows) _ _ few
+worded rows net few = cond_if_above 4096 (word_total rows) _ _ few
 
 pub no_leaves : (rows : List Row) (net : Net) → word_total rows ≤ 4096
     → 512 < leaf_count (tree_of (rules_of rows) net.leaf_rules)
     → plan_of rows net ≡ Err TooManyLeaves
 no_leaves rows net few many = worded rows net few
-    ∙ if_many 512 (leaf_count (tree_of (rules_of rows) net.leaf_rules)) _ _ many
+    ∙ cond_if_below 512 (leaf_count (tree_of (rules_of rows) net.leaf_rules)) _ _ many
 
 pub hosted_plan : (rows : List Row) (net : Net) (tree : Shape) → word_total rows ≤ 4096
     → tree ≡ tree_of (rules_of rows) net.leaf_rules → leaf_count tree ≤ 512
     → plan_of rows net ≡ hosted_on net (parts_of tree)
 hosted_plan rows net tree few is small =
-    worded rows net few ∙ sym (ap (plan_of_tree net) is) ∙ if_few 512 (leaf_count tree) _ _ small
+    worded rows net few ∙ sym (ap (plan_of_tree net) is) ∙ cond_if_above 512 (leaf_count tree) _ _ small
 
 pub no_room : (rows : List Row) (net : Net) (tree : Shape) (number : ℕ) → word_total rows ≤ 4096
     → tree ≡ tree_of (rules_of rows) net.leaf_rules → leaf_count tree ≤ 512

@@ -1,11 +1,13 @@
 -- What a change makes of a policy, by cases.
-use Rattle.std.proofs.Common.{ℕ, suc, ◌≡◌, ◌∙◌, ◌+◌, ◌<◌, ◌≤◌, ◌≢◌, ◌⊎◌, inl, inr, Bool, true, false, cond, not, ◌&&◌, ◌||◌, eqb, ltb, All, AllPairs, Contains, Result, Ok, Err, List, [], ◌∷◌, ◌++◌, length, map, filter, get_or, refl, sym, ap, subst, arith}
+use Rattle.std.proofs.Common.{ℕ, suc, ◌≡◌, ◌∙◌, ◌+◌, ◌<◌, ◌≤◌, ◌≢◌, ◌⊎◌, inl, inr, Bool, true, false, cond, not, ◌&&◌, eqb, ltb, All, Contains, Result, Ok, Err, List, [], ◌∷◌, ◌++◌, length, map, filter, get_or, refl, sym, ap, subst, arith}
 use Rattle.std.specs.List.{list_all, list_any}
 use Rattle.std.proofs.lemmas.Bool.{eq-eqb, ltb-false, lt-ltb, le-ltb}
 use Rattle.std.proofs.lemmas.List.Elements.{All-append, All-cons, All-contains_itself, All-filter, All-nil, All-weaker}
 use Rattle.std.proofs.lemmas.List.Folds.{list_any_at}
 use Rattle.std.proofs.lemmas.Map.Views.{any-filter_same, exact_unsigned_eq}
-use Rattle.std.proofs.lemmas.List.Kept.{AllPairs-cons, AllPairs-filter}
+use Rattle.std.proofs.lemmas.List.Kept.{AllPairs-filter}
+use Rattle.base.proofs.ListsOfAll.{AllPairs-append}
+use Rattle.base.proofs.ListsOfAny.{any_key}
 use Rattle.policy_rules.specs.declared.policy.Row.{Row}
 use Rattle.policy_rules.specs.Policy.{IsPolicy, IsSoundRow}
 use Rattle.policy_rules.specs.declared.amendment.Edit.{Edit}
@@ -80,15 +82,6 @@ can_apply rows after change is =
 
 -- ---- the rows are a policy
 
-pairs_append : {X : Type 0} (R : X → X → Type 0) (xs ys : List X) → AllPairs R xs → AllPairs R ys
-    → All (λ x. All (R x) ys) xs → AllPairs R (xs ++ ys)
-pairs_append R [] ys ones others cross = others
-pairs_append R (x ∷ xs) ys ones others cross = AllPairs-cons R x (xs ++ ys)
-    (All-append (R x) xs ys (λ k d within. ones 0 (suc k) d (omega arith) (omega arith))
-    (cross 0 x (omega arith)))
-    (pairs_append R xs ys (λ i j d less within. ones (suc i) (suc j) d (omega arith) (omega arith))
-    others (λ k d within. cross (suc k) d (omega arith)))
-
 pub All-additions : (P : Row → Type 0) (edits : List Edit) → All (AddsOnly P) edits
     → All P (additions edits)
 All-additions P [] only = All-nil _
@@ -127,7 +120,7 @@ IsPolicy-amended rows change policy amendment free few =
       sound = All-append IsSoundRow (staying_rows rows change) (additions change)
           (All-filter stays IsSoundRow rows policy.sound)
           (additions_sound change amendment.sound);
-      distinct = pairs_append (λ (x y : Row). x.priority ≢ y.priority) (staying_rows rows change)
+      distinct = AllPairs-append (λ (x y : Row). x.priority ≢ y.priority) (staying_rows rows change)
           (additions change)
           (AllPairs-filter (λ (x y : Row). x.priority ≢ y.priority) stays rows policy.distinct)
           amendment.distinct.added_once
@@ -157,11 +150,6 @@ rows-applied rows after change is =
     (λ k d within. inr (All-contains_itself (additions change) k d within)) is
 
 -- ---- by sets of priorities
-
-any_key : {X : Type 0} (key : X → ℕ) (xs : List X) (q : ℕ)
-    → list_any (λ n. eqb n q) (map key xs) ≡ list_any (λ x. eqb (key x) q) xs
-any_key key [] q = refl
-any_key key (x ∷ xs) q = ap (λ b. eqb (key x) q || b) (any_key key xs q)
 
 -- the test holds of exactly these numbers
 abbrev pub IsSetOf : (ℕ → Bool) → List ℕ → Type 0

@@ -1,11 +1,12 @@
 -- Edits, one edit further.
-use Rattle.std.proofs.Common.{ℕ, ◌≡◌, ◌∙◌, ◌+◌, ◌<◌, ◌≢◌, Bool, true, false, cond, ◌||◌, eqb, All, AllPairs, List, [], ◌∷◌, ◌++◌, append-nil, length, map, length-append, length-take, take, drop, get_or, refl, sym, ap, subst, arith}
+use Rattle.std.proofs.Common.{ℕ, ◌≡◌, ◌∙◌, ◌+◌, ◌<◌, ◌≢◌, Bool, true, false, cond, ◌||◌, eqb, AllPairs, List, [], ◌∷◌, ◌++◌, append-nil, length, map, length-take, take, drop, get_or, refl, sym, ap, subst, arith}
 use Rattle.std.specs.List.{list_any}
 use Rattle.std.proofs.lemmas.Bool.{eq-eqb, ne_eqb}
-use Rattle.std.proofs.lemmas.List.{drop_more, get_or_append_left, get_or-take, take-append-drop, take-take}
+use Rattle.std.proofs.lemmas.List.{drop_more, get_or-take, take-append-drop, take-take}
 use Rattle.std.proofs.lemmas.List.Elements.{filter_map-append}
 use Rattle.std.proofs.lemmas.List.Folds.{list_any-append, list_any_at, list_any_none}
 use Rattle.std.proofs.lemmas.List.Quantifiers.{all_pairs_push}
+use Rattle.base.proofs.ListsOfAll.{pairs_before}
 use Rattle.policy_rules.specs.declared.policy.Row.{Row}
 use Rattle.policy_rules.specs.Policy.{HaveDistinctPriorities}
 use Rattle.policy_rules.proofs.DistinctRows.{distinct_push}
@@ -121,20 +122,6 @@ distinct_edits_push edits (Add row) distinct new = record {
 }
 
 -- ---- no edit among distinct ones repeats an earlier one
-
-at_end : {X : Type 0} (xs : List X) (y : X) (zs : List X) (d : X)
-    → get_or (xs ++ y ∷ zs) (length xs) d ≡ y
-at_end [] y zs d = refl
-at_end (x ∷ xs) y zs d = at_end xs y zs d
-
--- what comes before an element is related to it
-pairs_before : {X : Type 0} (R : X → X → Type 0) (xs : List X) (y : X) (zs : List X)
-    → AllPairs R (xs ++ y ∷ zs) → All (λ x. R x y) xs
-pairs_before R xs y zs pairs k d within =
-    let len : length (xs ++ y ∷ zs) ≡ length xs + length (y ∷ zs) = length-append xs (y ∷ zs) in
-    subst (λ x. R x y) (get_or_append_left xs (y ∷ zs) d k within)
-    (subst (R (get_or (xs ++ y ∷ zs) k d)) (at_end xs y zs d)
-    (pairs k (length xs) d within (omega (arith, len))))
 
 -- the first of distinct edits, the next, and the others
 fresh_before : (earlier later : List Edit) (edit : Edit)

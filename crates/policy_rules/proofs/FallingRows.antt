@@ -10,6 +10,7 @@ use Rattle.std.proofs.lemmas.List.Kept.{AllPairs-cons, AllPairs-filter}
 use Rattle.std.proofs.lemmas.List.Sorted.{All-permutation, Contains-permutation, IsPermutation-append_right, IsPermutation-filter_both, IsPermutation-refl, IsPermutation-sym, IsPermutation-trans, sum_by-IsPermutation}
 use Rattle.std.proofs.lemmas.List.Sums.{sum_by-cons}
 use Rattle.std.proofs.lemmas.Map.Keys.{ge_from_not_lt}
+use Rattle.base.proofs.ListsFiltered.{filter_all, filter_filter}
 use Rattle.policy_rules.specs.declared.policy.Row.{Row}
 use Rattle.policy_rules.specs.Policy.{HaveDistinctPriorities, IsHighestIn, IsSoundRow}
 use Rattle.policy_rules.specs.RuleList.{by_falling_priority, falling_below}
@@ -18,25 +19,6 @@ use Rattle.policy_rules.specs.Repeats.{IsFalling}
 use Rattle.policy_rules.proofs.FirstMatch.{highest_is, one_of_priority}
 
 -- ---- the rows below a priority are a permutation of them
-
-filter_filter : {X : Type 0} (p q r : X → Bool) → ((x : X) → r x ≡ (p x && q x)) → (xs : List X)
-    → filter q (filter p xs) ≡ filter r xs
-filter_filter p q r both [] = refl
-filter_filter {X} p q r both (x ∷ xs) = by_case (p x) (q x) refl (filter_filter p q r both xs)
-    ∙ ap (λ b. cond b (x ∷ filter r xs) (filter r xs)) (sym (both x))
-  where
-    by_case : (a b : Bool) → q x ≡ b → filter q (filter p xs) ≡ filter r xs
-        → filter q (cond a (x ∷ filter p xs) (filter p xs)) ≡ cond (a && b) (x ∷ filter r xs)
-        (filter r xs)
-    by_case true true is rest = rw is (ap (λ ys. x ∷ ys) rest)
-    by_case true false is rest = rw is rest
-    by_case false b is rest = rest
-
-filter_all : {X : Type 0} (p : X → Bool) (xs : List X) → All (λ x. p x ≡ true) xs → filter p xs ≡ xs
-filter_all p [] all = refl
-filter_all p (x ∷ xs) all =
-    let here : p x ≡ true = all 0 x (omega arith) in
-    rw here (ap (λ ys. x ∷ ys) (filter_all p xs (All-tail (λ x. p x ≡ true) x xs all)))
 
 abbrev below : ℕ → Row → Bool
 below n row = ltb row.priority n

@@ -1,5 +1,5 @@
 -- The first match: of the rows that match, the one that none exceeds in priority.
-use Rattle.std.proofs.Common.{ℕ, suc, ◌≡◌, ◌∙◌, ◌≤◌, ◌≢◌, Bool, true, false, cond, leb, ltb, Option, Some, None, MatchOption, List, [], ◌∷◌, ◌++◌, append-nil, get_or, filter, find, All, Contains, refl, sym, ap, subst, inl, inr, arith}
+use Rattle.std.proofs.Common.{ℕ, ◌≡◌, ◌∙◌, ◌≤◌, ◌≢◌, Bool, true, false, cond, leb, ltb, Option, Some, None, MatchOption, List, [], ◌∷◌, ◌++◌, append-nil, get_or, filter, find, All, Contains, refl, sym, ap, subst, inl, inr, arith}
 use Rattle.std.specs.Borrow.{Bor}
 use Rattle.std.specs.Option.{option_map_or}
 use Rattle.std.proofs.lemmas.Bool.{cases_lt, leb-true, le-leb, ltb-true, ltb-false}
@@ -7,6 +7,8 @@ use Rattle.std.proofs.lemmas.List.{get_or_default}
 use Rattle.std.proofs.lemmas.List.Kept.{AllPairs-filter}
 use Rattle.std.proofs.lemmas.List.Elements.{All-nil, All-cons, All-push, All-weaker, All-contains, Contains-append_left, Contains-push}
 use Rattle.std.proofs.lemmas.List.Sums.{AllPass-from_list_all, list_all-from_AllPass}
+use Rattle.base.proofs.ListsFound.{find_found}
+use Rattle.base.proofs.ListsOfAll.{contains_later}
 use Rattle.five_tuple.specs.Header.{fields_of}
 use Rattle.five_tuple.specs.declared.header.Header.{Header}
 use Rattle.policy_rules.specs.declared.policy.Action.{Action}
@@ -14,25 +16,6 @@ use Rattle.policy_rules.specs.declared.policy.Hit.{Hit}
 use Rattle.policy_rules.specs.declared.policy.Row.{Row}
 use Rattle.policy_rules.specs.Policy.{HaveDistinctPriorities, IsFirstMatch, IsHighestIn, row_matches}
 use Rattle.policy_rules.specs.Scan.{highest_row, hit_of, is_highest, scan}
-
--- ---- the first that passes
-
-in_tail : {X : Type 0} (y : X) (ys : List X) (x : X) → Contains ys x → Contains (y ∷ ys) x
-in_tail y ys x (k, within, is) = (suc k, omega arith, is)
-
--- the first that passes is an element that passes; where there is none, none passes
-pub find_found : {X : Type 0} (p : X → Bool) (xs : List X)
-    → MatchOption (find p xs) (All (λ x. p x ≡ false) xs) (λ x. Contains xs x × (p x ≡ true))
-find_found p [] = All-nil _
-find_found {X} p (x ∷ xs) = by_case (p x) refl (find p xs) (find_found p xs)
-  where
-    by_case : (b : Bool) → p x ≡ b → (found : Option X)
-        → MatchOption found (All (λ x. p x ≡ false) xs) (λ y. Contains xs y × (p y ≡ true))
-        → MatchOption (cond b (Some x) found) (All (λ x. p x ≡ false) (x ∷ xs))
-        (λ y. Contains (x ∷ xs) y × (p y ≡ true))
-    by_case true is found rest = ((0, omega arith, refl), is)
-    by_case false is None rest = All-cons (λ x. p x ≡ false) x xs is rest
-    by_case false is (Some y) rest = (in_tail x xs y rest.0, rest.1)
 
 -- ---- the highest of some rows
 
@@ -113,7 +96,7 @@ top_of row (next ∷ rows) = by_case (top_of next rows)
       | inr upper ↦ (
         best,
         record {
-          member = in_tail row (next ∷ rows) best is.member;
+          member = contains_later row (next ∷ rows) best is.member;
           highest =
               All-cons (λ (x : Row). x.priority ≤ best.priority) row (next ∷ rows) upper is.highest;
         },

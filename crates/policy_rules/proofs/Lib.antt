@@ -1,6 +1,5 @@
 mod FirstMatch
 mod DistinctRows
-mod FirstPassing
 mod RowWords
 mod RuleRanks
 mod BlockLoops
@@ -8,7 +7,6 @@ mod FallingRows
 mod RuleLaw
 mod RuleShape
 pub mod CallerLemmas
-mod CountedRanges
 mod EditLists
 mod AmendmentCases
 mod TouchedHeaders

@@ -1,12 +1,13 @@
 -- The first rule that holds a header has the rule and the action of the policy's first match.
-use Rattle.std.proofs.Common.{bit_and, ℕ, ◌≡◌, ◌∙◌, ◌+◌, Bool, true, false, cond, ◌&&◌, ◌||◌, Option, Some, None, option_map, List, [], ◌∷◌, ◌++◌, append_assoc, find, get_or, map, refl, ap, sym, arith}
+use Rattle.std.proofs.Common.{bit_and, ℕ, ◌≡◌, ◌∙◌, ◌+◌, Bool, true, false, cond, ◌&&◌, ◌||◌, Option, Some, None, option_map, List, [], ◌∷◌, ◌++◌, append_assoc, find, get_or, map, refl, ap, arith}
 use Rattle.std.specs.Option.{option_or}
 use Rattle.std.specs.Int.Bits.{and_zero_r}
 use Rattle.std.proofs.lemmas.Bool.{eq-eqb}
 use Rattle.std.specs.List.{All, list_any, flat_map}
 use Rattle.std.proofs.lemmas.List.Elements.{All-tail}
-use Rattle.std.proofs.lemmas.List.Folds.{find-append, list_any-append}
+use Rattle.std.proofs.lemmas.List.Folds.{find-append}
 use Rattle.std.proofs.lemmas.List.Sorted.{All-permutation}
+use Rattle.base.proofs.ListsOfAny.{any_within, list_any_flat_map, list_any_map}
 use Rattle.five_tuple.specs.Header.{IsHeader, fields_of, number_of, prefix_matches, proto_matches}
 use Rattle.five_tuple.specs.Cover.{Block, IsPortBlock, block_holds, cover_of}
 use Rattle.five_tuple.proofs.CallerLemmas.{is_cover_of}
@@ -68,39 +69,6 @@ found-with_hit n row (word ∷ words) = by_case (holds word n) (found-with_hit n
         ≡ cond (b || list_any (λ word. holds word n) words) (Some (hit_of (Some row))) None
     by_case true rest = refl
     by_case false rest = rest
-
-list_any_map : {X Y : Type 0} (p : Y → Bool) (f : X → Y) (xs : List X)
-    → list_any p (map f xs) ≡ list_any (λ x. p (f x)) xs
-list_any_map p f [] = refl
-list_any_map p f (x ∷ xs) = ap (λ b. p (f x) || b) (list_any_map p f xs)
-
-list_any_flat_map : {X Y : Type 0} (p : Y → Bool) (f : X → List Y) (xs : List X)
-    → list_any p (flat_map f xs) ≡ list_any (λ x. list_any p (f x)) xs
-list_any_flat_map p f [] = refl
-list_any_flat_map p f (x ∷ xs) = list_any-append p (f x) (flat_map f xs)
-    ∙ ap (λ b. list_any p (f x) || b) (list_any_flat_map p f xs)
-
--- some element passes f where some passes y, within what does not depend on the element
-any_within : {X : Type 0} (w : Bool → Bool) (none : w false ≡ false) (f y : X → Bool) (xs : List X)
-    → All (λ x. f x ≡ w (y x)) xs → list_any f xs ≡ w (list_any y xs)
-any_within w none f y [] all = sym none
-any_within w none f y (x ∷ xs) all =
-    let here : f x ≡ w (y x) = all 0 x (omega arith) in
-    let there = any_within w none f y xs (All-tail (λ x. f x ≡ w (y x)) x xs all) in
-    rw (here, there) (joined (y x) (list_any y xs))
-  where
-    idle : (b : Bool) → (b || b) ≡ b
-    idle true = refl
-    idle false = refl
-
-    or_none : (b : Bool) → (b || false) ≡ b
-    or_none true = refl
-    or_none false = refl
-
-    joined : (a b : Bool) → (w a || w b) ≡ w (a || b)
-    joined true true = idle (w true)
-    joined true false = rw none (or_none (w true))
-    joined false b = rw none refl
 
 none_passes : (a b : Bool) → (a && false && b) ≡ false
 none_passes true b = refl

@@ -1,13 +1,16 @@
 -- A header that no row which a change touches matches is decided as before.
 use Rattle.std.proofs.Common.{ℕ, ◌≡◌, ◌∙◌, ◌||◌, Bool, true, false, not, eqb, Option, Some, None, MatchOption, All, Contains, Ok, List, [], ◌∷◌, ◌++◌, append-nil, filter, find, refl, sym, ap, subst, arith}
-use Rattle.std.specs.Prelude.{IsTrue, IsFalse, filter_map, flat_map}
+use Rattle.std.specs.Prelude.{IsTrue, IsFalse, filter_map}
 use Rattle.std.specs.List.{cons_option, list_any}
 use Rattle.std.proofs.lemmas.Bool.{eq-eqb, eqb-true}
-use Rattle.std.proofs.lemmas.List.Elements.{All-contains, All-contains_itself, All-cons, All-head, All-nil, All-tail, All-weaker, All-append, Contains-append_left, Contains-append_right, filter-append}
+use Rattle.std.proofs.lemmas.List.Elements.{All-contains, All-contains_itself, All-cons, All-nil, All-weaker, All-append, Contains-append_left, Contains-append_right, filter-append}
 use Rattle.std.proofs.lemmas.List.Folds.{list_any_none}
 use Rattle.five_tuple.specs.Header.{IsHeader, fields_of, number_of}
 use Rattle.five_tuple.specs.declared.header.Header.{Header}
 use Rattle.base.proofs.ListLemmas.{in_cons_option}
+use Rattle.base.proofs.ListsFiltered.{filter_implied}
+use Rattle.base.proofs.ListsFound.{find_found}
+use Rattle.base.proofs.ListsOfAll.{All-flat_map_parts}
 use Rattle.ternary.specs.Meets.{meets}
 use Rattle.ternary.specs.Word.{WordValue, holds}
 use Rattle.ternary.proofs.CallerLemmas.{held_meets}
@@ -19,7 +22,7 @@ use Rattle.policy_rules.specs.Words.{words_of_row}
 use Rattle.policy_rules.specs.declared.amendment.Edit.{Edit}
 use Rattle.policy_rules.specs.declared.policy.Row.{Row}
 use Rattle.policy_rules.proofs.AmendmentCases.{additions_sound, can_apply}
-use Rattle.policy_rules.proofs.FirstMatch.{find_found, first_match-scan, one_of_priority}
+use Rattle.policy_rules.proofs.FirstMatch.{first_match-scan, one_of_priority}
 use Rattle.policy_rules.proofs.RuleLaw.{holds-words_of_row}
 use Rattle.policy_rules.proofs.FallingRows.{filter_none}
 
@@ -80,22 +83,6 @@ All-removed P rows (n ∷ removed) all =
 
 -- ---- the rows that match
 
--- a filter by what another test implies changes nothing
-filter_implied : {X : Type 0} (p q : X → Bool) (xs : List X)
-    → All (λ x. p x ≡ true → q x ≡ true) xs → filter p (filter q xs) ≡ filter p xs
-filter_implied p q [] implied = refl
-filter_implied p q (x ∷ xs) implied = by (p x) refl (q x) refl
-    (filter_implied p q xs (All-tail (λ x. p x ≡ true → q x ≡ true) x xs implied))
-  where
-    by : (b : Bool) → p x ≡ b → (c : Bool) → q x ≡ c → filter p (filter q xs) ≡ filter p xs
-        → filter p (filter q (x ∷ xs)) ≡ filter p (x ∷ xs)
-    by true one true other rest = rw (other, one) (ap (λ ys. x ∷ ys) rest)
-    by true one false other rest =
-        let also = All-head (λ x. p x ≡ true → q x ≡ true) x xs implied one in
-        absurd (cc)
-    by false one true other rest = rw (other, one) rest
-    by false one false other rest = rw (other, one) rest
-
 -- where no touched row passes a test, the same rows pass as before
 passes_same : (p : Row → Bool) (rows : List Row) (change : List Edit)
     → HaveDistinctPriorities rows → All (λ row. p row ≡ false) (touched_rows rows change)
@@ -145,19 +132,6 @@ first_match-amended rows after change header is =
 
 -- ---- words apart
 
-each_part : {X Y : Type 0} (P : Y → Type 0) (f : X → List Y) (xs : List X) → All P (flat_map f xs)
-    → All (λ x. All P (f x)) xs
-each_part P f [] all = All-nil (λ x. All P (f x))
-each_part P f (x ∷ xs) all =
-    let part = All-contains P (f x ++ flat_map f xs) in
-    All-cons (λ x. All P (f x)) x xs
-    (All-weaker (Contains (f x)) P
-    (λ y there. part y all (Contains-append_left (f x) (flat_map f xs) y there)) (f x)
-    (All-contains_itself (f x)))
-    (each_part P f xs (All-weaker (Contains (flat_map f xs)) P
-    (λ y there. part y all (Contains-append_right (f x) (flat_map f xs) y there)) (flat_map f xs)
-    (All-contains_itself (flat_map f xs))))
-
 -- a row whose words are apart from a word matches no header of it
 unmatched : (word : WordValue) (header : Header) → IsHeader header
     → IsTrue (holds word (number_of header)) → (row : Row) → IsSoundRow row
@@ -187,6 +161,6 @@ scan-apart rows after change word header policy amendment bits is words_apart he
     All-append IsSoundRow (removed_rows rows change) (additions change)
     (All-removed IsSoundRow rows (removals change) policy.sound)
     (additions_sound change amendment.sound) in
-    let parts = each_part (λ w. IsFalse (meets word w)) words_of_row touched words_apart in
+    let parts = All-flat_map_parts (λ w. IsFalse (meets word w)) words_of_row touched words_apart in
     scan-untouched rows after change header policy is
     (λ k d within. unmatched word header bits held _ (sound k d within) (parts k d within))

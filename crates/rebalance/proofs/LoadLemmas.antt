@@ -10,7 +10,7 @@ use Rattle.std.proofs.lemmas.Grind.{div_ceil_times}
 use Rattle.std.proofs.lemmas.List.{get_or-set_other, get_or-set_same, get_or_default, same_lists}
 use Rattle.std.proofs.lemmas.List.FromFn.{get_or-map-range_with_len, length-map-range_with_len}
 use Rattle.std.proofs.lemmas.List.Sums.{sum_by-le-sum_by, sum_by_push}
-use Rattle.policy_rules.proofs.CallerLemmas.{range_more}
+use Rattle.base.proofs.ListsOfRanges.{range_more}
 use Rattle.placement.specs.Placement.{is_target, targets_at}
 use Rattle.placement.proofs.CallerLemmas.{each_by_count, range-within, sum-filter, sum_none}
 use Rattle.rebalance.specs.Loads.{Fits, bound, greatest, greatest_traffic, is_primary, traffic, usable_rooms}

@@ -1,12 +1,13 @@
 -- What the calls of a switch ask of it holds, by the laws of versions, tables, boots and adverts.
-use Rattle.std.proofs.Common.{ℕ, zero, suc, ◌≡◌, ◌-◌, ◌^◌, ◌<◌, ◌==◌, Bool, true, false, ◌&&◌, ◌||◌, if◌then◌else◌, Option, Some, None, List, [], ◌∷◌, length, map, get_or, refl, ap, sym, subst, ◌∙◌, arith, All}
+use Rattle.std.proofs.Common.{ℕ, ◌≡◌, ◌-◌, ◌^◌, ◌<◌, ◌==◌, Bool, true, false, ◌&&◌, ◌||◌, if◌then◌else◌, Option, Some, None, List, [], ◌∷◌, length, map, get_or, refl, ap, sym, subst, ◌∙◌, arith, All}
 use Rattle.std.specs.Prelude.{IsTrue, filter, find, slice_get}
 use Rattle.std.specs.List.{AllByRecursion, list_any}
 use Rattle.std.specs.Option.{IfSome, IsSomeAnd}
-use Rattle.std.proofs.lemmas.Bool.{and_parts, eq-eqb, eqb-true, or_right}
+use Rattle.std.proofs.lemmas.Bool.{and_parts, eq-eqb, eqb-true}
 use Rattle.std.proofs.lemmas.List.{get_or-map, length-map}
 use Rattle.std.proofs.lemmas.List.Elements.{recursion_from_All}
 use Rattle.std.proofs.lemmas.Option.{slice_get-get_or}
+use Rattle.std.proofs.lemmas.Map.Keys.{any_passes_from_place}
 use Rattle.ctrl_msg.specs.declared.message.Body.{Body}
 use Rattle.ctrl_msg.specs.declared.message.Body.TheVariants.{Install}
 use Rattle.five_tuple.specs.declared.header.Header.{Header}
@@ -67,16 +68,6 @@ looks_up setting journal s hold there serving =
 
 -- ---- at an authority
 
-any_at : {X : Type 0} (test : X → Bool) (xs : List X) (k : ℕ) (x : X) → slice_get xs k ≡ Some x
-    → test x ≡ true → list_any test xs ≡ true
-any_at test [] k x there passes = absurd cc
-any_at test (y ∷ ys) zero x there passes =
-    let same : y ≡ x = cc in
-    let here : test y ≡ true = ap test same ∙ passes in
-    rw here refl
-any_at test (y ∷ ys) (suc k) x there passes =
-    ap (λ b. test y || b) (any_at test ys k x there passes) ∙ or_right (test y) true refl
-
 -- what holds of each partition of the number holds of the switch's own one
 own_found : (P : Partition → Type 0) (s partition : ℕ) (plan : List Hosted)
     → AllByRecursion (λ hosted. hosted.0.number ≡ partition → P (part_of hosted)) plan
@@ -134,7 +125,7 @@ own_has P plan s version partition hosted numbers there number target holds =
     own_found P s partition plan
     (recursion_from_All (λ each. each.0.number ≡ partition → P (part_of each)) plan
     (one_of_number P plan partition hosted numbers there holds))
-    (any_at (λ each. (each.0.number == partition) && has_target s each) plan partition hosted
+    (any_passes_from_place (λ each. (each.0.number == partition) && has_target s each) plan partition hosted
     there (rw own target))
 
 at_leg : (setting : Setting) (journal : List Item) (s : ℕ) (header : Header) (leg : Leg)

@@ -3,6 +3,7 @@ use Rattle.std.proofs.Common.{ℕ, ◌≡◌, ◌+◌, ◌-◌, ◌<◌, Bool, t
 use Rattle.std.specs.Prelude.{IsTrue, IsFalse, nat_lt}
 use Rattle.std.proofs.lemmas.List.{get_or-set_same, length-map, length-set}
 use Rattle.std.specs.List.{range_with_len}
+use Rattle.base.proofs.ListsFiltered.{map_twice}
 use Rattle.ctrl_msg.specs.declared.message.Body.{Body}
 use Rattle.ctrl_msg.specs.declared.message.Body.TheVariants.{Hello}
 use Rattle.ctrl_msg.specs.Kinds.{to_controller}
@@ -41,7 +42,6 @@ use Rattle.refinement.specs.Controller.{IsControllerOf, plan_to_keep}
 use Rattle.refinement.specs.Written.{AreWritten, written_items}
 use Rattle.refinement.proofs.ControllerHears.{marks_over, marks_told}
 use Rattle.refinement.proofs.KeptController.{marks_begun}
-use Rattle.refinement.proofs.PickedRanges.{map_twice}
 use Rattle.refinement.proofs.ControllerPlans.{controller_on, plans_on, plans_stay, settles_with}
 use Rattle.refinement.proofs.SettledMarks.{AreCaused, settled_boot, settling_caused}
 use Rattle.refinement.proofs.WrittenActs.{posted, written_in_two}

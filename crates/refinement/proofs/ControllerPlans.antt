@@ -1,10 +1,11 @@
 -- The plans that a controller keeps are those of the versions from the current one to the last.
-use Rattle.std.proofs.Common.{ℕ, zero, suc, ◌≡◌, ◌+◌, ◌-◌, ◌<◌, ◌≤◌, max, Bool, true, false, if◌then◌else◌, List, [], ◌∷◌, ◌++◌, map, refl, ap, sym, ◌∙◌, append-nil, arith}
-use Rattle.std.specs.Prelude.{filter, nat_le, find}
+use Rattle.std.proofs.Common.{ℕ, ◌≡◌, ◌+◌, ◌-◌, ◌<◌, ◌≤◌, max, List, [], ◌∷◌, ◌++◌, map, refl, ap, sym, ◌∙◌, append-nil, arith}
+use Rattle.std.specs.Prelude.{nat_le, find}
 use Rattle.std.specs.List.{range_with_len}
-use Rattle.std.proofs.lemmas.Bool.Decides.{nat_tests}
 use Rattle.std.proofs.lemmas.List.FromFn.{map-range_with_len_more}
 use Rattle.std.specs.Option.{option_map_or}
+use Rattle.base.proofs.ListsFiltered.{filter_made}
+use Rattle.base.proofs.ListsOfRanges.{later_same, map-range_same}
 use Rattle.journal.specs.declared.item.Item.{Item}
 use Rattle.update_machine.specs.Laws.{ControllerKeeps}
 use Rattle.update_machine.specs.Marks.{current_mark}
@@ -24,63 +25,9 @@ use Rattle.refinement.specs.Controller.{IsControllerOf, plan_to_keep}
 use Rattle.refinement.specs.Marks.{AreMarksOf}
 use Rattle.refinement.specs.Written.{written_items}
 use Rattle.refinement.proofs.KeptController.{marks_on}
-use Rattle.refinement.proofs.PickedRanges.{filter_made}
 use Rattle.refinement.proofs.SettledMarks.{AreCaused, settles_so}
 use Rattle.refinement.proofs.NewestKeptPolicy.{find_kept, is_of}
 use Rattle.switch_table.specs.Carried.{all_touched}
-
--- ---- numbers of a range
-
-mapped_same : {X : Type 0} (f g : ℕ → X) (low n : ℕ)
-    → ((x : ℕ) → low ≤ x → x < low + n → f x ≡ g x)
-    → map f (range_with_len low n) ≡ map g (range_with_len low n)
-mapped_same f g low zero makes = refl
-mapped_same f g low (suc n) makes =
-    ap (λ y. y ∷ map f (range_with_len (low + 1) n)) (makes low (omega arith) (omega arith))
-    ∙ ap (λ ys. g low ∷ ys)
-    (mapped_same f g (low + 1) n
-    (λ x above below. makes x (omega (arith, above)) (omega (arith, below))))
-
--- those from `to` on
-later_same : {X : Type 0} (f g : ℕ → X) (to low n : ℕ)
-    → ((x : ℕ) → low ≤ x → x < low + n → f x ≡ g x)
-    → map f (filter (nat_le to) (range_with_len low n))
-    ≡ map g (range_with_len (max to low) (low + n - max to low))
-later_same f g to low zero same =
-    let none : 0 ≡ low + 0 - max to low = omega arith in
-    ap (λ k. map g (range_with_len (max to low) k)) none
-later_same f g to low (suc n) same =
-    by_place (nat_le to low) refl
-    (later_same f g to (low + 1) n
-    (λ x above below. same x (omega (arith, above)) (omega (arith, below))))
-  where
-    rest : List ℕ
-    rest = filter (nat_le to) (range_with_len (low + 1) n)
-
-    by_place : (b : Bool) → nat_le to low ≡ b
-        → map f rest
-        ≡ map g (range_with_len (max to (low + 1)) (low + 1 + n - max to (low + 1)))
-        → map f (if b then low ∷ rest else rest)
-        ≡ map g (range_with_len (max to low) (low + suc n - max to low))
-    by_place true is more =
-        let own : low ≡ max to low = grind (arith, nat_tests) in
-        let next : max to (low + 1) ≡ low + 1 = omega (arith, own) in
-        let few : low + 1 + n - (low + 1) ≡ n = omega arith in
-        let many : suc n ≡ low + suc n - low = omega arith in
-        ap (λ y. y ∷ map f rest) (same low (omega arith) (omega arith))
-        ∙ ap (λ ys. g low ∷ ys)
-        (more ∙ ap (λ k. map g (range_with_len k (low + 1 + n - k))) next
-        ∙ ap (λ k. map g (range_with_len (low + 1) k)) few)
-        ∙ ap (λ k. map g (range_with_len low k)) many
-        ∙ ap (λ k. map g (range_with_len k (low + suc n - k))) own
-    by_place false is more =
-        let later : low < to = grind (arith, nat_tests) in
-        let own : to ≡ max to low = omega (arith, later) in
-        let next : max to (low + 1) ≡ to = omega (arith, later) in
-        let many : low + 1 + n - to ≡ low + suc n - to = omega arith in
-        more ∙ ap (λ k. map g (range_with_len k (low + 1 + n - k))) next
-        ∙ ap (λ k. map g (range_with_len to k)) many
-        ∙ ap (λ k. map g (range_with_len k (low + suc n - k))) own
 
 -- ---- plans
 
@@ -112,7 +59,7 @@ pub plans_on : (setting : Setting) (before items : List Item) (plans : List Kept
 plans_on setting before items plans have count current are =
     let after : List Item = before ++ items in
     are
-    ∙ mapped_same (plan_to_keep setting before) (plan_to_keep setting after) (current_mark before)
+    ∙ map-range_same (plan_to_keep setting before) (plan_to_keep setting after) (current_mark before)
     (version_count before + 1 - current_mark before)
     (λ v above below.
     planned_on setting before items v have above below)
@@ -138,7 +85,7 @@ plans_pushed setting before items plans kept have count current new are =
     let many : n + 1 ≡ version_count after + 1 - low = omega (arith, count, there) in
     ap (λ xs. xs ++ kept ∷ [])
     (are
-    ∙ mapped_same (plan_to_keep setting before) (plan_to_keep setting after) low n
+    ∙ map-range_same (plan_to_keep setting before) (plan_to_keep setting after) low n
     (λ v above below.
     planned_on setting before items v have above below))
     ∙ ap (λ k. map (plan_to_keep setting after) (range_with_len low n) ++ k ∷ []) new

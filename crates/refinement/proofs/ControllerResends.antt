@@ -5,6 +5,8 @@ use Rattle.std.specs.List.{range_with_len}
 use Rattle.std.proofs.lemmas.Bool.Decides.{nat_tests}
 use Rattle.std.proofs.lemmas.List.{map-append}
 use Rattle.std.specs.Option.{option_map_or}
+use Rattle.base.proofs.ListsFiltered.{filter_made, map_twice}
+use Rattle.base.proofs.ListsOfRanges.{picked_same}
 use Rattle.ctrl_msg.specs.declared.message.Body.{Body}
 use Rattle.ctrl_msg.specs.declared.message.Body.TheVariants.{Collect, Hello, Installed, OpenAt, Stamp, Stamped}
 use Rattle.ctrl_msg.specs.declared.message.Message.{Message}
@@ -31,7 +33,6 @@ use Rattle.controller.specs.declared.sends.Act.{Act}
 use Rattle.controller.specs.declared.sends.Act.TheVariants.{Post}
 use Rattle.refinement.specs.Controller.{IsControllerOf, plan_to_keep}
 use Rattle.refinement.specs.Marks.{AreMarksOf, IsKnown}
-use Rattle.refinement.proofs.PickedRanges.{filter_made, map_twice, picked_same}
 use Rattle.refinement.proofs.SettledMarks.{AreCaused}
 use Rattle.refinement.proofs.NewestKeptPolicy.{find_kept, is_of}
 use Rattle.switch_table.specs.Carried.{all_touched}

@@ -10,11 +10,11 @@ use Rattle.ctrl_msg.specs.declared.message.Body.TheVariants.{Install, OpenAt, St
 use Rattle.ctrl_msg.specs.declared.message.Message.{Message}
 use Rattle.ctrl_msg.specs.Kinds.{to_controller}
 use Rattle.base.specs.Masks.{has, switches}
+use Rattle.base.proofs.ListsOfRanges.{filter_more}
 use Rattle.failover.specs.declared.advert.Advert.{Advert}
 use Rattle.net_file.specs.Net.{IsLink, IsNet}
 use Rattle.net_file.specs.declared.net.LinkRow.{LinkRow}
 use Rattle.net_file.specs.Joins.{are_linked}
-use Rattle.policy_rules.proofs.CallerLemmas.{filter_more}
 use Rattle.journal.specs.declared.item.Item.{Item}
 use Rattle.journal.specs.declared.item.Item.TheVariants as item
 use Rattle.steps.specs.declared.step.Step.TheVariants.{Deliver}

@@ -1,7 +1,8 @@
 -- A cached rule times out.
-use Rattle.std.proofs.Common.{ℕ, zero, suc, ◌≡◌, ◌<◌, ◌==◌, false, Option, Some, None, List, [], ◌∷◌, ◌++◌, refl, ap, sym, ◌∙◌, length, get_or, set, append_assoc, rules}
-use Rattle.std.specs.Prelude.{◌||◌, option_map, remove, slice_get}
+use Rattle.std.proofs.Common.{ℕ, ◌≡◌, ◌<◌, ◌==◌, false, Option, Some, None, List, [], ◌∷◌, ◌++◌, refl, ap, sym, ◌∙◌, length, get_or, set, append_assoc, rules}
+use Rattle.std.specs.Prelude.{◌||◌, option_map, slice_get}
 use Rattle.std.proofs.lemmas.List.{length-set}
+use Rattle.base.proofs.ListsByPlace.{none_removed}
 use Rattle.journal.specs.declared.item.Item.{Item}
 use Rattle.journal.specs.declared.item.Item.TheVariants as item
 use Rattle.steps.specs.declared.step.Step.TheVariants.{Expire}
@@ -57,13 +58,6 @@ expire_piece setting journal row s place =
     ∙ one_item s place (message_at setting journal s place))
 
 -- ---- caches
-
--- nothing goes where there is nothing
-none_removed : {X : Type 0} (xs : List X) (i : ℕ) → slice_get xs i ≡ None → remove xs i ≡ xs
-none_removed [] zero none = refl
-none_removed [] (suc i) none = refl
-none_removed (x ∷ xs) zero none = absurd cc
-none_removed (x ∷ xs) (suc i) none = ap (λ rest. x ∷ rest) (none_removed xs i none)
 
 none_expired : (cache : CacheValue) (place : ℕ)
     → option_map entry_message (slice_get cache.entries place) ≡ None

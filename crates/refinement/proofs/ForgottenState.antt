@@ -1,7 +1,8 @@
 -- A switch that goes down and one that boots have forgotten what they learnt.
-use Rattle.std.proofs.Common.{ℕ, zero, suc, ◌≡◌, ◌+◌, ◌<◌, ◌≤◌, ◌==◌, Bool, true, false, if◌then◌else◌, Option, Some, None, List, [], ◌∷◌, ◌++◌, set, refl, ap, sym, ◌∙◌, arith}
-use Rattle.std.specs.Prelude.{count_by, option_map, replicate, slice_get}
+use Rattle.std.proofs.Common.{ℕ, ◌≡◌, ◌+◌, ◌<◌, ◌≤◌, ◌==◌, Bool, true, false, if◌then◌else◌, Option, Some, None, List, [], ◌∷◌, ◌++◌, set, refl, ap, sym, ◌∙◌, arith}
+use Rattle.std.specs.Prelude.{count_by, option_map, slice_get}
 use Rattle.std.proofs.lemmas.Bool.{eq-eqb, ne_eqb}
+use Rattle.base.proofs.ListsByPlace.{set-replicate}
 use Rattle.failover.specs.Adverts.{no_adverts}
 use Rattle.journal.specs.declared.item.Item.{Item}
 use Rattle.journal.specs.declared.item.Item.TheVariants as item
@@ -44,13 +45,8 @@ blank w boot up links = record {
   handled = w.handled;
 }
 
-same_set : {X : Type 0} (x : X) (n i : ℕ) → set (replicate n x) i x ≡ replicate n x
-same_set x zero i = refl
-same_set x (suc n) zero = refl
-same_set x (suc n) (suc i) = ap (λ rest. x ∷ rest) (same_set x n i)
-
 none_set : (s : ℕ) → set no_adverts s None ≡ no_adverts
-none_set s = same_set None 64 s
+none_set s = set-replicate None 64 s
 
 -- behind its first boot it is as a switch that crashed, but for its boot and whether it is up
 forgets : (setting : Setting) (s : ℕ) (w : SwitchFacts) (boot : ℕ) (up : Bool) (links : ℕ)

@@ -5,11 +5,12 @@ use Rattle.std.specs.List.{AllByRecursion, list_any}
 use Rattle.std.proofs.lemmas.Bool.{eq-eqb, eqb-true, or_left, or_right}
 use Rattle.std.proofs.lemmas.Bool.Decides.{nat_tests}
 use Rattle.std.proofs.Math.Bool.{or-false, or_assoc}
+use Rattle.base.proofs.ListsFiltered.{filter_same_on}
+use Rattle.base.proofs.ListsOfEach.{each_append}
 use Rattle.ctrl_msg.specs.declared.message.Body.{Body}
 use Rattle.ctrl_msg.specs.declared.message.Body.TheVariants.{Install, Collect}
 use Rattle.switch_table.specs.declared.tables.Tables.{Tables}
 use Rattle.update_machine.specs.Versions.{collects_version, installs_version}
-use Rattle.control_laws.proofs.MessageSends.{each_append}
 use Rattle.refinement.specs.SwitchOf.{collect_in, tables_in, with_tables}
 use Rattle.refinement.proofs.SwitchFacts.{all_by, came_by, collected_by, tables_by}
 
@@ -109,19 +110,11 @@ all_came tables first bodies one versioned =
 
 -- ---- together
 
-filter_on : {X : Type 0} (P : X → Type 0) (p q : X → Bool) → ((x : X) → P x → p x ≡ q x)
-    → (xs : List X) → AllByRecursion P xs → filter p xs ≡ filter q xs
-filter_on P p q same [] all = refl
-filter_on P p q same (x ∷ xs) all =
-    let here : p x ≡ q x = same x all.0 in
-    let rest : filter p xs ≡ filter q xs = filter_on P p q same xs all.1 in
-    rw (here, rest) refl
-
 pub tables_are : (tables : Tables) (first : Bool) (bodies : List Body) → tables.version ≡ 1
     → AreVersioned bodies
     → tables_by tables first bodies ≡ above (collected_by bodies) (all_by tables first bodies)
 tables_are tables first bodies one versioned =
-    filter_on (HasCome first bodies)
+    filter_same_on (HasCome first bodies)
     (λ tables. came_by first bodies tables.version
     && not (list_any (collects_version tables.version) bodies))
     (λ tables. nat_lt (collected_by bodies) tables.version)

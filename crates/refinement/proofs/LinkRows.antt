@@ -1,10 +1,9 @@
 -- The link of two switches comes back or fails: what its ends are then, what is told of that, and
 -- what the parts are behind it.
-use Rattle.std.proofs.Common.{ℕ, ◌≡◌, ◌+◌, ◌^◌, ◌<◌, ◌==◌, Bool, true, false, cond, Option, Some, None, List, [], ◌∷◌, ◌++◌, refl, ap, sym, ◌∙◌, length, get_or, filter, min, max, append_assoc, arith, eqb-true}
+use Rattle.std.proofs.Common.{ℕ, ◌≡◌, ◌+◌, ◌^◌, ◌<◌, ◌==◌, Bool, true, false, Option, Some, None, List, [], ◌∷◌, ◌++◌, refl, ap, sym, ◌∙◌, length, get_or, min, max, append_assoc, arith, eqb-true}
 use Rattle.std.specs.Bool.{beq}
 use Rattle.std.specs.Prelude.{◌||◌, ◌&&◌, if◌then◌else◌, unwrap_or}
 use Rattle.std.specs.Option.{option_or}
-use Rattle.std.specs.List.{list_any}
 use Rattle.std.proofs.lemmas.Bool.{and_parts}
 use Rattle.std.proofs.lemmas.Bool.Decides.{nat_tests}
 use Rattle.ctrl_msg.specs.declared.message.Message.{Message}
@@ -12,6 +11,7 @@ use Rattle.journal.specs.declared.item.Item.{Item}
 use Rattle.journal.specs.declared.item.Item.TheVariants as item
 use Rattle.base.specs.Masks.{has}
 use Rattle.base.proofs.CallerLemmas.{has_mask, mask_of_is}
+use Rattle.base.proofs.ListsOfAny.{any_filter_by}
 use Rattle.net_file.specs.Joins.{are_linked, joins}
 use Rattle.net_file.specs.declared.net.LinkRow.{LinkRow}
 use Rattle.net_file.specs.declared.net.Net.{Net}
@@ -44,31 +44,6 @@ use Rattle.world_log.specs.Sending.{MaySend}
 
 -- ---- links that are up
 
--- where those that pass the test and another one are those for which b holds
-passing : {X : Type 0} (test passes : X → Bool) (b : Bool)
-    → ((x : X) → test x ≡ true → passes x ≡ b) → (xs : List X)
-    → list_any test (filter passes xs) ≡ (list_any test xs && b)
-passing test passes b so [] = refl
-passing {X = X} test passes b so (x ∷ xs) =
-    picked (passes x) (filter passes xs)
-    ∙ by_test (test x) (passes x) b (list_any test (filter passes xs)) (list_any test xs) (so x)
-    (passing test passes b so xs)
-  where
-    picked : (p : Bool) (rest : List X) → list_any test (cond p (x ∷ rest) rest)
-        ≡ cond p (test x || list_any test rest) (list_any test rest)
-    picked true rest = refl
-    picked false rest = refl
-
-    by_test : (t p b rest all : Bool) → (t ≡ true → p ≡ b) → rest ≡ (all && b)
-        → cond p (t || rest) rest ≡ ((t || all) && b)
-    by_test true true true rest all same more = refl
-    by_test true true false rest all same more = absurd (let e = same refl in cc)
-    by_test true false true rest all same more = absurd (let e = same refl in cc)
-    by_test true false false rest true same more = more
-    by_test true false false rest false same more = more
-    by_test false true b rest all same more = more
-    by_test false false b rest all same more = more
-
 -- a link that joins two switches is theirs
 joined_up : (journal : List Item) (s k : ℕ) (link : LinkRow) → joins s k link ≡ true
     → is_up_link journal link ≡ is_link_up journal s k
@@ -98,7 +73,7 @@ up_linked : (setting : Setting) (journal : List Item) (s k : ℕ)
     → are_linked (up_links setting journal) s k
     ≡ (are_linked setting.net.links s k && is_link_up journal s k)
 up_linked setting journal s k =
-    passing (joins s k) (is_up_link journal) (is_link_up journal s k) (joined_up journal s k)
+    any_filter_by (joins s k) (is_up_link journal) (is_link_up journal s k) (joined_up journal s k)
     setting.net.links
 
 -- the lower and the higher switch are those of the link

@@ -2,6 +2,7 @@
 use Rattle.std.proofs.Common.{ℕ, ◌≡◌, ◌<◌, Bool, true, false, if◌then◌else◌, Some, None, List, refl, sym, length, get_or}
 use Rattle.std.specs.Prelude.{IsTrue, unwrap_or, option_map, slice_get}
 use Rattle.std.proofs.lemmas.Option.{slice_get_within, slice_get-get_or}
+use Rattle.base.proofs.OptionsMade.{some_same}
 use Rattle.five_tuple.specs.Header.{IsHeader}
 use Rattle.five_tuple.specs.declared.header.Header.{Header}
 use Rattle.policy_rules.specs.declared.packet.Leg.{Leg}
@@ -13,7 +14,6 @@ use Rattle.update_machine.specs.Setting.{Setting}
 use Rattle.packet_laws.specs.OnWay.{IsOnLeg, IsOnWay}
 use Rattle.packet_laws.specs.Facts.{PacketFacts, what_is_known}
 use Rattle.packet_laws.specs.Rest.{IsServed}
-use Rattle.packet_laws.proofs.PacketsHere.{some_same}
 use Rattle.travelling.specs.Travelling.{Flight}
 use Rattle.refinement.proofs.JournalLaws.{Known, Travels, travels_known}
 use Rattle.refinement.proofs.FactsAlong.{Targets, flight_by}

@@ -16,7 +16,6 @@ use Rattle.base.proofs.CallerLemmas.{has_mask, mask_of_is, mask_of_lt}
 use Rattle.net_file.specs.Net.{IsLink, IsNet}
 use Rattle.net_file.specs.declared.net.LinkRow.{LinkRow}
 use Rattle.net_file.specs.Joins.{are_linked, joins}
-use Rattle.policy_rules.proofs.CallerLemmas.{filter_more, range_more}
 use Rattle.switch_core.specs.Life.{near_changed, next_advert}
 use Rattle.switch_core.specs.State.{SwitchValue, serves}
 use Rattle.refinement.specs.Links.{relinked_switch, link_messages}
@@ -33,7 +32,8 @@ use Rattle.refinement.specs.Refinement.{is_up_link, up_links}
 use Rattle.world_log.specs.Linking.{AreRelinked, all_adverts_sent, links_change, near_all, near_by, serves_at, adverts_on_change, adverts_at, adverts_over}
 use Rattle.world_log.proofs.RelinkingAdverts.{told_nothing}
 use Rattle.std.proofs.lemmas.List.Elements.{recursion_from_All}
-use Rattle.control_laws.proofs.NetLinks.{any_filter}
+use Rattle.base.proofs.ListsOfAny.{any_filter}
+use Rattle.base.proofs.ListsOfRanges.{filter_more, range_more}
 
 -- ---- masks
 

@@ -9,6 +9,9 @@ use Rattle.std.proofs.lemmas.List.{get_or-map, length-map}
 use Rattle.std.proofs.lemmas.List.Folds.{list_all-map}
 use Rattle.std.proofs.lemmas.List.FromFn.{fill_by_all}
 use Rattle.std.proofs.lemmas.Option.{slice_get-get_or}
+use Rattle.base.proofs.ListsFiltered.{filter_made, map_twice}
+use Rattle.base.proofs.ListsOfEach.{each_always, each_map}
+use Rattle.base.proofs.ListsOfRanges.{picked_same}
 use Rattle.ctrl_msg.specs.declared.message.Body.{Body}
 use Rattle.ctrl_msg.specs.declared.message.Body.TheVariants.{Collect, OpenAt, Stamp}
 use Rattle.ctrl_msg.specs.declared.message.Message.{Message}
@@ -29,7 +32,7 @@ use Rattle.control_laws.specs.ItemCauses.{HasItemCause}
 use Rattle.control_laws.proofs.ControllerBlocks.{settling_have}
 use Rattle.control_laws.proofs.ItemFacts.{have_front}
 use Rattle.control_laws.proofs.FactsGrown.{count_more, current_more, known_more, opened_at_more, over_more, retired_more, told_more}
-use Rattle.control_laws.proofs.MessageSends.{acked_same, each, each_map}
+use Rattle.control_laws.proofs.MessageSends.{acked_same}
 use Rattle.control_laws.proofs.SwitchOpenings.{member_of, member_parts}
 use Rattle.control_laws.specs.Bounds.{MarksAreBounded}
 use Rattle.control_laws.proofs.GreatestNumbers.{acked_stamp_opened}
@@ -54,7 +57,7 @@ use Rattle.controller.specs.declared.sends.Act.TheVariants.{Current, Post, Retir
 use Rattle.refinement.specs.Marks.{AreMarksOf, IsKnown}
 use Rattle.refinement.specs.Written.{item_of, written_items}
 use Rattle.refinement.proofs.KeptController.{current_on, known_on, marks_on, retired_on}
-use Rattle.refinement.proofs.PickedRanges.{any_picked, filter_made, map_twice, passing_is, picked_same}
+use Rattle.refinement.proofs.PickedRanges.{any_picked, passing_is}
 use Rattle.refinement.proofs.WrittenActs.{posted, written_in_three}
 use Rattle.ternary.specs.Word.{WordValue}
 
@@ -127,7 +130,7 @@ leave_on setting journal value message switches leaves are =
     (leaves_keep journal (send_items journal (map message switches))
     (sends_leave journal (map message switches)
     (each_map (ReopensAlone journal) message switches
-    (each (λ s. ReopensAlone journal (message s)) leaves switches)))) are
+    (each_always (λ s. ReopensAlone journal (message s)) leaves switches)))) are
 
 -- ---- current rises
 

@@ -8,6 +8,7 @@ use Rattle.std.proofs.lemmas.Bool.Decides.{nat_tests}
 use Rattle.std.proofs.lemmas.List.{set_comm}
 use Rattle.std.proofs.lemmas.List.Elements.{filter_map-append}
 use Rattle.std.proofs.lemmas.List.Sums.{fold-append}
+use Rattle.base.proofs.ListsOfEach.{each_append}
 use Rattle.ctrl_msg.specs.declared.message.Body.{Body}
 use Rattle.ctrl_msg.specs.declared.message.Body.TheVariants.{Install, OpenAt, Stamp, Collect, CacheRule, Advertise, Hello, Installed, Stamped}
 use Rattle.failover.specs.Adverts.{after_hearing, held_advert, is_news, is_newer}
@@ -22,7 +23,6 @@ use Rattle.update_machine.specs.LinkMasks.{other_advert}
 use Rattle.update_machine.specs.Caches.{cache_after, carried_from, raised_from}
 use Rattle.update_machine.specs.Setting.{Setting}
 use Rattle.update_machine.specs.Versions.{stamp_in}
-use Rattle.control_laws.proofs.MessageSends.{each_append}
 use Rattle.refinement.specs.SwitchOf.{collect_in, tables_in, with_tables}
 use Rattle.refinement.proofs.HeldTables.{AreVersioned, IsVersioned, above, above_more, above_twice, found_above, tables_are}
 use Rattle.refinement.proofs.SwitchFacts.{SwitchFacts, all_by, collected_by, filled, first_tables, others_by, stamp_by, switch_in}

@@ -7,6 +7,8 @@ use Rattle.std.proofs.lemmas.Bool.Decides.{nat_tests}
 use Rattle.std.proofs.Math.Bool.{or-false, or_assoc, or_comm}
 use Rattle.std.proofs.lemmas.List.Elements.{All-contains, All-from_recursion, recursion_from_All}
 use Rattle.std.proofs.lemmas.List.Folds.{list_any-append}
+use Rattle.base.proofs.ListsFound.{find-there}
+use Rattle.base.proofs.ListsOfEach.{each_kept}
 use Rattle.ctrl_msg.specs.declared.message.Body.{Body}
 use Rattle.ctrl_msg.specs.declared.message.Body.TheVariants.{Install}
 use Rattle.partition.specs.Plan.{IsPlan}
@@ -15,7 +17,7 @@ use Rattle.journal.specs.declared.item.Item.{Item}
 use Rattle.switch_core.specs.State.{SwitchValue, held_tables, holds_version, no_tables}
 use Rattle.switch_table.specs.Tables.{AreSoundTables, Hosted, tables_of}
 use Rattle.switch_table.specs.declared.tables.Tables.{Tables}
-use Rattle.switch_table.proofs.TableLemmas.{find-there, tables_are_sound}
+use Rattle.switch_table.proofs.TableLemmas.{tables_are_sound}
 use Rattle.switch_table.specs.Lookup.{lookup_of}
 use Rattle.update_machine.specs.Adverts.{is_cut_off, route_from}
 use Rattle.update_machine.specs.Caches.{lookup_at}
@@ -23,7 +25,6 @@ use Rattle.update_machine.specs.Boots.{boot_of, heard, is_up}
 use Rattle.update_machine.specs.Setting.{Setting}
 use Rattle.update_machine.specs.Versions.{collects_version, holds_version as holds_in, installs_version, stamp_of, policy_at, tables_at, version_count, plan_at}
 use Rattle.update_machine.proofs.CallerLemmas.{begins_planned, first_plan_stays, version_is_planned}
-use Rattle.control_laws.proofs.MessageSends.{each_kept}
 use Rattle.control_laws.specs.Planned.{BringsTables}
 use Rattle.refinement.specs.Knowing.{KnowledgeRefines, TablesAreKnown}
 use Rattle.refinement.specs.SwitchOf.{switch_of, tables_in, with_tables}

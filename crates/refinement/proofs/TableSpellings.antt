@@ -1,10 +1,9 @@
 -- How long the spelling of small tables is.
-use Rattle.std.proofs.Common.{◌≡◌, ℕ, ◌*◌, ◌≤◌, ◌<◌, ◌^◌, List, [], ◌∷◌, ◌++◌, get_or, length, refl, arith}
+use Rattle.std.proofs.Common.{◌≡◌, ℕ, ◌≤◌, ◌<◌, ◌^◌, ◌++◌, get_or, length, refl, arith}
 use Rattle.std.specs.Prelude.{All}
 use Rattle.std.specs.List.{flat_map}
 use Rattle.std.proofs.lemmas.List.{length-append}
-use Rattle.std.proofs.Math.Nat.{suc-mul}
-use Rattle.std.proofs.lemmas.List.Elements.{All-head, All-tail}
+use Rattle.base.proofs.ListsFiltered.{each_short}
 use Rattle.policy_rules.specs.declared.rules.Partition.{Partition}
 use Rattle.policy_rules.specs.declared.rules.Rule.{Rule}
 use Rattle.switch_table.specs.declared.tables.PartRow.{PartRow}
@@ -13,15 +12,6 @@ use Rattle.wire.specs.Format.{spelled_number}
 use Rattle.wire.specs.Fields.{action, n1, n4, partition, region, rule, rule_name, switch, tables, target_count, targets, word}
 use Rattle.wire.proofs.FrameBytes.{length_n4}
 use Rattle.message_bag.proofs.SpellingLengths.{action_len, rule_len, word_len}
-
--- as many bytes as each has at most
-each_short : {A : Type 0} (spell : A → List ℕ) (most : ℕ) (xs : List A)
-    → All (λ x. length (spell x) ≤ most) xs → length (flat_map spell xs) ≤ length xs * most
-each_short spell most [] short = omega arith
-each_short spell most (x ∷ xs) short =
-    let rest = each_short spell most xs (All-tail (λ x. length (spell x) ≤ most) x xs short) in
-    let first = All-head (λ x. length (spell x) ≤ most) x xs short in
-    omega (arith, rest, first, suc-mul (length xs) most, length-append (spell x) (flat_map spell xs))
 
 -- ---- regions
 

@@ -1,16 +1,13 @@
 -- A board that notes what left in the items of a step, behind those of the steps before it.
-use Rattle.std.proofs.Common.{◌≡◌, ◌∙◌, ◌-◌, ℕ, List, [], ◌∷◌, ◌++◌, drop, length, take, ap, append_assoc, append-nil, arith, length-drop, refl, subst, sym}
+use Rattle.std.proofs.Common.{◌≡◌, ◌∙◌, ◌-◌, ℕ, List, [], ◌++◌, drop, length, take, ap, append_assoc, append-nil, arith, length-drop, subst, sym}
 use Rattle.std.proofs.lemmas.Grind.{flat_map-append}
 use Rattle.std.proofs.lemmas.List.{take_all}
+use Rattle.std.proofs.Math.Seq.{drop-append_seam}
 use Rattle.journal.specs.declared.item.Item.{Item}
 use Rattle.meters.specs.Gone.{BoardValue, board_after}
 use Rattle.meters.specs.Meters.{PortLeavings}
 use Rattle.meters.specs.Seen.{Seen}
 use Rattle.replay.specs.Leavings.{KeepUp, StayOn, left_by, left_in}
-
-drop_front : {X : Type 0} (xs ys : List X) → drop (length xs) (xs ++ ys) ≡ ys
-drop_front [] ys = refl
-drop_front (x ∷ xs) ys = drop_front xs ys
 
 left_append : (here items : List Item) → left_in here ++ left_in items ≡ left_in (here ++ items)
 left_append here items = sym (flat_map-append left_by here items)
@@ -30,7 +27,7 @@ pub keep_up_next : (start here after items noted : List Item) (old now new : Boa
     → noted ≡ drop (length here) after → KeepUp start after old new
 keep_up_next start here after items noted old now new written keep stay own =
     let own_items : noted ≡ items =
-    own ∙ ap (drop (length here)) written ∙ drop_front here items in
+    own ∙ ap (drop (length here)) written ∙ drop-append_seam here items in
     let whole : left_in here ++ left_in noted ≡ left_in after =
     ap (λ more. left_in here ++ left_in more) own_items ∙ left_append here items
     ∙ ap left_in (sym written) in

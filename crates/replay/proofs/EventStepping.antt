@@ -1,5 +1,5 @@
 -- An event that takes its steps one after another.
-use Rattle.std.proofs.Common.{ℕ, ◌≡◌, ◌⊎◌, ◌∙◌, Bool, true, false, inl, inr, Option, Some, None, List, [], ◌∷◌, ◌++◌, Result, Ok, Err, IsErrAnd, IsErrOf, OnErr, refl, ap, sym, subst, append_assoc, append-nil}
+use Rattle.std.proofs.Common.{ℕ, ◌≡◌, ◌⊎◌, ◌∙◌, Bool, true, false, inl, inr, Option, Some, None, List, [], ◌∷◌, ◌++◌, refl, ap, sym, subst, append_assoc, append-nil}
 use Rattle.journal.specs.declared.item.Item.{Item}
 use Rattle.steps.specs.declared.step.Event.{Event}
 use Rattle.steps.specs.declared.step.Event.TheVariants.{Drain, Flush, One}
@@ -203,17 +203,3 @@ happens_whole setting row event is_begun start here took is = record {
   room = took.room;
   written = took.written;
 }
-
--- ---- errors
-
--- one that is handed on stays the same
-pub same_error : {U E : Type 0} (result : Result U E) (e error : E)
-    → IsErrAnd result (λ x. x ≡ e) → IsErrOf result error → e ≡ error
-same_error (Ok x) e error same is = absurd same
-same_error (Err x) e error same is =
-    let whole : x ≡ error = cc is in
-    sym same ∙ whole
-
-pub on_err : {T E : Type 0} (result : Result T E) (Holds : Type 0) → Holds → OnErr result Holds
-on_err (Ok done) Holds holds = tt
-on_err (Err error) Holds holds = holds

@@ -28,19 +28,13 @@ use Rattle.steps.specs.declared.step.Step.TheVariants as step
 use Rattle.schedule.specs.Kinds.{kind_of}
 use Rattle.schedule.specs.Reading.{AreSoundEvents, events_in, events_of, events_under_heading, no_schedule_heading, refused_row, refusals_from}
 use Rattle.base.specs.declared.row.InRow.{InRow}
+use Rattle.base.proofs.OptionsMade.{some_of_ok_or}
 use Rattle.schedule.specs.Rows.{event_of, event_with, file_in, header_read, link_in, number_read, schedule_heading, switch_in}
 use Rattle.schedule.specs.declared.error.ScheduleRefusal.{ScheduleRefusal}
 use Rattle.schedule.specs.declared.error.ScheduleRefusal.TheVariants as why
 use Rattle.schedule.specs.declared.kind.Kind.{Kind}
 use Rattle.schedule.specs.declared.kind.Kind.TheVariants as kind
 use Rattle.schedule.proofs.HeaderFields.{header_bound, number_bound}
-
--- ---- what follows from a value
-
-some_of : {X E : Type 0} (read : Option X) (refusal : E) (x : X) → ok_or read refusal ≡ Ok x
-    → read ≡ Some x
-some_of (Some a) refusal x is = cc is
-some_of None refusal x is = cc is
 
 -- ---- fields
 
@@ -51,11 +45,11 @@ switch_sound : (net : Net) (name : List ℕ) (switch : ℕ) → switch_in net na
     → HasSwitch net switch
 switch_sound net name switch is =
     (position-Some (λ (row : SwitchRow). bytes_eq row.name name) net.switches switch no_switch
-    (some_of (switch_number net.switches name) why.Switch switch is)).0
+    (some_of_ok_or (switch_number net.switches name) why.Switch switch is)).0
 
 number_sound : (text : List ℕ) (n : ℕ) → number_read text ≡ Ok n → n ≤ 999999999
 number_sound text n is = number_bound 999999999 text n
-    (some_of (number_up_to 999999999 text) why.Number n is)
+    (some_of_ok_or (number_up_to 999999999 text) why.Number n is)
 
 file_sound : (files : ℕ) (text : List ℕ) (file : ℕ) → file_in files text ≡ Ok file → (1 ≤ file)
     × (file ≤ files)
@@ -70,7 +64,7 @@ file_sound files text file is =
         arith,
         same,
         number_bound files text n
-            (some_of (number_up_to files text) why.File n reads),
+            (some_of_ok_or (number_up_to files text) why.File n reads),
       ),
     )
 

@@ -1,20 +1,11 @@
 -- The lines of rows, one more at a time.
-use Rattle.std.proofs.Common.{◌≡◌, ℕ, suc, ◌+◌, ◌<◌, List, [], ◌∷◌, ◌++◌, length, take, get_or, ◌∙◌, ap, arith, length-take}
+use Rattle.std.proofs.Common.{◌≡◌, ℕ, ◌+◌, ◌<◌, List, [], ◌∷◌, ◌++◌, length, take, get_or, ◌∙◌, ap, arith, length-take}
 use Rattle.std.specs.List.{enumerate_from, flat_map}
 use Rattle.std.proofs.lemmas.Grind.{common_steps, flat_map-append, take_at_read}
+use Rattle.base.proofs.ListsJoined.{enumerate_push}
 use Rattle.net_file.specs.declared.net.Net.{Net}
 use Rattle.switch_table.specs.declared.tables.PartRow.{PartRow}
 use Rattle.show_text.specs.Text.{row_line}
-
-enumerate_push : {X : Type 0} (n : ℕ) (xs : List X) (x : X)
-    → enumerate_from n (xs ++ x ∷ []) ≡ enumerate_from n xs ++ (n + length xs, x) ∷ []
-enumerate_push {X} n [] x =
-    let e : n ≡ n + 0 = omega arith in ap {B = List (ℕ × X)} (λ k. (k, x) ∷ []) e
-enumerate_push {X} n (y ∷ ys) x =
-    let e : n + 1 + length ys ≡ n + suc (length ys) = omega arith in
-    ap {B = List (ℕ × X)} (λ l. (n, y) ∷ l)
-    (enumerate_push (n + 1) ys x
-    ∙ ap {B = List (ℕ × X)} (λ k. enumerate_from (n + 1) ys ++ (k, x) ∷ []) e)
 
 -- of the first rows, one more
 pub rows_more : (net : Net) (rows : List PartRow) (i : ℕ) (row : PartRow) → i < length rows

@@ -3,6 +3,7 @@ use Rattle.std.proofs.Common.{ℕ, ◌≡◌, ◌≢◌, ◌∙◌, ◌↔◌, �
 use Rattle.std.specs.Option.{MatchOption}
 use Rattle.std.specs.Prelude.{Result, Ok, Err}
 use Rattle.std.proofs.lemmas.Bool.Decides.{nat_tests}
+use Rattle.base.proofs.OptionsMade.{MatchOption-weaker}
 use Rattle.policy_rules.specs.declared.packet.Cause.{Cause}
 use Rattle.policy_rules.specs.declared.packet.Cause.TheVariants.{NoRoute}
 use Rattle.policy_rules.specs.declared.packet.Leg.TheVariants.{Exit as ExitLeg}
@@ -16,7 +17,7 @@ use Rattle.switch_core.specs.State.{SwitchValue}
 use Rattle.switch_core.specs.declared.answers.Next.{Next}
 use Rattle.switch_core.specs.declared.answers.Next.TheVariants.{Dropped, Exit, Out, Stuck}
 use Rattle.switch_core.specs.declared.packet.Packet.{Packet}
-use Rattle.switch_core.proofs.LookupAnswers.{either_way, sets_out}
+use Rattle.switch_core.proofs.LookupAnswers.{sets_out}
 
 -- ---- by the port's owner
 
@@ -112,7 +113,7 @@ next_exit s site packet action port owner by has other =
     ≡ exit_by (set_out s site.near packet (ExitLeg port) (owner ∷ [])) =
     ap (next_of s site packet) by ∙ ap (leave_by s site.near packet port) has
     ∙ leaves_for s site.near packet port owner other in
-    either_way (route_known s site.near packet (owner ∷ []))
+    MatchOption-weaker (route_known s site.near packet (owner ∷ []))
     (λ none. is ∙ ap exit_by none) (λ way some. is ∙ ap exit_by some)
     (sets_out s site.near packet (ExitLeg port) (owner ∷ []))
 

@@ -6,16 +6,16 @@ use Rattle.std.specs.Prelude.{Result, Ok, Err}
 use Rattle.std.proofs.lemmas.List.Elements.{All-contains}
 use Rattle.std.proofs.lemmas.List.Quantifiers.{position-Some}
 use Rattle.std.proofs.lemmas.Option.{slice_get-get_or}
+use Rattle.base.proofs.ListsFound.{find-position, find-there}
+use Rattle.base.proofs.OptionsMade.{MatchOption-weaker}
 use Rattle.five_tuple.specs.Header.{number_of}
 use Rattle.five_tuple.specs.declared.header.Header.{Header}
-use Rattle.policy_rules.proofs.CallerLemmas.{find-position}
 use Rattle.policy_rules.specs.Rules.{is_held}
 use Rattle.policy_rules.specs.declared.packet.Cause.{Cause}
 use Rattle.policy_rules.specs.declared.packet.Leg.{Leg}
 use Rattle.policy_rules.specs.declared.packet.Leg.TheVariants.{Seek as SeekLeg}
 use Rattle.policy_rules.specs.declared.rules.Partition.{Partition}
 use Rattle.tunnel.specs.Tunnel.{TunnelValue}
-use Rattle.switch_table.proofs.TableLemmas.{find-there}
 use Rattle.switch_table.specs.Tables.{AreSoundTables}
 use Rattle.switch_table.specs.declared.cache.CacheEntry.{CacheEntry}
 use Rattle.switch_table.specs.declared.search.Found.{Found}
@@ -116,11 +116,6 @@ hit_in s site packet version tables number place = by_part (own_part tables numb
 
 -- ---- a packet sets out
 
-pub either_way : {P P' : Type 0} {Q Q' : List ℕ → Type 0} (route : Option (List ℕ)) → (P → P') →
-    ((way : List ℕ) → Q way → Q' way) → MatchOption route P Q → MatchOption route P' Q'
-either_way None left right h = left h
-either_way (Some way) left right h = right way h
-
 pub sets_out : (s : SwitchValue) (near : ℕ) (packet : Packet) (leg : Leg) (targets : List ℕ) →
     MatchOption (route_known s near packet targets)
     (set_out s near packet leg targets ≡ Err (cause_of s near packet.down leg targets))
@@ -183,7 +178,7 @@ lookup_redirect s site packet partition targets ready found =
     let is : looked_up s site packet ≡ by_leg s.stamp =
     looked_up_by s site packet (Redirect partition targets) found
     ∙ ap by_leg (stamp_version s ready.stamped) in
-    either_way (route_known s site.near packet targets)
+    MatchOption-weaker (route_known s site.near packet targets)
     (λ none. is ∙ ap (seek_by leg) none)
     (λ way some. is ∙ ap (seek_by leg) some)
     (sets_out s site.near packet leg targets)

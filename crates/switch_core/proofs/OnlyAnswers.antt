@@ -1,7 +1,6 @@
 -- The relations of the laws allow one answer.
 use Rattle.std.proofs.Common.{ℕ, ◌≡◌, ◌≢◌, ◌∙◌, ◌==◌, Bool, true, false, cond, Option, Some, None, is_some, List, [], ◌∷◌, position, slice_get, refl, ap, sym, eqb-true, eq-eqb}
 use Rattle.std.specs.Bool.{IsTrue}
-use Rattle.std.specs.Option.{MatchOption}
 use Rattle.five_tuple.specs.Header.{number_of}
 use Rattle.five_tuple.specs.declared.header.Header.{Header}
 use Rattle.policy_rules.specs.Rules.{first_rule, is_held}
@@ -14,6 +13,7 @@ use Rattle.policy_rules.specs.declared.rules.Partition.{Partition}
 use Rattle.policy_rules.specs.declared.rules.Rule.{Rule}
 use Rattle.net_file.specs.Owners.{port_owner}
 use Rattle.base.specs.Masks.{has}
+use Rattle.base.proofs.OptionsMade.{MatchOption-same}
 use Rattle.cache_maker.specs.Independent.{widen}
 use Rattle.tunnel.specs.Moves.{next}
 use Rattle.tunnel.specs.Tunnel.{TunnelValue}
@@ -40,13 +40,6 @@ use Rattle.switch_core.proofs.LeavingPackets.{next_dropped, next_exit, next_no_o
 use Rattle.switch_core.proofs.OnWay.{down_is, hop_arrives, hop_moves, hop_stuck, hop_turns}
 
 -- ---- alternatives
-
--- two values that are both what an option says are equal
-same_of : {X Y : Type 0} (o : Option Y) (a b none : X) (some : Y → X) →
-    MatchOption o (a ≡ none) (λ y. a ≡ some y) → MatchOption o (b ≡ none) (λ y. b ≡ some y) →
-    a ≡ b
-same_of None a b none some one other = one ∙ sym other
-same_of (Some y) a b none some one other = one ∙ sym other
 
 -- one first hit in one partition of a number
 same_part : (tables : Tables) (header : Header) (own other : OwnRule tables header) →
@@ -96,7 +89,7 @@ same_answer s site packet answer other one two = by_found (lookup_by_stamp s pac
         (one.authority partition place is).0 (two.authority partition place is).0
     by_found (Redirect partition targets) is =
         let leg = SeekLeg s.stamp partition in
-        same_of (route_known s site.near packet targets) answer other
+        MatchOption-same (route_known s site.near packet targets) answer other
         (Stuck (cause_of s site.near packet.down leg targets) leg)
         (λ (route : List ℕ). Seek (setting_out packet leg targets route))
         (one.redirect partition targets is) (two.redirect partition targets is)
@@ -168,7 +161,7 @@ one_way_on s site packet action way law = by_action action refl
         by_test false is =
             let other : owner ≢ s.number = λ same. (let test = eq-eqb owner s.number same in
             cc) in
-            same_of (route_known s site.near packet (owner ∷ [])) way
+            MatchOption-same (route_known s site.near packet (owner ∷ [])) way
             (next_of s site packet action) (goes.Stuck NoRoute)
             (λ (route : List ℕ). goes.Exit
             (setting_out packet (ExitLeg port) (owner ∷ []) route))
@@ -190,7 +183,7 @@ one_hop s near t after law = by_next (next t) refl
     by_way other found None is =
         law.stuck other found is ∙ sym (hop_stuck s near t other found is)
     by_way other found (Some way) is =
-        same_of (slice_get way 1) after (hop_answer s near t)
+        MatchOption-same (slice_get way 1) after (hop_answer s near t)
         (record {
           end = hop.Arrive;
           tunnel = record t { route = way; place = 0; down = down_with t other };

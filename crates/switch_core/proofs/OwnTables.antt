@@ -6,15 +6,15 @@ use Rattle.std.proofs.lemmas.Bool.{cases_lt}
 use Rattle.std.proofs.lemmas.Bool.Decides.{nat_tests}
 use Rattle.std.proofs.lemmas.List.Elements.{All-contains}
 use Rattle.std.proofs.lemmas.Option.{same_Some}
+use Rattle.base.proofs.ListsFound.{find-position, find-there}
 use Rattle.five_tuple.specs.Header.{IsHeader, number_of}
 use Rattle.five_tuple.specs.declared.header.Header.{Header}
-use Rattle.policy_rules.proofs.CallerLemmas.{find-position}
 use Rattle.policy_rules.specs.Partitions.{LastCovers}
 use Rattle.policy_rules.specs.Rules.{first_rule, is_held}
 use Rattle.policy_rules.specs.declared.rules.Partition.{Partition}
 use Rattle.policy_rules.specs.declared.rules.Rule.{Rule}
 use Rattle.policy_rules.specs.Hosted.{is_in}
-use Rattle.switch_table.proofs.TableLemmas.{decides_all, find-there}
+use Rattle.switch_table.proofs.TableLemmas.{decides_all}
 use Rattle.switch_table.specs.Cache.{first_entry}
 use Rattle.switch_table.specs.Lookup.{authority_of, redirect_of, lookup_of, table_lookup}
 use Rattle.switch_table.specs.Tables.{AreSoundTables}

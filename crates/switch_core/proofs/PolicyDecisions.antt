@@ -4,6 +4,7 @@ use Rattle.std.specs.Bool.{IsTrue}
 use Rattle.std.specs.Option.{IsSome, MatchOption, option_map_or}
 use Rattle.std.specs.Prelude.{⊤}
 use Rattle.std.proofs.lemmas.List.Elements.{All-cons, All-contains, All-head, All-tail}
+use Rattle.base.proofs.ListsFound.{find-there}
 use Rattle.five_tuple.specs.Header.{IsHeader, number_of}
 use Rattle.five_tuple.specs.declared.header.Header.{Header}
 use Rattle.policy_rules.specs.Partitions.{AreSoundPartitions}
@@ -16,7 +17,6 @@ use Rattle.policy_rules.specs.declared.policy.Row.{Row}
 use Rattle.policy_rules.specs.declared.rules.Partition.{Partition}
 use Rattle.policy_rules.specs.Hosted.{Hosted, is_in}
 use Rattle.tunnel.specs.Tunnel.{TunnelValue}
-use Rattle.switch_table.proofs.TableLemmas.{find-there}
 use Rattle.switch_table.specs.Cache.{first_entry}
 use Rattle.switch_table.specs.Lookup.{authority_of, redirect_of, table_lookup}
 use Rattle.switch_table.specs.Tables.{has_target, part_of, tables_of}

@@ -1,13 +1,13 @@
 -- What a cache keeps as it goes over to a version.
-use Rattle.std.proofs.Common.{ℕ, zero, suc, ◌≡◌, ◌∙◌, ◌+◌, ◌≤◌, Bool, true, false, cond, leb, eqb, not, ◌&&◌, ◌||◌, ◌⊎◌, Option, Some, None, Result, Ok, Err, IfSome, List, [], ◌∷◌, ◌++◌, append-nil, length, map, filter, filter_map, get_or, refl, ap, sym, subst, inl, inr, arith, All, AllPairs, Any, Contains}
+use Rattle.std.proofs.Common.{ℕ, ◌≡◌, ◌∙◌, ◌+◌, ◌≤◌, Bool, true, false, cond, leb, eqb, not, ◌&&◌, ◌||◌, ◌⊎◌, Option, Some, None, Result, Ok, Err, IfSome, List, [], ◌∷◌, ◌++◌, append-nil, length, map, filter, filter_map, get_or, refl, ap, sym, subst, inl, inr, arith, All, AllPairs, Any, Contains}
 use Rattle.std.specs.List.{cons_option, list_any}
 use Rattle.std.specs.Prelude.{OnErr, OnOk}
 use Rattle.std.proofs.lemmas.Bool.{eq-eqb, eqb-true, false_from_ne_true, le-leb, leb-true}
 use Rattle.std.proofs.lemmas.List.{get_or_default, map-append}
-use Rattle.std.proofs.lemmas.List.Elements.{All-cons, All-contains_itself, All-head, All-nil, All-tail, All-weaker, filter_map-append}
+use Rattle.std.proofs.lemmas.List.Elements.{All-contains_itself, All-weaker, filter_map-append}
 use Rattle.std.proofs.lemmas.List.Folds.{Any-from_list_any, list_any-from_Any}
-use Rattle.std.proofs.lemmas.List.Kept.{AllPairs-cons}
-use Rattle.base.proofs.ListLemmas.{in_cons_option, length-filter_map}
+use Rattle.base.proofs.ListLemmas.{length-filter_map}
+use Rattle.base.proofs.ListsOfAll.{All-filter_map, AllPairs-filter_map, Contains-filter_map}
 use Rattle.ternary.specs.Meets.{any_word}
 use Rattle.ternary.specs.Word.{WordValue}
 use Rattle.ternary.proofs.CallerLemmas.{any_covers, meets_cover}
@@ -17,49 +17,6 @@ use Rattle.switch_table.specs.Carried.{after_carry, all_touched, carried_entry, 
 use Rattle.switch_table.specs.Keys.{Pair, has_key, key_of, pair_of}
 use Rattle.switch_table.specs.declared.cache.CacheEntry.{CacheEntry}
 use Rattle.switch_table.proofs.QueueLemmas.{apart-sym, has_key_of_pairs, none_before, same_key_from, same_key_parts}
-
--- ---- what is left of a list
-
-pub All-filter_map : {X Y : Type 0} (P : Y → Type 0) (f : X → Option Y) (xs : List X)
-    → All (λ x. IfSome (f x) P) xs → All P (filter_map f xs)
-All-filter_map P f [] all = All-nil P
-All-filter_map {X} {Y} P f (x ∷ xs) all =
-    by_case (f x) (All-head (λ z. IfSome (f z) P) x xs all)
-    (All-filter_map P f xs (All-tail (λ z. IfSome (f z) P) x xs all))
-  where
-    by_case : (o : Option Y) → IfSome o P → All P (filter_map f xs)
-        → All P (cons_option o (filter_map f xs))
-    by_case None here rest = rest
-    by_case (Some y) here rest = All-cons P y (filter_map f xs) here rest
-
-contains_left : {X Y : Type 0} (f : X → Option Y) (xs : List X) (x : X) (y : Y) → Contains xs x
-    → f x ≡ Some y → Contains (filter_map f xs) y
-contains_left f [] x y (k, within, is) made = absurd (omega (arith, within))
-contains_left f (z ∷ zs) x y (zero, within, is) made =
-    subst (λ o. Contains (cons_option o (filter_map f zs)) y) (sym (ap f is ∙ made))
-    (0, omega arith, refl)
-contains_left f (z ∷ zs) x y (suc k, within, is) made =
-    in_cons_option (f z) (filter_map f zs) y
-    (contains_left f zs x y (k, omega (arith, within), is) made)
-
--- what is left of two elements of a list is related where they are
-AllPairs-filter_map : {X Y : Type 0} (R : X → X → Type 0) (S : Y → Y → Type 0)
-    (f : X → Option Y)
-    → ((a b : X) → R a b → IfSome (f a) (λ y. IfSome (f b) (λ z. S y z)))
-    → (xs : List X) → AllPairs R xs → AllPairs S (filter_map f xs)
-AllPairs-filter_map R S f each [] pairs = λ i j d less within. absurd (omega (arith, within))
-AllPairs-filter_map {X} {Y} R S f each (x ∷ xs) pairs =
-    by_case (f x) (λ k d within. each x (get_or xs k d) (pairs 0 (suc k) d (omega arith)
-    (omega (arith, within))))
-    (AllPairs-filter_map R S f each xs
-    (λ i j d less within. pairs (suc i) (suc j) d (omega (arith, less))
-    (omega (arith, within))))
-  where
-    by_case : (o : Option Y) → All (λ b. IfSome o (λ y. IfSome (f b) (λ z. S y z))) xs
-        → AllPairs S (filter_map f xs) → AllPairs S (cons_option o (filter_map f xs))
-    by_case None first rest = rest
-    by_case (Some y) first rest =
-        AllPairs-cons S y (filter_map f xs) (All-filter_map (S y) f xs first) rest
 
 -- ---- an entry that goes over
 
@@ -230,7 +187,7 @@ untouched_stays version touched cache entry there before apart =
         (cond (is_carried version touched entries entry) (Some (under version entry)) None)) below
         ∙ ap (λ b. cond b (Some (under version entry)) None) goes in
         found (under version entry)
-        (contains_left (carried_entry version touched entries) entries entry (under version entry)
+        (Contains-filter_map (carried_entry version touched entries) entries entry (under version entry)
         there left) (refl, refl)
     by_case true twins =
         let any = Any-from_list_any (same_key (under version entry)) entries twins in
@@ -243,7 +200,7 @@ untouched_stays version touched cache entry there before apart =
         ap (λ b. cond b (Some twin)
         (cond (is_carried version touched entries twin) (Some (under version twin)) None)) stays in
         found twin
-        (contains_left (carried_entry version touched entries) entries twin twin
+        (Contains-filter_map (carried_entry version touched entries) entries twin twin
         (any.0, any.2, any.3) left) (sym versions, sym keys.1)
 
 -- ---- what is there was there, or went over

@@ -1,5 +1,5 @@
 -- The first entry that holds a header, by the keys of its masks.
-use Rattle.std.proofs.Common.{arith, ℕ, ◌≡◌, ◌∙◌, ◌+◌, Bool, true, false, Option, Some, IfSome, cond, eqb, ◌&&◌, ◌||◌, List, [], ◌∷◌, find, option_map, refl, ap, sym, All}
+use Rattle.std.proofs.Common.{arith, ℕ, ◌≡◌, ◌∙◌, ◌+◌, Bool, true, false, Option, Some, cond, eqb, ◌&&◌, List, [], ◌∷◌, find, option_map, refl, ap, sym}
 use Rattle.std.specs.List.{list_any}
 use Rattle.std.specs.Int.Bits.{bit_and}
 use Rattle.std.proofs.lemmas.Bool.{eqb-true}
@@ -13,12 +13,7 @@ use Rattle.switch_table.specs.Queue.{AreMasked, HaveVersions}
 use Rattle.switch_table.specs.declared.cache.CacheEntry.{CacheEntry}
 use Rattle.switch_table.proofs.QueueLemmas.{HasVersion, key_of_entry}
 use Rattle.std.proofs.lemmas.Bool.Decides.{nat_tests}
-
-list_any-both : {X : Type 0} (t : Bool) (q : X → Bool) (xs : List X) →
-    list_any (λ x. t && q x) xs ≡ (t && list_any q xs)
-list_any-both t q [] = sym (and-false t)
-list_any-both true q (x ∷ xs) = ap (λ b. q x || b) (list_any-both true q xs)
-list_any-both false q (x ∷ xs) = list_any-both false q xs
+use Rattle.base.proofs.ListsOfAny.{list_any-both}
 
 abbrev pub holds_of : ℕ → ℕ → CacheEntry → Bool
 holds_of version header entry = eqb entry.version version && holds entry.word header
@@ -96,14 +91,3 @@ first_by_hits shift version header masks (pair ∷ pairs) are masked =
         ≡ cond b (Some (kept_entry shift pair)) left
     by_case true left rest = refl
     by_case false left rest = rest
-
--- what holds of each holds of the one that is found
-pub found_is : {X : Type 0} (P : X → Type 0) (test : X → Bool) (xs : List X) → All P xs
-    → IfSome (find test xs) P
-found_is P test [] all = tt
-found_is {X} P test (x ∷ xs) all =
-    by_case (test x) (found_is P test xs (All-tail P x xs all))
-  where
-    by_case : (b : Bool) → IfSome (find test xs) P → IfSome (cond b (Some x) (find test xs)) P
-    by_case true rest = All-head P x xs all
-    by_case false rest = rest

@@ -3,6 +3,7 @@ use Rattle.std.proofs.Common.{ℕ, ◌≡◌, ◌∙◌, ◌+◌, ◌-◌, ◌<�
 use Rattle.std.specs.List.{cons_option, list_any}
 use Rattle.std.proofs.lemmas.Bool.{and_parts, eq-eqb, eqb-true, false_from_ne_true, le-leb, leb-true}
 use Rattle.std.proofs.lemmas.List.Elements.{All-head, All-tail, All-weaker, filter_passes}
+use Rattle.base.proofs.ListsOfAll.{All-filter_map}
 use Rattle.ternary.specs.Word.{WordValue}
 use Rattle.switch_table.specs.Cache.{same_key}
 use Rattle.switch_table.specs.Carried.{carried_entry, is_carried, meets_any, under}
@@ -10,7 +11,6 @@ use Rattle.switch_table.specs.Keys.{Pair, kept_entries, kept_entry, is_carried_k
 use Rattle.switch_table.specs.Masks.{HasMaskOf}
 use Rattle.switch_table.specs.Queue.{AreMasked, AreUpTo, HaveVersions}
 use Rattle.switch_table.specs.declared.cache.CacheEntry.{CacheEntry}
-use Rattle.switch_table.proofs.CarryLemmas.{All-filter_map}
 use Rattle.switch_table.proofs.QueueLemmas.{HasVersion, same_key_parts}
 
 -- ---- where no entry is of the version or a later one

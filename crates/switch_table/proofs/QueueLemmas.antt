@@ -1,16 +1,17 @@
 -- Cache entries as pairs, whose keys add a shift to versions: what a push, a removal and a filter make
 -- of them, and that no two have one key.
-use Rattle.std.proofs.Common.{ℕ, suc, ◌≡◌, ◌∙◌, ◌+◌, ◌-◌, ◌<◌, ◌≤◌, ◌^◌, Bool, true, false, cond, Option, Some, leb, ◌&&◌, ◌||◌, eqb, List, [], ◌∷◌, ◌++◌, length, length-append, map, filter, remove, take, drop, get_or, refl, ap, slice_get, sym, subst, arith, All}
+use Rattle.std.proofs.Common.{ℕ, suc, ◌≡◌, ◌∙◌, ◌+◌, ◌-◌, ◌<◌, ◌≤◌, ◌^◌, Bool, true, false, cond, Option, leb, ◌&&◌, ◌||◌, eqb, List, [], ◌∷◌, ◌++◌, length, length-append, map, filter, remove, drop, get_or, refl, ap, sym, subst, arith, All}
 use Rattle.std.specs.List.{AllByRecursion, IsDistinct, list_any}
 use Rattle.std.specs.Map.{keys_of}
 use Rattle.std.proofs.Math.Seq.{get_or-append_seam}
 use Rattle.std.proofs.lemmas.Bool.{and_parts, and_from, eqb-true, eq-eqb, false≢true, false_from_ne_true, le-leb, leb-true}
-use Rattle.std.proofs.lemmas.List.{drop-map, get_or_default, map-append, take-map}
-use Rattle.std.proofs.lemmas.List.Elements.{All-append, All-cons, All-drop, All-filter, All-head, All-nil, All-tail, All-take}
+use Rattle.std.proofs.lemmas.List.{get_or_default}
+use Rattle.std.proofs.lemmas.List.Elements.{All-cons, All-filter, All-head, All-nil, All-tail}
 use Rattle.std.proofs.lemmas.List.Folds.{list_any-from_Any}
 use Rattle.std.proofs.lemmas.List.Kept.{AllPairs-cons}
 use Rattle.std.proofs.lemmas.List.Quantifiers.{all_pairs_push}
-use Rattle.std.proofs.lemmas.Option.{get_or_from_slice_get, slice_get_within}
+use Rattle.base.proofs.ListsByPlace.{map-remove}
+use Rattle.base.proofs.ListsOfAll.{All-remove}
 use Rattle.ternary.specs.Meets.{word_eq}
 use Rattle.ternary.specs.Word.{WordValue}
 use Rattle.switch_table.specs.Cache.{HaveDistinctKeys, same_key}
@@ -152,13 +153,6 @@ entries_distinct shift (pair ∷ pairs) are own =
     (apart_from_all shift pair pairs (All-head (HasVersion shift) pair pairs are) rest own.0)
     (entries_distinct shift pairs rest own.1)
 
-map-remove : {X Y : Type 0} (f : X → Y) (xs : List X) (k : ℕ) →
-    map f (remove xs k) ≡ remove (map f xs) k
-map-remove f xs k =
-    map-append f (take k xs) (drop (suc k) xs)
-    ∙ ap (λ ys. ys ++ map f (drop (suc k) xs)) (sym (take-map f k xs))
-    ∙ ap (λ ys. take k (map f xs) ++ ys) (sym (drop-map f (suc k) xs))
-
 pub entries_removed : (shift : ℕ) (pairs : List Pair) (place : ℕ)
     → kept_entries shift (remove pairs place) ≡ remove (kept_entries shift pairs) place
 entries_removed shift pairs place = map-remove (kept_entry shift) pairs place
@@ -247,11 +241,6 @@ none_before (x ∷ before) entry rest distinct =
     distinct) in
     ap (λ b. b || list_any (same_key entry) before) (apart-sym x entry apart) ∙ rest_apart
 
-pub All-remove : {X : Type 0} (P : X → Type 0) (xs : List X) (k : ℕ) → All P xs →
-    All P (remove xs k)
-All-remove P xs k all = All-append P (take k xs) (drop (suc k) xs) (All-take P k xs all)
-    (All-drop P (suc k) xs all)
-
 -- ---- what a queue keeps
 
 pub queue_of : (masks : Option (List WordValue)) (shift newest : ℕ) (pairs : List Pair)
@@ -264,13 +253,6 @@ queue_of masks shift newest pairs entries fits versions are up_to masked = recor
   up_to = subst (AreUpTo newest) (sym are) up_to;
   masked = subst (AreMasked masks) (sym are) masked;
 }
-
--- what holds of each holds of the one at a place
-pub got_is : {X : Type 0} (P : X → Type 0) (xs : List X) (place : ℕ) (x : X) → All P xs
-    → Some x ≡ slice_get xs place → P x
-got_is P xs place x all is =
-    subst P (get_or_from_slice_get xs place x x (sym is))
-    (all place x (slice_get_within xs place x (sym is)))
 
 pub queue_removed : (masks : Option (List WordValue)) (shift newest place : ℕ)
     (pairs new : List Pair) → IsQueue masks shift newest pairs → new ≡ remove pairs place

@@ -6,76 +6,13 @@ use Rattle.std.specs.Int.Bits.{bit_and, and_self}
 use Rattle.std.proofs.lemmas.Nat.{and_assoc}
 use Rattle.std.proofs.lemmas.List.Folds.{find_at, list_any_more}
 use Rattle.std.proofs.lemmas.Option.{same_Some}
+use Rattle.base.proofs.ListsFound.{none_both, place_both, place_either}
 use Rattle.ternary.specs.Word.{WordValue}
 use Rattle.ternary.specs.WordBits.{IsWord}
 use Rattle.switch_table.specs.Keys.{Pair, equal_keys, is_hit, key_under}
 use Rattle.switch_table.specs.Slots.{SlotPair, is_live, live_pairs}
 use Rattle.switch_table.specs.declared.key.CacheKey.{CacheKey}
 use Rattle.switch_table.proofs.SlotPushLemmas.{equal_keys_same}
-
--- ---- the first place that passes
-
-pub place_none : {X : Type 0} (xs : List X) → position_or_len (λ x. false) xs ≡ length xs
-place_none [] = refl
-place_none (x ∷ xs) = omega (arith, place_none xs)
-
--- the first place that passes one of two tests
-place_either : {X : Type 0} (p q : X → Bool) (xs : List X) →
-    position_or_len (λ x. p x || q x) xs ≡ min (position_or_len p xs) (position_or_len q xs)
-place_either p q [] = refl
-place_either {X} p q (x ∷ xs) = by_case (p x) (q x) (place_either p q xs)
-  where
-    step : Bool → ℕ → ℕ
-    step b n = cond (not b) (1 + n) 0
-
-    by_case : (a b : Bool) →
-        position_or_len (λ y. p y || q y) xs ≡ min (position_or_len p xs) (position_or_len q xs) →
-        step (a || b) (position_or_len (λ y. p y || q y) xs)
-        ≡ min (step a (position_or_len p xs)) (step b (position_or_len q xs))
-    by_case true true rest = refl
-    by_case true false rest = omega arith
-    by_case false true rest = omega arith
-    by_case false false rest = omega (arith, rest)
-
--- the first one that passes a test passes another too
-place_both : {X : Type 0} (p q : X → Bool) (xs : List X) (x : X) →
-    slice_get xs (position_or_len p xs) ≡ Some x → q x ≡ true →
-    position_or_len (λ y. p y && q y) xs ≡ position_or_len p xs
-place_both p q [] x there holds = refl
-place_both {X} p q (y ∷ ys) x there holds = by_case (p y) there (λ later. place_both p q ys x later holds)
-  where
-    n : ℕ
-    n = position_or_len p ys
-
-    both : ℕ
-    both = position_or_len (λ z. p z && q z) ys
-
-    by_case : (a : Bool) → slice_get (y ∷ ys) (cond (not a) (1 + n) 0) ≡ Some x →
-        (slice_get ys n ≡ Some x → both ≡ n) →
-        cond (not (a && q y)) (1 + both) 0 ≡ cond (not a) (1 + n) 0
-    by_case true here rest =
-        ap (λ b. cond (not b) (1 + both) 0) (ap q (same_Some y x here) ∙ holds)
-    by_case false later rest =
-        let next : suc n ≡ 1 + n = omega arith in
-        ap (λ k. 1 + k) (rest (ap (slice_get (y ∷ ys)) next ∙ later))
-
--- none passes a test, so none passes another too
-none_both : {X : Type 0} (p q : X → Bool) (xs : List X) → position_or_len p xs ≡ length xs →
-    position_or_len (λ y. p y && q y) xs ≡ length xs
-none_both p q [] none = refl
-none_both {X} p q (y ∷ ys) none = by_case (p y) none (none_both p q ys)
-  where
-    n : ℕ
-    n = position_or_len p ys
-
-    both : ℕ
-    both = position_or_len (λ z. p z && q z) ys
-
-    by_case : (a : Bool) → cond (not a) (1 + n) 0 ≡ length (y ∷ ys) →
-        (n ≡ length ys → both ≡ length ys) →
-        cond (not (a && q y)) (1 + both) 0 ≡ length (y ∷ ys)
-    by_case true end rest = absurd (omega (arith, end))
-    by_case false end rest = omega (arith, rest (omega (arith, end)))
 
 -- ---- the place of a key
 

@@ -1,12 +1,13 @@
 -- Live slots among dead ones: their counts and keys, and what a push, a new key and a sweep leave.
-use Rattle.std.proofs.Common.{ℕ, zero, suc, ◌≡◌, ◌∙◌, ◌+◌, ◌-◌, ◌<◌, ◌≤◌, Bool, true, false, cond, not, eqb, ◌||◌, Option, Some, None, List, [], ◌∷◌, ◌++◌, length, length-append, get_or, filter, take, set, replicate, slice_get, option_map, IfSome, IsFalse, refl, ap, sym, subst, arith, All}
+use Rattle.std.proofs.Common.{ℕ, zero, suc, ◌≡◌, ◌∙◌, ◌+◌, ◌<◌, ◌≤◌, Bool, true, false, cond, not, eqb, ◌||◌, Option, Some, None, List, [], ◌∷◌, ◌++◌, length, length-append, get_or, filter, take, set, replicate, slice_get, option_map, IfSome, IsFalse, refl, ap, sym, subst, arith, All}
 use Rattle.std.specs.List.{AllByRecursion, IsDistinct, cons_option, position, position_or_len, swap_remove}
 use Rattle.std.specs.Map.{keys_of, lookup, values_of}
 use Rattle.std.proofs.lemmas.Bool.{and_from, and_parts, eq-eqb, eqb-true, false≢true}
-use Rattle.std.proofs.lemmas.List.{get_or-map, get_or_append_left, get_or_push, length-map, length-set, length-take-le, length_push, map_push, set-append_left, take-append-le, take-map, take_at}
+use Rattle.std.proofs.lemmas.List.{get_or-map, get_or_append_left, length-map, length-take-le, length_push, map_push, take-append-le, take-map}
 use Rattle.std.proofs.lemmas.List.Elements.{filter_map-append}
 use Rattle.std.proofs.lemmas.List.Sums.{count_by-le-length, length-filter}
 use Rattle.std.proofs.lemmas.Option.{get_or_from_slice_get, none-some, same_Some, slice_get-get_or, slice_get-map, slice_get_within}
+use Rattle.base.proofs.ListsByPlace.{put_last}
 use Rattle.indexmap.proofs.MapLemmas.{Found-position}
 use Rattle.ternary.specs.Meets.{word_eq}
 use Rattle.ternary.specs.Word.{WordValue}
@@ -200,15 +201,6 @@ found_dead key place slots found distinct absent =
     ∙ ap Some (sym (found_live key slots found.pair.1 distinct found.value) ∙ absent)
 
 -- ---- another key for a dead slot
-
-pub put_last : {X : Type 0} (xs : List X) (y : X) (i : ℕ) (d : X) → i < length xs →
-    swap_remove (xs ++ y ∷ []) i d ≡ set xs i y
-put_last xs y i d within =
-    let len : length (xs ++ y ∷ []) - 1 ≡ length xs = omega (arith, length_push xs y) in
-    ap (λ n. take n (set (xs ++ y ∷ []) i (get_or (xs ++ y ∷ []) n d))) len
-    ∙ ap (λ z. take (length xs) (set (xs ++ y ∷ []) i z)) (get_or_push xs y d (length xs) refl)
-    ∙ ap (take (length xs)) (set-append_left xs (y ∷ []) i y within)
-    ∙ take_at (set xs i y) (y ∷ []) (length xs) (length-set xs i y)
 
 pub rekeyed_pairs : (slots : List SlotPair) (place : ℕ) (pair : SlotPair) (key : CacheKey) →
     slice_get slots place ≡ Some pair → pair.1.is_live ≡ false →

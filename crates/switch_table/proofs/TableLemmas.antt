@@ -1,6 +1,6 @@
 -- Plans and their tables: where a header lies, and where its rules stand.
-use Rattle.std.proofs.Common.{ℕ, suc, ◌≡◌, ◌≢◌, ◌∙◌, ◌+◌, ◌^◌, ◌<◌, Bool, true, false, cond, eqb, nat_lt, not, Option, Some, None, IsSome, List, [], ◌∷◌, ◌++◌, length, map, filter, find, position, unwrap_or, slice_get, get_or, option_map, refl, ap, sym, subst, arith, All, AllPairs, Contains, count_by}
-use Rattle.std.specs.List.{list_any, position_or_len}
+use Rattle.std.proofs.Common.{ℕ, ◌≡◌, ◌≢◌, ◌∙◌, ◌^◌, ◌<◌, Bool, true, false, cond, eqb, Option, Some, None, IsSome, List, [], length, map, filter, find, position, unwrap_or, slice_get, get_or, option_map, refl, ap, sym, subst, arith, All, AllPairs, Contains, count_by}
+use Rattle.std.specs.List.{list_any}
 use Rattle.std.specs.Option.{IfSome, option_map_or, option_and_then}
 use Rattle.std.proofs.lemmas.Bool.{eq-eqb}
 use Rattle.std.proofs.lemmas.List.{length-map, get_or-map, get_or_default}
@@ -9,11 +9,12 @@ use Rattle.std.proofs.lemmas.List.Elements.{All-map, All-filter, All-weaker, All
 use Rattle.std.proofs.lemmas.List.Kept.{AllPairs-filter}
 use Rattle.std.proofs.lemmas.List.Quantifiers.{position-Some}
 use Rattle.std.proofs.lemmas.Option.{slice_get-get_or, slice_get-map}
-use Rattle.base.proofs.ListLemmas.{count-filter-le, count_by-cons}
+use Rattle.base.proofs.ListsFiltered.{count_by-map}
+use Rattle.base.proofs.ListsFound.{find-filter, find-map, find-position, find-there, find_ends, position-map, some_from_count}
+use Rattle.base.proofs.ListsOfAll.{AllPairs-map, Contains-map}
 use Rattle.five_tuple.specs.Header.{IsHeader, number_of}
 use Rattle.five_tuple.specs.declared.header.Header.{Header}
 use Rattle.ternary.proofs.CallerLemmas.{covers_held}
-use Rattle.policy_rules.proofs.CallerLemmas.{find-position}
 use Rattle.policy_rules.specs.Partitions.{ArePartsNumbered, AreSoundPartitions, LastCovers}
 use Rattle.policy_rules.specs.Scan.{scan}
 use Rattle.policy_rules.specs.RuleList.{hit_of_rule}
@@ -29,93 +30,6 @@ use Rattle.switch_table.specs.declared.tables.Tables.{Tables}
 use Rattle.switch_table.specs.declared.search.Found.{Found}
 use Rattle.switch_table.specs.declared.search.Found.TheVariants.{Redirect}
 
--- ---- the one that passes
-
-pub find-map : {X Y : Type 0} (test : Y → Bool) (f : X → Y) (xs : List X)
-    → find test (map f xs) ≡ option_map f (find (λ x. test (f x)) xs)
-find-map test f [] = refl
-find-map {X} {Y} test f (x ∷ xs) = by_case (test (f x)) (find-map test f xs)
-  where
-    by_case : (b : Bool) → find test (map f xs) ≡ option_map f (find (λ z. test (f z)) xs)
-        → cond b (Some (f x)) (find test (map f xs)) ≡ option_map f
-        (cond b (Some x) (find (λ z. test (f z)) xs))
-    by_case true rest = refl
-    by_case false rest = rest
-
-pub count_by-map : {X Y : Type 0} (test : Y → Bool) (f : X → Y) (xs : List X)
-    → count_by test (map f xs) ≡ count_by (λ x. test (f x)) xs
-count_by-map test f [] = refl
-count_by-map {X} {Y} test f (x ∷ xs) =
-    omega (
-      arith,
-      count_by-cons test (f x) (map f xs),
-      count_by-cons (λ z. test (f z)) x xs,
-      count_by-map test f xs,
-    )
-
--- what is found passes and is there
-pub find-there : {X : Type 0} (test : X → Bool) (xs : List X) (x : X) → find test xs ≡ Some x
-    → Contains xs x × (test x ≡ true)
-find-there test [] x is = absurd (cc)
-find-there {X} test (y ∷ ys) x is = by_case (test y) refl is (find-there test ys x)
-  where
-    by_case : (b : Bool) → test y ≡ b → cond b (Some y) (find test ys) ≡ Some x
-        → (find test ys ≡ Some x → Contains ys x × (test x ≡ true)) → Contains (y ∷ ys) x
-        × (test x ≡ true)
-    by_case true passes is rest = let same : y ≡ x =
-        cc in ((0, omega arith, same), ap test (sym same) ∙ passes)
-    by_case false fails is rest = let later =
-        rest is in ((suc later.0.0, omega (arith, later.0.1), later.0.2), later.1)
-
-none_from_count : {X : Type 0} (test : X → Bool) (xs : List X) → count_by test xs ≡ 0
-    → find test xs ≡ None
-none_from_count test [] none = refl
-none_from_count {X} test (x ∷ xs) none = by_case (test x) refl (none_from_count test xs)
-  where
-    by_case : (b : Bool) → test x ≡ b → (count_by test xs ≡ 0 → find test xs ≡ None)
-        → cond b (Some x) (find test xs) ≡ None
-    by_case true passes rest = absurd (grind (arith, count_by-cons test x xs))
-    by_case false fails rest = rest (grind (arith, count_by-cons test x xs))
-
-some_from_count : {X : Type 0} (test : X → Bool) (xs : List X) → count_by test xs ≡ 1 → (x : X)
-    × (find test xs ≡ Some x)
-some_from_count test [] one = absurd (omega arith)
-some_from_count {X} test (x ∷ xs) one = by_case (test x) refl (some_from_count test xs)
-  where
-    by_case : (b : Bool) → test x ≡ b → (count_by test xs ≡ 1 → (y : X) × (find test xs ≡ Some y))
-        → (y : X) × (cond b (Some x) (find test xs) ≡ Some y)
-    by_case true passes rest = (x, refl)
-    by_case false fails rest = rest (grind (arith, count_by-cons test x xs))
-
--- among the elements that are kept, the one that passes is there if it is kept
-find-filter : {X : Type 0} (test kept : X → Bool) (xs : List X) (x : X) → count_by test xs ≡ 1
-    → find test xs ≡ Some x → find test (filter kept xs) ≡ cond (kept x) (Some x) None
-find-filter test kept [] x one is = absurd (omega arith)
-find-filter {X} test kept (y ∷ ys) x one is = by_case (test y) refl is (find-filter test kept ys x)
-  where
-    here : test y ≡ true → (b : Bool) → find test ys ≡ None → find test (filter kept ys) ≡ None
-        → find test (cond b (y ∷ filter kept ys) (filter kept ys)) ≡ cond b (Some y) None
-    here passes true none rest = rw passes refl
-    here passes false none rest = rest
-
-    later : test y ≡ false → (b : Bool) → find test (cond b (y ∷ filter kept ys) (filter kept ys))
-        ≡ find test (filter kept ys)
-    later fails true = rw fails refl
-    later fails false = refl
-
-    by_case : (b : Bool) → test y ≡ b → cond b (Some y) (find test ys) ≡ Some x
-        → (count_by test ys ≡ 1 → find test ys ≡ Some x → find test (filter kept ys) ≡ cond (kept x)
-        (Some x) None) → find test (filter kept (y ∷ ys)) ≡ cond (kept x) (Some x) None
-    by_case true passes is rest =
-        let same : y ≡ x = cc in
-        let none : count_by test ys ≡ 0 = grind (arith, count_by-cons test y ys) in
-        subst (λ z. find test (filter kept (y ∷ ys)) ≡ cond (kept z) (Some z) None) same
-        (here passes (kept y) (none_from_count test ys none)
-        (none_from_count test (filter kept ys)
-        (omega (arith, count-filter-le test kept ys, none))))
-    by_case false fails is rest = later fails (kept y)
-        ∙ rest (grind (arith, count_by-cons test y ys)) is
-
 -- ---- a plan's tables
 
 -- the partition of the plan that holds a header
@@ -124,12 +38,6 @@ record IsAt (rows : List Row) (plan : List Hosted) (header : Header) (hosted : H
     found : find (λ p. is_in header (part_of p)) plan ≡ Some hosted
     there : Contains plan hosted
     decides : option_map hit_of_rule (first_rule hosted.0.rules header) ≡ Some (scan rows header)
-
-contains-map : {X Y : Type 0} (f : X → Y) (xs : List X) (x : X) → Contains xs x
-    → Contains (map f xs) (f x)
-contains-map f xs x (k, within, is) =
-    let len : length (map f xs) ≡ length xs = length-map _ _ in
-    (k, omega arith, get_or-map f xs k x (f x) within ∙ ap f is)
 
 at_header : (rows : List Row) (plan : List Hosted) (header : Header)
     → AreSoundPartitions rows (map part_of plan) → IsHeader header → (hosted : Hosted)
@@ -146,7 +54,7 @@ at_header rows plan header sound is =
         decides = All-contains (λ part. is_in header part ≡ true
             → option_map hit_of_rule (first_rule part.rules header) ≡ Some (scan rows header))
             (map part_of plan) (part_of some.0) (sound.decides header is)
-            (contains-map part_of plan some.0 there.0) there.1;
+            (Contains-map part_of plan some.0 there.0) there.1;
       },
     )
 
@@ -259,19 +167,6 @@ tables_lead rows plan version switch header sound some is =
     by_case hosted true own others = own
     by_case hosted false own others = others
 
-position_or_len-map : {X Y : Type 0} (test : Y → Bool) (f : X → Y) (xs : List X) →
-    position_or_len test (map f xs) ≡ position_or_len (λ x. test (f x)) xs
-position_or_len-map test f [] = refl
-position_or_len-map test f (x ∷ xs) =
-    ap (λ n. cond (not (test (f x))) (1 + n) 0) (position_or_len-map test f xs)
-
-position-map : {X Y : Type 0} (test : Y → Bool) (f : X → Y) (xs : List X) →
-    position test (map f xs) ≡ position (λ x. test (f x)) xs
-position-map test f xs =
-    ap (λ n. cond (nat_lt n (length (map f xs))) (Some n) None) (position_or_len-map test f xs)
-    ∙ ap (λ len. cond (nat_lt (position_or_len (λ x. test (f x)) xs) len)
-    (Some (position_or_len (λ x. test (f x)) xs)) None) (length-map xs f)
-
 -- the row that holds a header stands at the number of the partition that does, and has its targets
 redirect_there : (rows : List Row) (plan : List Hosted) (header : Header) (hosted : Hosted) →
     ArePartsNumbered (map part_of plan) → IsAt rows plan header hosted →
@@ -323,14 +218,6 @@ own_all P plan kept each = All-map P part_of (filter kept plan)
     (All-weaker (Contains plan) (λ hosted. P (part_of hosted)) each plan
     (All-contains_itself plan)))
 
-pairs-map : {X Y : Type 0} (R : Y → Y → Type 0) (f : X → Y) (xs : List X)
-    → AllPairs (λ a b. R (f a) (f b)) xs → AllPairs R (map f xs)
-pairs-map R f [] pairs = λ i j d less within. absurd (omega arith)
-pairs-map R f (x ∷ xs) pairs = λ i j d less within.
-    let len : length (map f (x ∷ xs)) ≡ length (x ∷ xs) = length-map (x ∷ xs) f in
-    rw (get_or-map f (x ∷ xs) i x d (omega arith), get_or-map f (x ∷ xs) j x d (omega arith))
-    (pairs i j x less (omega arith))
-
 numbers_differ : (plan : List Hosted) → ArePartsNumbered (map part_of plan)
     → AllPairs (λ a b. a.0.number ≢ b.0.number) plan
 numbers_differ plan numbers = λ i j d less within same.
@@ -339,16 +226,6 @@ numbers_differ plan numbers = λ i j d less within same.
     (sym (get_or-map part_of plan k d (part_of d) there))
     ∙ numbers k (part_of d) (omega arith) in
     omega (arith, number i (omega arith), number j within, same)
-
-find_ends : {X : Type 0} (test : X → Bool) (earlier : List X) (last : X) → test last ≡ true
-    → IsSome (find test (earlier ++ last ∷ []))
-find_ends test [] last passes = rw passes refl
-find_ends {X} test (x ∷ earlier) last passes = by_case (test x) (find_ends test earlier last passes)
-  where
-    by_case : (b : Bool) → IsSome (find test (earlier ++ last ∷ []))
-        → IsSome (cond b (Some x) (find test (earlier ++ last ∷ [])))
-    by_case true rest = refl
-    by_case false rest = rest
 
 -- where the last rule covers the region, some rule decides each header of it
 pub decides_all : (part : Partition) → LastCovers part → DecidesAll part
@@ -374,12 +251,12 @@ tables_are_sound rows plan version switch sound covers few small = record {
       ∙ ap (option_map (λ (row : PartRow). row.region))
       (slice_get-map row_of plan hosted.0.number
       ∙ ap (option_map row_of) (numbered_at plan hosted sound.numbers there)));
-  distinct = pairs-map (λ a b. a.number ≢ b.number) part_of (filter (has_target switch) plan)
+  distinct = AllPairs-map (λ a b. a.number ≢ b.number) part_of (filter (has_target switch) plan)
       (AllPairs-filter (λ a b. a.0.number ≢ b.0.number) (has_target switch) plan
       (numbers_differ plan sound.numbers));
   covers = own_all LastCovers plan (has_target switch) (λ hosted there.
       All-contains LastCovers (map part_of plan) (part_of hosted) covers
-      (contains-map part_of plan hosted there));
+      (Contains-map part_of plan hosted there));
   few_rows = (let len : length (map row_of plan) ≡ length plan = length-map _ _ in omega arith);
   few_rules = own_all (λ part. length part.rules < 2 ^ 32) plan (has_target switch)
       (λ hosted there. All-contains (λ p. length p.0.rules < 2 ^ 32) plan hosted small there);

@@ -1,8 +1,9 @@
 -- The tables that tests use are sound: one region has all headers, and one rule decides them.
-use Rattle.std.proofs.Common.{◌≡◌, ◌<◌, ◌^◌, ◌==◌, ◌∙◌, ℕ, Bool, true, false, cond, Option, Some, None, is_some, List, [], ◌∷◌, length, map, slice_get, refl, ap, sym, subst, arith, All, get_or, eq-eqb, eqb-true, lit<}
+use Rattle.std.proofs.Common.{◌≡◌, ◌<◌, ◌^◌, ◌==◌, ◌∙◌, ℕ, Bool, true, false, cond, Option, Some, None, is_some, List, [], ◌∷◌, length, map, slice_get, refl, ap, sym, arith, get_or, eq-eqb, eqb-true, lit<}
 use Rattle.std.specs.Bool.{IsTrue}
 use Rattle.std.specs.Option.{IfSome, IsSomeAnd}
 use Rattle.std.proofs.lemmas.Option.{slice_get-get_or}
+use Rattle.base.proofs.ListsOfAll.{All-one}
 use Rattle.five_tuple.specs.Header.{number_of}
 use Rattle.five_tuple.specs.declared.header.Header.{Header}
 use Rattle.ternary.specs.Word.{holds}
@@ -33,11 +34,6 @@ whole_rule = record { word = any_word; rank = 0; rule = Some 100; action = Out 2
 abbrev pub whole_part : Partition
 whole_part = record { number = 0; region = any_word; rules = whole_rule ∷ [] }
 
-all_one : {X : Type 0} (P : X → Type 0) (x : X) → P x → All P (x ∷ [])
-all_one P x is k d within =
-    let zero : k ≡ 0 = omega arith in
-    subst (λ (n : ℕ). P (get_or (x ∷ []) n d)) (sym zero) is
-
 pub sound_ingress : (t : Tables) → t.parts ≡ whole_row ∷ [] → t.auth ≡ [] → AreSoundTables t
 sound_ingress t parts auth = record {
   one = λ header is. rw (parts, any_holds (number_of header)) refl;
@@ -52,14 +48,14 @@ pub sound_authority : (t : Tables) → t.parts ≡ whole_row ∷ [] → t.auth �
     AreSoundTables t
 sound_authority t parts auth = record {
   one = λ header is. rw (parts, any_holds (number_of header)) refl;
-  numbers = rw (parts, auth) (all_one (λ (part : Partition).
+  numbers = rw (parts, auth) (All-one (λ (part : Partition).
       slice_get (map (λ (row : PartRow). row.region) (whole_row ∷ [])) part.number
       ≡ Some part.region) whole_part refl);
   distinct = rw auth (λ i j d less within. absurd (omega arith));
-  covers = rw auth (all_one LastCovers whole_part
+  covers = rw auth (All-one LastCovers whole_part
       ([], whole_rule, refl, covers_reflexive any_word));
   few_rows = rw parts (lit< tt);
-  few_rules = rw auth (all_one (λ (part : Partition). length part.rules < 2 ^ 32) whole_part
+  few_rules = rw auth (All-one (λ (part : Partition). length part.rules < 2 ^ 32) whole_part
       (lit< tt));
 }
 

@@ -1,7 +1,6 @@
 -- Masks as sets of bits.
-use Rattle.std.proofs.Common.{◌≡◌, ℕ, ◌+◌, ◌-◌, ◌^◌, ◌<◌, min, max, Bool, true, false, ◌&&◌, ◌||◌, bit_and, bit_or, length, take, get_or, Option, Some, None, List, sym, ◌∙◌, ap, inl, inr, arith, ◌↔◌}
+use Rattle.std.proofs.Common.{◌≡◌, ℕ, ◌+◌, ◌-◌, ◌^◌, ◌<◌, min, max, Bool, true, false, ◌&&◌, ◌||◌, bit_and, bit_or, length, take, get_or, List, sym, ◌∙◌, ap, inl, inr, arith, ◌↔◌}
 use Rattle.std.specs.Bool.{◌==◌}
-use Rattle.std.specs.Option.{IfNone}
 use Rattle.std.specs.Int.{w128, bit_at, trailing_zeros}
 use Rattle.std.proofs.lemmas.Bool.{cases_lt, cases_Bool, eqb-true}
 use Rattle.std.proofs.lemmas.Bool.Decides.{nat_tests}
@@ -72,11 +71,6 @@ pub some_none : (bit : ℕ) → (bit_at 0 bit == 1) ≡ false
 some_none bit = ap (λ n. n == 1) (bit_at-zero bit)
 
 -- ---- the least bit
-
-pub if_none_then : {T P Q : Type 0} (found : Option T) → IfNone found P → (P → Q)
-    → IfNone found Q
-if_none_then None p so = so p
-if_none_then (Some x) p so = tt
 
 pub lowest_of : (n : ℕ) → 0 < n → n < 2 ^ 128 → IsLowest n (trailing_zeros w128 n)
 lowest_of n some small =

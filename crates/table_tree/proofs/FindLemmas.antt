@@ -1,16 +1,17 @@
 -- Where a finder's tree leads.
-use Rattle.std.proofs.Common.{◌≡◌, ℕ, zero, suc, ◌+◌, ◌^◌, ◌<◌, Bool, true, false, cond, not, ◌&&◌, Option, Some, None, IsSome, List, [], ◌∷◌, length, find, position, unwrap_or, slice_get, get_or, map, count_by, All, refl, sym, ◌∙◌, ap, subst, inl, inr, arith}
+use Rattle.std.proofs.Common.{◌≡◌, ℕ, suc, ◌+◌, ◌^◌, ◌<◌, Bool, true, false, cond, not, ◌&&◌, Option, Some, None, IsSome, List, [], ◌∷◌, length, find, position, unwrap_or, slice_get, get_or, map, count_by, refl, sym, ◌∙◌, ap, subst, inl, inr, arith}
 use Rattle.std.specs.Bool.{IsTrue, IsFalse, ◌==◌}
 use Rattle.std.specs.Int.{bit_at, from_bool}
 use Rattle.std.specs.List.{position_or_len}
 use Rattle.std.specs.Option.{IfSome, IsSomeAnd, option_and_then, option_map, option_map_or}
-use Rattle.std.proofs.lemmas.Bool.{cases_eq, cases_lt, both_ways, eqb-true, eq-eqb, lt-ltb}
+use Rattle.std.proofs.lemmas.Bool.{cases_eq, both_ways, eqb-true, eq-eqb, lt-ltb}
 use Rattle.std.proofs.lemmas.List.{length-map}
-use Rattle.std.proofs.lemmas.List.Elements.{All-nil, All-cons, All-head, All-tail, All-contains, All-weaker}
+use Rattle.std.proofs.lemmas.List.Elements.{All-nil, All-cons, All-contains, All-weaker}
 use Rattle.std.proofs.lemmas.Nat.Bits.{bit_at-lt}
 use Rattle.std.proofs.lemmas.List.Quantifiers.{position-Some}
-use Rattle.std.proofs.lemmas.Option.{none-some, same_Some, slice_get-get_or, slice_get-map, slice_get_past}
+use Rattle.std.proofs.lemmas.Option.{none-some, same_Some, slice_get-get_or, slice_get-map}
 use Rattle.std.proofs.lemmas.Bool.Decides.{same_from_decides}
+use Rattle.policy_rules.proofs.CallerLemmas.{count_by-map, find-position, find-there, find_agree, found_from_count, one_place, there_at}
 use Rattle.five_tuple.specs.Header.{IsHeader, number_of}
 use Rattle.five_tuple.specs.Laws.{HeaderLaws}
 use Rattle.five_tuple.specs.declared.header.Header.{Header}
@@ -21,13 +22,12 @@ use Rattle.ternary.proofs.CallerLemmas.{any_holds, fix_holds}
 use Rattle.policy_rules.specs.Hosted.{is_in}
 use Rattle.policy_rules.specs.Rules.{is_held}
 use Rattle.policy_rules.specs.declared.rules.Partition.{Partition}
-use Rattle.policy_rules.proofs.CallerLemmas.{find-position, count_by-cons}
 use Rattle.switch_table.specs.Tables.{AreSoundTables, row_has}
 use Rattle.switch_table.specs.Lookup.{authority_of, redirect_of, table_lookup}
 use Rattle.switch_table.specs.declared.search.Found.TheVariants.{Authority, Redirect}
 use Rattle.switch_table.specs.declared.tables.PartRow.{PartRow}
 use Rattle.switch_table.specs.declared.tables.Tables.{Tables}
-use Rattle.switch_table.proofs.TableLemmas.{count_by-map, find-there, row_at}
+use Rattle.switch_table.proofs.TableLemmas.{row_at}
 use Rattle.table_tree.specs.Regions.{AreNodeCandidates, has_number, candidates_of_side, candidates_from, candidates_of}
 use Rattle.table_tree.specs.Ruling.{RegionTree, part_tree, rule_shape, rule_tree, seen_tree}
 use Rattle.table_tree.specs.declared.rule_tree.RuleTree.{RuleTree}
@@ -35,7 +35,7 @@ use Rattle.table_tree.specs.Finding.{AreTreesOf, IsEnd, IsFinderTree, IsGrownSha
 use Rattle.table_tree.specs.LookupTrees.{LookupTree, CutsHeaderBits, Leaf, Sides, leaf_at}
 use Rattle.table_tree.specs.declared.node.Candidate.{Candidate}
 use Rattle.table_tree.specs.declared.trees.Trees.{Trees}
-use Rattle.table_tree.proofs.NodeLemmas.{cut_is_free, found_from_count, half_node, never_stuck, root_node, several_candidates, side_finds, candidate_at, candidates_count, weight}
+use Rattle.table_tree.proofs.NodeLemmas.{cut_is_free, half_node, never_stuck, root_node, several_candidates, side_finds, candidate_at, candidates_count}
 
 -- ---- the cut bit
 
@@ -190,38 +190,6 @@ leads_to_row rows tree header is one =
 
 -- ---- the partition of a place
 
-none_pass : {X : Type 0} (test : X → Bool) (xs : List X) (k : ℕ) (x : X) → count_by test xs ≡ 0
-    → slice_get xs k ≡ Some x → test x ≡ true → ⊥
-none_pass test [] k x none is passes = none-some x is
-none_pass test (y ∷ ys) zero x none is passes =
-    let same : y ≡ x = same_Some y x is in
-    omega (arith, none, count_by-cons test y ys, ap weight (ap test same ∙ passes))
-none_pass test (y ∷ ys) (suc k) x none is passes =
-    none_pass test ys k x (omega (arith, none, count_by-cons test y ys)) is passes
-
--- where one element alone passes, it has one place
-one_place : {X : Type 0} (test : X → Bool) (xs : List X) (j k : ℕ) (x y : X)
-    → count_by test xs ≡ 1 → slice_get xs j ≡ Some x → test x ≡ true → slice_get xs k ≡ Some y
-    → test y ≡ true → j ≡ k
-one_place test [] j k x y one at_j p at_k q = absurd (none-some x at_j)
-one_place test (z ∷ zs) zero zero x y one at_j p at_k q = refl
-one_place test (z ∷ zs) zero (suc k) x y one at_j p at_k q =
-    let same : z ≡ x = same_Some z x at_j in
-    absurd (none_pass test zs k y
-    (omega (arith, one, count_by-cons test z zs, ap weight (ap test same ∙ p))) at_k q)
-one_place test (z ∷ zs) (suc j) zero x y one at_j p at_k q =
-    let same : z ≡ y = same_Some z y at_k in
-    absurd (none_pass test zs j x
-    (omega (arith, one, count_by-cons test z zs, ap weight (ap test same ∙ q))) at_j p)
-one_place {X} test (z ∷ zs) (suc j) (suc k) x y one at_j p at_k q =
-    by_case (test z) refl (λ rest. one_place test zs j k x y rest at_j p at_k q)
-  where
-    by_case : (b : Bool) → test z ≡ b → (count_by test zs ≡ 1 → j ≡ k) → suc j ≡ suc k
-    by_case true passes later = absurd (none_pass test zs j x
-        (omega (arith, one, count_by-cons test z zs, ap weight passes)) at_j p)
-    by_case false fails later =
-        ap suc (later (omega (arith, one, count_by-cons test z zs, ap weight fails)))
-
 -- the row that holds a header
 row_found : (header : Header) (rows : List PartRow) → count_by (row_has header) rows ≡ 1
     → (row : PartRow) × (find (row_has header) rows ≡ Some row)
@@ -233,14 +201,6 @@ row_found header rows one =
         → (row : PartRow) × (find (row_has header) rows ≡ Some row)
     by_case None none some = absurd (both_ways false refl some)
     by_case (Some row) is some = (row, is)
-
-pub find_agree : {X : Type 0} (p q : X → Bool) (xs : List X) → All (λ x. p x ≡ q x) xs
-    → find p xs ≡ find q xs
-find_agree p q [] agree = refl
-find_agree {X} p q (x ∷ xs) agree =
-    let rest = find_agree p q xs (All-tail (λ z. p z ≡ q z) x xs agree) in
-    ap (λ t. cond t (Some x) (find p xs)) (All-head (λ z. p z ≡ q z) x xs agree)
-    ∙ ap (cond (q x) (Some x)) rest
 
 -- the region of the partition of this number holds the header where the number is the row's place
 in_numbered : (rows : List PartRow) (header : Header) (place : ℕ) (part : Partition)
@@ -289,17 +249,6 @@ own_numbered tables header place sound is at =
 -- the place of a header's first rule in a partition
 abbrev pub first_in : Header → Partition → Option ℕ
 first_in header part = position (is_held (number_of header)) part.rules
-
--- an element that is there
-pub there_at : {X : Type 0} (P : X → Type 0) (xs : List X) (k : ℕ) (d : X)
-    → IsSomeAnd (slice_get xs k) P
-    → (k < length xs) × (slice_get xs k ≡ Some (get_or xs k d)) × P (get_or xs k d)
-there_at P xs k d is = elim (cases_lt k (length xs)) [
-  | inl within ↦
-      let at = slice_get-get_or xs k d within in
-      (within, at, subst (λ o. IsSomeAnd o P) at is)
-  | inr past ↦ absurd (subst (λ o. IsSomeAnd o P) (slice_get_past xs k past) is)
-]
 
 -- the tree at a partition's place is the partition's
 pub tree_there : (auth : List Partition) (trees : List RuleTree) (own : ℕ) (tree : RuleTree)

@@ -1,10 +1,10 @@
 -- The regions at a node.
-use Rattle.std.proofs.Common.{◌≡◌, ℕ, ◌+◌, ◌^◌, ◌<◌, ◌≤◌, Bool, true, false, cond, ◌||◌, Option, Some, None, IsSome, List, [], ◌∷◌, ◌++◌, length, get_or, drop, append_assoc, filter, find, count_by, All, refl, sym, ◌∙◌, ap, subst, inl, inr, arith}
+use Rattle.std.proofs.Common.{◌≡◌, ℕ, ◌+◌, ◌^◌, ◌<◌, Bool, true, false, cond, ◌||◌, Option, Some, None, IsSome, List, [], ◌∷◌, ◌++◌, length, get_or, drop, append_assoc, filter, find, count_by, All, refl, sym, ◌∙◌, ap, subst, inl, inr, arith}
 use Rattle.std.specs.Bool.{IsTrue, IsFalse, ◌==◌}
 use Rattle.std.specs.Int.{bit_at}
 use Rattle.std.specs.Option.{is_some}
 use Rattle.std.proofs.lemmas.Bool.{cases_eq, cases_lt, cases_Bool, both_ways, eqb-true, and_parts}
-use Rattle.policy_rules.proofs.CallerLemmas.{at_item, count_by-cons, count-filter-le}
+use Rattle.policy_rules.proofs.CallerLemmas.{count_by-cons, count-filter-le, at_item, find_kept, found_from_count}
 use Rattle.std.proofs.lemmas.List.Elements.{All-nil, All-cons, All-head, All-tail, All-filter, filter_passes}
 use Rattle.std.proofs.lemmas.Nat.Bits.{bit_at_above}
 use Rattle.five_tuple.specs.Header.{IsHeader}
@@ -29,32 +29,6 @@ use Rattle.table_tree.specs.declared.node.Candidate.{Candidate}
 -- what an element counts
 abbrev pub weight : Bool → ℕ
 weight t = cond t 1 0
-
--- the first that passes is kept by a filter that keeps what passes
-pub find_kept : {X : Type 0} (test kept : X → Bool) (xs : List X)
-    → ((x : X) → test x ≡ true → kept x ≡ true) → find test (filter kept xs) ≡ find test xs
-find_kept test kept [] keeps = refl
-find_kept {X} test kept (x ∷ xs) keeps =
-    by_case (test x) (kept x) refl (keeps x) (find_kept test kept xs keeps)
-  where
-    by_case : (t k : Bool) → test x ≡ t → (test x ≡ true → k ≡ true)
-        → find test (filter kept xs) ≡ find test xs
-        → find test (cond k (x ∷ filter kept xs) (filter kept xs)) ≡ find test (x ∷ xs)
-    by_case true true passes keep rest = rw passes refl
-    by_case true false passes keep rest = absurd (both_ways false refl (keep passes))
-    by_case false true fails keep rest = rw fails rest
-    by_case false false fails keep rest = rw fails rest
-
-pub found_from_count : {X : Type 0} (test : X → Bool) (xs : List X) → 1 ≤ count_by test xs
-    → IsSome (find test xs)
-found_from_count test [] one = absurd (omega arith)
-found_from_count {X} test (x ∷ xs) one = by_case (test x) refl (found_from_count test xs)
-  where
-    by_case : (b : Bool) → test x ≡ b → (1 ≤ count_by test xs → IsSome (find test xs))
-        → IsSome (cond b (Some x) (find test xs))
-    by_case true passes rest = refl
-    by_case false fails rest =
-        rest (omega (arith, one, count_by-cons test x xs, ap weight fails))
 
 -- ---- the root
 

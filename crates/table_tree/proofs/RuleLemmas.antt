@@ -9,12 +9,12 @@ use Rattle.std.proofs.lemmas.Bool.Decides.{nat_tests}
 use Rattle.std.proofs.lemmas.List.Elements.{All-nil, All-cons, All-head, All-tail, All-same}
 use Rattle.std.proofs.lemmas.Nat.Bits.{bit_at-lt}
 use Rattle.std.proofs.Math.Bool.{and-true}
+use Rattle.policy_rules.proofs.CallerLemmas.{find-map, find_agree}
 use Rattle.ternary.specs.Word.{WordValue, holds}
 use Rattle.ternary.specs.Meets.{covers_of, fix_of, meeting_word, meets}
 use Rattle.ternary.proofs.CallerLemmas.{meet_both, met_joined}
 use Rattle.policy_rules.specs.Rules.{is_held}
 use Rattle.policy_rules.specs.declared.rules.Rule.{Rule}
-use Rattle.switch_table.proofs.TableLemmas.{find-map}
 use Rattle.cut_tree.specs.Cuts.{IsFreeBit, least_below, side_of}
 use Rattle.cut_tree.specs.Narrow.{narrow, narrowed_rule}
 use Rattle.cut_tree.specs.declared.choice.Cost.{Cost}
@@ -23,7 +23,7 @@ use Rattle.cut_tree.proofs.CutLemmas.{least_cuts}
 use Rattle.cut_tree.proofs.NarrowLemmas.{narrow_apart, narrow_covered, narrow_more, narrow_none}
 use Rattle.table_tree.specs.Ruling.{is_held_at, if_pays, tree_by_cut, paying_cut, is_worth_cutting, ranked_by_place, rule_tree, rule_tree_within}
 use Rattle.table_tree.specs.LookupTrees.{LookupTree, CutsHeaderBits, Leaf, Sides, leaf_at}
-use Rattle.table_tree.proofs.FindLemmas.{find_agree, in_half}
+use Rattle.table_tree.proofs.FindLemmas.{in_half}
 
 abbrev pub rank_of : Rule → ℕ
 rank_of rule = rule.rank

@@ -9,6 +9,8 @@ use Rattle.std.proofs.lemmas.List.Sums.{passes_at_first, prefix_len-le-length}
 use Rattle.std.proofs.lemmas.List.Elements.{All-filter, All-head, All-push, Contains-append_right, filter_passes}
 use Rattle.std.proofs.lemmas.Nat.{shr_split}
 use Rattle.std.proofs.lemmas.Option.{get_or_from_slice_get, same_Some, slice_get-get_or, slice_get_read, slice_get_within}
+use Rattle.base.proofs.ListsByPlace.{get_push_at, get_push_left, get_replicate, get_set_other, get_set_same, one_item}
+use Rattle.base.proofs.ListsOfAll.{contains_at}
 use Rattle.five_tuple.specs.Header.{AddressBlock, fields_of, prefix_matches, proto_matches, range_matches}
 use Rattle.five_tuple.specs.SoundFields.{IsAddressBlock}
 use Rattle.five_tuple.specs.Texts.{block_round}
@@ -23,50 +25,6 @@ use Rattle.policy_rules.specs.declared.policy.Row.{Row}
 use Rattle.trace_audit.specs.Index.{AreShapesOf, HasShape, IsBest, IsBetter, IsIndexOf, IsIndexUpTo, IsLastBefore, IsMatchIn, IsNoHigher, IsSoundShape, LackSlot, Notes, better_of, is_shape, shape_of_row, shape_place, slot_of, slot_of_row}
 use Rattle.trace_audit.specs.declared.index.Index.{Index}
 use Rattle.trace_audit.specs.declared.index.Shape.{Shape}
-
--- ---- what is at a place
-
-pub get_set_same : {X : Type 0} (xs : List X) (i : ℕ) (y : X) → i < length xs
-    → slice_get (set xs i y) i ≡ Some y
-get_set_same [] i y within = absurd (omega (arith, within))
-get_set_same (x ∷ xs) zero y within = refl
-get_set_same (x ∷ xs) (suc i) y within = get_set_same xs i y (omega (arith, within))
-
-pub get_set_other : {X : Type 0} (xs : List X) (i j : ℕ) (y : X) → (j ≡ i → ⊥)
-    → slice_get (set xs i y) j ≡ slice_get xs j
-get_set_other [] i j y other = refl
-get_set_other (x ∷ xs) zero zero y other = absurd (other refl)
-get_set_other (x ∷ xs) zero (suc j) y other = refl
-get_set_other (x ∷ xs) (suc i) zero y other = refl
-get_set_other (x ∷ xs) (suc i) (suc j) y other = get_set_other xs i j y (λ e. other (ap suc e))
-
-pub get_push_left : {X : Type 0} (xs : List X) (y : X) (k : ℕ) → k < length xs
-    → slice_get (xs ++ y ∷ []) k ≡ slice_get xs k
-get_push_left [] y k within = absurd (omega (arith, within))
-get_push_left (x ∷ xs) y zero within = refl
-get_push_left (x ∷ xs) y (suc k) within = get_push_left xs y k (omega (arith, within))
-
-pub get_push_at : {X : Type 0} (xs : List X) (y : X) (k : ℕ) → k ≡ length xs
-    → slice_get (xs ++ y ∷ []) k ≡ Some y
-get_push_at [] y zero e = refl
-get_push_at [] y (suc k) e = absurd (omega (arith, e))
-get_push_at (x ∷ xs) y zero e = absurd (omega (arith, e))
-get_push_at (x ∷ xs) y (suc k) e = get_push_at xs y k (omega (arith, e))
-
-get_replicate : {X : Type 0} (n : ℕ) (y : X) (k : ℕ) (x : X)
-    → slice_get (replicate n y) k ≡ Some x → y ≡ x
-get_replicate zero y k x there = absurd cc
-get_replicate (suc n) y zero x there = same_Some y x there
-get_replicate (suc n) y (suc k) x there = get_replicate n y k x there
-
--- one place has one item
-one_item : {X : Type 0} (xs : List X) (i k : ℕ) (x y : X) → slice_get xs i ≡ Some x → k ≡ i
-    → slice_get xs k ≡ Some y → x ≡ y
-one_item xs i k x y here same there = same_Some x y (sym here ∙ ap (slice_get xs) (sym same) ∙ there)
-
-contains_at : {X : Type 0} (xs : List X) (k : ℕ) (x : X) → slice_get xs k ≡ Some x → Contains xs x
-contains_at xs k x there =
-    (k, slice_get_within xs k x there, get_or_from_slice_get xs k x x there)
 
 -- ---- slots
 

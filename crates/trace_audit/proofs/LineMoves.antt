@@ -1,7 +1,8 @@
 -- Moves of the machine that a line may tell, and such that it may not.
-use Rattle.std.proofs.Common.{◌≡◌, ℕ, Option, Some, None, option_map, true, false, is_some, List, length, ltb, get_or, slice_get, refl, sym, ap, subst, ◌∙◌}
+use Rattle.std.proofs.Common.{◌≡◌, ℕ, Option, Some, true, List, length, ltb, get_or, slice_get, refl, ap, subst, ◌∙◌}
 use Rattle.std.proofs.lemmas.Bool.{ltb-true}
 use Rattle.std.proofs.lemmas.Option.{slice_get_read}
+use Rattle.base.proofs.OptionsMade.{same_some}
 use Rattle.policy_rules.specs.Policy.{IsFirstMatch}
 use Rattle.policy_rules.specs.declared.policy.Hit.{Hit}
 use Rattle.policy_rules.specs.declared.policy.Row.{Row}
@@ -9,23 +10,10 @@ use Rattle.update_machine.specs.Machine.{Decides, Machine, Packet, submitted_pol
 use Rattle.trace_audit.specs.Reading.{IsPrinted}
 use Rattle.trace_audit.specs.Seen.{packets_seen, with_one}
 use Rattle.trace_audit.specs.declared.auditor.Auditor.{Auditor}
-use Rattle.trace_audit.proofs.LineReadings.{some_same}
 
 -- what is known, but for the packets
 abbrev with_packets : Auditor → (ℕ → Option Packet) → Machine
 with_packets a packets = record { policies = a.policies.items; mark = a.mark; packets = packets }
-
--- a number of which nothing is known
-pub none_seen : {A B : Type 0} (seen : A → B) (found : Option A) (there : Option B)
-    → option_map seen found ≡ there → is_some found ≡ false → there ≡ None
-none_seen seen None there e f = sym e
-none_seen seen (Some x) there e f = absurd cc
-
--- what is made of an item is there where the item is
-pub none_made_of : {A B : Type 0} (of : A → B) (item : Option A) (made : Option B)
-    → made ≡ option_map of item → is_some made ≡ false → item ≡ None
-none_made_of of None made e none = refl
-none_made_of of (Some x) made e none = absurd (let no = ap is_some e in cc)
 
 -- the item at a place of a slice is there in the list
 pub policy_there : (slice items : List (List Row)) (place : ℕ) (rows : List Row) → slice ≡ items
@@ -43,8 +31,8 @@ pub not_decided : (old new : Machine) (number version : ℕ) (rule action : List
     → (IsPrinted rule action hit → ⊥) → IsPrinted rule action g
     → Decides old number version g new → ⊥
 not_decided old new number version rule action packet rows hit g there submitted only bad printed d =
-    let packets : d.packet ≡ packet = some_same d.packet packet _ d.entered there in
-    let policies : d.policy ≡ rows = some_same d.policy rows _ d.submitted submitted in
+    let packets : d.packet ≡ packet = same_some d.packet packet _ d.entered there in
+    let policies : d.policy ≡ rows = same_some d.policy rows _ d.submitted submitted in
     let first = subst (λ x. IsFirstMatch x packet.header g) policies
     (subst (λ x. IsFirstMatch d.policy x.header g) packets d.first_match) in
     bad (subst (IsPrinted rule action) (only g first) printed)

@@ -5,6 +5,8 @@ use Rattle.std.specs.Prelude.{IfSome, Ok, Err, Result, option_to_list}
 use Rattle.std.specs.Result.{result_ok}
 use Rattle.std.proofs.lemmas.List.Elements.{All-cons, All-nil, All-push}
 use Rattle.std.proofs.lemmas.Option.{slice_get_within, get_or_from_slice_get}
+use Rattle.base.proofs.ListsOfAll.{IfSome-at_place}
+use Rattle.base.proofs.OptionsMade.{same_some}
 use Rattle.five_tuple.specs.declared.header.Header.{Header}
 use Rattle.policy_rules.specs.Policy.{IsPolicy}
 use Rattle.policy_rules.specs.PolicyFiles.{IsPolicyFile}
@@ -55,18 +57,11 @@ sound_by (Some (file_of.Change edits)) None rows own sound made = absurd cc
 sound_by (Some (file_of.Change edits)) (Some old) rows own sound made =
     IsPolicy-applied old rows edits sound own made
 
--- the item at a place, if there is one
-at_place : {A : Type 0} (P : A → Type 0) (xs : List A) (place : ℕ) (o : Option A) → All P xs
-    → slice_get xs place ≡ o → IfSome o P
-at_place P xs place None sound e = tt
-at_place P xs place (Some x) sound e = subst P (get_or_from_slice_get xs place x x e)
-    (sound place x (slice_get_within xs place x e))
-
 file_by : (files : List PolicyFile) (file : ℕ) (zero : Bool) → All IsPolicyFile files
     → IfSome (cond zero None (slice_get files (file - 1))) IsPolicyFile
 file_by files file true own = tt
 file_by files file false own =
-    at_place IsPolicyFile files (file - 1) (slice_get files (file - 1)) own refl
+    IfSome-at_place IsPolicyFile files (file - 1) (slice_get files (file - 1)) own refl
 
 ok_of : (made : Result (List Row) Inapplicable) (rows : List Row) → result_ok made ≡ Some rows
     → made ≡ Ok rows
@@ -84,7 +79,7 @@ made_in files file newest rows own sound e =
 newest_sound : (policies : List (List Row)) → All IsPolicy policies
     → IfSome (latest_policy policies) IsPolicy
 newest_sound policies sound =
-    at_place IsPolicy policies (length policies - 1) (latest_policy policies) sound refl
+    IfSome-at_place IsPolicy policies (length policies - 1) (latest_policy policies) sound refl
 
 abbrev pub ArePolicies : TraceState → Type 0
 ArePolicies state = All IsPolicy state.machine.policies
@@ -115,9 +110,6 @@ follows_sound files old told.Nothing new own sound f =
 
 -- ---- only one
 
-pub some_same : {A : Type 0} (a b : A) (o : Option A) → o ≡ Some a → o ≡ Some b → a ≡ b
-some_same a b o p q = cc
-
 state_same : (a b : TraceState) → a.machine ≡ b.machine → a.pending ≡ b.pending → a ≡ b
 state_same a b m p =
     ap (λ (x : Machine). record { machine = x; pending = a.pending }) m
@@ -138,15 +130,15 @@ submits_one : (old : Machine) (version : ℕ) (named : Option (List Row)) (a b :
     → Submits old version named a → Submits old version named b → a ≡ b
 submits_one old version named a b r s = r.after
     ∙ ap (λ (x : List Row). record old { policies = old.policies ++ x ∷ [] })
-    (some_same r.policy s.policy named r.there s.there)
+    (same_some r.policy s.policy named r.there s.there)
     ∙ sym s.after
 
 decides_one : (old : Machine) (number version : ℕ) (g h : Hit) (a b : Machine)
     → All IsPolicy old.policies → Decides old number version g a → Decides old number version h b
     → a ≡ b
 decides_one old number version g h a b sound r s =
-    let packets : r.packet ≡ s.packet = some_same r.packet s.packet _ r.entered s.entered in
-    let policies : r.policy ≡ s.policy = some_same r.policy s.policy _ r.submitted s.submitted in
+    let packets : r.packet ≡ s.packet = same_some r.packet s.packet _ r.entered s.entered in
+    let policies : r.policy ≡ s.policy = same_some r.policy s.policy _ r.submitted s.submitted in
     let one = first_match-only r.policy r.packet.header g
     (policy_in old.policies (version - 1) r.policy sound r.submitted).distinct r.first_match in
     let other = first_match-only s.policy s.packet.header h
@@ -161,7 +153,7 @@ ends_one : (old : Machine) (number : ℕ) (end : End) (a b : Machine)
     → Ends old number end a → Ends old number end b → a ≡ b
 ends_one old number end a b r s = r.after
     ∙ ap (λ (x : Packet). with_packet old number (record x { end = Some end }))
-    (some_same r.packet s.packet _ r.entered s.entered)
+    (same_some r.packet s.packet _ r.entered s.entered)
     ∙ sym s.after
 
 follows_one : (files : List PolicyFile) (old : TraceState) (t : Told) (a b : TraceState) → ArePolicies old
@@ -169,7 +161,7 @@ follows_one : (files : List PolicyFile) (old : TraceState) (t : Told) (a b : Tra
 follows_one files old (told.Row header) a b sound r s = r ∙ sym s
 follows_one files old (told.Entered packet) a b sound r s =
     state_same a b
-    (enters_one old.machine packet r.0 s.0 a.machine b.machine (some_same r.0 s.0 _ r.1 s.1) r.2 s.2)
+    (enters_one old.machine packet r.0 s.0 a.machine b.machine (same_some r.0 s.0 _ r.1 s.1) r.2 s.2)
     (r.3 ∙ sym s.3)
 follows_one files old (told.Submitted file version) a b sound r s =
     state_same a b (submits_one old.machine version _ a.machine b.machine r.0 s.0) (r.2 ∙ sym s.2)
@@ -187,7 +179,7 @@ pub line_one : (files : List PolicyFile) (old : TraceState) (line : TraceLine) (
     → ReadsLine files old line a → ReadsLine files old line b → a ≡ b
 line_one files old (Whole text) a b sound r s =
     follows_one files old r.0 a b sound r.2
-    (subst (λ t. Follows files old t b) (some_same s.0 r.0 _ s.1 r.1) s.2)
+    (subst (λ t. Follows files old t b) (same_some s.0 r.0 _ s.1 r.1) s.2)
 line_one files old (Open text) a b sound r s = absurd r
 
 line_sound : (files : List PolicyFile) (old : TraceState) (line : TraceLine) (new : TraceState)

@@ -5,8 +5,8 @@ use Rattle.std.proofs.lemmas.Bool.{cases_eq, cases_lt, cond-false, cond-true, eq
 use Rattle.std.proofs.lemmas.List.{length_push}
 use Rattle.std.proofs.lemmas.Option.{slice_get_past}
 use Rattle.std.proofs.Math.Path.{fun_ext}
+use Rattle.base.proofs.ListsByPlace.{get_push_at, get_push_left, get_set_other, get_set_same}
 use Rattle.trace_audit.specs.Seen.{run_get}
-use Rattle.trace_audit.proofs.IndexedRows.{get_push_at, get_push_left, get_set_other, get_set_same}
 
 -- by their numbers, the items that are seen: one is put in, and no other changes
 pub seen_put : {A B : Type 0} (seen : A → B) (old new : ℕ → Option A) (number : ℕ) (item : A)

@@ -1,9 +1,10 @@
 -- The text of a journal that answers a schedule: what is known at its beginning.
 use Rattle.std.proofs.Common.{ℕ, ◌≡◌, ◌+◌, ◌-◌, ◌≤◌, Option, Some, None, List, [], ◌∷◌, ◌++◌, length, length-append, sym, ap, subst, ◌∙◌, take, append-nil, arith}
-use Rattle.std.specs.Prelude.{All, get_or, map, option_to_list}
+use Rattle.std.specs.Prelude.{All, get_or, map}
 use Rattle.std.specs.Result.{result_ok}
 use Rattle.std.proofs.lemmas.List.{length-take}
 use Rattle.std.proofs.lemmas.List.Elements.{All-append, All-cons, All-head, All-nil, All-tail, All-take}
+use Rattle.base.proofs.OptionsMade.{length-option_to_list}
 use Rattle.control_laws.specs.Always.{AreEvents, HoldsAlways, HoldsReached}
 use Rattle.control_laws.specs.Planned.{VersionsArePlanned}
 use Rattle.journal.specs.declared.item.Item.{Item}
@@ -134,10 +135,6 @@ played_rows net files (Some row) events are most =
 
 -- ---- the beginning
 
-one_policy : {A : Type 0} (o : Option A) → length (option_to_list o) ≤ 1
-one_policy None = omega arith
-one_policy (Some x) = omega arith
-
 known_first : (laws : PlayLaws) (setting : Setting) (events : List Event) (journal : List Item)
     (full : Option ℕ) → IsSetting setting → AreEvents setting events
     → IsAnsweredTo setting events journal full → length events ≤ max_events
@@ -152,7 +149,7 @@ known_first laws setting events journal full is own play most =
     let planned = laws.planned.behind.begun setting events journal begins in
     let versions : count_of is_submission journal + 1 ≤ 64 = planned.few in
     record {
-      versions = omega (arith, versions, one_policy (result_ok (policy_by setting None 1)));
+      versions = omega (arith, versions, length-option_to_list (result_ok (policy_by setting None 1)));
       small = λ i packet known. absurd cc;
       few = omega (arith, rows.few);
       rows = rows.own;

@@ -3,7 +3,7 @@ use Rattle.std.proofs.Common.{ℕ, zero, suc, ◌≡◌, ◌+◌, ◌<◌, ◌�
 use Rattle.std.specs.List.{range_with_len}
 use Rattle.std.proofs.lemmas.List.{get_or_past}
 use Rattle.std.proofs.lemmas.List.Elements.{filter-append}
-use Rattle.policy_rules.proofs.CallerLemmas.{filter_more, range_more}
+use Rattle.base.proofs.ListsOfRanges.{filter_more, range_more}
 use Rattle.travelling.specs.Travelling.{Flights, stands_at, flight}
 
 -- none between passes

@@ -1,29 +1,21 @@
 -- What a journal says once more items stand behind it, one law for each of the folds.
-use Rattle.std.proofs.Common.{◌≡◌, ◌+◌, Bool, Option, Some, None, List, [], ◌∷◌, ◌++◌, refl, ap, ◌∙◌, sym, append_assoc, append-nil}
+use Rattle.std.proofs.Common.{◌≡◌, ◌+◌, Bool, Option, List, [], ◌∷◌, ◌++◌, refl, ap, ◌∙◌, sym, append_assoc, append-nil}
 use Rattle.std.specs.Option.{option_or}
 use Rattle.std.proofs.lemmas.List.Concat.{flat_map-append}
 use Rattle.std.proofs.lemmas.List.Sums.{sum_by-append}
+use Rattle.base.proofs.OptionsMade.{option_or-assoc, option_or-none}
 use Rattle.journal.specs.declared.item.Item.{Item}
 use Rattle.update_machine.specs.Folds.{all_given, count_of, folded_value, folded_from, last_given}
 use Rattle.update_machine.specs.Setting.{first_given}
-
-pub or_none : {X : Type 0} (o : Option X) → option_or o None ≡ o
-or_none None = refl
-or_none (Some x) = refl
-
-or_assoc : {X : Type 0} (o p q : Option X) → option_or (option_or o p) q ≡ option_or o
-    (option_or p q)
-or_assoc None p q = refl
-or_assoc (Some x) p q = refl
 
 -- the last that was told in two parts is that of the second, or else that of the first
 pub last_given_append : {X : Type 0} (tells : Item → Option X) (before items : List Item)
     → last_given tells (before ++ items) ≡ option_or (last_given tells items)
     (last_given tells before)
-last_given_append tells [] items = sym (or_none (last_given tells items))
+last_given_append tells [] items = sym (option_or-none (last_given tells items))
 last_given_append tells (item ∷ before) items = ap (λ o. option_or o (tells item))
     (last_given_append tells before items)
-    ∙ or_assoc (last_given tells items) (last_given tells before) (tells item)
+    ∙ option_or-assoc (last_given tells items) (last_given tells before) (tells item)
 
 -- the first that was told is that of the first part, or else that of the second
 pub first_given_append : {X : Type 0} (tells : Item → Option X) (before items : List Item) →
@@ -32,7 +24,7 @@ pub first_given_append : {X : Type 0} (tells : Item → Option X) (before items 
 first_given_append tells [] items = refl
 first_given_append tells (item ∷ before) items =
     ap (option_or (tells item)) (first_given_append tells before items)
-    ∙ sym (or_assoc (tells item) (first_given tells before) (first_given tells items))
+    ∙ sym (option_or-assoc (tells item) (first_given tells before) (first_given tells items))
 
 pub count_of_append : (test : Item → Bool) (before items : List Item)
     → count_of test (before ++ items) ≡ count_of test before + count_of test items

@@ -2,11 +2,12 @@
 use Rattle.std.proofs.Common.{◌≡◌, ◌+◌, Bool, true, false, Option, None, List, [], ◌∷◌, ◌++◌, refl, ap, sym, ◌∙◌, append_assoc, append-nil, add-zero}
 use Rattle.std.specs.Prelude.{◌||◌, IsFalse, unwrap_or}
 use Rattle.std.specs.Option.{option_or}
+use Rattle.base.proofs.OptionsMade.{option_or-none}
 use Rattle.journal.specs.declared.item.Item.{Item}
 use Rattle.update_machine.specs.Concerns.{NoneConcern}
 use Rattle.update_machine.specs.Folds.{all_given, count_of, folded_value, last_given}
 use Rattle.update_machine.specs.Setting.{first_given}
-use Rattle.update_machine.proofs.FoldLemmas.{all_given_append, count_of_append, first_given_append, folded_append, last_given_append, or_none}
+use Rattle.update_machine.proofs.FoldLemmas.{all_given_append, count_of_append, first_given_append, folded_append, last_given_append}
 
 -- of items that don't concern it nothing is said, and its value stays as it is
 abbrev pub Silent : {X : Type 0} (concerns : List Item → Item → Bool) (says : Item → X)
@@ -68,7 +69,7 @@ pub first_stays : {X : Type 0} (tells : Item → Option X) (concerns : List Item
 first_stays tells concerns silent = stays (first_given tells) concerns
     (λ js item apart. first_given_append tells js (item ∷ [])
     ∙ ap (λ o. option_or (first_given tells js) (option_or o None)) (silent js item apart)
-    ∙ or_none (first_given tells js))
+    ∙ option_or-none (first_given tells js))
 
 pub count_stays : (test : Item → Bool) (concerns : List Item → Item → Bool)
     → Silent concerns test false → Stays concerns (count_of test)

@@ -1,7 +1,7 @@
 -- What switches can use and know of links, what packets found down, and the plans of versions, as
 -- items say it: against the masks, sets and functions that compute them.
 use Rattle.std.proofs.Common.{ℕ, ◌≡◌, ◌^◌, ◌<◌, ◌⊎◌, min, max, Bool, true, false, ◌&&◌, ◌||◌, ◌==◌, Option, Some, None, List, [], ◌∷◌, ◌++◌, length, get_or, set, refl, ap, sym, ◌∙◌, arith, inl, inr, get_or-set_other, get_or-set_same}
-use Rattle.std.specs.Prelude.{Contains, IsFalse, IsTrue, Result, Ok, Err, bit_or, filter}
+use Rattle.std.specs.Prelude.{Contains, IsFalse, IsTrue, Result, Ok, Err, bit_or}
 use Rattle.std.specs.List.{list_any}
 use Rattle.std.specs.Option.{option_map_or}
 use Rattle.std.proofs.lemmas.Bool.{cases_eq, cases_lt, false_from_ne_true, or_left, or_right}
@@ -12,6 +12,7 @@ use Rattle.failover.proofs.LinkBalls.{or_cases}
 use Rattle.failover.proofs.LinkSets.{has_link-none}
 use Rattle.base.specs.Masks.{has}
 use Rattle.base.proofs.CallerLemmas.{has_mask, has-or, has-pow_other}
+use Rattle.base.proofs.ListsOfAny.{any_filtered, any_weaker}
 use Rattle.net_file.specs.Joins.{are_linked, joins}
 use Rattle.partition.specs.Plan.{Hosted}
 use Rattle.policy_rules.specs.declared.policy.Row.{Row}
@@ -28,21 +29,6 @@ use Rattle.update_machine.specs.PacketRoutes.{changes_found, found_down}
 
 -- ---- links that switches can use
 
-any_filtered : {X : Type 0} (test passes : X → Bool) (xs : List X)
-    → list_any test (filter passes xs) ≡ list_any (λ x. test x && passes x) xs
-any_filtered test passes [] = refl
-any_filtered {X = X} test passes (x ∷ xs) =
-    by_tests (passes x) (test x) refl refl (any_filtered test passes xs)
-  where
-    by_tests : (b c : Bool) → passes x ≡ b → test x ≡ c
-        → list_any test (filter passes xs) ≡ list_any (λ y. test y && passes y) xs
-        → list_any test (filter passes (x ∷ xs))
-        ≡ list_any (λ y. test y && passes y) (x ∷ xs)
-    by_tests true true e f rest = rw (e, f) refl
-    by_tests true false e f rest = rw (e, f) rest
-    by_tests false true e f rest = rw (e, f) rest
-    by_tests false false e f rest = rw (e, f) rest
-
 -- a switch can use the links to those that are near, and no others
 pub near_usable : (setting : Setting) (journal : List Item) (one two : ℕ) → two < 64
     → has (near setting journal one) two ≡ can_use setting journal one two
@@ -50,18 +36,6 @@ unfolding near
 near_usable setting journal one two small =
     has_mask (are_linked (usable_links setting journal) one) two small
     ∙ any_filtered (joins one two) (is_usable journal) setting.net.links
-
-any_weaker : {X : Type 0} (test passes : X → Bool) (xs : List X)
-    → IsTrue (list_any (λ x. test x && passes x) xs) → IsTrue (list_any test xs)
-any_weaker test passes [] is = is
-any_weaker {X = X} test passes (x ∷ xs) is =
-    by_test (test x) refl (any_weaker test passes xs) is
-  where
-    by_test : (b : Bool) → test x ≡ b
-        → (IsTrue (list_any (λ y. test y && passes y) xs) → IsTrue (list_any test xs))
-        → IsTrue (list_any (λ y. test y && passes y) (x ∷ xs)) → IsTrue (list_any test (x ∷ xs))
-    by_test true e rest is = rw e refl
-    by_test false e rest is = rw e (rest (rw e at is))
 
 -- a link that can be used is of the network
 pub usable_linked : (setting : Setting) (journal : List Item) (one two : ℕ)

@@ -1,5 +1,4 @@
 pub mod TestMasks
-pub mod ReplacedItems
 pub mod LeastStamp
 pub mod OpenedSwitches
 pub mod OneResult

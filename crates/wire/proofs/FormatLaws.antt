@@ -5,7 +5,8 @@ use Rattle.std.specs.Int.{Width, w8, w32, w64, byte_len, from_be_bytes, to_be_by
 use Rattle.std.proofs.lemmas.Bool.{cases_lt, ltb-false, ltb-true, le-ltb, lt-ltb, and_parts}
 use Rattle.std.proofs.lemmas.List.{take_at, drop_at, take-append-drop, length-append, length-take, get_or-drop, get_or-take, get_or_past}
 use Rattle.std.proofs.lemmas.Nat.{be_bytes_4, be_bytes_8, from_be_bytes-to_be_bytes_4, from_be_bytes-to_be_bytes_8}
-use Rattle.std.proofs.lemmas.Option.{same_Some}
+use Rattle.std.proofs.lemmas.Option.{same_Some, cond_some}
+use Rattle.base.proofs.OptionsByTest.{not_refused}
 use Rattle.wire.specs.Format.{Format, then_read, spelled_number, read_number, number, ◌⊗◌, as_type, such_that, read_flagged, optional, read_items, list_of}
 
 -- each is a byte
@@ -28,16 +29,6 @@ pub record IsLawful {A : Type 0} (f : Format A) : Type 0 where
 pub then_some : {A B : Type 0} (o : Option A) (f : A → Option B) (y : B) → then_read o f ≡ Some y → (x : A) × (o ≡ Some x) × (f x ≡ Some y)
 then_some None f y e = absurd cc
 then_some (Some x) f y e = (x, refl, e)
-
--- a test passed
-pub passed : {A : Type 0} (b : Bool) (x y : A) → cond b (Some x) None ≡ Some y → (b ≡ true) × (x ≡ y)
-passed true x y e = (refl, cc)
-passed false x y e = absurd cc
-
--- a test didn't refuse
-pub not_refused : {A : Type 0} (b : Bool) (x y : A) → cond b None (Some x) ≡ Some y → (b ≡ false) × (x ≡ y)
-not_refused true x y e = absurd cc
-not_refused false x y e = (refl, cc)
 
 -- ---- bytes
 
@@ -174,7 +165,7 @@ such_that_lawful {A = A} {f = f} test lf = record {
   takes = λ bytes x rest are e.
       let b = then_some (f.read bytes) (λ p. cond (test p.0) (Some p) None) (x, rest) e in
       let t = lf.takes bytes b.0.0 b.0.1 are b.1 in
-      let g = passed (test b.0.0) b.0 (x, rest) b.2 in
+      let g = cond_some (test b.0.0) b.0 (x, rest) b.2 in
       let whole : Takes (such_that test f) b.0.0 bytes b.0.1 = record {
         fits = rw (t.fits, g.0) refl;
         parts = t.parts;

@@ -4,36 +4,22 @@ use Rattle.std.specs.Prelude.{IsSome, OnOk, OnErr}
 use Rattle.std.specs.List.{insert, position, position_or_len}
 use Rattle.std.proofs.lemmas.Bool.{cases_lt, cases_eq, lt-ltb, le-ltb, ltb-false, eqb-true, ne_eqb, false_from_ne_true, cond-true}
 use Rattle.std.proofs.lemmas.Bool.Decides.{nat_tests}
-use Rattle.std.proofs.lemmas.Option.{same_Some}
+use Rattle.std.proofs.lemmas.Option.{same_Some, cond_some}
 use Rattle.ctrl_msg.specs.declared.message.Message.{Message}
 use Rattle.wire.specs.declared.assembler.FrameCheck.TheVariants.{Held, New}
 use Rattle.base.specs.Refusals.{IfRefused}
 use Rattle.base.specs.declared.error.Failure.{Failure}
 use Rattle.wire.specs.declared.error.Malformed.{Malformed}
 use Rattle.base.proofs.RefusalWeakening.{IfRefused-weaker}
+use Rattle.base.proofs.OptionsMade.{false_not_true, none_is_not, none_is_not_some}
+use Rattle.base.proofs.ResultsMade.{on_err, on_ok}
 use Rattle.wire.specs.Frames.{place_in_frame, count_in_frame, AreFrames}
 use Rattle.wire.specs.Assembly.{held_at, with_frame, AreAllHeld, AreRising, AreTogether, IsOfCount, IsRefusedFrame, too_short, too_long, past_the_count, another_count, another_frame, no_message, Agree, AreNone, IsAssembled, IsFed, Joins, IsFrameCheck}
-use Rattle.wire.proofs.FormatLaws.{AreBytes, passed}
-use Rattle.wire.proofs.MessageDecoding.{none_is_not}
+use Rattle.wire.proofs.FormatLaws.{AreBytes}
 use Rattle.wire.proofs.FrameBytes.{frame_again}
 use Rattle.wire.proofs.FrameAssembly.{rising_few}
 
 -- ---- tests of places
-
-pub false_true : false ≡ true → ⊥
-false_true e = absurd cc
-
-nothing : {A : Type 0} (o : Option A) → o ≡ None → IsSome o → ⊥
-nothing None e some = false_true some
-nothing (Some x) e some = none_is_not x (sym e)
-
-on_ok : {T E P : Type 0} (r : Result T E) → P → OnOk r P
-on_ok (Ok x) p = p
-on_ok (Err e) p = tt
-
-pub on_err : {T E P : Type 0} (r : Result T E) → P → OnErr r P
-on_err (Ok x) p = tt
-on_err (Err e) p = p
 
 pub same_place : (n : ℕ) → eqb n n ≡ true
 same_place n = grind (arith, nat_tests)
@@ -101,7 +87,7 @@ enough : (from count : ℕ) (fs : List (List ℕ)) → AreRising from count fs
     → ((place : ℕ) → from ≤ place → place < count → IsSome (held_at fs place)) → count - from ≤ length fs
 enough from count [] rising held =
     elim (cases_lt from count) [
-      | inl lt ↦ absurd (nothing (held_at [] from) refl (held from (omega arith) lt))
+      | inl lt ↦ absurd (none_is_not_some (held_at [] from) refl (held from (omega arith) lt))
       | inr le ↦ omega arith
     ]
 enough from count (f ∷ fs) rising held =
@@ -110,7 +96,7 @@ enough from count (f ∷ fs) rising held =
     elim (cases_lt from (place_in_frame f)) [
       | inl lt ↦
           let none : held_at (f ∷ fs) from ≡ None = none_below (place_in_frame f) count (f ∷ fs) from (omega arith, rising.1, rising.2) lt in
-          absurd (nothing (held_at (f ∷ fs) from) none (held from (omega arith) (omega arith)))
+          absurd (none_is_not_some (held_at (f ∷ fs) from) none (held from (omega arith) (omega arith)))
       | inr ge ↦
           let here : place_in_frame f ≡ from = omega arith in
           let others = enough (place_in_frame f + 1) count fs rising.2
@@ -287,7 +273,7 @@ check_new held f index long short are below rising none at =
 -- the index of the first frame at a place or behind it
 pub index_found : (fs : List (List ℕ)) (place index : ℕ) → Some index ≡ position (λ g. leb place (place_in_frame g)) fs → index ≡ index_of fs place
 index_found fs place index e =
-    sym (passed (ltb (index_of fs place) (length fs)) (index_of fs place) index (sym e)).1
+    sym (cond_some (ltb (index_of fs place) (length fs)) (index_of fs place) index (sym e)).1
 
 pub index_past : (fs : List (List ℕ)) (place : ℕ) → None ≡ position (λ g. leb place (place_in_frame g)) fs → length fs ≡ index_of fs place
 index_past fs place e =
@@ -330,7 +316,7 @@ fed held f after (Ok None) together joins rising answer is unchanged =
       refused = tt;
       taken = not_refused held f joins (λ all none. incomplete all);
       is_held = is;
-      some = (λ e. absurd (false_true e), λ all. absurd (incomplete (subst (λ fs. AreAllHeld fs (count_in_frame f)) is all)));
+      some = (λ e. absurd (false_not_true e), λ all. absurd (incomplete (subst (λ fs. AreAllHeld fs (count_in_frame f)) is all)));
       message = tt;
       unchanged = tt;
     }

@@ -1,24 +1,20 @@
 -- What stands before the tables in an installation is read as it is spelled.
-use Rattle.std.proofs.Common.{◌≡◌, ℕ, Bool, true, false, cond, eqb, List, [], ◌++◌, length, Option, Some, None, Result, Ok, Err, refl, sym, ap, subst, ◌∙◌}
+use Rattle.std.proofs.Common.{◌≡◌, ℕ, true, cond, eqb, List, [], ◌++◌, length, Some, None, Result, Ok, Err, refl, sym, ap, subst, ◌∙◌}
 use Rattle.std.specs.Prelude.{IfOk, IfErr}
 use Rattle.std.proofs.lemmas.Bool.{eqb-true}
 use Rattle.std.proofs.lemmas.List.{append-nil, nil_from_length}
-use Rattle.std.proofs.lemmas.Option.{same_Some}
+use Rattle.std.proofs.lemmas.Option.{same_Some, cond_some}
 use Rattle.ctrl_msg.specs.declared.message.Place.{Place}
 use Rattle.base.specs.Refusals.{IfRefused}
 use Rattle.base.specs.declared.error.Failure.{Failure}
 use Rattle.wire.specs.declared.error.Malformed.{Malformed}
 use Rattle.base.proofs.RefusalWeakening.{IfRefused-weaker}
+use Rattle.base.proofs.OptionsByTest.{passes_then_some}
+use Rattle.base.proofs.OptionsMade.{none_is_not}
 use Rattle.wire.specs.Messages.{IsFront, message_front, read_front, spelled_front}
 use Rattle.wire.specs.Reading.{Gives}
-use Rattle.wire.proofs.MessageDecoding.{none_is_not}
-use Rattle.wire.proofs.FormatLaws.{AreBytes, then_some, passed}
+use Rattle.wire.proofs.FormatLaws.{AreBytes, then_some}
 use Rattle.wire.proofs.LawfulFormats.{front_lawful}
-
--- a test passed, and then something was read
-and_then : {A : Type 0} (b : Bool) (o : Option A) (y : A) → cond b o None ≡ Some y → (b ≡ true) × (o ≡ Some y)
-and_then true o y e = (refl, e)
-and_then false o y e = absurd cc
 
 front_takes : (bytes : List ℕ) (f : Place × ℕ) (rest : List ℕ) → AreBytes bytes → read_front bytes ≡ Some (f, rest)
     → IsFront f.0 f.1 bytes
@@ -26,8 +22,8 @@ front_takes bytes f rest are e =
     let b = then_some (message_front.read bytes)
     (λ x. cond (eqb x.0.1.0 1) (cond (eqb (length x.1) 0) (Some ((x.0.0, x.0.1.1), x.1)) None) None) (f, rest) e in
     let t = front_lawful.takes bytes b.0.0 b.0.1 are b.1 in
-    let g = and_then (eqb b.0.0.1.0 1) (cond (eqb (length b.0.1) 0) (Some ((b.0.0.0, b.0.0.1.1), b.0.1)) None) (f, rest) b.2 in
-    let h = passed (eqb (length b.0.1) 0) ((b.0.0.0, b.0.0.1.1), b.0.1) (f, rest) g.1 in
+    let g = passes_then_some (eqb b.0.0.1.0 1) (cond (eqb (length b.0.1) 0) (Some ((b.0.0.0, b.0.0.1.1), b.0.1)) None) (f, rest) b.2 in
+    let h = cond_some (eqb (length b.0.1) 0) ((b.0.0.0, b.0.0.1.1), b.0.1) (f, rest) g.1 in
     let none : b.0.1 ≡ [] = nil_from_length b.0.1 (eqb-true _ _ h.0) in
     let kind : b.0.0.1.0 ≡ 1 = eqb-true _ _ g.0 in
     let is : IsFront b.0.0.0 b.0.0.1.1 bytes = record {

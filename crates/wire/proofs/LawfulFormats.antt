@@ -1,9 +1,10 @@
 -- Each format of messages is lawful.
-use Rattle.std.proofs.Common.{◌≡◌, ℕ, ◌+◌, ◌*◌, ◌/◌, ◌%◌, ◌^◌, ◌<◌, Bool, true, false, cond, ltb, eqb, List, ◌++◌, Option, Some, None, refl, sym, ap, subst, ◌∙◌, append_assoc, arith, inl, inr, ◌⊎◌}
+use Rattle.std.proofs.Common.{◌≡◌, ℕ, ◌+◌, ◌*◌, ◌/◌, ◌%◌, ◌^◌, ◌<◌, true, false, ltb, eqb, List, ◌++◌, Option, Some, None, refl, sym, ap, subst, ◌∙◌, append_assoc, arith, inl, inr}
 use Rattle.std.proofs.lemmas.Bool.{ltb-true, eqb-true, and_parts}
 use Rattle.std.proofs.lemmas.Bool.Decides.{nat_tests}
 use Rattle.std.proofs.lemmas.Nat.{div-add-mod'}
 use Rattle.std.proofs.lemmas.Option.{same_Some}
+use Rattle.base.proofs.OptionsByTest.{cond_cases}
 use Rattle.ctrl_msg.specs.declared.message.Place.{Place}
 use Rattle.ctrl_msg.specs.declared.message.Place.TheVariants.{Switch, Controller}
 use Rattle.ctrl_msg.specs.declared.message.Body.{Body}
@@ -96,10 +97,6 @@ tables_lawful =
 
 -- ---- the receiver
 
-chosen : {A : Type 0} (b : Bool) (x y z : A) → cond b x y ≡ z → ((b ≡ true) × (x ≡ z)) ⊎ ((b ≡ false) × (y ≡ z))
-chosen true x y z e = inl (refl, e)
-chosen false x y z e = inr (refl, e)
-
 receiver_takes : (bytes : List ℕ) (to : Place) (rest : List ℕ) → AreBytes bytes → receiver.read bytes ≡ Some (to, rest) → Takes receiver to bytes rest
 unfolding receiver switch
 receiver_takes bytes to rest are e =
@@ -108,9 +105,9 @@ receiver_takes bytes to rest are e =
     let d = then_some (receiver_of b.0.0) (λ r. Some (r, b.0.1)) (to, rest) b.2 in
     let P : Place → Type 0 = λ r. Takes receiver r bytes b.0.1 in
     let taken : Takes receiver d.0 bytes b.0.1 =
-    elim (chosen (eqb b.0.0 255) _ _ _ d.1) [
+    elim (cond_cases (eqb b.0.0 255) _ _ _ d.1) [
       | inl h ↦ subst P (same_Some _ _ h.1) (record { fits = refl; parts = t.parts ∙ ap (λ k. n1.spell k ++ b.0.1) (eqb-true _ _ h.0); rest_are = t.rest_are })
-      | inr h ↦ elim (chosen (ltb b.0.0 64) _ _ _ h.1) [
+      | inr h ↦ elim (cond_cases (ltb b.0.0 64) _ _ _ h.1) [
         | inl k ↦ subst P (same_Some _ _ k.1) (record { fits = rw (t.fits, k.0) refl; parts = t.parts; rest_are = t.rest_are })
         | inr k ↦ absurd (cc (k.1))
       ]
@@ -191,31 +188,31 @@ at_kind k kind b bytes rest e t = subst (λ n. TakesFields n b bytes rest) (sym 
 
 fields_take : (k : ℕ) (bytes : List ℕ) (b : Body) (rest : List ℕ) → AreBytes bytes → read_fields k bytes ≡ Some (b, rest) → TakesFields k b bytes rest
 fields_take k bytes b rest are e =
-    elim (chosen (eqb k 1) _ _ _ e) [
+    elim (cond_cases (eqb k 1) _ _ _ e) [
       | inl h ↦ at_kind k 1 b bytes rest h.0 (kind_takes (λ p. Install p.0 p.1) install_form 1 (λ x. refl) (λ x. refl) (λ x. refl) install_lawful bytes b rest are h.1)
-      | inr g1 ↦ elim (chosen (eqb k 2) _ _ _ g1.1) [
+      | inr g1 ↦ elim (cond_cases (eqb k 2) _ _ _ g1.1) [
         | inl h ↦ at_kind k 2 b bytes rest h.0
             (kind_takes (λ p. OpenAt p.0 p.1) boot_and_version 2 (λ x. refl) (λ x. refl) (λ x. refl)
             of_version_lawful bytes b rest are h.1)
-        | inr g2 ↦ elim (chosen (eqb k 3) _ _ _ g2.1) [
+        | inr g2 ↦ elim (cond_cases (eqb k 3) _ _ _ g2.1) [
           | inl h ↦ at_kind k 3 b bytes rest h.0
               (kind_takes (λ p. Stamp p.0 p.1.0 p.1.1) stamp_form 3 (λ x. refl) (λ x. refl)
               (λ x. refl) stamp_lawful bytes b rest are h.1)
-          | inr g3 ↦ elim (chosen (eqb k 4) _ _ _ g3.1) [
+          | inr g3 ↦ elim (cond_cases (eqb k 4) _ _ _ g3.1) [
             | inl h ↦ at_kind k 4 b bytes rest h.0
                 (kind_takes (λ p. Collect p.0 p.1) boot_and_version 4 (λ x. refl) (λ x. refl)
                 (λ x. refl) of_version_lawful bytes b rest are h.1)
-            | inr g4 ↦ elim (chosen (eqb k 5) _ _ _ g4.1) [
+            | inr g4 ↦ elim (cond_cases (eqb k 5) _ _ _ g4.1) [
               | inl h ↦ at_kind k 5 b bytes rest h.0 (kind_takes cache_rule_of cache_rule_form 5 (λ x. refl) (λ x. refl) (λ x. refl) cache_rule_lawful bytes b rest are h.1)
-              | inr g5 ↦ elim (chosen (eqb k 6) _ _ _ g5.1) [
+              | inr g5 ↦ elim (cond_cases (eqb k 6) _ _ _ g5.1) [
                 | inl h ↦ at_kind k 6 b bytes rest h.0 (kind_takes Advertise advert 6 (λ x. refl) (λ x. refl) (λ x. refl) advert_lawful bytes b rest are h.1)
-                | inr g6 ↦ elim (chosen (eqb k 7) _ _ _ g6.1) [
+                | inr g6 ↦ elim (cond_cases (eqb k 7) _ _ _ g6.1) [
                   | inl h ↦ at_kind k 7 b bytes rest h.0 (kind_takes (λ p. Hello p.0 p.1) hello 7 (λ x. refl) (λ x. refl) (λ x. refl) hello_lawful bytes b rest are h.1)
-                  | inr g7 ↦ elim (chosen (eqb k 8) _ _ _ g7.1) [
+                  | inr g7 ↦ elim (cond_cases (eqb k 8) _ _ _ g7.1) [
                     | inl h ↦ at_kind k 8 b bytes rest h.0
                         (kind_takes (λ p. Installed p.0 p.1.0 p.1.1) acknowledgement 8 (λ x. refl)
                         (λ x. refl) (λ x. refl) acknowledged_lawful bytes b rest are h.1)
-                    | inr g8 ↦ elim (chosen (eqb k 9) _ _ _ g8.1) [
+                    | inr g8 ↦ elim (cond_cases (eqb k 9) _ _ _ g8.1) [
                       | inl h ↦ at_kind k 9 b bytes rest h.0
                           (kind_takes (λ p. Stamped p.0 p.1.0 p.1.1) acknowledgement 9 (λ x. refl)
                           (λ x. refl) (λ x. refl) acknowledged_lawful bytes b rest are h.1)

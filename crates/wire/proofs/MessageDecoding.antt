@@ -3,15 +3,16 @@ use Rattle.std.proofs.Common.{◌≡◌, ℕ, cond, eqb, List, [], ◌++◌, len
 use Rattle.std.specs.Prelude.{IfOk, IfErr}
 use Rattle.std.proofs.lemmas.Bool.{eqb-true}
 use Rattle.std.proofs.lemmas.List.{append-nil, nil_from_length}
-use Rattle.std.proofs.lemmas.Option.{same_Some}
+use Rattle.std.proofs.lemmas.Option.{same_Some, cond_some}
 use Rattle.ctrl_msg.specs.declared.message.Message.{Message}
 use Rattle.base.specs.Refusals.{IfRefused}
 use Rattle.base.specs.declared.error.Failure.{Failure}
 use Rattle.wire.specs.declared.error.Malformed.{Malformed}
 use Rattle.base.proofs.RefusalWeakening.{IfRefused-weaker}
+use Rattle.base.proofs.OptionsMade.{none_is_not}
 use Rattle.wire.specs.Messages.{message, whole_message, IsSpelling}
 use Rattle.wire.specs.Reading.{Gives}
-use Rattle.wire.proofs.FormatLaws.{AreBytes, then_some, passed}
+use Rattle.wire.proofs.FormatLaws.{AreBytes, then_some}
 use Rattle.wire.proofs.LawfulFormats.{message_lawful}
 
 pub whole_takes : (bytes : List ℕ) (m : Message) (rest : List ℕ) → AreBytes bytes
@@ -19,7 +20,7 @@ pub whole_takes : (bytes : List ℕ) (m : Message) (rest : List ℕ) → AreByte
 whole_takes bytes m rest are e =
     let b = then_some (message.read bytes) (λ x. cond (eqb (length x.1) 0) (Some x) None) (m, rest) e in
     let t = message_lawful.takes bytes b.0.0 b.0.1 are b.1 in
-    let g = passed (eqb (length b.0.1) 0) b.0 (m, rest) b.2 in
+    let g = cond_some (eqb (length b.0.1) 0) b.0 (m, rest) b.2 in
     let none : b.0.1 ≡ [] = nil_from_length b.0.1 (eqb-true _ _ g.0) in
     let all : IsSpelling b.0.0 bytes = record {
       fits = t.fits;
@@ -33,9 +34,6 @@ whole_again bytes m h =
     let read : message.read bytes ≡ Some (m, []) =
     ap message.read (h.spelled ∙ sym (append-nil (message.spell m))) ∙ message_lawful.again m [] h.fits in
     rw read refl
-
-pub none_is_not : {A : Type 0} (x : A) → None ≡ Some x → ⊥
-none_is_not x e = absurd cc
 
 -- no two messages have one spelling
 pub one_message : (bytes : List ℕ) (a b : Message) → IsSpelling a bytes → IsSpelling b bytes → a ≡ b

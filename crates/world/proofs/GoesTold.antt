@@ -2,6 +2,7 @@
 use Rattle.std.proofs.Common.{ℕ, ◌≡◌, ◌+◌, List, [], ◌∷◌, ◌++◌, refl, ap, sym, subst, ◌∙◌, append_assoc, length, rules}
 use Rattle.std.specs.Prelude.{IsErr, OnErr, OnOk, Result}
 use Rattle.std.proofs.lemmas.Result.{on_ok_weaker}
+use Rattle.base.proofs.ResultsMade.{both_ok}
 use Rattle.message_bag.specs.Posts.{Post}
 use Rattle.controller.specs.declared.sends.Act.{Act}
 use Rattle.journal.specs.declared.item.Item.{Item}
@@ -18,7 +19,7 @@ use Rattle.world_log.specs.Writing.{IsPart}
 use Rattle.world_log.specs.declared.log.Log.{Log}
 use Rattle.world.specs.declared.parts.Parts.{Parts}
 use Rattle.world.proofs.StepFrame.{Follows, goes, part_goes}
-use Rattle.world_log.proofs.StepWrites.{both_ok, step_part, step_written}
+use Rattle.world_log.proofs.StepWrites.{step_part, step_written}
 
 -- the journal behind the first item, what is written then, under which number the messages are,
 -- and what they post behind these posts

@@ -4,6 +4,7 @@ use Rattle.std.specs.Prelude.{find, IsSome}
 use Rattle.std.specs.List.{range_with_len}
 use Rattle.std.proofs.lemmas.Bool.{cases_lt, false_from_ne_true, cond-true}
 use Rattle.std.proofs.lemmas.Option.{none-some}
+use Rattle.base.proofs.OptionsByTest.{some_passes_of}
 use Rattle.journal.specs.declared.item.Item.{Item}
 use Rattle.update_machine.specs.Packets.{next_packet}
 use Rattle.update_machine.specs.Setting.{Setting}
@@ -61,10 +62,6 @@ least_is_found test from (suc count) next over least =
     by_first test from next (find test (range_with_len (from + 1) count)) (test from) refl least
     (least_is_found test (from + 1) count next (λ i behind. over i (omega (arith, behind))))
 
-some_travels : {X : Type 0} (b : Bool) (x : X) → IsSome (cond b (Some x) None) → b ≡ true
-some_travels true x is = refl
-some_travels false x is = cc is
-
 -- the least packet on its way from a number on is the least that travels
 least_from : (setting : Setting) (journal : List Item) (travelling : Flights)
     → ((i : ℕ) → flight travelling i ≡ flight_in setting journal i)
@@ -82,7 +79,7 @@ least_from setting journal travelling tie from next least = by next least
     by None least = λ i behind. none i (least i behind)
     by (Some i) least = (
       least.0,
-      some_travels (travels journal i) (flight_of setting journal i)
+      some_passes_of (travels journal i) (flight_of setting journal i)
           (subst IsSome (tie i) least.1),
       λ k behind below. none k (least.2 k behind below),
     )

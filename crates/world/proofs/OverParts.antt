@@ -1,6 +1,7 @@
 -- The steps of packets over the parts of a world.
 use Rattle.std.proofs.Common.{ℕ, ◌≡◌, ◌+◌, ◌<◌, Some, List, ◌∷◌, ◌++◌, length, sym, subst, get_or, set, arith}
 use Rattle.std.specs.Prelude.{OnOk, Result, slice_index}
+use Rattle.base.proofs.ResultsMade.{both_ok, three_ok}
 use Rattle.message_bag.specs.Posts.{Post}
 use Rattle.five_tuple.specs.declared.header.Header.{Header}
 use Rattle.journal.specs.declared.item.Item.{Item}
@@ -20,7 +21,6 @@ use Rattle.refinement.proofs.CanAsk.{CanAsk}
 use Rattle.refinement.proofs.HopRefines.{hop_piece_of, hop_refines}
 use Rattle.refinement.proofs.IncomingTie.{come_piece, come_refines}
 use Rattle.refinement.proofs.NetworkSwitches.{switch_is, switch_there}
-use Rattle.world_log.proofs.StepWrites.{both_ok, three_ok}
 
 -- ---- a packet that comes in
 

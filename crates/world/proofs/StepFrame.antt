@@ -1,8 +1,9 @@
 -- What a kind of step owes to the frame that all of them share: its row stands behind the journal,
 -- and it writes the rest.
 use Rattle.std.proofs.Common.{ℕ, ◌≡◌, ◌+◌, List, [], ◌∷◌, ◌++◌, refl, ap, sym, subst, ◌∙◌, arith, rules}
-use Rattle.std.specs.Prelude.{Err, IsErr, Ok, OnErr, OnOk, Result, Some}
+use Rattle.std.specs.Prelude.{IsErr, OnErr, OnOk, Result, Some}
 use Rattle.std.proofs.lemmas.Result.{on_err_weaker, on_ok_weaker}
+use Rattle.base.proofs.ResultsMade.{both_ok, on_err, on_ok_failed}
 use Rattle.message_bag.specs.Posts.{Post}
 use Rattle.controller.specs.Controller.{newest_policy}
 use Rattle.journal.specs.declared.item.Item.{Item}
@@ -17,7 +18,7 @@ use Rattle.refinement.specs.Refinement.{RefineJournal, NetworkState}
 use Rattle.world_log.specs.Writing.{IsPart}
 use Rattle.world.specs.declared.parts.Parts.{Parts}
 use Rattle.refinement.proofs.OneItem.{grown}
-use Rattle.world_log.proofs.StepWrites.{both_ok, grown_more, none_ok, part_none, step_part, step_written, on_err}
+use Rattle.world_log.proofs.StepWrites.{grown_more, part_none, step_part, step_written}
 
 -- nothing was done to the files and the ports
 pub record KeepFiles (old new : Parts) : Type 0 where
@@ -89,10 +90,6 @@ by_posts old new journal keeps refines =
 pub none_in : (n : ℕ) → n ≡ n + 0
 none_in n = omega arith
 
--- a call that succeeded didn't fail
-pub not_err : {T E : Type 0} (x : T) (e : E) → Ok x ≡ Err e → ⊥
-not_err x e is = absurd cc
-
 piece_split : (setting : Setting) (before : List Item) (row : ℕ) (step : Step)
     → piece setting before row step
     ≡ item.Row row step ∷ [] ++ step_items setting before step (before ++ item.Row row step ∷ [])
@@ -158,10 +155,10 @@ module _ {T E : Type 0} {r : Result T E} {before : List Item} {row : ℕ} {step 
       → Goes r before row step old new
   part_goes failed part = record {
     net = keeps;
-    newest = none_ok _ r failed;
-    counted = none_ok _ r failed;
-    written = none_ok _ r failed;
-    refines = none_ok _ r failed;
+    newest = on_ok_failed _ r failed;
+    counted = on_ok_failed _ r failed;
+    written = on_ok_failed _ r failed;
+    refines = on_ok_failed _ r failed;
     part = on_err r part;
   }
 

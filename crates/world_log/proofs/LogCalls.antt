@@ -2,21 +2,23 @@
 use Rattle.std.proofs.Common.{ℕ, ◌≡◌, ◌∙◌, List, [], ◌∷◌, ◌++◌, Option, append-nil, subst, sym}
 use Rattle.std.specs.Prelude.{IsErr, OnErr, OnOk, Result}
 use Rattle.std.proofs.lemmas.Result.{on_err_weaker, on_ok_weaker}
+use Rattle.base.proofs.ListsJoined.{both_written}
+use Rattle.base.proofs.ResultsMade.{on_err, on_ok_failed}
 use Rattle.journal.specs.declared.item.Item.{Item}
 use Rattle.message_bag.specs.Posts.{Post}
 use Rattle.travelling.specs.Travelling.{Flight, WithOne}
 use Rattle.world_log.specs.Writing.{IsPart, LogAfter}
 use Rattle.world_log.specs.declared.log.Log.{Log}
-use Rattle.world_log.proofs.StepWrites.{both_written, none_ok, on_err, part_none, part_of_rest}
+use Rattle.world_log.proofs.StepWrites.{part_none, part_of_rest}
 
 -- memory ran out where a part was written
 pub log_failed : {T E : Type 0} (r : Result T E) (items : List Item) (posts : List Post)
     (packet : ℕ) (this : Option Flight) (old new : Log) → IsErr r
     → IsPart old.journal items new.journal → LogAfter r items posts packet this old new
 log_failed r items posts packet this old new failed part = record {
-  written = none_ok _ r failed;
-  posted = none_ok _ r failed;
-  travels = none_ok _ r failed;
+  written = on_ok_failed _ r failed;
+  posted = on_ok_failed _ r failed;
+  travels = on_ok_failed _ r failed;
   part = on_err r part;
 }
 

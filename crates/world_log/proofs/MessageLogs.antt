@@ -1,7 +1,9 @@
 -- What messages and acts write, one part after another.
-use Rattle.std.proofs.Common.{ℕ, ◌≡◌, ◌+◌, ◌<◌, ◌≤◌, List, [], ◌∷◌, ◌++◌, refl, ap, sym, ◌∙◌, length, length-append, append-nil, append_assoc, get_or, map, subst, arith}
+use Rattle.std.proofs.Common.{ℕ, ◌≡◌, ◌+◌, ◌<◌, ◌≤◌, List, [], ◌∷◌, ◌++◌, refl, ap, sym, ◌∙◌, length, length-append, append-nil, append_assoc, map, subst, arith}
 use Rattle.std.specs.Prelude.{All, IsErr, Result}
 use Rattle.std.proofs.lemmas.List.{get_or-append-add, get_or-map, get_or_append_left, length-map, map-append}
+use Rattle.base.proofs.ListsJoined.{both_written}
+use Rattle.base.proofs.ResultsMade.{on_err, on_ok_failed}
 use Rattle.message_bag.specs.Posts.{Post, new_post}
 use Rattle.controller.specs.declared.sends.Act.{Act}
 use Rattle.controller.specs.declared.sends.Act.TheVariants as act
@@ -13,7 +15,7 @@ use Rattle.update_machine.specs.Messages.{sent_from}
 use Rattle.world_log.specs.Sending.{HasNoted, IsSpelled, MayNote, act_item, act_items, act_post, act_posts, number_after}
 use Rattle.world_log.specs.Writing.{IsPart}
 use Rattle.world_log.specs.declared.log.Log.{Log}
-use Rattle.world_log.proofs.StepWrites.{both_written, none_ok, on_err, part_of_first, part_of_rest}
+use Rattle.world_log.proofs.StepWrites.{part_of_first, part_of_rest}
 
 number_on : (number : ℕ) (one : Act) → number_after number one ≡ number + length (act_post one)
 number_on number (act.Current version) = omega arith
@@ -78,16 +80,6 @@ come_all all first [] left come none = sym (append-nil first) ∙ come.parts
 come_all all first (one ∷ rest) left come none =
     absurd (omega (arith, come.many, none, ap length come.parts, length-append first (one ∷ rest)))
 
--- what holds of all holds of the next one
-pub holds_next : {A : Type 0} (P : A → Type 0) (all first later : List A) (one : A)
-    → first ++ one ∷ later ≡ all → All P all → P one
-holds_next P all first later one parts holds =
-    subst P
-    (ap (λ xs. get_or xs (length first + 0) one) (sym parts)
-    ∙ get_or-append-add first (one ∷ later) 0 one)
-    (holds (length first + 0) one
-    (omega (arith, ap length parts, length-append first (one ∷ later))))
-
 -- the first acts are done, behind this journal and these posts
 pub record AreDone (journal : List Item) (bag : List Post) (acts : List Act)
     (now : List Item) (posts : List Post) : Type 0 where
@@ -149,8 +141,8 @@ pub noting_failed : {T E : Type 0} (r : Result T E) (acts : List Act) (old new :
     → IsPart old.journal (act_items (length old.bag + 1) acts) new.journal
     → new.travelling ≡ old.travelling → HasNoted r acts old new
 noting_failed r acts old new failed part same = record {
-  written = none_ok _ r failed;
-  posted = none_ok _ r failed;
+  written = on_ok_failed _ r failed;
+  posted = on_ok_failed _ r failed;
   part = on_err r part;
   travelling = same;
 }

@@ -18,7 +18,7 @@ use Rattle.failover.specs.declared.advert.Advert.{Advert}
 use Rattle.base.specs.Masks.{has, switches}
 use Rattle.base.specs.ComputedMasks.{only_if}
 use Rattle.base.proofs.CallerLemmas.{has-and, has-or, has-zero, has_mask, has_only_other, has_only_same, mask_of_is, mask_of_lt}
-use Rattle.policy_rules.proofs.CallerLemmas.{filter_more, range_more}
+use Rattle.base.proofs.ListsOfRanges.{filter_more, range_more}
 use Rattle.switch_core.specs.State.{SwitchValue, serves}
 use Rattle.switch_core.specs.Life.{near_changed, next_advert}
 use Rattle.update_machine.specs.Deliveries.{advert_to}

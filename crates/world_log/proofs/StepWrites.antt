@@ -1,15 +1,10 @@
 -- What a step writes behind its row, and parts of it.
 use Rattle.std.proofs.Common.{◌≡◌, List, [], ◌∷◌, ◌++◌, refl, ap, sym, ◌∙◌, append-nil, append_assoc, subst}
-use Rattle.std.specs.Prelude.{IsErr, OnErr, OnOk, Result, Ok, Err}
+use Rattle.std.specs.Prelude.{OnErr, OnOk, Result, Ok, Err}
 use Rattle.std.proofs.lemmas.Result.{on_ok_weaker}
-pub use Rattle.wire.proofs.FramesHeld.{on_err}
+use Rattle.base.proofs.ListsJoined.{both_written}
 use Rattle.journal.specs.declared.item.Item.{Item}
 use Rattle.world_log.specs.Writing.{IsPart}
-
--- a call that failed owes nothing of what holds where it succeeds
-pub none_ok : {T E : Type 0} (P : Type 0) (r : Result T E) → IsErr r → OnOk r P
-none_ok P (Ok x) failed = absurd cc
-none_ok P (Err e) failed = tt
 
 -- nothing was written
 pub part_none : (old items new : List Item) → new ≡ old → IsPart old items new
@@ -21,12 +16,6 @@ pub part_first : (old new rest : List Item) (first : Item) → new ≡ old ++ fi
     → IsPart old (first ∷ rest) new
 part_first old new rest first is =
     record { written = first ∷ []; rest = rest; split = refl; grown = is }
-
--- the first items were written, and then the rest
-pub both_written : {A : Type 0} (old begun new first rest : List A) → begun ≡ old ++ first
-    → new ≡ begun ++ rest → new ≡ old ++ (first ++ rest)
-both_written old begun new first rest first_is grown =
-    grown ∙ ap (λ js. js ++ rest) first_is ∙ append_assoc old first rest
 
 -- a part of the first items is a part of all of them
 pub part_of_first : (old first rest new : List Item) → IsPart old first new
@@ -50,15 +39,6 @@ part_of_rest old begun first rest new first_is part = record {
 }
 
 -- ---- the row, and then the rest
-
-pub both_ok : {T E P Q R : Type 0} (r : Result T E) → (P → Q → R) → OnOk r P → OnOk r Q → OnOk r R
-both_ok (Ok x) f p q = f p q
-both_ok (Err e) f p q = tt
-
-pub three_ok : {T E P Q R S : Type 0} (r : Result T E) → (P → Q → R → S) → OnOk r P → OnOk r Q
-    → OnOk r R → OnOk r S
-three_ok (Ok x) f p q s = f p q s
-three_ok (Err e) f p q s = tt
 
 pub grown_more : (journal begun new items : List Item) (first : Item)
     → begun ≡ journal ++ first ∷ [] → new ≡ begun ++ items → new ≡ journal ++ first ∷ items

@@ -1,7 +1,7 @@
 use Rattle.std.proofs.Common.{◌==◌}
+use Rattle.base.proofs.ListsFound.{found_all}
 use Rattle.policy_rules.specs.SoundPolicies.{IsSoundRow}
 use Rattle.policy_rules.specs.declared.policy.Row.{Row}
-use Rattle.controller.proofs.TouchedWords.{found_all}
 use Rattle.controller.proofs.touching.list_row_of.Goals as goal
 
 pub list_row-requires : goal.list_row-requires

@@ -1,7 +1,7 @@
 use Rattle.std.proofs.Common.{List, ℕ, drop, take, suc}
 use Rattle.std.specs.Borrow.{Bor}
 use Rattle.std.specs.List.{flat_map}
-use Rattle.difane_cli.proofs.SinkGains.{flat_map-at}
+use Rattle.base.proofs.ListsJoined.{flat_map-at}
 use Rattle.difane_cli.proofs.MeterLines.{piece_cut}
 use Rattle.difane_cli.proofs.status.write_pieces.Goals as goal
 

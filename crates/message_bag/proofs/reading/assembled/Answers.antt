@@ -1,7 +1,7 @@
 use Rattle.std.proofs.Common.{ap, sym, subst, refl, ◌∙◌, arith}
 use Rattle.std.specs.Prelude.{IfSome, is_some}
+use Rattle.base.proofs.OptionsMade.{false_not_true}
 use Rattle.wire.specs.Frames.{AreFrames}
-use Rattle.wire.proofs.FramesHeld.{false_true}
 use Rattle.message_bag.proofs.ComingOut.{begins, comes_out, goes_on, never_past, never_short, not_refused}
 use Rattle.message_bag.proofs.reading.assembled.Goals as goal
 
@@ -30,7 +30,7 @@ unreachable-requires c =
     let i = c.loop-place.invariant in
     never_short c.args.first.now c.args.frames.now c.loop-place.assembler c.feed.new.assembler
     c.loop-place.frame.now c.loop-place.place i.0 i.1 c.in_ok-message.ensures.held
-    (λ all. false_true (sym (ap is_some c.in_default.is) ∙ c.in_ok-message.ensures.some.1 all))
+    (λ all. false_not_true (sym (ap is_some c.in_default.is) ∙ c.in_ok-message.ensures.some.1 all))
     (c.in-None.ensures.none.0 refl)
 
 pub loop-place-preserved : goal.loop-place-preserved

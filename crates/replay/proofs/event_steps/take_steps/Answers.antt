@@ -1,4 +1,5 @@
 use Rattle.std.proofs.Common.{◌-◌, ◌∙◌, ap, drop, Err, length, refl, subst, sym, take, true, true≢false, arith}
+use Rattle.base.proofs.ResultsMade.{on_err_holds, same_error}
 use Rattle.meters.specs.Gone.{seen_board}
 use Rattle.steps.specs.Steps.{IsEvent}
 use Rattle.update_machine.specs.Setting.{Setting}
@@ -8,7 +9,7 @@ use Rattle.replay.specs.Leavings.{KeepUp}
 use Rattle.replay.specs.Playing.{StopsWithin}
 use Rattle.replay.proofs.AskedStep.{Asked, asked, brought_all, none_yet}
 use Rattle.replay.proofs.BoardKept.{keep_up_next, keep_up_none, rest_is}
-use Rattle.replay.proofs.EventStepping.{begins_next, begins_whole, happens_whole, on_err, same_error, stops_next, took_next, took_none}
+use Rattle.replay.proofs.EventStepping.{begins_next, begins_whole, happens_whole, stops_next, took_next, took_none}
 use Rattle.replay.proofs.WorldRefines.{few_packets, tie_of}
 use Rattle.replay.proofs.event_steps.take_steps.Goals as goal
 use Rattle.replay.proofs.event_steps.take_steps.Goals.{After-refines}
@@ -86,7 +87,7 @@ loop-next-preserved g c =
 pub returns-in_err-step-clause-part : goal.returns-in_err-step-clause-part
 returns-in_err-step-clause-part g c =
     let so_far = c.loop-next.invariant in
-    on_err c.from_residual.result _
+    on_err_holds c.from_residual.result _
     (begins_next (setting_at c.args.world.now) c.args.row c.args.event.now c.loop-next.is_begun
     c.args.world.now.journal c.loop-next.world.journal c.step.new.self.journal c.in-Some.next
     so_far.took (sym c.in-Some.ensures) (rw so_far.setting at c.in_err-step.ensures.part))
@@ -103,7 +104,7 @@ returns-in_err-step-clause-stops g c = λ is.
 
 pub returns-in_err-step-clause-kept_part : goal.returns-in_err-step-clause-kept_part
 returns-in_err-step-clause-kept_part g c =
-    on_err c.from_residual.result _ (λ spent. record {
+    on_err_holds c.from_residual.result _ (λ spent. record {
       whole = c.loop-next.world.journal;
       written = c.in_err-step.ensures.part.written;
       longer = c.in_err-step.ensures.part.grown;
@@ -112,7 +113,7 @@ returns-in_err-step-clause-kept_part g c =
 
 pub returns-in_err-note_left-clause-kept_part : goal.returns-in_err-note_left-clause-kept_part
 returns-in_err-note_left-clause-kept_part g c =
-    on_err c.from_residual-in_err-note_left.result _ (λ spent.
+    on_err_holds c.from_residual-in_err-note_left.result _ (λ spent.
     absurd (true≢false (sym spent ∙ c.in_ok-step.ensures.goes_on)))
 
 pub returns-in_err-step-clause-able_full : goal.returns-in_err-step-clause-able_full
@@ -137,7 +138,7 @@ returns-in_err-step-clause-kept_full g c = λ is.
 pub returns-in_err-note_left-clause-part : goal.returns-in_err-note_left-clause-part
 returns-in_err-note_left-clause-part g c =
     let so_far = c.loop-next.invariant in
-    on_err c.from_residual-in_err-note_left.result _
+    on_err_holds c.from_residual-in_err-note_left.result _
     (begins_whole (setting_at c.args.world.now) c.args.row c.args.event.now true
     c.args.world.now.journal c.step.new.self.journal
     (took_next (setting_at c.args.world.now) c.args.row c.args.event.now c.loop-next.is_begun

@@ -1,7 +1,8 @@
 use Rattle.std.proofs.Common.{inl, inr}
 use Rattle.std.proofs.lemmas.Option.{IfSome_then, MatchOption-at_none, MatchOption-at_some}
+use Rattle.policy_rules.proofs.CallerLemmas.{IfNone-weaker}
 use Rattle.table_tree.specs.Regions.{all_fix, some_fix}
-use Rattle.table_tree.proofs.BitLemmas.{if_none_then, least_free, none_free}
+use Rattle.table_tree.proofs.BitLemmas.{least_free, none_free}
 use Rattle.table_tree.proofs.NodeLemmas.{cut_is_free}
 use Rattle.table_tree.proofs.bits.cut_bit.Goals as goal
 
@@ -24,7 +25,7 @@ returns-in-None-clause-some c =
 
 pub returns-in-None-clause-none : goal.returns-in-None-clause-none
 returns-in-None-clause-none c =
-    if_none_then c.lowest-in-None.result c.lowest-in-None.ensures.none
+    IfNone-weaker c.lowest-in-None.result c.lowest-in-None.ensures.none
     (none_free c.args.region.now (some_fix c.args.candidates.now) c.fixed_by_some.result
     c.free_bits-free.result (λ k within. c.fixed_by_some.ensures k) c.free_bits-free.ensures)
 

@@ -1,8 +1,8 @@
 use Rattle.std.proofs.Common.{ap, ◌∙◌, arith, refl}
 use Rattle.version_update.specs.Record.{opens_at, opened_record}
 use Rattle.std.specs.Int.{from_bool}
+use Rattle.base.proofs.ListsByPlace.{mapped_more, mapped_read}
 use Rattle.version_update.proofs.TestMasks.{Names-more}
-use Rattle.version_update.proofs.ReplacedItems.{mapped_read, mapped_more}
 use Rattle.version_update.proofs.switches.open_if_acked.Goals as goal
 
 pub loop-s-preserved : goal.loop-s-preserved

@@ -1,8 +1,9 @@
 use Rattle.std.proofs.Common.{◌≡◌, ℕ, Option, List, refl, sym, ap, ◌∙◌, arith}
+use Rattle.base.proofs.OptionsMade.{false_not_true}
 use Rattle.wire.specs.Frames.{place_in_frame}
 use Rattle.wire.specs.Assembly.{held_at, another_frame}
 use Rattle.wire.proofs.FormatLaws.{AreBytes}
-use Rattle.wire.proofs.FramesHeld.{false_true, index_of, check_held, check_new}
+use Rattle.wire.proofs.FramesHeld.{index_of, check_held, check_new}
 use Rattle.wire.proofs.assembler.check_among.Goals as goal
 
 -- what is held at the place that was read is held at the frame's place
@@ -21,7 +22,7 @@ returns-then-are_same c =
 pub returns-else-are_same : goal.returns-else-are_same
 returns-else-are_same c =
     another_frame c.in-Some.held.now (at_place _ _ _ _ c.place_of-place.ensures c.in-Some.ensures)
-    (λ e. false_true (c.if-are_same.ensures.1 (c.bytes.ensures.bytes ∙ e)))
+    (λ e. false_not_true (c.if-are_same.ensures.1 (c.bytes.ensures.bytes ∙ e)))
 
 pub returns-in-None : goal.returns-in-None
 returns-in-None c =

@@ -1,7 +1,7 @@
 use Rattle.std.proofs.Common.{◌<◌, [], length, get_or, ap, sym, ◌∙◌, arith}
 use Rattle.std.proofs.lemmas.List.{get_or-map}
+use Rattle.base.proofs.OptionsMade.{false_not_true}
 use Rattle.wire.specs.Frames.{chunk_of}
-use Rattle.wire.proofs.FramesHeld.{false_true}
 use Rattle.wire.proofs.assembly.are_chunks.Goals as goal
 
 pub returns-then-not-are_same : goal.returns-then-not-are_same
@@ -9,7 +9,7 @@ returns-then-not-are_same c =
     let h = c.if-not-are_same.ensures in
     let place = c.loop-place.place in
     let within : place < length c.args.parts.now = omega arith in (
-      λ is. absurd (false_true is),
+      λ is. absurd (false_not_true is),
       λ e. h.1
           (c.chunk.ensures ∙ ap chunk_of c.index-frames-place.is
           ∙ sym (get_or-map chunk_of c.args.frames.now place c.index-frames-place.result []

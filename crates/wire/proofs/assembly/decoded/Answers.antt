@@ -1,8 +1,8 @@
 use Rattle.std.proofs.Common.{map, ap, sym, refl, ◌∙◌}
 use Rattle.std.proofs.lemmas.Result.{err_from_is_err_and}
+use Rattle.base.proofs.OptionsMade.{false_not_true}
 use Rattle.wire.specs.Frames.{chunks_behind_head}
 use Rattle.wire.proofs.FrameAssembly.{frames_by, none_by, none_spelled}
-use Rattle.wire.proofs.FramesHeld.{false_true}
 use Rattle.wire.proofs.assembly.decoded.Goals as goal
 
 pub returns-in_err-message : goal.returns-in_err-message
@@ -23,5 +23,5 @@ returns-else-are_chunks c =
     ∙ ap (λ n. chunks_behind_head n c.args.bytes.now) c.head_len.ensures in (
       refl,
       none_by c.in_ok-message.message c.args.bytes.now c.args.frames.now c.requires.bytes c.in_ok-message.ensures.found
-          (λ e. false_true (c.if-are_chunks.ensures.1 (e ∙ sym parts))),
+          (λ e. false_not_true (c.if-are_chunks.ensures.1 (e ∙ sym parts))),
     )

@@ -1,6 +1,6 @@
 use Rattle.std.proofs.Common.{◌≡◌, ◌++◌, ◌∷◌, [], List, length, map, refl, ap, ◌∙◌, arith}
 use Rattle.std.proofs.lemmas.Grind.{common_steps}
-use Rattle.wire.proofs.FramesHeld.{on_err}
+use Rattle.base.proofs.ResultsMade.{on_err}
 use Rattle.message_bag.specs.KeptFrames.{First, first_in}
 use Rattle.message_bag.specs.declared.firsts.Span.{Span}
 use Rattle.message_bag.proofs.FirstFrameSpans.{all_stay, pushed}

@@ -1,10 +1,11 @@
 use Rattle.std.proofs.Common.{◌++◌, ◌∷◌, [], List, length, ap, sym, ◌∙◌, arith}
 use Rattle.std.specs.List.{zip}
+use Rattle.base.proofs.ListsJoined.{zip_pushed}
 use Rattle.wire.specs.Frames.{frames}
 use Rattle.message_bag.specs.Deliveries.{waiting_status}
 use Rattle.message_bag.specs.Posts.{Post, posted_frames, new_post}
 use Rattle.message_bag.proofs.FramedMessages.{framed_is}
-use Rattle.message_bag.proofs.FramesByStatus.{length_of_zip, zip_pushed}
+use Rattle.message_bag.proofs.FramesByStatus.{length_of_zip}
 use Rattle.message_bag.proofs.post_bag.PostBag.post.Goals as goal
 
 pub add-requires : goal.add-requires

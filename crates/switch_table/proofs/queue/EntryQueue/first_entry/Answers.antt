@@ -2,12 +2,13 @@ use Rattle.std.proofs.Common.{◌≡◌, ◌∙◌, ◌+◌, ◌&&◌, Option, S
 use Rattle.std.proofs.lemmas.Iterator.Adapters.{option_map_id}
 use Rattle.std.proofs.lemmas.Iterator.Consumers.{YieldsList-from_first}
 use Rattle.std.proofs.lemmas.Iterator.Search.{find_from_yields_List}
+use Rattle.base.proofs.ListsFound.{found_is}
 use Rattle.ternary.specs.Word.{holds}
 use Rattle.switch_table.specs.Cache.{first_entry}
 use Rattle.switch_table.specs.Keys.{Pair, kept_entries, kept_entry, is_hit}
 use Rattle.switch_table.specs.Queue.{AreMasked}
 use Rattle.switch_table.specs.declared.cache.CacheEntry.{CacheEntry}
-use Rattle.switch_table.proofs.FirstLemmas.{first_by_hits, found_is}
+use Rattle.switch_table.proofs.FirstLemmas.{first_by_hits}
 use Rattle.switch_table.proofs.QueueLemmas.{HasVersion}
 use Rattle.switch_table.proofs.queue.EntryQueue.first_entry.Goals as goal
 use Rattle.switch_table.proofs.queue.EntryQueue.first_entry.Goals.{After-first_hit}

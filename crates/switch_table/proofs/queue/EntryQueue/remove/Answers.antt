@@ -1,7 +1,8 @@
 use Rattle.std.proofs.Common.{◌≡◌, ◌∙◌, Option, Some, None, ap, option_map, remove, rules, slice_get, sym}
 use Rattle.std.proofs.lemmas.Option.{slice_get-map}
+use Rattle.base.proofs.ListsOfAll.{got_is}
 use Rattle.switch_table.specs.Keys.{Pair, kept_entries, kept_entry}
-use Rattle.switch_table.proofs.QueueLemmas.{HasVersion, entries_removed, got_is, queue_removed}
+use Rattle.switch_table.proofs.QueueLemmas.{HasVersion, entries_removed, queue_removed}
 use Rattle.switch_table.proofs.queue.EntryQueue.remove.Goals as goal
 use Rattle.switch_table.proofs.queue.EntryQueue.remove.Goals.{After-remove}
 

@@ -1,6 +1,7 @@
 use Rattle.std.proofs.Common.{◌≡◌, ◌+◌, ◌++◌, ◌∷◌, true, List, map, set, refl, ap, sym, subst, ◌∙◌, append_assoc, length, arith}
 use Rattle.std.proofs.lemmas.List.{length-set}
 use Rattle.std.proofs.lemmas.Result.{on_err_weaker, on_ok_weaker}
+use Rattle.base.proofs.ResultsMade.{on_err, on_ok_failed, three_ok}
 use Rattle.message_bag.specs.Posts.{new_post}
 use Rattle.ctrl_msg.specs.declared.message.Message.{Message}
 use Rattle.controller.specs.Controller.{newest_policy}
@@ -17,7 +18,7 @@ use Rattle.refinement.proofs.CrashWrites.{crash_may, crash_next, crash_piece, cr
 use Rattle.world.proofs.StepFrame.{follows, goes, goes_nothing, net_stays, nothing_goes}
 use Rattle.world.proofs.GoesTold.{relinked_refines}
 use Rattle.world.proofs.OverSwitches.{few_in, place_in, switch_in}
-use Rattle.world_log.proofs.StepWrites.{none_ok, part_of_first, part_of_rest, step_part, step_written, three_ok, on_err}
+use Rattle.world_log.proofs.StepWrites.{part_of_first, part_of_rest, step_part, step_written}
 use Rattle.world.proofs.parts.Parts.crash.Goals as goal
 use Rattle.world.proofs.parts.Parts.crash.Goals.{After-index_mut}
 
@@ -69,11 +70,11 @@ returns-in_err-lose_at c = λ before row begins.
     (crash_piece begins.ready.refines row s own changed begins.ready.may within
     c.index_mut.ensures.value c.crash.ensures
     (was_up (goal.at.returns-in_err-lose_at c).After-index_mut))
-    (none_ok _ r failed) (none_ok _ r failed)
+    (on_ok_failed _ r failed) (on_ok_failed _ r failed)
     (step_part r self.log.journal c.push-2.new.self c.lose_at.new.self.journal (losses ++ sends)
     (item.Down s ∷ losses ++ sends) (item.Down s) refl c.in_ok-push.ensures.pushed
     (on_err r (part_of_first c.push-2.new.self losses sends c.lose_at.new.self.journal
-    c.in_err-lose_at.ensures.part))) (none_ok _ r failed)
+    c.in_err-lose_at.ensures.part))) (on_ok_failed _ r failed)
 
 -- ---- links change
 

@@ -3,6 +3,7 @@ use Rattle.std.specs.Prelude.{is_some}
 use Rattle.message_bag.specs.Deliveries.{delivered_status}
 use Rattle.std.proofs.lemmas.List.{length-set}
 use Rattle.std.proofs.lemmas.Result.{on_ok_weaker}
+use Rattle.base.proofs.ResultsMade.{both_ok}
 use Rattle.message_bag.specs.Posts.{new_post, with_delivered, with_status}
 use Rattle.message_bag.proofs.NumberedPosts.{length_changed}
 use Rattle.controller.specs.Controller.{ControllerValue, newest_policy}
@@ -21,7 +22,7 @@ use Rattle.world.proofs.OverSwitches.{few_in}
 use Rattle.refinement.proofs.HearReady.{hear_ready, usable_here}
 use Rattle.refinement.proofs.OpeningSwitch.{opening_may, opening_next, opening_piece, opening_refines}
 use Rattle.world.proofs.StepFrame.{follows, goes_nothing, net_stays, none_in, nothing_goes}
-use Rattle.world_log.proofs.StepWrites.{both_ok, step_part, step_written}
+use Rattle.world_log.proofs.StepWrites.{step_part, step_written}
 use Rattle.world.proofs.parts.Parts.deliver.Goals as goal
 use Rattle.world.proofs.parts.Parts.deliver.Goals.{In-Switch}
 

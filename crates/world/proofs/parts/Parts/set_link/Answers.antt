@@ -1,5 +1,6 @@
 use Rattle.std.proofs.Common.{ℕ, ◌≡◌, ◌+◌, ◌<◌, ◌++◌, ◌∷◌, [], Bool, true, false, List, length, map, max, min, refl, ap, sym, ◌∙◌, arith}
 use Rattle.std.specs.Bool.{beq}
+use Rattle.base.proofs.ResultsMade.{both_ok}
 use Rattle.message_bag.specs.Posts.{new_post}
 use Rattle.ctrl_msg.specs.declared.message.Message.{Message}
 use Rattle.controller.specs.Controller.{newest_policy}
@@ -16,7 +17,6 @@ use Rattle.world.proofs.GoesTold.{goes_told, relinked_refines}
 use Rattle.world.proofs.OverSwitches.{few_in}
 use Rattle.refinement.proofs.LinksChange.{numbers_left}
 use Rattle.refinement.proofs.LinkRows.{ends_below, same_refines, set_may, set_piece, set_refines}
-use Rattle.world_log.proofs.StepWrites.{both_ok}
 use Rattle.world.proofs.parts.Parts.set_link.Goals as goal
 
 -- no packet comes in

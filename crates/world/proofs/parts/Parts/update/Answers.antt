@@ -2,6 +2,7 @@ use Rattle.std.proofs.Common.{ℕ, ◌≡◌, ◌≢◌, ◌+◌, ◌-◌, ◌++
 use Rattle.std.specs.Prelude.{OnErr, OnOk, Result, slice_get}
 use Rattle.refinement.specs.Controller.{IsPlanOfNext}
 use Rattle.base.specs.declared.error.Failure.TheVariants.{Refused}
+use Rattle.base.proofs.ResultsMade.{ok_is_not_err}
 use Rattle.controller.specs.Controller.{ControllerValue}
 use Rattle.controller.specs.Plan.{PlanValue}
 use Rattle.controller.specs.Sends.{submit_acts}
@@ -21,7 +22,7 @@ use Rattle.world.specs.Parts.{BeginsStep, Goes, KeepNet, setting_in}
 use Rattle.world.specs.declared.parts.Parts.{Parts}
 use Rattle.world_log.specs.Sending.{MayNote}
 use Rattle.world.proofs.KeptFiles.{file_there}
-use Rattle.world.proofs.StepFrame.{files_stay, goes_one, net_stays, none_in, not_err, nothing_goes, plane_stays}
+use Rattle.world.proofs.StepFrame.{files_stay, goes_one, net_stays, none_in, nothing_goes, plane_stays}
 use Rattle.world.proofs.GoesTold.{goes_acting}
 use Rattle.refinement.proofs.SubmittedPolicy.{live_piece, newest_refines, planned_next, refused_piece, refused_refines, submitted_may, submitted_piece, submitted_refines, unapplied_next, unplanned_next, versions_piece}
 use Rattle.world.proofs.parts.Parts.update.Goals as goal
@@ -138,9 +139,9 @@ note_acts-requires c =
     c.requires.begins in
     subst (MayNote self.log.bag) (sym (c.into_items.ensures ∙ c.in-Ok.ensures.sends))
     (submitted_may ready.refines c.requires.row file ready.may c.in-Planned.plan
-    c.in-Planned.touched c.submit.new.self of_next (λ e. not_err _ _ (c.in-Ok.ensures.live.1 e))
-    (λ e. not_err _ _ (c.in-Ok.ensures.versions.1 (
-      λ f. not_err _ _ (c.in-Ok.ensures.live.1 f),
+    c.in-Planned.touched c.submit.new.self of_next (λ e. ok_is_not_err _ _ (c.in-Ok.ensures.live.1 e))
+    (λ e. ok_is_not_err _ _ (c.in-Ok.ensures.versions.1 (
+      λ f. ok_is_not_err _ _ (c.in-Ok.ensures.live.1 f),
       e,
     ))) c.in-Ok.ensures.after ready.room)
 
@@ -151,9 +152,9 @@ returns-in-Ok c = λ before row begins.
     let ready = begins.ready in
     let of_next = planned (goal.at.returns-in-Ok c).In-Planned before row begins in
     let live : self.controller.marks.count - self.controller.marks.retired ≢ 8 =
-    λ e. not_err _ _ (c.in-Ok.ensures.live.1 e) in
+    λ e. ok_is_not_err _ _ (c.in-Ok.ensures.live.1 e) in
     let versions : self.controller.marks.count ≢ 64 =
-    λ e. not_err _ _ (c.in-Ok.ensures.versions.1 (live, e)) in
+    λ e. ok_is_not_err _ _ (c.in-Ok.ensures.versions.1 (live, e)) in
     let new : ControllerValue = c.submit.new.self in
     let acts : List Act = submit_acts self.controller.marks
     (next_kept self.controller c.in-Planned.plan c.in-Planned.touched) new in

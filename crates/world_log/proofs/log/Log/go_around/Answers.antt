@@ -3,6 +3,8 @@ use Rattle.std.proofs.Common.{ℕ, ◌≡◌, ◌+◌, ◌++◌, ◌∷◌, ◌<
 use Rattle.std.specs.Option.{option_copied}
 use Rattle.std.specs.Prelude.{IsErr, IsSomeAnd, Result, slice_get}
 use Rattle.std.proofs.lemmas.Result.{on_ok_weaker}
+use Rattle.base.proofs.ListsJoined.{both_written}
+use Rattle.base.proofs.ResultsMade.{on_ok_failed}
 use Rattle.journal.specs.declared.item.Item.{Item}
 use Rattle.journal.specs.declared.item.Item.TheVariants as item
 use Rattle.message_bag.specs.Posts.{Post}
@@ -23,7 +25,6 @@ use Rattle.world_log.specs.declared.log.Log.{Log}
 use Rattle.world_log.proofs.HoppedPacket.{SamePacket, authority_counted, hopped_same}
 use Rattle.world_log.proofs.LogCalls.{log_failed, log_one}
 use Rattle.world_log.proofs.HopLogs.{IsMet, arrival_log, met_log, met_switch, met_turned, of_kept, placed, settled_log, stood}
-use Rattle.world_log.proofs.StepWrites.{both_written, none_ok}
 use Rattle.world_log.proofs.log.Log.go_around.Goals as goal
 use Rattle.world_log.proofs.log.Log.go_around.Goals.{After-number-here}
 
@@ -141,7 +142,7 @@ fails c r end now after failed is grown =
           (met_turned c.args.switch.now c.args.site.near c.args.site.ports.now (its_flight c)
           (length c.args.self.now.bag + 1) c.args.packet c.number-here.result c.args.other end
           c.hop-hop.new.t c.args.self.now.journal now.journal (met c end is) grown);
-      counted = none_ok _ r failed;
+      counted = on_ok_failed _ r failed;
     })
 
 -- ---- there is no other route

@@ -2,6 +2,7 @@
 use Rattle.std.proofs.Common.{◌+◌, ◌∷◌, [], List, None, length, map, refl, subst, sym, ◌∙◌}
 use Rattle.std.specs.Option.{option_copied}
 use Rattle.std.specs.Prelude.{Result, unwrap_or}
+use Rattle.base.proofs.ListsJoined.{both_written}
 use Rattle.failover.specs.Links.{no_links}
 use Rattle.journal.specs.declared.item.Item.{Item}
 use Rattle.journal.specs.declared.item.Item.TheVariants as item
@@ -16,7 +17,7 @@ use Rattle.update_machine.specs.Messages.{sent_from}
 use Rattle.world_log.specs.Writing.{LogAfter, arrived_flight, arrived_items, arrived_posts, cache_message, message_list, packet_standing, set_item, set_flight}
 use Rattle.world_log.proofs.WrittenGoing.{sought, way_is}
 use Rattle.world_log.proofs.LogCalls.{log_ends, log_failed, log_unwritten}
-use Rattle.world_log.proofs.StepWrites.{both_written, part_first}
+use Rattle.world_log.proofs.StepWrites.{part_first}
 use Rattle.world_log.proofs.log.Log.settle.Goals as goal
 
 pub returns-in-Out-clause-log : goal.returns-in-Out-clause-log

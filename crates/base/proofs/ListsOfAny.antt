@@ -1,0 +1,122 @@
+-- Whether an element passes a test.
+use Rattle.std.proofs.Common.{Bool, List, [], ap, arith, cond, eqb, false, filter, get_or, length, map, refl, sym, true, ℕ, ◌&&◌, ◌<◌, ◌||◌, ◌∙◌, ◌∷◌, ◌≡◌}
+use Rattle.std.specs.List.{All, flat_map, list_any}
+use Rattle.std.specs.Prelude.{IsTrue}
+use Rattle.std.proofs.Math.Bool.{and-false}
+use Rattle.std.proofs.lemmas.Bool.{both_ways, false_from_ne_true}
+use Rattle.std.proofs.lemmas.List.Elements.{All-tail}
+use Rattle.std.proofs.lemmas.List.Folds.{list_any-append, list_any_at}
+
+pub none_passes : {X : Type 0} (test : X → Bool) (xs : List X) (i : ℕ) (d : X) → i < length xs
+    → list_any test xs ≡ false → test (get_or xs i d) ≡ false
+none_passes test xs i d within none = false_from_ne_true _
+    (λ passes. both_ways _ none (list_any_at test xs i d within passes))
+
+pub any_filter : {X : Type 0} (test passes : X → Bool) (xs : List X)
+    → list_any test (filter passes xs) ≡ true → list_any test xs ≡ true
+any_filter test passes [] is = is
+any_filter {X = X} test passes (x ∷ xs) is =
+    by_tests (passes x) (test x) refl refl (any_filter test passes xs) is
+  where
+    by_tests : (b c : Bool) → passes x ≡ b → test x ≡ c
+        → (list_any test (filter passes xs) ≡ true → list_any test xs ≡ true)
+        → list_any test (filter passes (x ∷ xs)) ≡ true → list_any test (x ∷ xs) ≡ true
+    by_tests b true e f rest is = rw f refl
+    by_tests true false e f rest is = rw f (rest (rw (e, f) at is))
+    by_tests false false e f rest is = rw f (rest (rw e at is))
+
+pub any_key : {X : Type 0} (key : X → ℕ) (xs : List X) (q : ℕ)
+    → list_any (λ n. eqb n q) (map key xs) ≡ list_any (λ x. eqb (key x) q) xs
+any_key key [] q = refl
+any_key key (x ∷ xs) q = ap (λ b. eqb (key x) q || b) (any_key key xs q)
+
+pub list_any_map : {X Y : Type 0} (p : Y → Bool) (f : X → Y) (xs : List X)
+    → list_any p (map f xs) ≡ list_any (λ x. p (f x)) xs
+list_any_map p f [] = refl
+list_any_map p f (x ∷ xs) = ap (λ b. p (f x) || b) (list_any_map p f xs)
+
+pub list_any_flat_map : {X Y : Type 0} (p : Y → Bool) (f : X → List Y) (xs : List X)
+    → list_any p (flat_map f xs) ≡ list_any (λ x. list_any p (f x)) xs
+list_any_flat_map p f [] = refl
+list_any_flat_map p f (x ∷ xs) = list_any-append p (f x) (flat_map f xs)
+    ∙ ap (λ b. list_any p (f x) || b) (list_any_flat_map p f xs)
+
+-- some element passes f where some passes y, within what does not depend on the element
+pub any_within : {X : Type 0} (w : Bool → Bool) (none : w false ≡ false) (f y : X → Bool) (xs : List X)
+    → All (λ x. f x ≡ w (y x)) xs → list_any f xs ≡ w (list_any y xs)
+any_within w none f y [] all = sym none
+any_within w none f y (x ∷ xs) all =
+    let here : f x ≡ w (y x) = all 0 x (omega arith) in
+    let there = any_within w none f y xs (All-tail (λ x. f x ≡ w (y x)) x xs all) in
+    rw (here, there) (joined (y x) (list_any y xs))
+  where
+    idle : (b : Bool) → (b || b) ≡ b
+    idle true = refl
+    idle false = refl
+
+    or_none : (b : Bool) → (b || false) ≡ b
+    or_none true = refl
+    or_none false = refl
+
+    joined : (a b : Bool) → (w a || w b) ≡ w (a || b)
+    joined true true = idle (w true)
+    joined true false = rw none (or_none (w true))
+    joined false b = rw none refl
+
+-- where those that pass the test and another one are those for which b holds
+pub any_filter_by : {X : Type 0} (test passes : X → Bool) (b : Bool)
+    → ((x : X) → test x ≡ true → passes x ≡ b) → (xs : List X)
+    → list_any test (filter passes xs) ≡ (list_any test xs && b)
+any_filter_by test passes b so [] = refl
+any_filter_by {X = X} test passes b so (x ∷ xs) =
+    picked (passes x) (filter passes xs)
+    ∙ by_test (test x) (passes x) b (list_any test (filter passes xs)) (list_any test xs) (so x)
+    (any_filter_by test passes b so xs)
+  where
+    picked : (p : Bool) (rest : List X) → list_any test (cond p (x ∷ rest) rest)
+        ≡ cond p (test x || list_any test rest) (list_any test rest)
+    picked true rest = refl
+    picked false rest = refl
+
+    by_test : (t p b rest all : Bool) → (t ≡ true → p ≡ b) → rest ≡ (all && b)
+        → cond p (t || rest) rest ≡ ((t || all) && b)
+    by_test true true true rest all same more = refl
+    by_test true true false rest all same more = absurd (let e = same refl in cc)
+    by_test true false true rest all same more = absurd (let e = same refl in cc)
+    by_test true false false rest true same more = more
+    by_test true false false rest false same more = more
+    by_test false true b rest all same more = more
+    by_test false false b rest all same more = more
+
+pub list_any-both : {X : Type 0} (t : Bool) (q : X → Bool) (xs : List X) →
+    list_any (λ x. t && q x) xs ≡ (t && list_any q xs)
+list_any-both t q [] = sym (and-false t)
+list_any-both true q (x ∷ xs) = ap (λ b. q x || b) (list_any-both true q xs)
+list_any-both false q (x ∷ xs) = list_any-both false q xs
+
+pub any_filtered : {X : Type 0} (test passes : X → Bool) (xs : List X)
+    → list_any test (filter passes xs) ≡ list_any (λ x. test x && passes x) xs
+any_filtered test passes [] = refl
+any_filtered {X = X} test passes (x ∷ xs) =
+    by_tests (passes x) (test x) refl refl (any_filtered test passes xs)
+  where
+    by_tests : (b c : Bool) → passes x ≡ b → test x ≡ c
+        → list_any test (filter passes xs) ≡ list_any (λ y. test y && passes y) xs
+        → list_any test (filter passes (x ∷ xs))
+        ≡ list_any (λ y. test y && passes y) (x ∷ xs)
+    by_tests true true e f rest = rw (e, f) refl
+    by_tests true false e f rest = rw (e, f) rest
+    by_tests false true e f rest = rw (e, f) rest
+    by_tests false false e f rest = rw (e, f) rest
+
+pub any_weaker : {X : Type 0} (test passes : X → Bool) (xs : List X)
+    → IsTrue (list_any (λ x. test x && passes x) xs) → IsTrue (list_any test xs)
+any_weaker test passes [] is = is
+any_weaker {X = X} test passes (x ∷ xs) is =
+    by_test (test x) refl (any_weaker test passes xs) is
+  where
+    by_test : (b : Bool) → test x ≡ b
+        → (IsTrue (list_any (λ y. test y && passes y) xs) → IsTrue (list_any test xs))
+        → IsTrue (list_any (λ y. test y && passes y) (x ∷ xs)) → IsTrue (list_any test (x ∷ xs))
+    by_test true e rest is = rw e refl
+    by_test false e rest is = rw e (rest (rw e at is))

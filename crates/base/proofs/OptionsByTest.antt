@@ -1,0 +1,49 @@
+-- Values that a test chooses, and those that are there where it passes.
+use Rattle.std.proofs.Common.{Bool, None, Option, Some, ap, arith, cond, false, if◌then◌else◌, inl, inr, is_some, ltb, refl, sym, true, true≢false, ℕ, ◌<◌, ◌==◌, ◌∙◌, ◌≡◌, ◌≢◌, ◌≤◌, ◌⊎◌}
+use Rattle.std.specs.Prelude.{IsSome}
+use Rattle.std.proofs.lemmas.Bool.{ne_eqb}
+use Rattle.std.proofs.lemmas.Bool.Decides.{nat_tests}
+
+pub passes_from_is_some : {X : Type 0} (b : Bool) (o : Option X) → is_some (cond b o None) ≡ true → b ≡ true
+passes_from_is_some true o e = refl
+passes_from_is_some false o e = absurd (true≢false (sym e))
+
+-- what is there under a test passes it
+pub some_passes : {A : Type 0} (b : Bool) (o : Option A) → IsSome (cond b o None) → b ≡ true
+some_passes true o some = refl
+some_passes false o some = absurd (cc some)
+
+pub some_passes_of : {X : Type 0} (b : Bool) (x : X) → IsSome (cond b (Some x) None) → b ≡ true
+some_passes_of true x is = refl
+some_passes_of false x is = cc is
+
+-- an end that isn't the switch
+pub none_where_other : {X : Type 0} (s t end : ℕ) (told : X) → s ≡ t → end ≢ t
+    → (if s == end then Some told else None) ≡ None
+none_where_other {X = X} s t end told is other =
+    let apart : (s == end) ≡ false = ne_eqb s end (λ same. other (sym same ∙ is)) in
+    ap (λ (b : Bool). if b then Some told else None) apart
+
+pub either_way_same : {X : Type 0} (b : Bool) (x : X) → x ≡ (if b then x else x)
+either_way_same true x = refl
+either_way_same false x = refl
+
+pub cond_if_below : {X : Type 0} (low n : ℕ) (a b : X) → low < n → cond (ltb low n) a b ≡ a
+cond_if_below low n a b many = grind (arith, nat_tests)
+
+pub cond_if_above : {X : Type 0} (low n : ℕ) (a b : X) → n ≤ low → cond (ltb low n) a b ≡ b
+cond_if_above low n a b few = grind (arith, nat_tests)
+
+-- a test didn't refuse
+pub not_refused : {A : Type 0} (b : Bool) (x y : A) → cond b None (Some x) ≡ Some y → (b ≡ false) × (x ≡ y)
+not_refused true x y e = absurd cc
+not_refused false x y e = (refl, cc)
+
+-- a test passed, and then something was read
+pub passes_then_some : {A : Type 0} (b : Bool) (o : Option A) (y : A) → cond b o None ≡ Some y → (b ≡ true) × (o ≡ Some y)
+passes_then_some true o y e = (refl, e)
+passes_then_some false o y e = absurd cc
+
+pub cond_cases : {A : Type 0} (b : Bool) (x y z : A) → cond b x y ≡ z → ((b ≡ true) × (x ≡ z)) ⊎ ((b ≡ false) × (y ≡ z))
+cond_cases true x y z e = inl (refl, e)
+cond_cases false x y z e = inr (refl, e)
