@@ -20,7 +20,7 @@ impl<T: Drop> Shared<T> {
     /// This value, to be shared.
     ///
     /// # Errors
-    /// Want of memory alone.
+    /// Only out of memory.
     pub fn new(alloc: Global, value: T) -> Result<Self, AllocError>
         ensures { IfOk result (λ shared. shared ≡ value) }
     {

@@ -23,7 +23,7 @@ impl<T: Drop> SharedList<T> {
     /// The list of these items, to be shared.
     ///
     /// # Errors
-    /// Want of memory alone.
+    /// Only out of memory.
     pub fn new(items: Vec<T>) -> Result<Self, AllocError>
         ensures { IfOk result (λ list. list ≡ items.items) }
     {

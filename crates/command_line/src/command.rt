@@ -62,7 +62,7 @@ pub enum Command<'a> {
 /// The command that the arguments are, or `None` exactly where they are off the grammar.
 ///
 /// # Errors
-/// Want of memory alone, and only for arguments of the grammar.
+/// Only out of memory, and only for arguments of the grammar.
 pub fn read_command(alloc: Global, args: &[String]) -> Result<Option<Command<'_>>, AllocError>
     ensures value { IfOk result (λ found.
         option_map command_named found ≡ command_of (map string_bytes args.now)) }

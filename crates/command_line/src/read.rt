@@ -21,7 +21,7 @@ pub(crate) struct ArgumentLine<'a> {
 /// The line of the arguments behind the first one, which are a command of this kind.
 ///
 /// # Errors
-/// Want of memory alone.
+/// Only out of memory.
 pub(crate) fn read_line<'a>(
     alloc: Global,
     kind: CommandKind,

@@ -6,7 +6,7 @@ ghost use Rattle.control_laws.specs.Always.{HoldsBehindItems, HoldsAlways, Holds
 ghost use Rattle.control_laws.specs.Adverts.{AdvertsAreOfSwitches, LinksAreThere, OwnAreNewest};
 ghost use Rattle.control_laws.specs.Sends.{NumbersAreFew, NumbersFit, StepsSendFew};
 
-/// Each advert that is sent, heard or held names links of the network alone, and so do the links
+/// Each advert that is sent, heard or held names only links of the network, and so do the links
 /// that a switch knows, and its routes.
 pub fn adverts_name_links()
     ensures { HoldsBehindItems LinksAreThere }

@@ -6,7 +6,7 @@
 //! links, how many messages steps send, and how far boots and the numbers of adverts rise. And what
 //! messages name, over journals of steps of a network.
 //!
-//! Laws over journals of any steps. No code: each function stands for the law that it ensures.
+//! Laws over journals of any steps. No code: each function is the law that it ensures.
 #![tactic(auto)]
 
 mod advert_laws;

@@ -55,7 +55,7 @@ impl Controller {
     /// Every switch of the network has version 1, of which this is the plan.
     ///
     /// # Errors
-    /// Want of memory alone.
+    /// Only out of memory.
     pub fn begin(alloc: Global, net: &Net, plan: Plan) -> Result<Controller, AllocError>
         requires { IsNet net.now }
         ensures first { IfOk result (λ controller.
@@ -91,7 +91,7 @@ impl Controller {
     /// those that each `Install` of the version carries, shared.
     ///
     /// # Errors
-    /// Want of memory alone.
+    /// Only out of memory.
     pub fn tables(&self, version: u32, s: u32) -> Result<SharedTables, AllocError>
         requires first { self.now.marks.current ≤ version }
         requires last { version ≤ self.now.marks.count }
@@ -145,7 +145,7 @@ impl Controller {
     /// controller gives no sends and no change.
     ///
     /// # Errors
-    /// Want of memory alone; what was told is taken in.
+    /// Only out of memory; what was told is taken in.
     pub fn hear(&mut self, body: &Body) -> Result<Sends, AllocError>
         requires { NamesThere body.now self.old.marks }
         ensures after { SettlesWith
@@ -177,7 +177,7 @@ impl Controller {
     /// The switch is confirmed to be gone until it tells a greater boot.
     ///
     /// # Errors
-    /// Want of memory alone; the switch is over.
+    /// Only out of memory; the switch is over.
     pub fn over(&mut self, s: u32) -> Result<Sends, AllocError>
         requires { s < length self.old.marks.switches }
         ensures after { SettlesWith
@@ -196,7 +196,7 @@ impl Controller {
     /// What the switch may lack, once more: nothing that it acknowledged.
     ///
     /// # Errors
-    /// Want of memory alone.
+    /// Only out of memory.
     pub fn resend(&self, s: u32) -> Result<Sends, AllocError>
         requires { s < length self.now.marks.switches }
         ensures { IfOk result (λ sends. sends ≡ resend_acts self.now s) }

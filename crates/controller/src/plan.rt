@@ -48,7 +48,7 @@ impl Plan {
     /// The plan of these partitions, in order, with these targets, in order.
     ///
     /// # Errors
-    /// Want of memory alone.
+    /// Only out of memory.
     pub fn new(
         alloc: Global,
         policy: Policy,
@@ -80,7 +80,7 @@ impl Plan {
     /// tables still lead each header to the policy's first match.
     ///
     /// # Errors
-    /// Want of memory alone.
+    /// Only out of memory.
     pub fn with_targets(self, alloc: Global, targets: Vec<Targets>) -> Result<Plan, AllocError>
         requires { length targets.items ≡ length self.hosted }
         ensures policy { IfOk result (λ plan. plan.policy ≡ self.policy) }

@@ -15,7 +15,7 @@ use version_update::Marks;
 /// Adds the versions from this one on that the switch did not acknowledge.
 ///
 /// # Errors
-/// Want of memory alone.
+/// Only out of memory.
 pub fn install_missing(
     acts: &mut Vec<Act>,
     alloc: Global,
@@ -52,7 +52,7 @@ fn is_missing(marks: &Marks, version: u32, s: u32, first: u32) -> bool
 /// Adds the current stamp with what its change touches, where the member acknowledged a lower one.
 ///
 /// # Errors
-/// Want of memory alone.
+/// Only out of memory.
 pub fn stamp_again(
     acts: &mut Vec<Act>,
     marks: &Marks,
@@ -83,7 +83,7 @@ pub fn stamp_again(
 /// Adds that the tables of the retired versions are to be dropped, where there are any.
 ///
 /// # Errors
-/// Want of memory alone.
+/// Only out of memory.
 pub fn collect_again(acts: &mut Vec<Act>, marks: &Marks, s: u32) -> Result<(), AllocError>
     requires { s < length marks.now.switches }
     ensures { OnOk result (acts.new.items ≡ acts.old.items ++ collect_again marks.now s) }

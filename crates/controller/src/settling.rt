@@ -43,7 +43,7 @@ impl News {
 /// the current one go.
 ///
 /// # Errors
-/// Want of memory alone; the versions are let go.
+/// Only out of memory; the versions are let go.
 pub fn settle(
     acts: &mut Vec<Act>,
     versions: &mut Vec<Version>,
@@ -90,7 +90,7 @@ fn tell_current(
 /// current one are let go.
 ///
 /// # Errors
-/// Want of memory alone; the versions are let go.
+/// Only out of memory; the versions are let go.
 pub fn settled_sends(
     alloc: Global,
     versions: &mut Vec<Version>,
@@ -117,7 +117,7 @@ fn let_go(versions: &mut Vec<Version>, current: u32)
 /// What the change of a version touches: that which is kept with its plan, or everything.
 ///
 /// # Errors
-/// Want of memory alone.
+/// Only out of memory.
 pub fn touched_by(
     alloc: Global,
     versions: &[Version],

@@ -12,7 +12,7 @@ use switch_table::{Partitions, Tables, tables_laws};
 /// the plan's, shared.
 ///
 /// # Errors
-/// Want of memory alone.
+/// Only out of memory.
 pub fn tables_of(alloc: Global, plan: &Plan, version: u32, s: u32) -> Result<Tables, AllocError>
     ensures tables { IfOk result (λ tables. tables ≡ tables_of plan.now.hosted version s) }
     ensures sound { IfOk result AreSoundTables }

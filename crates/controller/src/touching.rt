@@ -20,7 +20,7 @@ const MAX_TOLD: usize = 16;
 /// where these are more than 16.
 ///
 /// # Errors
-/// Want of memory alone.
+/// Only out of memory.
 pub fn touched(alloc: Global, policy: &Policy, change: &Amendment) -> Result<Touched, AllocError>
     ensures { IfOk result (λ touched. touched ≡ touched_few policy.now change.now) }
 {

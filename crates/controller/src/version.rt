@@ -46,7 +46,7 @@ impl Version {
     /// This version with this plan, whose change touches this, and the tables of so many switches.
     ///
     /// # Errors
-    /// Want of memory alone.
+    /// Only out of memory.
     pub fn new(
         alloc: Global,
         version: u32,
@@ -82,7 +82,7 @@ impl Version {
     /// What its change touches.
     ///
     /// # Errors
-    /// Want of memory alone.
+    /// Only out of memory.
     pub fn touched(&self) -> Result<Shared<Touched>, AllocError>
         ensures { IfOk result (λ touched. touched ≡ self.now.touched) }
     {
@@ -92,7 +92,7 @@ impl Version {
     /// The message that carries a switch's tables, for this boot.
     ///
     /// # Errors
-    /// Want of memory alone.
+    /// Only out of memory.
     pub fn install(&self, alloc: Global, s: u32, boot: u32) -> Result<Act, AllocError>
         ensures { IfOk result (λ act. act ≡ install_act s boot self.now) }
     {
@@ -103,7 +103,7 @@ impl Version {
     /// The tables of a switch: those that were made, where they were.
     ///
     /// # Errors
-    /// Want of memory alone.
+    /// Only out of memory.
     pub fn tables(&self, alloc: Global, s: u32) -> Result<SharedTables, AllocError>
         ensures { IfOk result (λ tables.
             tables ≡ tables_of self.now.plan.hosted self.now.version s) }

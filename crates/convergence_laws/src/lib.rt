@@ -1,7 +1,7 @@
 //! What holds of a quiet network, and of one whose neighbours agree: laws over journals of any
 //! steps.
 //!
-//! No code: each function stands for the law that it ensures.
+//! No code: each function is the law that it ensures.
 #![tactic(auto)]
 
 mod laws;

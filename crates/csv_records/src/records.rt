@@ -43,7 +43,7 @@ impl<'a> Records<'a> {
     /// Reads the next record into `fields`, and says whether there was one.
     ///
     /// # Errors
-    /// Want of memory alone; then no record is left.
+    /// Only out of memory; then no record is left.
     pub fn read_next(&mut self, fields: &mut ByteRecord) -> Result<bool, AllocError>
         ensures takes { IfOk result (λ found.
             TakesRecord self.old found (fields_of fields.new) self.new) }

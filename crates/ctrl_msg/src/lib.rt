@@ -2,7 +2,7 @@
 //!
 //! Two messages of equal content are equal: contracts see the tables that an `Install` carries as
 //! their value. Its clones share them, and the trees for lookups in them (`table_tree`), which
-//! tables that differ in their version alone share too. Those of a `Stamp` share its words.
+//! tables that differ in their version only share too. Those of a `Stamp` share its words.
 #![tactic(auto)]
 
 mod message;

@@ -35,7 +35,7 @@ impl SharedTables {
     /// These tables, to be shared, with no trees.
     ///
     /// # Errors
-    /// Want of memory alone.
+    /// Only out of memory.
     pub fn new(alloc: Global, tables: Tables) -> Result<SharedTables, AllocError>
         ensures { IfOk result (λ shared. shared ≡ tables) }
     {
@@ -51,7 +51,7 @@ impl SharedTables {
     /// tree far larger than their list.
     ///
     /// # Errors
-    /// Want of memory alone.
+    /// Only out of memory.
     pub fn with_trees(self, alloc: Global) -> Result<SharedTables, AllocError>
         ensures { IfOk result (λ tables. tables ≡ self) }
     {
@@ -69,7 +69,7 @@ impl SharedTables {
     /// The same tables under another version. Partition rules, partitions and trees are shared.
     ///
     /// # Errors
-    /// Want of memory alone.
+    /// Only out of memory.
     pub fn with_version(&self, alloc: Global, version: u32) -> Result<SharedTables, AllocError>
         ensures { IfOk result (λ tables. tables ≡ record self.now { version = version }) }
     {
@@ -93,7 +93,7 @@ impl SharedTables {
     /// A finder for the tables. It shares their trees; where there are none, it grows some.
     ///
     /// # Errors
-    /// Want of memory alone.
+    /// Only out of memory.
     pub fn finder(&self, alloc: Global) -> Result<Finder, AllocError>
         requires { AreSoundTables self.now }
         ensures { IfOk result (λ finder. finder.tables ≡ self.now) }

@@ -23,7 +23,7 @@ impl Node {
     /// The rules that decide the headers of this region.
     ///
     /// # Errors
-    /// Want of memory alone.
+    /// Only out of memory.
     pub fn new(alloc: Global, rules: &[Rule], region: &Word) -> Result<Node, AllocError>
         requires few { length rules.now < 2 ^ 32 }
         requires words { AreWords rules.now }
@@ -54,7 +54,7 @@ impl Node {
     /// The side of a cut at this bit on which it is 1, or 0.
     ///
     /// # Errors
-    /// Want of memory alone.
+    /// Only out of memory.
     pub fn half(&self, alloc: Global, bit: u32, one: bool) -> Result<Node, AllocError>
         requires { IsFreeBit self.now.region bit }
         ensures rules { IfOk result (λ half.

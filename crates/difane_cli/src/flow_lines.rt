@@ -9,7 +9,7 @@ use std::alloc::{AllocError, Global};
 /// A line for each record of the meters that left, and then of those that stayed.
 ///
 /// # Errors
-/// Want of memory alone.
+/// Only out of memory.
 pub fn flow_text<M: Meter>(alloc: Global, gone: &Flows, meters: &[M]) -> Result<Vec<u8>, AllocError>
     ensures { IfOk result (λ text. text.items ≡ flow_text gone.now (map M.seen meters.now)) }
 {

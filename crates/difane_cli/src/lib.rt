@@ -16,7 +16,7 @@
 //! case of its number, and the output gained the counts of the journal in their place. A plan and
 //! tables are the defined ones, and so are their lines. Of an audit the verdict is the defined one,
 //! and it says yes of each text that a replay prints. Each
-//! status but want of memory has its cause in a clause.
+//! status but running out of memory has its cause in a clause.
 #![tactic(auto)]
 
 mod auditing;

@@ -131,7 +131,7 @@ fn write_proposal<K: Sink>(
 /// The proposal for the plan, by how much its partitions were asked in the journal.
 ///
 /// # Errors
-/// Want of memory alone.
+/// Only out of memory.
 fn find_proposal(
     alloc: Global,
     journal: &Journal,

@@ -67,7 +67,7 @@ pub fn run<F: Shelf, K: Sink, E: Sink>(
     // Whether or not files are known, a refusal names what the arguments name.
     ensures names { NamesOneOf (names_in (command_of (argument_texts words.now))) result.status }
 
-    // Only there is a fault counted, or, of files that aren't known, behind want of memory too: what
+    // Only there is a fault counted, or, of files that aren't known, behind status 7 too: what
     // failed is not tried again with success.
     ensures no_read_fault { ¬ MayFollowFault (F.state shelf.old).files result.status
         → (F.state shelf.new).faults ≡ (F.state shelf.old).faults }

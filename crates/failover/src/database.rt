@@ -65,7 +65,7 @@ impl Database {
         Database { adverts, named }
     }
 
-    /// Holds the advert, and answers true, exactly where it is news: its origin is below 64, and
+    /// Holds the advert, and returns true, exactly where it is news: its origin is below 64, and
     /// none of that origin is held or this one is newer. Otherwise nothing changes.
     pub fn hear(&mut self, advert: &Advert) -> bool
         ensures news { result ≡ is_news self.old advert.now }

@@ -147,7 +147,7 @@ pub fn write_proto(alloc: Global, proto: &Proto) -> Result<Vec<u8>, AllocError>
     }
 }
 
-/// Each printed form is read back to what it prints: a law on the texts alone.
+/// Each printed form is read back to what it prints: a law about the texts only.
 pub fn printed_forms_are_read_back()
     ensures number { (most n : ℕ) → n ≤ most → n < 2 ^ 64 → number_up_to most (decimal n) ≡ Some n }
     ensures address { (a : ℕ) → a < 2 ^ 32 → address_of (address_text a) ≡ Some a }

@@ -10,7 +10,7 @@ use std::fmt::Write;
 /// Adds a line for each record: its port, its header's fields and its packets.
 ///
 /// # Errors
-/// Want of memory alone.
+/// Only out of memory.
 pub fn push_flows(text: &mut String, records: &[FlowRecord]) -> Result<(), AllocError>
     ensures { OnOk result (string_bytes text.new
         ≡ string_bytes text.old ++ flow_lines records.now) }

@@ -1,7 +1,7 @@
 //! What a quiet network has come to, and what becomes of a packet that comes in then: laws over
 //! journals of any steps, by those of quiet networks and of packets on their way.
 //!
-//! No code: each function stands for the law that it ensures.
+//! No code: each function is the law that it ensures.
 #![tactic(auto)]
 
 mod laws;

@@ -18,7 +18,7 @@ pub struct Bucket {
 /// play may have is in the first. No message is in them.
 ///
 /// # Errors
-/// Want of memory alone.
+/// Only out of memory.
 pub fn empty_buckets(alloc: Global) -> Result<Vec<Bucket>, AllocError>
     ensures { IfOk result (λ buckets. AreEmpty buckets.items) }
 {
@@ -54,7 +54,7 @@ fn is_said(messages: &[SharedMessage], message: &Message) -> bool
 /// Puts the message into its bucket.
 ///
 /// # Errors
-/// Want of memory alone.
+/// Only out of memory.
 pub fn keep(buckets: &mut Vec<Bucket>, message: &SharedMessage) -> Result<(), AllocError>
     ensures count { OnOk result (length buckets.new.items ≡ length buckets.old.items) }
     ensures kept { OnOk result (length buckets.old.items ≡ 64 → (other : Message) →

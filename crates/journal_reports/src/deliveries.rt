@@ -9,7 +9,7 @@ use std::alloc::AllocError;
 /// What one more item makes of the marks.
 ///
 /// # Errors
-/// Want of memory alone.
+/// Only out of memory.
 pub fn mark_item(marks: &mut Vec<bool>, item: &Item) -> Result<(), AllocError>
     ensures { OnOk result ((n : ℕ) → slice_index_or marks.new.items n false
         ≡ (is_delivery n item.now || slice_index_or marks.old.items n false)) }

@@ -17,7 +17,7 @@ use std::alloc::{AllocError, Global};
 /// play makes, of which many messages may be kept.
 ///
 /// # Errors
-/// Want of memory alone.
+/// Only out of memory.
 pub fn quiet(alloc: Global, journal: &Journal, net: &Net) -> Result<bool, AllocError>
     requires { IsNet net.now }
     ensures { IfOk result (λ answer. (setting : Setting) → setting.net ≡ net.now

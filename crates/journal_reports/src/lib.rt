@@ -9,7 +9,7 @@
 //! by the laws of `convergence_laws`.
 //!
 //! ```text
-//! let is_quiet = quiet(alloc, &played.journal, &net)?; // Err: want of memory alone
+//! let is_quiet = quiet(alloc, &played.journal, &net)?; // Err: only out of memory
 //! let text = summary_text(alloc, &summarize(&played.journal))?;
 //! ```
 #![tactic(auto)]

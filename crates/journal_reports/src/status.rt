@@ -73,7 +73,7 @@ impl SwitchStatus {
 /// They are few.
 ///
 /// # Errors
-/// Want of memory alone.
+/// Only out of memory.
 pub fn status_items(alloc: Global, items: &[Item]) -> Result<Vec<Item>, AllocError>
     ensures { IfOk result (λ told. (s : ℕ) → status_in told.items s ≡ status_in items.now s) }
 {

@@ -9,7 +9,7 @@ use std::fmt::Write;
 /// The lines of a summary: each a title, a blank and a number.
 ///
 /// # Errors
-/// Want of memory alone.
+/// Only out of memory.
 pub fn summary_text(alloc: Global, summary: &Summary) -> Result<Vec<u8>, AllocError>
     ensures { IfOk result (λ bytes. bytes.items ≡ summary_text summary.now) }
 {

@@ -86,7 +86,7 @@ pub fn none_missed(rows: &[Traffic]) -> bool
 /// So many switches at the end of the journal, before any item is read.
 ///
 /// # Errors
-/// Want of memory alone.
+/// Only out of memory.
 pub fn at_end(alloc: Global, items: &[Item], count: u32) -> Result<Vec<Traffic>, AllocError>
     ensures count { IfOk result (λ rows. length rows.items ≡ count) }
     ensures each { IfOk result (λ rows. AreTraffic items.now [] rows.items) }
@@ -108,7 +108,7 @@ pub fn at_end(alloc: Global, items: &[Item], count: u32) -> Result<Vec<Traffic>,
 /// message, if it sends one that matters, was received.
 ///
 /// # Errors
-/// Want of memory alone.
+/// Only out of memory.
 pub fn take_item(
     rows: &mut Vec<Traffic>,
     item: &Item,

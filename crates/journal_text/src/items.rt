@@ -16,7 +16,7 @@ use steps::Step;
 /// The text of a journal: one line for each item.
 ///
 /// # Errors
-/// Want of memory alone.
+/// Only out of memory.
 pub fn text(alloc: Global, journal: &Journal, net: &Net) -> Result<Vec<u8>, AllocError>
     requires { IsNet net.now }
     ensures { IfOk result (λ bytes. bytes.items ≡ journal_text net.now journal.now) }
@@ -27,7 +27,7 @@ pub fn text(alloc: Global, journal: &Journal, net: &Net) -> Result<Vec<u8>, Allo
 /// The lines of some items of a journal, as `text` has them.
 ///
 /// # Errors
-/// Want of memory alone.
+/// Only out of memory.
 pub fn lines(alloc: Global, items: &[Item], net: &Net) -> Result<Vec<u8>, AllocError>
     requires { IsNet net.now }
     ensures { IfOk result (λ bytes. bytes.items ≡ journal_text net.now items.now) }

@@ -52,10 +52,10 @@ impl Bag {
         self.firsts.len()
     }
 
-    /// Posts a message, and answers its number: one more than there were messages.
+    /// Posts a message, and returns its number: one more than there were messages.
     ///
     /// # Errors
-    /// Want of memory alone; nothing changes then.
+    /// Only out of memory; nothing changes then.
     pub fn post(&mut self, message: &Message) -> Result<u32, AllocError>
         requires spelling { HasSpelling message.now }
         requires short { length (form.spell message.now) < 2 ^ 40 }
@@ -118,7 +118,7 @@ impl Bag {
     /// posted.
     ///
     /// # Errors
-    /// Want of memory alone.
+    /// Only out of memory.
     pub fn take(&self, number: u32) -> Result<Option<Message>, AllocError>
         ensures none { IfOk result (λ answer.
             IsNone answer ↔ ((number ≡ 0) ⊎ (length self.now < number))) }

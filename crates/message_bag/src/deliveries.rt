@@ -74,7 +74,7 @@ impl Deliveries {
     /// One more message waits.
     ///
     /// # Errors
-    /// Want of memory alone; nothing changes then.
+    /// Only out of memory; nothing changes then.
     pub fn add(&mut self) -> Result<(), AllocError>
         requires { length self.old < 2 ^ 32 - 1 }
         ensures added { OnOk result (self.new ≡ self.old ++ waiting_status ∷ []) }

@@ -59,7 +59,7 @@ impl Firsts {
     /// One more, at the end.
     ///
     /// # Errors
-    /// Want of memory alone; nothing changes then.
+    /// Only out of memory; nothing changes then.
     pub fn push(&mut self, frame: &[u8], tables: Option<usize>) -> Result<(), AllocError>
         ensures pushed { OnOk result (self.new ≡ self.old ++ (frame.now, tables) ∷ []) }
         ensures unchanged { OnErr result (self.new ≡ self.old) }

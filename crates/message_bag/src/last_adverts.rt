@@ -25,7 +25,7 @@ impl LastAdverts {
     /// The message, to be shared: an advert with the last one, where that says the same.
     ///
     /// # Errors
-    /// Want of memory alone.
+    /// Only out of memory.
     pub fn share(&mut self, alloc: Global, message: Message) -> Result<Shared<Message>, AllocError>
         ensures { IfOk result (λ shared. shared ≡ message) }
     {

@@ -9,7 +9,7 @@
 //! A `Bag` keeps of each message its frames alone. All first frames lie one after the other in
 //! one vector, so that a message of a few bytes takes a few bytes. The other frames, of tables, are
 //! shared by all installations of the same tables, in whatever boot and to whatever switch. Tables
-//! that differ in their versions alone share all but the frame that begins with the version, where
+//! that differ in their versions only share all but the frame that begins with the version, where
 //! its four bytes are written. So rows and partitions are spelled, cut, assembled and decoded once,
 //! and trees to find a rule are grown once: the messages that are taken share those that came out
 //! of the frames, and these say which tables are the same.

@@ -45,10 +45,10 @@ impl PostBag {
         }
     }
 
-    /// Posts a message, and answers its number: one more than there were messages.
+    /// Posts a message, and returns its number: one more than there were messages.
     ///
     /// # Errors
-    /// Want of memory alone; nothing changes then.
+    /// Only out of memory; nothing changes then.
     pub fn post(&mut self, message: &Message) -> Result<u32, AllocError>
         requires spelling { HasShortSpelling message.now }
         requires few { length self.old < 2 ^ 32 - 1 }
@@ -70,7 +70,7 @@ impl PostBag {
     /// what the last one of its switch to its receiver said is shared with that one.
     ///
     /// # Errors
-    /// Want of memory alone; nothing changes then.
+    /// Only out of memory; nothing changes then.
     pub fn post_shared(
         &mut self,
         alloc: Global,
@@ -99,7 +99,7 @@ impl PostBag {
     /// posted, or it is forgotten.
     ///
     /// # Errors
-    /// Want of memory alone.
+    /// Only out of memory.
     pub fn get(&self, number: u32) -> Result<Option<Message>, AllocError>
         ensures found { IfOk result (λ answer. is_some answer ≡ is_post_deliverable self.now number) }
         ensures message { IfOk result (λ answer. IfSome answer (IsMessageOf self.now number)) }

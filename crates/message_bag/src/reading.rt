@@ -16,7 +16,7 @@ use wire::{Assembler, Frames, HEADER_LEN, WireError, decode, decode_front};
 /// The message of one frame, whose chunk is the whole spelling.
 ///
 /// # Errors
-/// Want of memory alone.
+/// Only out of memory.
 pub fn message_of_frame(alloc: Global, frame: &[u8]) -> Result<Message, AllocError>
     requires { AreOfMessage (frame.now ∷ []) }
     ensures { IfOk result (λ message. AreFrames message (frame.now ∷ [])) }
@@ -76,7 +76,7 @@ pub fn tables_of(body: &Body) -> Option<(u32, &SharedTables)>
 /// The tables that an installation carries, out of its frames.
 ///
 /// # Errors
-/// Want of memory alone.
+/// Only out of memory.
 pub fn tables_in(alloc: Global, frames: &Frames) -> Result<SharedTables, AllocError>
     requires { AreOfInstall frames.now }
     ensures { IfOk result (λ tables. CarryTables tables frames.now) }
@@ -106,7 +106,7 @@ fn front_of(alloc: Global, front: &[u8]) -> Result<(Place, u32), AllocError>
 /// The message of this first frame and the frames of these tables, which it shares.
 ///
 /// # Errors
-/// Want of memory alone.
+/// Only out of memory.
 pub fn shared(alloc: Global, first: &[u8], tables: &SharedTables) -> Result<Message, AllocError>
     requires fits { fields.tables.fits tables.now ≡ true }
     requires are { AreOfMessage (first.now ∷ table_frames tables.now) }

@@ -105,7 +105,7 @@ impl TableFrames {
     /// The message of this first frame and those behind it. All such messages share the tables.
     ///
     /// # Errors
-    /// Want of memory alone.
+    /// Only out of memory.
     pub fn message(&self, alloc: Global, first: &[u8]) -> Result<Message, AllocError>
         requires { AreOfMessage (first.now ∷ drop 1 self.now) }
         ensures { IfOk result (λ message.
@@ -220,7 +220,7 @@ fn put_first_of(
 /// partitions are kept.
 ///
 /// # Errors
-/// Want of memory alone.
+/// Only out of memory.
 pub fn spell(
     kept: &mut Vec<TableFrames>,
     first: &mut Vec<u8>,

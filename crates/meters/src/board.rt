@@ -41,7 +41,7 @@ impl<M: Meter> Board<M> {
     /// Lets each meter of this port note the leaving, in order. Each that then leaves is dropped;
     /// before that, its records are put behind those of the meters that left earlier.
     ///
-    /// An error is want of memory; the meters and the records are then unknown.
+    /// An error is that memory ran out; the meters and the records are then unknown.
     #[inline(never)]
     pub fn note(&mut self, port: u32, leaving: &Leaving) -> Result<(), AllocError>
         ensures noted { OnOk result (map M.seen self.new.meters

@@ -46,7 +46,7 @@ impl Flows {
     /// Puts more records behind these.
     ///
     /// # Errors
-    /// Want of memory alone.
+    /// Only out of memory.
     pub(crate) fn append(&mut self, mut more: Flows) -> Result<(), AllocError>
         ensures { OnOk result (self.new ≡ self.old ++ more) }
     {

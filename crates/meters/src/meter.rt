@@ -38,7 +38,7 @@ pub trait Meter: Drop {
     /// The flow records of the list that it holds, by its kind.
     ///
     /// # Errors
-    /// Want of memory alone.
+    /// Only out of memory.
     fn records(&self) -> Result<Flows, AllocError>
         ensures { IfOk result (λ flows. flows ≡ flow_records_of (seen self.now)) };
 }

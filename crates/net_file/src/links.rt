@@ -87,7 +87,7 @@ fn read_link(
 /// The links that the values of the array `link` state.
 ///
 /// # Errors
-/// The first refusal, in the row of its link, or want of memory.
+/// The first refusal, in the row of its link, or that memory ran out.
 pub fn read_links(
     alloc: Global,
     switches: &[SwitchRow],

@@ -22,7 +22,7 @@ impl Net {
     /// Adds the names of switches to a text, each behind a blank.
     ///
     /// # Errors
-    /// Want of memory alone.
+    /// Only out of memory.
     pub fn push_names(&self, text: &mut String, switches: &[u32]) -> Result<(), AllocError>
         requires { IsNet self.now }
         ensures { OnOk result (string_bytes text.new

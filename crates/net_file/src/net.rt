@@ -85,7 +85,7 @@ impl Name {
     /// A copy of these bytes as a name.
     ///
     /// # Errors
-    /// Want of memory alone.
+    /// Only out of memory.
     pub fn new(alloc: Global, bytes: &[u8]) -> Result<Name, AllocError>
         ensures { IfOk result (λ name. name ≡ bytes.now) }
     {
@@ -145,7 +145,7 @@ pub(crate) fn owner_in(switches: &[SwitchRow], port: u32) -> Option<u32>
 /// The network of one switch `s0` with all ports, for trees of one leaf.
 ///
 /// # Errors
-/// Want of memory alone.
+/// Only out of memory.
 pub fn solo(alloc: Global) -> Result<Net, AllocError>
     ensures net { IfOk result (λ net. net ≡ solo_net) }
     ensures sound { IfOk result IsNet }

@@ -46,7 +46,7 @@ fn read_document(alloc: Global, bytes: &[u8]) -> Result<Table, NetError>
 /// The network that the text states.
 ///
 /// # Errors
-/// The first refusal of the text and its row, or want of memory.
+/// The first refusal of the text and its row, or that memory ran out.
 #[tactic(auto, unfolding(crate::specs::Reading::net_of))]
 pub fn read_net(alloc: Global, bytes: &[u8]) -> Result<Net, NetError>
     ensures net { IfOk result (λ net. net_of bytes.now ≡ Ok net) }

@@ -209,7 +209,7 @@ fn read_switch(
 /// The switches that the values of the array `switch` state.
 ///
 /// # Errors
-/// The first refusal, in the row of its switch, or want of memory.
+/// The first refusal, in the row of its switch, or that memory ran out.
 pub fn read_switches(alloc: Global, values: &[Value]) -> Result<Vec<SwitchRow>, NetError>
     requires { length values.now ≤ 64 }
     ensures few { IfOk result (λ rows. vec_len rows ≤ 64) }

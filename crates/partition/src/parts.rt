@@ -17,7 +17,7 @@ use std::alloc::{AllocError, Global};
 /// policy's rules as its first match does; the last rule of each of these covers its region.
 ///
 /// # Errors
-/// Want of memory alone.
+/// Only out of memory.
 pub fn list(alloc: Global, tree: &Tree) -> Result<Vec<Partition>, AllocError>
     requires { leaf_count (shape_of tree.now) < 2 ^ 32 }
     ensures parts { IfOk result (λ parts. parts.items ≡ parts_of (shape_of tree.now)) }

@@ -60,7 +60,7 @@ pub fn place(
 }
 
 /// The defined placement: it meets the relation on loads, or names the partition that is refused,
-/// and nothing else does. A law on the definitions alone.
+/// and nothing else does. A law about the definitions only.
 pub fn placement_laws()
     ensures meets { (sizes rooms : List ℕ) (backups : ℕ) →
         MeetsPlacement sizes rooms backups (placement_of sizes rooms backups) }

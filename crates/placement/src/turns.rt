@@ -141,7 +141,7 @@ fn number_at(numbers: &[u64], place: u32) -> u64
 /// The same numbers in 64 bits.
 ///
 /// # Errors
-/// Want of memory alone.
+/// Only out of memory.
 pub fn widened(alloc: Global, numbers: &[u32]) -> Result<Vec<u64>, AllocError>
     ensures { IfOk result (λ wide. wide.items ≡ numbers.now) }
 {

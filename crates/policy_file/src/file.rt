@@ -15,7 +15,7 @@ use std::alloc::{AllocError, Global};
 /// Whether the text is that of a change, by its heading.
 ///
 /// # Errors
-/// Want of memory alone.
+/// Only out of memory.
 #[tactic(auto, unfolding(crate::specs::Changes::is_change_text))]
 pub fn is_change(alloc: Global, bytes: &[u8]) -> Result<bool, AllocError>
     ensures { IfOk result (λ is. is ≡ is_change_text bytes.now) }
@@ -35,7 +35,7 @@ pub fn is_change(alloc: Global, bytes: &[u8]) -> Result<bool, AllocError>
 /// `remove` with the priority of a row, or `add` with the seven fields of one.
 ///
 /// # Errors
-/// The first refusal in the text, or want of memory. The rows are checked in order: first what a
+/// The first refusal in the text, or out of memory. The rows are checked in order: first what a
 /// row does, then its width, then its fields from left to right, and last whether an earlier row
 /// does the same to its priority.
 #[tactic(auto, unfolding(crate::specs::Changes::change_of))]

@@ -16,7 +16,7 @@ use std::alloc::Global;
 /// byte-order mark, quotes, line ends and blank lines are as that crate reads them.
 ///
 /// # Errors
-/// The first refusal in the text, or want of memory. The rows are checked in order: first a row's
+/// The first refusal in the text, or out of memory. The rows are checked in order: first a row's
 /// width, then its fields from left to right, and last whether an earlier row has its priority.
 #[tactic(auto, unfolding(crate::specs::Reading::policy_of))]
 pub fn read_policy(alloc: Global, bytes: &[u8]) -> Result<Policy, PolicyError>

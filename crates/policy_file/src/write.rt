@@ -21,7 +21,7 @@ use std::fmt::Write;
 /// feed.
 ///
 /// # Errors
-/// Want of memory alone.
+/// Only out of memory.
 pub fn write_policy(alloc: Global, policy: &Policy) -> Result<Vec<u8>, AllocError>
     ensures text { IfOk result (λ bytes. bytes.items ≡ policy_text policy.now) }
     ensures read_back { IfOk result (λ bytes. length policy.now ≤ 2000
@@ -35,7 +35,7 @@ pub fn write_policy(alloc: Global, policy: &Policy) -> Result<Vec<u8>, AllocErro
 /// feed.
 ///
 /// # Errors
-/// Want of memory alone.
+/// Only out of memory.
 pub fn write_change(alloc: Global, change: &Amendment) -> Result<Vec<u8>, AllocError>
     ensures text { IfOk result (λ bytes. bytes.items ≡ change_text change.now) }
     ensures read_back { IfOk result (λ bytes. length change.now ≤ 2000
@@ -47,7 +47,7 @@ pub fn write_change(alloc: Global, change: &Amendment) -> Result<Vec<u8>, AllocE
 }
 
 /// The text of a policy is read back to the policy, for at most 2,000 rows with ports below 64: a
-/// law on the texts alone.
+/// law about the texts only.
 pub fn policy_texts_are_read_back()
     ensures policy { (rows : List Row) → IsPolicy rows → length rows ≤ 2000
         → All (λ row. HasSmallPort row.action) rows → policy_of (policy_text rows) ≡ Ok rows }
@@ -60,7 +60,7 @@ pub fn policy_texts_are_read_back()
 }
 
 /// The text of a change is read back to the change, for at most 2,000 edits that add rows with
-/// ports below 64: a law on the texts alone.
+/// ports below 64: a law about the texts only.
 pub fn change_texts_are_read_back()
     ensures change { (edits : List Edit) → IsAmendment edits → length edits ≤ 2000
         → All (AddsOnly (λ row. HasSmallPort row.action)) edits
@@ -74,7 +74,7 @@ pub fn change_texts_are_read_back()
     printed_forms_are_plain();
 }
 
-// The printed fields of a row whose port is below 64 state the row: a law on the texts alone.
+// The printed fields of a row whose port is below 64 state the row: a law about the texts only.
 fn row_fields_state_the_row()
     ensures { (row : Row) → IsSoundRow row → HasSmallPort row.action
         → row_read (row_fields row) ≡ Ok row }
@@ -84,7 +84,7 @@ fn row_fields_state_the_row()
     printed_actions_are_read_back();
 }
 
-// A priority is read back from its digits: a law on the texts alone.
+// A priority is read back from its digits: a law about the texts only.
 fn priorities_are_read_back()
     ensures { (priority : ℕ) → priority < 2 ^ 32
         → number_up_to 4294967295 (decimal priority) ≡ Some priority }

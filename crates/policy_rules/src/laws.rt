@@ -6,19 +6,19 @@ pub fn policy_laws()
     ensures { PolicyLaws }
 {}
 
-/// The words of a row hold exactly the headers that the row matches: laws of the definitions alone.
+/// The words of a row hold exactly the headers that the row matches: laws about definitions only.
 pub fn row_words_laws()
     ensures { RowWordsLaws }
 {}
 
-/// The rules of a policy's rows decide as the first match does: laws of the definitions alone.
+/// The rules of a policy's rows decide as the first match does: laws about the definitions only.
 pub fn rule_list_laws()
     ensures { RuleListLaws }
 {}
 
 /// What a change leaves of a policy is a policy of at most 2,000 rows, each of which is a row of
 /// that policy or an added one. A header that no removed and no added row matches is decided as
-/// before, and any other by the rows that stay and the added ones: laws of the definitions alone.
+/// before, and any other by the rows that stay and the added ones: laws about the definitions only.
 pub fn amendment_laws()
     ensures { AmendmentLaws }
 {}

@@ -2,7 +2,7 @@ ghost use Rattle.std.specs.Prelude.{ℕ, List};
 ghost use Rattle.rebalance.specs.Spread.{AreWeighed, SpreadLaws};
 
 /// A spread fits; it is one, or one partition is refused; no placement that fits has a peak below
-/// the bound; and what is proposed fits and is never higher. A law on the definitions alone.
+/// the bound; and what is proposed fits and is never higher. A law about the definitions only.
 pub fn spread_laws()
     ensures { (sizes weights rooms : List ℕ) (backups : ℕ) → AreWeighed sizes weights rooms
         → SpreadLaws sizes weights rooms backups }

@@ -10,7 +10,7 @@ use std::alloc::{AllocError, Global};
 /// and those by other versions count nowhere.
 ///
 /// # Errors
-/// Want of memory alone.
+/// Only out of memory.
 pub fn weights(alloc: Global, journal: &Journal, parts: u32) -> Result<Vec<u64>, AllocError>
     ensures weights { IfOk result (λ weights. weights.items ≡ weights_of journal.now parts) }
     ensures small { IfOk result (λ weights. sum weights.items < 2 ^ 64) }

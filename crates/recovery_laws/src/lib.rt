@@ -1,7 +1,7 @@
 //! What recovery leaves, whatever was lost, repeated or reordered before, and whatever failed: laws
 //! over journals of schedules that end in it.
 //!
-//! No code: each function stands for the law that it ensures.
+//! No code: each function is the law that it ensures.
 #![tactic(auto)]
 
 mod laws;

@@ -20,7 +20,7 @@ use world::{StepError, World};
 ///
 /// # Errors
 /// `Full` where a step would begin behind a full journal, which has the steps before it, and the
-/// world can go on; otherwise want of memory alone, and the journal has first steps of the event and
+/// world can go on; otherwise only out of memory, and the journal has first steps of the event and
 /// a part of the next one.
 pub fn take_steps<M: Meter>(
     world: &mut World,

@@ -11,7 +11,7 @@ use world::World;
 /// The plan of the version that is current, shared.
 ///
 /// # Errors
-/// Want of memory alone.
+/// Only out of memory.
 pub fn plan_in_force(world: &World) -> Result<Plan, AllocError>
     requires { world.now.is_spent ≡ false }
     ensures { IfOk result (IsPlanInForce (setting_at world.now) world.now.journal) }

@@ -92,7 +92,7 @@ pub fn replay<M: Meter>(
 /// the ports in the mask.
 ///
 /// # Errors
-/// Want of memory alone.
+/// Only out of memory.
 pub fn play<M: Meter>(
     world: World,
     events: &[Event],

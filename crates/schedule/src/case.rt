@@ -24,7 +24,7 @@ pub struct Case {
 /// that network alone, and its events may happen on it.
 ///
 /// # Errors
-/// Want of memory alone.
+/// Only out of memory.
 pub fn load_case(alloc: Global, n: u32) -> Result<Case, AllocError>
     requires { (1 ≤ n) × (n ≤ 1000) }
     ensures case { IfOk result (λ case. case_seen case ≡ load_case n) }

@@ -9,7 +9,7 @@ use steps::{Event, Step};
 /// The events of a case: so many packets, the changes, and so many packets again.
 ///
 /// # Errors
-/// Want of memory alone.
+/// Only out of memory.
 pub fn events(alloc: Global, draws: &mut Draws, half: u32) -> Result<Vec<Event>, AllocError>
     ensures { IfOk result (λ events.
         let early = groups_from half draws.old.state in

@@ -8,7 +8,7 @@ use std::alloc::{AllocError, Global};
 /// The network of each case: a ring of eight switches with two more links.
 ///
 /// # Errors
-/// Want of memory alone.
+/// Only out of memory.
 pub fn net(alloc: Global) -> Result<Net, AllocError>
     ensures net { IfOk result (λ net. net ≡ load_net) }
     ensures sound { IfOk result IsNet }

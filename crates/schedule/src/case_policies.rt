@@ -11,7 +11,7 @@ use std::alloc::{AllocError, Global};
 /// A policy of so many rows, whose priorities are their places from 1.
 ///
 /// # Errors
-/// Want of memory alone.
+/// Only out of memory.
 pub fn policy(alloc: Global, draws: &mut Draws, rows: u32) -> Result<Policy, AllocError>
     ensures drawn { IfOk result (λ policy.
         (policy ≡ (rows_drawn rows draws.old.state).0)

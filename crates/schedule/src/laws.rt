@@ -2,7 +2,7 @@ ghost use Rattle.schedule.specs.Kinds.{KindLaws};
 ghost use Rattle.schedule.specs.Reading.{ScheduleLaws};
 
 /// The events that a text states are such as the network can be asked for, and at most 100,000: a
-/// law on the texts alone.
+/// law about the texts only.
 pub fn schedule_laws()
     ensures { ScheduleLaws }
 {}

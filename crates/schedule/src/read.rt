@@ -21,7 +21,7 @@ use steps::{Event, MAX_EVENTS};
 /// quotes, line ends and blank lines are as that crate reads them.
 ///
 /// # Errors
-/// The first refusal in the text, or want of memory. The rows are checked in order: first a row's
+/// The first refusal in the text, or out of memory. The rows are checked in order: first a row's
 /// kind, then its width, then its fields from left to right.
 #[tactic(auto, unfolding(crate::specs::Reading::schedule_of))]
 pub fn read_schedule(

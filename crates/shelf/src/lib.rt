@@ -3,9 +3,9 @@
 //! Both are traits, so that what stands above runs over real files and streams as over files and
 //! bytes in memory. The content of a shelf or a sink is known to contracts where its kind allows
 //! it; faults, and the reads of a shelf, are counted by each kind. What is promised is exact where
-//! the content is known: a read answers the named file or says why not, and a write appends what it
-//! took. Where it isn't known, an error other than want of memory comes only where the count of
-//! faults rose. No shelf answers more bytes than it was asked for.
+//! the content is known: a read returns the named file or says why not, and a write appends what it
+//! took. Where it isn't known, an error other than out of memory comes only where the count of
+//! faults rose. No shelf returns more bytes than it was asked for.
 //!
 //! A `Block` gathers the pieces of a text in a fixed array, so that they are written together.
 //!

@@ -41,7 +41,7 @@ impl From<AllocError> for ShelfError {
 }
 
 impl ShelfError {
-    /// Why a call of the system failed, by the kind of its error: want of memory, or else `other`.
+    /// Why a call of the system failed, by the kind of its error: out of memory, or else `other`.
     pub fn by_kind(error: &io::Error, other: ShelfError) -> ShelfError
         ensures { result ≡ cause_by_kind (error_kind error.now) other }
     {
@@ -59,7 +59,7 @@ pub trait Shelf {
 
     /// The whole content of the file `name`, where it has at most `limit` bytes.
     ///
-    /// Want of memory may be answered at any call.
+    /// Any call may run out of memory.
     fn read(&mut self, name: &str, limit: u64) -> Result<Vec<u8>, ShelfError>
         ensures same_files { (state self.new).files ≡ (state self.old).files }
         ensures reads { (state self.new).reads ≡ next_count (state self.old).reads }
@@ -146,7 +146,7 @@ impl HeldFiles {
             ↔ HasLongerFile self.now name.now limit }
     {
         let mut content = content_of(&self.files, name).ok_or(ShelfError::Missing)?;
-        // Before the copy, so that a file that is too long is never want of memory.
+        // Before the copy, so that a file that is too long never runs out of memory.
         if content.len() as u64 > limit {
             return Err(ShelfError::TooLong);
         }

@@ -24,7 +24,7 @@ pub trait Reader {
     /// Adds all that is left to the content, or the first `most` bytes of it.
     ///
     /// # Errors
-    /// The reader's own, which is a fault, or want of memory, by its kind. The content has some of
+    /// The reader's own, which is a fault, or out of memory, by its kind. The content has some of
     /// the bytes then.
     fn read_front(&mut self, most: u64, content: &mut Vec<u8>) -> io::Result<()>
         ensures front { HasFront (state self.old).left most content.old.items content.new.items result }
@@ -45,7 +45,7 @@ impl Reader for &[u8] {
     }
 }
 
-/// A reader of std that counts the errors which it answers, but for want of memory.
+/// A reader of std that counts the errors which it answers, except for running out of memory.
 #[derive(Drop)]
 pub struct CountedReader<R: Read + Drop> {
     reader: R,
@@ -99,7 +99,7 @@ impl<R: Read + Drop> Reader for CountedReader<R> {
 ///
 /// # Errors
 /// `TooLong` where the reader has more left. An error of the reader by its kind
-/// (`ShelfError::by_kind`): `NoMemory`, which also stands for want of memory here, or `Failed`,
+/// (`ShelfError::by_kind`): `NoMemory`, which also stands for out of memory here, or `Failed`,
 /// exactly where the reader's count of faults rose.
 pub fn read_up_to<R: Reader>(
     alloc: Global,

@@ -19,7 +19,7 @@ const FIRST_VERSION: u32 = 1;
 /// them with its targets and its rules.
 ///
 /// # Errors
-/// Want of memory alone.
+/// Only out of memory.
 pub fn compile_text(alloc: Global, plan: &Plan, net: &Net) -> Result<Vec<u8>, AllocError>
     requires { IsNet net.now }
     ensures { IfOk result (λ bytes.
@@ -39,7 +39,7 @@ pub fn compile_text(alloc: Global, plan: &Plan, net: &Net) -> Result<Vec<u8>, Al
 /// region with its targets.
 ///
 /// # Errors
-/// Want of memory alone.
+/// Only out of memory.
 pub fn table_text(alloc: Global, plan: &Plan, net: &Net, s: u32) -> Result<Vec<u8>, AllocError>
     requires { IsNet net.now }
     ensures { IfOk result (λ bytes.

@@ -20,7 +20,7 @@ impl Switch {
     /// `near` has a bit for each switch to which there is a usable link.
     ///
     /// # Errors
-    /// Want of memory alone. Why there is none is inside.
+    /// Only out of memory. Why there is none is inside.
     #[tactic(auto, unfolding(crate::specs::Ends::set_out))]
     pub fn shared_route(
         &mut self,

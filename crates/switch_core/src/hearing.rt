@@ -20,7 +20,7 @@ impl Switch {
     /// `near` has a bit for each switch to which there is a usable link.
     ///
     /// # Errors
-    /// Want of memory alone; nothing changes then, and the message is as good as not delivered.
+    /// Only out of memory; nothing changes then, and the message is as good as not delivered.
     #[tactic(auto, unfolding(crate::specs::Hearing::with_message, crate::specs::Hearing::replies, crate::specs::Hearing::opening_stamp))]
     pub fn hear(&mut self, number: u32, body: &Body, near: u64) -> Result<Heard, AllocError>
         requires { IsSoundBody body.now }

@@ -28,7 +28,7 @@ impl KeptTables {
     /// These tables, with their trees, or with new ones where they have none.
     ///
     /// # Errors
-    /// Want of memory alone.
+    /// Only out of memory.
     pub fn new(alloc: Global, tables: &SharedTables) -> Result<KeptTables, AllocError>
         requires { AreSoundTables tables.now }
         ensures { IfOk result (λ kept. kept ≡ tables.now) }

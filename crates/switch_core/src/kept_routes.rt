@@ -81,7 +81,7 @@ impl SharedRoutes {
     /// down; `None` where none leads there. Where none was, those who ask for it share it.
     ///
     /// # Errors
-    /// Want of memory alone.
+    /// Only out of memory.
     pub fn to_first(
         &mut self,
         alloc: Global,

@@ -7,7 +7,7 @@ pub fn switch_laws()
 {}
 
 /// What a switch answers to a packet by a lookup, by what the cache and the tables of the stamp say
-/// of the header: a relation that allows one answer. A law on the definition alone.
+/// of the header: a relation that allows one answer. A law about the definition only.
 pub fn lookup_laws()
     ensures { LookupLaws }
 {}
@@ -19,26 +19,26 @@ pub fn enter_laws()
 {}
 
 /// Where a packet goes that was decided, by the owner of its action's port: a relation that allows
-/// one way. A law on the definition alone.
+/// one way. A law about the definition only.
 pub fn exit_laws()
     ensures { ExitLaws }
 {}
 
 /// What `Switch::arrive` answers, by the tables of the leg's version or by a lookup: a relation
-/// that allows one answer. A law on the definition alone.
+/// that allows one answer. A law about the definition only.
 pub fn arrive_laws()
     ensures { ArriveLaws }
 {}
 
 /// By which rules a switch decides packets that come in or arrive, when and which rule it sends to
 /// a cache, and that by the tables of a plan its own rules decide as the plan's policy does: a law
-/// on the definitions alone.
+/// about the definitions only.
 pub fn decision_laws()
     ensures { DecisionLaws }
 {}
 
 /// What `Switch::hop` does to a packet, by the next link of its route: a relation that allows one
-/// outcome. A law on the definition alone.
+/// outcome. A law about the definition only.
 pub fn hop_laws()
     ensures { HopLaws }
 {}

@@ -22,7 +22,7 @@ impl Switch {
         advert
     }
 
-    /// Takes the cached rule at this place, from 0, out and answers the number of its message;
+    /// Takes the cached rule at this place, from 0, out and returns the number of its message;
     /// `None` where there is none.
     pub fn expire(&mut self, k: u32) -> Option<u32>
         ensures message { result

@@ -46,7 +46,7 @@ impl Switch {
     /// these adverts, and room for so many cached rules.
     ///
     /// # Errors
-    /// Want of memory alone.
+    /// Only out of memory.
     pub fn begin(
         alloc: Global,
         number: u32,

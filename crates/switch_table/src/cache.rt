@@ -108,7 +108,7 @@ impl Cache {
     /// version and word is there.
     ///
     /// # Errors
-    /// Want of memory alone; nothing changes then.
+    /// Only out of memory; nothing changes then.
     pub fn accept(&mut self, stamp: u32, entry: CacheEntry) -> Result<(), AllocError>
         ensures ok { OnOk result (self.new ≡ after_accept stamp entry self.old) }
         ensures err { OnErr result (self.new ≡ self.old) }
@@ -126,7 +126,7 @@ impl Cache {
         }
     }
 
-    /// Takes the entry at this place, from 0, out and answers the number of its message; `None`
+    /// Takes the entry at this place, from 0, out and returns the number of its message; `None`
     /// where there is none.
     pub fn expire(&mut self, k: u32) -> Option<u32>
         ensures message { result
@@ -149,7 +149,7 @@ impl Cache {
     /// version and all of earlier ones go, and so does one whose word an entry of the version has.
     ///
     /// # Errors
-    /// Want of memory alone; nothing changes then.
+    /// Only out of memory; nothing changes then.
     pub fn carry(&mut self, version: u32, touched: &Touched) -> Result<(), AllocError>
         ensures ok { OnOk result (self.new ≡ after_carry version touched.now self.old) }
         ensures err { OnErr result (self.new ≡ self.old) }
@@ -173,7 +173,7 @@ impl Cache {
 }
 
 /// No call leaves a cache with two entries of one version and word, or with more entries than its
-/// capacity: a law on the definitions alone.
+/// capacity: a law about the definitions only.
 pub fn cache_laws()
     ensures { CacheLaws }
 {}

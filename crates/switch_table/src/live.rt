@@ -36,7 +36,7 @@ impl LiveCounts {
     /// Makes room for so many places.
     ///
     /// # Errors
-    /// Want of memory alone; the counts are those of the same places then.
+    /// Only out of memory; the counts are those of the same places then.
     pub fn make_room(&mut self, places: usize) -> Result<(), AllocError>
         ensures kept { (flags : List Bool) → AreCounts self.old flags → AreCounts self.new flags }
         ensures room { OnOk result (CountPlaces self.new places) }

@@ -77,7 +77,7 @@ fn row_place(rows: &[PartRow], number: u128) -> Option<usize>
 
 /// Tables of a plan of sound partitions, whose last rules cover their regions, are sound, and lead
 /// each header to the policy's first match, by a switch's own authority rules or by those of any
-/// target; they name the partition that holds it: a law on the definitions alone.
+/// target; they name the partition that holds it: a law about the definitions only.
 pub fn tables_laws()
     ensures { TablesLaws }
 {}

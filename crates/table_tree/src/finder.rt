@@ -45,7 +45,7 @@ impl Finder {
     /// bit that each of them fixes, or if there is none, at the least one that some one fixes.
     ///
     /// # Errors
-    /// Want of memory alone.
+    /// Only out of memory.
     pub fn build(alloc: Global, tables: Rc<Tables>) -> Result<Finder, AllocError>
         requires { AreSoundTables tables.value }
         ensures tables { IfOk result (λ finder. finder.tables ≡ tables.value) }

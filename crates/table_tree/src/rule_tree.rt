@@ -31,7 +31,7 @@ impl RuleTree {
     /// than 12 cuts deep, its larger side has fewer rules, and both together at most five quarters.
     ///
     /// # Errors
-    /// Want of memory alone.
+    /// Only out of memory.
     #[tactic(auto, unfolding(crate::specs::Ruling::rule_tree))]
     pub fn build(alloc: Global, rules: &[Rule], region: &Word) -> Result<RuleTree, AllocError>
         requires { length rules.now < 2 ^ 32 }

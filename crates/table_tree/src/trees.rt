@@ -22,7 +22,7 @@ impl Trees {
     /// `Finder::of` asks for sound tables.
     ///
     /// # Errors
-    /// Want of memory alone.
+    /// Only out of memory.
     pub fn grow(alloc: Global, parts: &[PartRow], auth: &[Partition]) -> Result<Trees, AllocError>
         requires parts { length parts.now < 2 ^ 32 }
         requires auth { All (λ part. length part.rules < 2 ^ 32) auth.now }

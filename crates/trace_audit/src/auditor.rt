@@ -88,7 +88,7 @@ impl Auditor {
     /// What is known before the first line.
     ///
     /// # Errors
-    /// Want of memory alone.
+    /// Only out of memory.
     pub fn new(alloc: Global, files: &[PolicyFile]) -> Result<Auditor, AllocError>
         ensures { IfOk result (λ auditor. state_seen auditor ≡ first_state files.now) }
     {
@@ -206,7 +206,7 @@ impl Auditor {
     /// Takes what a line tells, and says whether that may be.
     ///
     /// # Errors
-    /// Want of memory alone.
+    /// Only out of memory.
     pub fn take(
         &mut self,
         alloc: Global,

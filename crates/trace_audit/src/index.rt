@@ -215,7 +215,7 @@ impl IndexedPolicy {
     /// The version that has this policy.
     ///
     /// # Errors
-    /// Want of memory alone.
+    /// Only out of memory.
     pub fn new(alloc: Global, policy: Policy) -> Result<IndexedPolicy, AllocError>
         ensures { IfOk result (λ version. version ≡ policy) }
     {

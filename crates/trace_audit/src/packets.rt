@@ -203,7 +203,7 @@ impl Packets {
     /// Puts the packet in the place of what was known of its number.
     ///
     /// # Errors
-    /// Want of memory alone.
+    /// Only out of memory.
     pub fn put(&mut self, number: u32, packet: TracePacket) -> Result<(), AllocError>
         ensures { OnOk result (packets_seen self.new ≡ with_one (packets_seen self.old) number (packet_seen packet)) }
     {

@@ -29,7 +29,7 @@ pub enum Verdict {
 /// first file is a change, the machine begins with no policy.
 ///
 /// # Errors
-/// Want of memory alone.
+/// Only out of memory.
 pub fn audit(alloc: Global, trace: &[u8], files: &[PolicyFile]) -> Result<Verdict, AllocError>
     ensures verdict { IfOk result (IsAuditVerdict files.now (lines_of trace.now)) }
     ensures exactly { IfOk result

@@ -8,7 +8,7 @@ use packet_laws::{
 };
 
 /// Each line of the text of a journal that answers a schedule is good, and so are whole lines of
-/// meters, and of whether the network is quiet, behind it: `audit` answers Yes for them.
+/// meters, and of whether the network is quiet, behind it: `audit` returns Yes for them.
 pub fn texts_are_good()
     ensures { TextsAreGood }
 {

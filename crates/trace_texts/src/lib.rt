@@ -1,7 +1,7 @@
 //! The texts of journals as traces: the text of each journal that answers a schedule is one that the
-//! checker of traces answers Yes.
+//! checker of traces returns Yes.
 //!
-//! No code: the function stands for the law that it ensures. `audit` of `trace_audit` answers Yes
+//! No code: the function is the law that it ensures. `audit` of `trace_audit` returns Yes
 //! exactly where each line is good; by the law each line of such a text is.
 #![tactic(auto)]
 

@@ -26,7 +26,7 @@ impl HeldFlight {
     /// What is kept of the packet, on the heap.
     ///
     /// # Errors
-    /// Want of memory alone.
+    /// Only out of memory.
     pub fn new(alloc: Global, kept: StoredFlight) -> Result<HeldFlight, AllocError>
         ensures { IfOk result (λ held. held ≡ kept) }
     {

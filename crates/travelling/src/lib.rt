@@ -1,7 +1,7 @@
 //! The packets that are on their way, by their numbers.
 //!
 //! `Travelling` keeps what is known of each packet that travels: its tunnel, and the version and
-//! the rule of its decision. It promises that each call changes the packet of its number alone, and
+//! the rule of its decision. It promises that each call changes only the packet of its number, and
 //! that `next` finds the least number of one that travels. To make a `StoredFlight`, a `Standing`
 //! or its links may take memory, and so may `put`; no other call does.
 //!

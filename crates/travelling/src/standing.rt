@@ -29,7 +29,7 @@ impl Standing {
     /// the rule of its decision.
     ///
     /// # Errors
-    /// Want of memory alone.
+    /// Only out of memory.
     pub fn of(
         alloc: Global,
         tunnel: &Tunnel,
@@ -67,7 +67,7 @@ impl Standing {
     /// The set of the links that it found down, shared.
     ///
     /// # Errors
-    /// Want of memory alone, which is taken only where it found none.
+    /// Only out of memory, which is taken only where it found none.
     pub fn into_links(self, alloc: Global) -> Result<SharedLinks, AllocError>
         ensures { IfOk result (λ links. links ≡ (standing_kept self).down) }
     {

@@ -45,7 +45,7 @@ impl StoredFlight {
     /// rule of its decision.
     ///
     /// # Errors
-    /// Want of memory alone, which is taken only where it found links down.
+    /// Only out of memory, which is taken only where it found links down.
     pub fn new(
         alloc: Global,
         tunnel: &Tunnel,
@@ -100,7 +100,7 @@ impl StoredFlight {
     /// The packet at the switch where it stands; the set of links stays shared.
     ///
     /// # Errors
-    /// Want of memory alone.
+    /// Only out of memory.
     pub fn standing(&self, switch: u32) -> Result<Standing, AllocError>
         ensures at { IfOk result (λ at. standing_kept at ≡ standing_at switch self.now) }
         ensures version { IfOk result (λ at. at.version ≡ self.now.version) }

@@ -70,7 +70,7 @@ impl Travelling {
     /// The packet travels, and this is known of it from now on.
     ///
     /// # Errors
-    /// Want of memory alone.
+    /// Only out of memory.
     pub fn put(&mut self, packet: u32, kept: StoredFlight) -> Result<(), AllocError>
         ensures { OnOk result (WithOne self.old packet (Some kept) self.new) }
     {

@@ -1,4 +1,4 @@
-//! Laws on journals: functions without a body, whose contracts are facts of the definitions alone.
+//! Laws on journals: functions without a body, whose contracts are facts about definitions only.
 ghost use Rattle.std.specs.Prelude.{◌≡◌, ◌+◌, ◌++◌, ◌↔◌, ◌≤◌, ℕ, Bool, Option, Some, Ok, List, [], ◌∷◌, length, map, All, IsTrue};
 ghost use Rattle.std.specs.Option.{option_or};
 ghost use Rattle.policy_rules.specs.Policy.{IsPolicy};
@@ -87,7 +87,7 @@ pub fn answers_are_numbered()
 /// is there (`answers_are_numbered`). The plan is that of the policy. The first version has the
 /// policy of the first file, and the version that is submitted next has the next policy: what its
 /// file makes of the policy of the newest version. In a sound setting each policy is one, and names
-/// ports of the network alone.
+/// ports of the network only.
 pub fn versions_keep_policies()
     ensures there { (before items : List Item) (version : ℕ) → IsTrue (is_version before version)
         → IsTrue (is_version (before ++ items) version) }

@@ -6,7 +6,7 @@
 //! (`answers_are_numbered`). A play takes no step behind a full journal: it leaves an answer, or
 //! stops there (`plays_are_one`). A version that is there keeps its policy and its plan
 //! (`versions_keep_policies`). What a switch, a packet or the controller is said to be changes only
-//! by items that concern it (`other_items_change_nothing`). The laws hold of the definitions alone,
+//! by items that concern it (`other_items_change_nothing`). The laws hold of definitions only,
 //! whatever code wrote the journal.
 #![tactic(auto)]
 

@@ -41,7 +41,7 @@ impl Assembler {
         }
     }
 
-    /// Takes in a frame, and answers the message once all of its frames are held; a frame may come
+    /// Takes in a frame, and returns the message once all of its frames are held; a frame may come
     /// again, and in any order.
     ///
     /// # Errors

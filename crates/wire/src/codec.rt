@@ -332,7 +332,7 @@ fn put_body(out: &mut Vec<u8>, body: &Body) -> Result<(), AllocError>
 /// Writes the spelling of a message at the end.
 ///
 /// # Errors
-/// Want of memory alone; a part of the spelling may be written then.
+/// Only out of memory; a part of the spelling may be written then.
 #[tactic(auto, unfolding(crate::specs::Messages::message))]
 pub fn append(out: &mut Vec<u8>, message: &Message) -> Result<(), AllocError>
     requires { HasSpelling message.now }
@@ -347,7 +347,7 @@ pub fn append(out: &mut Vec<u8>, message: &Message) -> Result<(), AllocError>
 /// The spelling of a message.
 ///
 /// # Errors
-/// Want of memory alone.
+/// Only out of memory.
 pub fn encode(alloc: Global, message: &Message) -> Result<Vec<u8>, AllocError>
     requires { HasSpelling message.now }
     ensures { IfOk result (λ bytes. IsSpelling message.now bytes.items) }

@@ -49,7 +49,7 @@ impl Frames {
     /// frame they begin with it, and all else is the same. The frames that don't differ are shared.
     ///
     /// # Errors
-    /// Want of memory alone.
+    /// Only out of memory.
     pub fn with_version(&self, alloc: Global, version: u32) -> Result<Frames, AllocError>
         ensures { IfOk result (λ frames. frames ≡ frames_of_version version self.now) }
     {
@@ -88,7 +88,7 @@ fn begun_with(alloc: Global, version: u32, frame: &[u8]) -> Result<Frame, AllocE
 /// slices of 16,376 bytes; of any other message all bytes are one chunk.
 ///
 /// # Errors
-/// Want of memory alone.
+/// Only out of memory.
 pub fn split(alloc: Global, message: &Message) -> Result<Frames, AllocError>
     requires spelling { HasSpelling message.now }
     requires short { length (kinds.message.spell message.now) < 2 ^ 40 }

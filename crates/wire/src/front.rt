@@ -18,7 +18,7 @@ const INSTALL: u8 = 1;
 /// Writes at the end the front of an installation for this receiver and this boot.
 ///
 /// # Errors
-/// Want of memory alone; a part of it may be written then.
+/// Only out of memory; a part of it may be written then.
 #[tactic(auto, unfolding(crate::specs::Messages::message_front))]
 pub fn append_front(out: &mut Vec<u8>, to: Place, boot: u32) -> Result<(), AllocError>
     requires { IsPlace to }

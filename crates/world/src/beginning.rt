@@ -18,7 +18,7 @@ const FIRST_ITEMS: usize = 16_384;
 /// A journal in which nothing happened yet.
 ///
 /// # Errors
-/// Want of memory alone.
+/// Only out of memory.
 pub fn first_journal(alloc: Global) -> Result<Journal, AllocError>
     ensures { IfOk result (λ journal. journal ≡ []) }
 {
@@ -29,7 +29,7 @@ pub fn first_journal(alloc: Global) -> Result<Journal, AllocError>
 /// All switches in their first boot, each with the controller's tables of version 1, shared.
 ///
 /// # Errors
-/// Want of memory alone.
+/// Only out of memory.
 #[tactic(auto, using(switch_core::proofs::SwitchLaws::own_first))]
 pub fn switches_of(
     alloc: Global,

@@ -20,7 +20,7 @@ impl Parts {
     /// version, unless there is none, or it has no plan, or the controller refuses it.
     ///
     /// # Errors
-    /// Want of memory alone; a part of the items is written then.
+    /// Only out of memory; a part of the items is written then.
     pub fn update(&mut self, alloc: Global, file: u32) -> Result<(), AllocError>
         requires { HasBegun (UpdateStep file) self.old }
         ensures { Plays (UpdateStep file) result self.old self.new }
@@ -50,7 +50,7 @@ impl Parts {
     /// where the switch is up.
     ///
     /// # Errors
-    /// Want of memory alone; a part of the items is written then.
+    /// Only out of memory; a part of the items is written then.
     pub fn confirm(&mut self, alloc: Global, switch: u32) -> Result<(), AllocError>
         requires { HasBegun (ConfirmStep switch) self.old }
         ensures { Plays (ConfirmStep switch) result self.old self.new }
@@ -68,7 +68,7 @@ impl Parts {
     /// happens where none of this is there to send.
     ///
     /// # Errors
-    /// Want of memory alone; a part of the items is written then.
+    /// Only out of memory; a part of the items is written then.
     pub fn resend(&mut self, alloc: Global, switch: u32) -> Result<(), AllocError>
         requires { HasBegun (ResendStep switch) self.old }
         ensures { Plays (ResendStep switch) result self.old self.new }

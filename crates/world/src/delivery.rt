@@ -20,7 +20,7 @@ impl Parts {
     /// upon it. A switch that opens changes which links can be used.
     ///
     /// # Errors
-    /// Want of memory alone; a part of the items is written then.
+    /// Only out of memory; a part of the items is written then.
     pub fn deliver(&mut self, alloc: Global, number: u32) -> Result<(), AllocError>
         requires { HasBegun (DeliverStep number) self.old }
         ensures { Plays (DeliverStep number) result self.old self.new }
@@ -57,7 +57,7 @@ impl Parts {
     /// changed tell their neighbours.
     ///
     /// # Errors
-    /// Want of memory alone; a part of the items is written then.
+    /// Only out of memory; a part of the items is written then.
     pub fn change_links(&mut self, alloc: Global) -> Result<(), AllocError>
         requires many { length self.old.switches.items ≤ 64 }
         requires next { All (λ switch. switch.seq < 2 ^ 32 - 1) self.old.switches.items }

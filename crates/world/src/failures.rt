@@ -14,7 +14,7 @@ impl Parts {
     /// that stand there are lost. The other ends of its usable links tell their neighbours.
     ///
     /// # Errors
-    /// Want of memory alone; a part of the items is written then.
+    /// Only out of memory; a part of the items is written then.
     pub fn crash(&mut self, alloc: Global, switch: u32) -> Result<(), AllocError>
         requires { HasBegun (CrashStep switch) self.old }
         ensures { Plays (CrashStep switch) result self.old self.new }
@@ -32,7 +32,7 @@ impl Parts {
     /// happens where it is up.
     ///
     /// # Errors
-    /// Want of memory alone; a part of the items is written then.
+    /// Only out of memory; a part of the items is written then.
     pub fn restart(&mut self, alloc: Global, switch: u32) -> Result<(), AllocError>
         requires { HasBegun (RestartStep switch) self.old }
         ensures { Plays (RestartStep switch) result self.old self.new }
@@ -50,7 +50,7 @@ impl Parts {
     /// links changed tell their neighbours. Where it is so already, nothing happens.
     ///
     /// # Errors
-    /// Want of memory alone; a part of the items is written then.
+    /// Only out of memory; a part of the items is written then.
     pub fn set_link(
         &mut self,
         alloc: Global,

@@ -63,7 +63,7 @@ impl Files {
     /// These files, of which the first one has a policy. Its plan is that of the newest version.
     ///
     /// # Errors
-    /// Want of memory alone.
+    /// Only out of memory.
     #[tactic(auto, using(crate::proofs::KeptFiles::first_there))]
     pub fn new(
         alloc: Global,
@@ -95,7 +95,7 @@ impl Files {
     /// newest policy, and what it touches of that; or why there is none.
     ///
     /// # Errors
-    /// Want of memory alone.
+    /// Only out of memory.
     pub fn compiled(&mut self, alloc: Global, place: usize) -> Result<Compiled, AllocError>
         requires { place < length self.old.files }
         ensures compiled { IfOk result

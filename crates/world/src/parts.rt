@@ -32,7 +32,7 @@ impl Parts {
     /// Takes the step of this row, and writes what happens.
     ///
     /// # Errors
-    /// Want of memory alone; a part of the items is written then.
+    /// Only out of memory; a part of the items is written then.
     pub fn play(&mut self, alloc: Global, row: u32, step: &Step) -> Result<(), AllocError>
         requires { IsReadyForStep self.old.log.journal step.now self.old }
         ensures { Goes result self.old.log.journal row step.now self.old self.new }

@@ -105,7 +105,7 @@ impl World {
     ///
     /// # Errors
     /// `Full` exactly where so many messages were sent that no step begins; nothing changes then.
-    /// Otherwise want of memory alone: the journal has a part of the step's items then, and each
+    /// Otherwise only out of memory: the journal has a part of the step's items then, and each
     /// further step is answered so at once, full or not, and changes nothing.
     pub fn step(&mut self, row: u32, step: &Step) -> Result<(), StepError>
         requires may { HasRoom self.old.journal

@@ -14,7 +14,7 @@ use switch_core::Switch;
 /// many switches all adverts that it holds.
 ///
 /// # Errors
-/// Want of memory alone.
+/// Only out of memory.
 #[tactic(auto, using(crate::proofs::RelinkingAdverts::near_steps))]
 pub fn adverts_again(
     alloc: Global,

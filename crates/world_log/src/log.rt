@@ -25,7 +25,7 @@ impl Log {
     /// The message is sent, under the next number.
     ///
     /// # Errors
-    /// Want of memory alone; nothing is written then.
+    /// Only out of memory; nothing is written then.
     pub fn send(&mut self, alloc: Global, message: Message) -> Result<(), AllocError>
         requires spelling { HasShortSpelling message }
         requires few { length self.old.bag < 2 ^ 32 - 1 }

@@ -13,7 +13,7 @@ impl Log {
     /// The packet is lost. It leaves the table once that is written.
     ///
     /// # Errors
-    /// Want of memory alone; nothing changes then.
+    /// Only out of memory; nothing changes then.
     pub fn lose(&mut self, packet: u32) -> Result<(), AllocError>
         ensures written { OnOk result (self.new.journal
             ≡ self.old.journal ++ LostItem packet ∷ []) }
@@ -31,7 +31,7 @@ impl Log {
     /// other packet.
     ///
     /// # Errors
-    /// Want of memory alone. A part of the items is written then, and the packets of these alone
+    /// Only out of memory. A part of the items is written then, and the packets of these alone
     /// have left the table.
     pub fn lose_at(&mut self, switch: u32) -> Result<(), AllocError>
         ensures written { OnOk result (self.new.journal ≡ self.old.journal

@@ -22,7 +22,7 @@ impl Log {
     /// A packet comes in at the switch, which is asked what becomes of it there.
     ///
     /// # Errors
-    /// Want of memory alone; a part of the items is written then.
+    /// Only out of memory; a part of the items is written then.
     pub fn enter(
         &mut self,
         alloc: Global,
@@ -80,7 +80,7 @@ impl Log {
     /// A move over a link that is usable takes no memory but the journal's.
     ///
     /// # Errors
-    /// Want of memory alone; a part of the items is written then.
+    /// Only out of memory; a part of the items is written then.
     pub fn hop(
         &mut self,
         alloc: Global,

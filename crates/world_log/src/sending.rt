@@ -16,7 +16,7 @@ impl Log {
     /// The messages are sent, each under the next number.
     ///
     /// # Errors
-    /// Want of memory alone; a part of the items is written then.
+    /// Only out of memory; a part of the items is written then.
     pub fn send_all(&mut self, alloc: Global, messages: Vec<Message>) -> Result<(), AllocError>
         requires { MaySend self.old.bag messages.items }
         ensures written { OnOk result (self.new.journal
@@ -33,7 +33,7 @@ impl Log {
     /// The controller does this, one after another.
     ///
     /// # Errors
-    /// Want of memory alone; a part of the items is written then.
+    /// Only out of memory; a part of the items is written then.
     pub fn note_acts(&mut self, alloc: Global, acts: Vec<Act>) -> Result<(), AllocError>
         requires { MayNote self.old.bag acts.items }
         ensures { HasNoted result acts.items self.old self.new }
@@ -44,7 +44,7 @@ impl Log {
     /// The messages are sent, and then the controller does this.
     ///
     /// # Errors
-    /// Want of memory alone; a part of the items is written then.
+    /// Only out of memory; a part of the items is written then.
     pub fn send_and_note(
         &mut self,
         alloc: Global,

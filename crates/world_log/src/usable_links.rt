@@ -48,7 +48,7 @@ fn usable_from(links: u64, serving: u64, s: u32) -> u64
 /// they tell their neighbours, by ascending number.
 ///
 /// # Errors
-/// Want of memory alone.
+/// Only out of memory.
 pub fn relink(
     alloc: Global,
     switches: &mut Vec<Switch>,
@@ -135,7 +135,7 @@ fn send_adverts(
 /// The switch tells all adverts that it holds.
 ///
 /// # Errors
-/// Want of memory alone.
+/// Only out of memory.
 #[tactic(auto, using(crate::proofs::RelinkingAdverts::held_steps))]
 pub fn send_all_held(
     messages: &mut Vec<Message>,

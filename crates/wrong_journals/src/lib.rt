@@ -6,7 +6,7 @@
 //! two hold of it, except where a packet leaves by another port than that of its decision: there a
 //! second fact refuses it too. Of the right journals beside them all three hold.
 //!
-//! No code: each function stands for the law that it ensures. They are computed from the
+//! No code: each function is the law that it ensures. They are computed from the
 //! definitions of the first tier, on a network of two switches with two policies.
 #![tactic(auto)]
 

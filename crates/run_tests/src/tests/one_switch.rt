@@ -194,7 +194,7 @@ fn tells_a_full_play(rt: HostRuntime) {
     assert!(rt; status.number() == 6 && is_told);
 }
 
-// Whether the run ended for want of memory, with a part of what it would have written.
+// Whether the run ended out of memory, with a part of what it would have written.
 fn stopped(ran: &Ran) -> bool {
     let (status, written, told) = ran;
     *status == 7
