@@ -55,7 +55,7 @@ fn sizes_of(alloc: Global, parts: &[Partition]) -> Result<Vec<u32>, AllocError>
 /// For how many rules each switch has room.
 ///
 /// # Errors
-/// Out of memory alone.
+/// Only out of memory.
 pub fn rooms_of(alloc: Global, net: &Net) -> Result<Vec<u32>, AllocError>
     ensures { IfOk result (λ rooms. rooms.items ≡ rooms_of net.now) }
 {
