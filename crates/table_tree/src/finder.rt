@@ -27,7 +27,7 @@ pub struct Finder {
 impl Model for Finder {
     ghost use Rattle.std.specs.Coded.{codes};
     ghost use Rattle.table_tree.specs.Finding.{FinderValue, IsFinder};
-    ghost use Rattle.table_tree.specs.contracts.tree.Tree.{the_row};
+    ghost use Rattle.table_tree.specs.contracts.tree.PartTree.{the_row};
 
     ghost Value = { FinderValue };
 
