@@ -20,7 +20,7 @@ use Rattle.convergence_laws.proofs.ReceivedMessages.{delivered_append, in_sendin
 use Rattle.convergence_laws.proofs.MessageCourses.{AreTraced, IsInOrder, IsTraced, caused_traced, pieces_in_order, traced_at_first, traced_kept}
 
 -- what isn't found passes nowhere
-none_found : (test : ℕ → Bool) (x : ℕ) (xs : List ℕ) → find test xs ≡ None → IsIn x xs
+pub none_found : (test : ℕ → Bool) (x : ℕ) (xs : List ℕ) → find test xs ≡ None → IsIn x xs
     → IsFalse (test x)
 none_found test x [] none is = absurd is
 none_found test x (y ∷ xs) none is =

@@ -6,7 +6,7 @@ use Rattle.steps.specs.declared.step.Event.{Event}
 use Rattle.steps.specs.declared.step.Event.TheVariants.{Flush}
 use Rattle.steps.specs.declared.step.Step.{Step}
 use Rattle.steps.specs.declared.step.Step.TheVariants.{Deliver}
-use Rattle.update_machine.specs.Answers.{AreAll, AreSteps, StepOfRow, after_steps, next_delivery}
+use Rattle.update_machine.specs.Answers.{AreAll, AreSteps, AreStepsOf, StepOfRow, after_steps, next_delivery}
 use Rattle.update_machine.specs.Messages.{next_waiting}
 use Rattle.update_machine.specs.Pieces.{piece}
 use Rattle.update_machine.specs.Quiet.{IsQuiet}
@@ -27,20 +27,31 @@ all_end setting next row before [] are = are
 all_end setting next row before (first ∷ steps) are =
     all_end setting next row (before ++ piece setting before first.row first.step) steps are.2
 
-pub flush_ends : (setting : Setting) (row : ℕ) (events : List Event) (before : List Item)
-    (steps : List StepOfRow) → AreSteps setting row (events ++ Flush ∷ []) before steps
-    → next_delivery (after_steps setting before steps) ≡ None
-flush_ends setting row [] before steps are =
+-- so where the last event takes all of its steps
+pub last_ends : (setting : Setting) (next : List Item → Option Step) (event : Event)
+    → ((row : ℕ) (before : List Item) (steps : List StepOfRow)
+    → AreStepsOf setting row event before steps → AreAll setting next row before steps)
+    → (row : ℕ) (events : List Event) (before : List Item) (steps : List StepOfRow)
+    → AreSteps setting row (events ++ event ∷ []) before steps
+    → next (after_steps setting before steps) ≡ None
+last_ends setting next event takes row [] before steps are =
     let whole : steps ≡ are.0 = are.2.split ∙ ap (λ rest. are.0 ++ rest) are.4
     ∙ append-nil are.0 in
-    subst (λ all. next_delivery (after_steps setting before all) ≡ None) (sym whole)
-    (all_end setting next_delivery row before are.0 are.3)
-flush_ends setting row (event ∷ events) before steps are =
+    subst (λ all. next (after_steps setting before all) ≡ None) (sym whole)
+    (all_end setting next row before are.0 (takes row before are.0 are.3))
+last_ends setting next event takes row (first ∷ events) before steps are =
     let joined : after_steps setting before steps
     ≡ after_steps setting (after_steps setting before are.0) are.1 =
     ap (after_steps setting before) are.2.split ∙ after_append setting before are.0 are.1 in
-    subst (λ journal. next_delivery journal ≡ None) (sym joined)
-    (flush_ends setting (row + 1) events (after_steps setting before are.0) are.1 are.4)
+    subst (λ journal. next journal ≡ None) (sym joined)
+    (last_ends setting next event takes (row + 1) events (after_steps setting before are.0) are.1
+    are.4)
+
+pub flush_ends : (setting : Setting) (row : ℕ) (events : List Event) (before : List Item)
+    (steps : List StepOfRow) → AreSteps setting row (events ++ Flush ∷ []) before steps
+    → next_delivery (after_steps setting before steps) ≡ None
+flush_ends setting =
+    last_ends setting next_delivery Flush (λ row before steps are. are)
 
 pub none_waits : (journal : List Item) → next_delivery journal ≡ None → next_waiting journal ≡ None
 none_waits journal none = by_next (next_waiting journal) none

@@ -41,7 +41,7 @@ use Rattle.convergence_laws.proofs.MessageCourses.{IsInOrder, caused_traced, pie
 
 -- ---- news
 
-contains_in : {X : Type 0} (x : X) (xs : List X) → IsIn x xs → Contains xs x
+pub contains_in : {X : Type 0} (x : X) (xs : List X) → IsIn x xs → Contains xs x
 contains_in x [] is = absurd is
 contains_in x (y ∷ xs) (inl here) = (zero, omega arith, here)
 contains_in x (y ∷ xs) (inr later) =

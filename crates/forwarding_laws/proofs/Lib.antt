@@ -3,3 +3,19 @@ mod UsableWalks
 mod FollowedPacket
 mod ForwardedPacket
 mod QuietJournals
+pub mod CalmItems
+pub mod SentSince
+pub mod RecoveryRows
+pub mod AnsweredDeliveries
+pub mod ResentMessages
+pub mod RecoveredControl
+pub mod RecoveredAdverts
+pub mod RecoveredNetworks
+pub mod CacheStamps
+pub mod SecondRounds
+pub mod TwoRounds
+pub mod UnfailingItems
+pub mod WholeClaims
+pub mod DroppedNothing
+pub mod ConnectedTargets
+pub mod DrainedAccounts

@@ -1,3 +1,7 @@
 pub mod Forwards
 pub mod ToRest
 pub mod Exports
+pub mod Recovery
+pub mod Recovered
+pub mod NothingOld
+pub mod Rollout

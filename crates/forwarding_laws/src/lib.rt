@@ -1,11 +1,20 @@
-//! What a quiet network has come to, and what becomes of a packet that comes in then: laws over
-//! journals of any steps, by those of quiet networks and of packets on their way.
+//! What a network comes to that is quiet or has recovered, and what a rollout drops: laws over
+//! journals, by those of networks that have converged and of packets on their way.
 //!
 //! No code: each function is the law that it ensures.
 #![tactic(auto)]
 
 mod laws;
+mod recovery;
+mod rollout;
 
 pub use laws::{
     converged_networks_forward, quiet_networks_forward, quiet_networks_have_come_to_rest,
+};
+pub use recovery::{
+    flushes_deliver_all, networks_recover, nothing_old_is_left, recovered_caches_are_new,
+    recovered_neighbours_agree, recovered_networks_are_updated, recovered_networks_have_converged,
+};
+pub use rollout::{
+    connected_rollouts_leave_none_stuck, drained_rollouts_account_for_all, rollouts_drop_nothing,
 };

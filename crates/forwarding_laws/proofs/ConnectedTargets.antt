@@ -1,0 +1,183 @@
+-- The leg of a packet has targets, which are switches of the network: so in a connected network the
+-- links lead to one.
+use Rattle.std.proofs.Common.{ℕ, ◌≡◌, ◌<◌, ◌⊎◌, false, Some, List, [], ◌∷◌, ◌++◌, All, length, get_or, map, Ok, refl, ap, sym, subst, ◌∙◌, arith, inl, inr, Contains}
+use Rattle.std.specs.Prelude.{⊤, option_to_list, unwrap_or}
+use Rattle.std.specs.List.{list_any}
+use Rattle.std.specs.Option.{option_map_or}
+use Rattle.std.proofs.lemmas.List.{get_or-map, length-map}
+use Rattle.std.proofs.lemmas.List.Elements.{All-cons, All-nil}
+use Rattle.net_file.specs.Joins.{owner_of}
+use Rattle.net_file.specs.declared.net.Net.{Net}
+use Rattle.net_file.proofs.RowPlaces.{ports}
+use Rattle.partition.specs.Plan.{Hosted, IsPlan, sizes_of}
+use Rattle.policy_rules.specs.declared.packet.Leg.{Leg}
+use Rattle.policy_rules.specs.declared.packet.Leg.TheVariants.{Exit, Seek}
+use Rattle.policy_rules.specs.declared.policy.Row.{Row}
+use Rattle.journal.specs.declared.item.Item.{Item}
+use Rattle.journal.specs.declared.item.Item.TheVariants as item
+use Rattle.steps.specs.Steps.{HasSwitch}
+use Rattle.steps.specs.declared.step.Event.{Event}
+use Rattle.update_machine.specs.Answers.{BeginsAnswer}
+use Rattle.update_machine.specs.Causes.{AreTargets, HaveCauses}
+use Rattle.update_machine.specs.Setting.{IsPlanOf, IsSetting, Setting}
+use Rattle.update_machine.specs.Versions.{HasPlan, hosted_in, plan_at, policy_at}
+use Rattle.control_laws.specs.Always.{AreEvents}
+use Rattle.control_laws.proofs.ItemFacts.{Behind, Both, have_both, have_weaker}
+use Rattle.packet_laws.specs.Facts.{what_is_known}
+use Rattle.packet_laws.specs.KeptFacts.{AllKept}
+use Rattle.packet_laws.specs.OnWay.{IsExiting}
+use Rattle.packet_laws.specs.Stages.{stage_of}
+use Rattle.packet_laws.specs.PacketCauses.{FindsNoRoute, IsBlockedOn, TakesLeg}
+use Rattle.packet_laws.proofs.AllKept.{kept_before, known_before, knows}
+use Rattle.packet_laws.proofs.PacketEnds.{decision_out}
+use Rattle.packet_laws.proofs.PacketsHere.{IsHere, exiting_of, leg_in}
+use Rattle.packet_laws.proofs.KeptFacts.{Knows, here_known, port_named}
+use Rattle.packet_laws.proofs.PlanLookups.{version_planned}
+use Rattle.packet_laws.proofs.ReachedJournals.{reached}
+use Rattle.packet_laws.proofs.RestingPackets.{IsWayItem, Past}
+use Rattle.forwarding_laws.specs.Rollout.{DropsNothing, IsApart, IsConnected, IsStuckCutOff, NoneIsStuck, NothingFails, says_stuck}
+
+-- there are some, and all are switches of the network
+record AreSwitches (net : Net) (targets : List ℕ) : Type 0 where
+  some : 0 < length targets
+  there : All (λ s. s < length net.switches) targets
+
+-- ---- the targets of a partition
+
+targets_planned : (rows : List Row) (net : Net) (plan : List Hosted) (hosted : Hosted)
+    → IsPlan rows net plan → Contains plan hosted → AreSwitches net hosted.1
+targets_planned rows net plan hosted is found =
+    let first = λ (other : Hosted). other.0 in
+    let second = λ (other : Hosted). other.1 in
+    let k = found.0 in
+    let sizes : length (sizes_of (map first plan)) ≡ length plan =
+    length-map (map first plan) (λ part. length part.rules) ∙ length-map plan first in
+    let due = is.placement.hosted k (omega (arith, found.1, sizes)) in
+    let at : get_or (map second plan) k [] ≡ (get_or plan k hosted).1 =
+    get_or-map second plan k hosted [] found.1 in
+    let own : get_or (map second plan) k [] ≡ hosted.1 =
+    at ∙ ap (λ (other : Hosted). other.1) found.2 in
+    record {
+      some = omega (arith, due.number, ap length own);
+      there = subst (λ (other : Hosted). All (λ s. s < length net.switches) other.1) found.2
+          (is.targets k hosted found.1);
+    }
+
+-- a plan of a version is sound
+plan_sound : (setting : Setting) (journal : List Item) (version : ℕ) (plan : List Hosted)
+    → IsSetting setting → IsPlanOf setting journal version plan
+    → (rows : List Row) × IsPlan rows setting.net plan
+unfolding policy_at plan_at
+plan_sound setting journal version plan is of =
+    let own : policy_at setting journal version ≡ of.0 = ap (λ o. unwrap_or o []) of.1 in
+    let same : plan_at setting journal version ≡ plan =
+    ap (λ o. option_map_or (λ rows. hosted_in (setting.plan rows)) o []) of.1
+    ∙ ap hosted_in of.2 in
+    let has : HasPlan setting journal version = record {
+      policy = of.1 ∙ ap Some (sym own);
+      plan = ap setting.plan own ∙ of.2 ∙ ap Ok (sym same);
+    } in (
+      policy_at setting journal version,
+      subst (IsPlan (policy_at setting journal version) setting.net) same
+          (version_planned setting journal version is has).parts,
+    )
+
+-- ---- the switch of a port
+
+exit_there : (setting : Setting) (before : List Item) (i s port : ℕ)
+    → Knows setting before i (stage_of before i) → (here : IsHere setting before i s)
+    → TakesLeg setting before i s (Exit port) ⊎ IsBlockedOn before i (Exit port)
+    → (home : ℕ) × (owner_of setting.net.switches port ≡ Some home)
+exit_there setting before i s port knows here (inl takes) =
+    let judged = knows.kept.judged here.travelling takes.judged here.under.header
+    here.under.entered in
+    let same : Some judged.decision ≡ Some takes.decision =
+    sym (decision_out before i (Some judged.decision) judged.decided) ∙ takes.decided in
+    let own = ap (λ o. option_map_or (λ d. d.action) o judged.decision.action) same in
+    (_, port_named setting port judged.decision.action (own ∙ takes.action) judged.named)
+exit_there setting before i s port knows here (inr blocked) =
+    let on : IsExiting setting (what_is_known before i).decision (what_is_known before i).route
+    port =
+    exiting_of setting before (what_is_known before i) port
+    (knows.kept.on_way here.travelling (inr blocked.blocked))
+    (leg_in before i (Some (Exit port)) blocked.takes) in
+    (on.owner, on.has_port)
+
+home_there : (net : Net) (port home : ℕ) (targets : List ℕ)
+    → owner_of net.switches port ≡ Some home
+    → option_to_list (owner_of net.switches port) ≡ targets → AreSwitches net targets
+home_there net port home targets owns are =
+    subst (AreSwitches net) (sym (ap option_to_list owns) ∙ are) (record {
+      some = omega arith;
+      there = All-cons (λ s. s < length net.switches) home [] (ports.below net.switches port home owns)
+          (All-nil (λ s. s < length net.switches));
+    })
+
+targets_there : (setting : Setting) (before : List Item) (i s : ℕ) (leg : Leg)
+    (targets : List ℕ) → Knows setting before i (stage_of before i) → IsHere setting before i s
+    → TakesLeg setting before i s leg ⊎ IsBlockedOn before i leg
+    → AreTargets setting before i leg targets → AreSwitches setting.net targets
+targets_there setting before i s (Seek version partition) targets knows here on own =
+    let sound = plan_sound setting before version own.3 knows.is own.4 in
+    subst (AreSwitches setting.net) own.9
+    (targets_planned sound.0 setting.net own.3 own.5 sound.1 own.6)
+targets_there setting before i s (Exit port) targets knows here on own =
+    let home = exit_there setting before i s port knows here on in
+    home_there setting.net port home.0 targets home.1 own.3
+
+-- ---- connected networks
+
+leads_to_one : (net : Net) (switch : ℕ) (targets : List ℕ) → IsConnected net
+    → HasSwitch net switch → AreSwitches net targets → IsApart net switch targets → ⊥
+leads_to_one net switch [] connected there are apart = absurd (omega (arith, are.some))
+leads_to_one net switch (target ∷ targets) connected there are apart =
+    let way = connected switch target there (are.there 0 target (omega arith)) in
+    apart 0 target (omega arith) way.0 way.1
+
+-- what is known of an item
+abbrev IsKnownItem : Setting → List Item → Item → Type 0
+IsKnownItem setting =
+    Both (DropsNothing setting) (Behind (Past (IsWayItem setting)) (AllKept setting))
+
+abbrev IsNotStuck : List Item → Item → Type 0
+IsNotStuck before (item.Stuck packet switch cause leg down) = ⊥
+IsNotStuck before _ = ⊤
+
+not_stuck : (setting : Setting) → IsSetting setting → IsConnected setting.net
+    → (before : List Item) (next : Item) → IsKnownItem setting before next
+    → IsNotStuck before next
+not_stuck setting is connected before (item.Stuck packet switch cause leg down) both =
+    let stuck : IsStuckCutOff setting before packet switch leg = both.first in
+    let next : Item = item.Stuck packet switch cause leg down in
+    let known : Knows setting before packet (stage_of before packet) =
+    knows setting before packet (known_before setting is before next both.second) in
+    let finds : FindsNoRoute setting before packet switch cause leg down =
+    both.second.caused.caused.way in
+    let here : IsHere setting before packet switch =
+    here_known setting before packet switch known finds.at in
+    leads_to_one setting.net switch stuck.targets connected
+    (omega (arith, here.at, here.under.now))
+    (targets_there setting before packet switch leg stuck.targets known here finds.on stuck.own_leg)
+    stuck.apart
+not_stuck setting is connected before next both = tt
+
+none_among : (before items : List Item) → HaveCauses IsNotStuck before items
+    → list_any says_stuck items ≡ false
+none_among before [] have = refl
+none_among before (item.Stuck packet switch cause leg down ∷ items) have = absurd have.0
+none_among before (next ∷ items) have = none_among (before ++ next ∷ []) items have.1
+
+pub none_is_stuck : ((setting : Setting) (events : List Event) (journal : List Item)
+    → IsSetting setting → AreEvents setting events → NothingFails events
+    → BeginsAnswer setting events journal → HaveCauses (DropsNothing setting) [] journal)
+    → (setting : Setting) (events : List Event) (journal : List Item)
+    → IsSetting setting → AreEvents setting events → NothingFails events
+    → IsConnected setting.net → BeginsAnswer setting events journal → NoneIsStuck journal
+none_is_stuck drops setting events journal is own nothing connected begins =
+    none_among [] journal
+    (have_weaker (IsKnownItem setting) IsNotStuck (not_stuck setting is connected) [] journal
+    (have_both (DropsNothing setting) (Behind (Past (IsWayItem setting)) (AllKept setting)) []
+    journal (drops setting events journal is own nothing begins)
+    (kept_before setting journal is
+    ((reached (λ setting journal. HaveCauses (IsWayItem setting) [] journal)
+    (λ setting journal is have. have)).begun setting events journal own begins is))))

@@ -1,0 +1,44 @@
+//! Laws of rollouts where nothing fails.
+ghost use Rattle.std.specs.Prelude.{◌∷◌, ◌++◌, [], List};
+ghost use Rattle.steps.specs.declared.step.Event.TheVariants.{Drain};
+ghost use Rattle.update_machine.specs.Exports.{Answers, BeginsAnswer, Event, HaveCauses, IsSetting, Item, Setting};
+ghost use Rattle.control_laws.specs.Always.{AreEvents};
+ghost use Rattle.forwarding_laws.specs.Rollout.{AllAccounted, DropsNothing, IsConnected, NoneIsStuck, NothingFails};
+
+use packet_laws::ends_have_causes;
+use update_machine::answers_are_numbered;
+
+/// Where no switch crashes and no link fails, however many updates run, and however messages are
+/// lost, repeated or reordered, a packet is stuck only where the links of the network lead from
+/// where it stands to no target of its leg; it is lost by its own row alone; and none finds a link
+/// down.
+pub fn rollouts_drop_nothing()
+    ensures { (setting : Setting) (events : List Event) (journal : List Item)
+        → IsSetting setting → AreEvents setting events → NothingFails events
+        → BeginsAnswer setting events journal → HaveCauses (DropsNothing setting) [] journal }
+{
+    ends_have_causes();
+}
+
+/// So in a connected network no packet is ever stuck.
+pub fn connected_rollouts_leave_none_stuck()
+    ensures { (setting : Setting) (events : List Event) (journal : List Item)
+        → IsSetting setting → AreEvents setting events → NothingFails events
+        → IsConnected setting.net → BeginsAnswer setting events journal → NoneIsStuck journal }
+{
+    rollouts_drop_nothing();
+}
+
+/// And where the schedule ends with a drain, each packet that came in was dropped, left by a port,
+/// or was lost. That the port is the one of its decision, that it was dropped by its decision, and
+/// that it was lost by its own row, say `ends_have_causes`, `answers_are_runs` and
+/// `rollouts_drop_nothing`.
+pub fn drained_rollouts_account_for_all()
+    ensures { (setting : Setting) (events : List Event) (journal : List Item)
+        → IsSetting setting → AreEvents setting (events ++ Drain ∷ [])
+        → NothingFails (events ++ Drain ∷ []) → IsConnected setting.net
+        → Answers setting (events ++ Drain ∷ []) journal → AllAccounted journal }
+{
+    answers_are_numbered();
+    connected_rollouts_leave_none_stuck();
+}

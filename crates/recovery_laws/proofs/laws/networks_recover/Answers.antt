@@ -1,6 +1,0 @@
-use Rattle.recovery_laws.proofs.RecoveredJournals.{recovers}
-use Rattle.recovery_laws.proofs.laws.networks_recover.Goals as goal
-
-pub returns : goal.returns
-returns c = recovers c.agreeing_networks_have_converged.ensures c.packets_get_stuck_apart.ensures.agreed
-    c.converged_networks_forward.ensures

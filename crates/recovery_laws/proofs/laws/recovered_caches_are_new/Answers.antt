@@ -1,5 +1,0 @@
-use Rattle.recovery_laws.proofs.TwoRounds.{recovered_caches}
-use Rattle.recovery_laws.proofs.laws.recovered_caches_are_new.Goals as goal
-
-pub returns : goal.returns
-returns c = recovered_caches c.cache_rules_are_right.ensures

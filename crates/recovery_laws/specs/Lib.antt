@@ -1,3 +1,0 @@
-pub mod Recovery
-pub mod Recovered
-pub mod NothingOld
