@@ -5,7 +5,7 @@ ghost use Rattle.std.specs.Str.{bytes_eq};
 ghost use Rattle.shelf.specs.Sink.{Rose, next_count};
 ghost use Rattle.shelf.specs.Shelf.{ShelfState, HasFile, LacksFile, HasLongerFile, IsNoFault, file_named, files_of, is_read_fault, is_refusal};
 ghost use Rattle.shelf.specs.Streams.{cause_by_kind};
-ghost use Rattle.shelf.specs.declared.source.ShelfError.TheVariants.{NoMemory};
+ghost use Rattle.shelf.specs.declared.source.ShelfError.TheVariants.{Missing, NoMemory};
 ghost use Rattle.std.specs.IoError.{error_kind};
 
 use crate::streams::read_up_to;
@@ -49,6 +49,13 @@ impl ShelfError {
             ErrorKind::OutOfMemory => ShelfError::NoMemory,
             _ => other,
         }
+    }
+
+    /// Why a file can't be opened: out of memory, or else there is none of this name.
+    pub fn of_open(error: &io::Error) -> ShelfError
+        ensures { result ≡ cause_by_kind (error_kind error.now) Missing }
+    {
+        ShelfError::by_kind(error, ShelfError::Missing)
     }
 }
 

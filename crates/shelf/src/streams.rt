@@ -99,8 +99,7 @@ impl<R: Read + Drop> Reader for CountedReader<R> {
 ///
 /// # Errors
 /// `TooLong` where the reader has more left. An error of the reader by its kind
-/// (`ShelfError::by_kind`): `NoMemory`, which also stands for out of memory here, or `Failed`,
-/// exactly where the reader's count of faults rose.
+/// (`ShelfError::by_kind`): `NoMemory`, or `Failed`, exactly where the reader's count of faults rose.
 pub fn read_up_to<R: Reader>(
     alloc: Global,
     reader: &mut R,
@@ -126,7 +125,7 @@ pub fn read_up_to<R: Reader>(
 pub fn write_through<W: Write>(stream: &mut W, piece: &[u8]) -> io::Result<usize>
     ensures within { IfOk result (λ taken. taken ≤ length piece.now) }
     ensures gains { GainsFront piece.now result (W.contents stream.old) (W.contents stream.new) }
-    ensures retried { IfErr result (λ error. error_kind error ≢ ErrorKind.Interrupted) }
+    ensures not_interrupted { IfErr result (λ error. error_kind error ≢ ErrorKind.Interrupted) }
 {
     let taken = write_front(stream, piece)?;
     flush(stream)?;
@@ -138,7 +137,7 @@ fn write_front<W: Write>(stream: &mut W, piece: &[u8]) -> io::Result<usize>
     ensures within { IfOk result (λ taken. taken ≤ length piece.now) }
     ensures appends { WriteAppends (W.contents stream.old) (W.contents stream.new)
         result piece.now }
-    ensures retried { IfErr result (λ error. error_kind error ≢ ErrorKind.Interrupted) }
+    ensures not_interrupted { IfErr result (λ error. error_kind error ≢ ErrorKind.Interrupted) }
 {
     for _ in 0..u64::MAX {
         match stream.write(piece) {
@@ -152,7 +151,7 @@ fn write_front<W: Write>(stream: &mut W, piece: &[u8]) -> io::Result<usize>
 // Flushes the stream. The tries are counted, so that they end.
 fn flush<W: Write>(stream: &mut W) -> io::Result<()>
     ensures keeps { Keeps (W.contents stream.old) (W.contents stream.new) }
-    ensures retried { IfErr result (λ error. error_kind error ≢ ErrorKind.Interrupted) }
+    ensures not_interrupted { IfErr result (λ error. error_kind error ≢ ErrorKind.Interrupted) }
 {
     for _ in 0..u64::MAX {
         match stream.flush() {

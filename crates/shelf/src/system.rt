@@ -50,10 +50,7 @@ impl<R: Files + AllocGlobal + Drop> DiskShelf<R> {
     fn open_and_read(&self, name: &str, limit: u64) -> Result<Vec<u8>, ShelfError>
         ensures { IfOk result (λ content. length content.items ≤ limit) }
     {
-        let file = File::open(&self.system, name).map_err(|error| ShelfError::by_kind(
-            &error,
-            ShelfError::Missing,
-        ))?;
+        let file = File::open(&self.system, name).map_err(|error| ShelfError::of_open(&error))?;
         read_up_to(self.system.alloc(), &mut CountedReader::new(file), limit)
     }
 }
@@ -87,8 +84,8 @@ impl<R: Files + AllocGlobal + Drop> Shelf for DiskShelf<R> {
 ///
 /// Its model is the bytes that the stream holds, where its type says them, and the count of its
 /// faults, which rises at each error and where the stream takes nothing of a piece that has bytes.
-/// A write that a signal interrupts is no error, and is tried again. Its writes take no memory. As a sink its bytes aren't known, since an error may leave a part of
-/// a piece with the stream.
+/// A write that a signal interrupts is no error, and is tried again. Its writes take no memory. As a
+/// sink its bytes aren't known, since an error may leave a part of a piece with the stream.
 #[derive(Drop)]
 pub struct StdSink<W: Write + Drop> {
     stream: W,
