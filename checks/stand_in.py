@@ -79,7 +79,7 @@ def try_cases(cases, folder):
 def main():
     args = sys.argv[1:]
     if args == ["--version"]:
-        print("a kit,", re.search(r"logic\s+[0-9a-f]{16}", (HOME / "README.md").read_text())[0])
+        print("kit", *re.search(r"logic\s+[0-9a-f]{16}", (HOME / "README.md").read_text())[0].split())
         return
     if args[:1] != ["try"]:
         text, errors, status = answer(args, ".")
