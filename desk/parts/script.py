@@ -29,8 +29,10 @@ def run(name, main):
         os.dup2(os.open(os.devnull, os.O_WRONLY), sys.stdout.fileno())
     except OSError as error:
         end(f"{name}: {error.filename or 'output'}: {error.strerror or error}", MISTAKE)
-    except UnicodeError as error:
-        end(f"{name}: a text is no UTF-8: {error.reason}", MISTAKE)
+    except UnicodeError:
+        end(f"{name}: a file or a word isn't UTF-8", MISTAKE)
+    except RecursionError:
+        end(f"{name}: a file is nested too deeply", MISTAKE)
 
 
 def end(line, status):
