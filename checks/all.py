@@ -29,6 +29,7 @@ def commands(program):
         yield "checks/view_check.py", []
         yield "checks/mistakes.py", [program]
         yield "checks/run.py", [program]
+        yield "checks/desk_run.py", [program]
         yield "model/fuzz.py", [program, str(SEEDS)]
 
 

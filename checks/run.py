@@ -40,7 +40,8 @@ class Desk:
 
     def run(self, *args, cwd=None):
         """The output, the lines of standard error and the status of desk/run."""
-        environment = {**os.environ, "PATH": str(self.bin)}
+        places = {"PATH": str(self.bin), "XDG_CACHE_HOME": str(self.folder / "kept")}
+        environment = {**os.environ, **places}
         command = [sys.executable, str(RUN), *args]
         done = subprocess.run(
             command, cwd=cwd or self.folder, env=environment, capture_output=True, text=True
@@ -67,7 +68,8 @@ def text(*parts):
 @case
 def an_example_is_printed(desk):
     out, errors, status = desk.by_program("campus")
-    assert (out, errors, status) == (text("campus/journal.txt"), "", 0)
+    assert (out, status) == (text("campus/journal.txt"), 0)
+    assert errors == f"desk/run: asks the program {desk.program}\n"
 
 
 @case
@@ -123,7 +125,7 @@ def examples_stay_as_they_are(desk):
 def one_build_serves_all(desk):
     desk.add_rt()
     own, other = desk.copy("campus", "a/own"), desk.copy("crash", "b/own")
-    _, errors, status = desk.run("a/own", "b/own", "--anew")
+    _, errors, status = desk.run("a/own", "b/own", "--build")
     assert status == 0 and errors.count("builds the program") == 1
     assert (own / "journal.txt").read_text() == text("campus/journal.txt")
     assert (other / "journal.txt").read_text() == text("crash/journal.txt")
@@ -132,7 +134,7 @@ def one_build_serves_all(desk):
 @case
 def one_question_is_built(desk):
     desk.add_rt()
-    out, _, status = desk.run("campus", "show", "a", "--anew")
+    out, _, status = desk.run("campus", "show", "a", "--build")
     assert (out, status) == (text("campus/show-a.txt"), 0)
 
 
@@ -141,10 +143,11 @@ def mistakes_are_explained(desk):
     desk.add_rt()
     own, good = desk.copy("campus", "own"), desk.copy("campus", "good")
     (own / "policy.csv").write_text(text("campus/policy.csv").replace("drop", "DROP"))
-    for words in (("own",), ("own", "--anew"), ("own", "good", "--anew")):
+    for words in (("own",), ("own", "--build"), ("own", "good", "--build"), ("own", "good")):
         _, errors, status = desk.run(*words)
-        assert status == 3 and "policy.csv code 9 row" in errors, errors
-        assert "it has capitals, and lower case alone is read: write drop" in errors
+        assert status == 3 and "difane: input policy.csv code 9 row" in errors, errors
+        assert "it has capitals, and only lower case is read: write drop" in errors
+        assert ("desk/run: own: replay ended with status 3" in errors) == ("good" in words)
     assert (good / "journal.txt").read_text() == text("campus/journal.txt")
 
 
@@ -162,7 +165,7 @@ def changes_are_played(desk):
 def a_mistake_needs_no_build(desk):
     own = desk.copy("campus", "own")
     (own / "net.toml").write_text('[[switch]]\nname = "a"\nport = [1]\nports = [\n')
-    _, errors, status = desk.run("own", "--anew")
+    _, errors, status = desk.run("own", "--build")
     assert status == 2 and "rt isn't on the path" in errors
     _, errors, status = desk.run("own")
     assert status == 3 and "difane: input net.toml code 1 row 0" in errors and "TOML: " in errors
@@ -180,8 +183,8 @@ def a_long_journal_is_the_models(desk):
     found = (own / "journal.txt").read_text()
     assert len(found) > 1 << 20 and found.count("\n  entered ") == MANY
     desk.add_rt()
-    _, errors, status = desk.run("own", "--anew")
-    assert status == 0 and "the quick runner gives no answer" in errors
+    _, errors, status = desk.run("own", "--build")
+    assert status == 0 and "the quick runner gives no answer" in errors, errors
     assert (own / "journal.txt").read_text() == found
 
 
@@ -210,7 +213,8 @@ def one_example_has_a_caution(desk):
         if name != "codes":
             _, errors, status = desk.by_program(name)
             assert status == 0 and ("no row drain" in errors) == (name == "caches"), errors
-            assert errors.count("\n") == (name == "caches"), errors
+            assert ("is refused, code 24: " in errors) == (name == "amend"), errors
+            assert errors.count("\n") == 1 + (name in ("amend", "caches")), errors
 
 
 @case
@@ -219,6 +223,8 @@ def wrong_words_are_one_line(desk):
         ["nowhere"], ["campus", "show"], ["compile"], ["--quite"], ["campus", "replay", "crash"],
         ["load"], ["load", "5", "compile"], ["campus", "compile", "--quiet"],
         ["campus", "--program"], ["leaves"], ["campus", "--program", "nowhere"],
+        ["campus", "show", "--model"], ["campus", "--model", "--program", "x"], ["a" * 999],
+        ["campus", "compile", "--recover"], ["campus", "--model", "--build"],
     ):
         out, errors, status = desk.run(*words)
         assert out == "" and errors.count("\n") == 1 and status == 2, errors
@@ -236,7 +242,7 @@ def an_interrupt_is_one_line(desk):
         time.sleep(0.2)
         child.send_signal(signal.SIGINT)
         errors = child.communicate()[1]
-    assert errors == "desk/run: interrupted\n" and child.returncode == 130
+    assert errors.endswith("\ndesk/run: interrupted\n") and child.returncode == 130
 
 
 def is_right(one, program):
@@ -251,13 +257,14 @@ def is_right(one, program):
     return True
 
 
-def main():
+def main(usage=__doc__):
     if len(sys.argv) > 2 or sys.argv[1:] in (["-h"], ["--help"]):
-        sys.exit(__doc__)
+        sys.exit(usage)
     program = sys.argv[1] if sys.argv[1:] else STAND_IN
     wrong = sum(not is_right(one, program) for one in CASES)
     print(f"{len(CASES)} cases, {wrong} wrong; the program is {program}")
     sys.exit(wrong > 0)
 
 
-main()
+if __name__ == "__main__":
+    main()

@@ -3,10 +3,12 @@
 
 usage: checks/stand_in.py ARGUMENTS       as `difane`: what the slow model says
        checks/stand_in.py try FLAGS..     as `rt try`, with one run or with `--cases FOLDER`
+       checks/stand_in.py --version       as `rt`: the kit that README.md names
 
 It is called by another name, by a link. As `rt try` it copies the files of `--data` into a folder,
-as the kit's help says, and gives no answer above 1 MiB. A load case it only names.
+as the kit's help says, and gives no answer above 1 MiB.
 """
+import re
 import subprocess
 import sys
 import tempfile
@@ -14,7 +16,11 @@ from pathlib import Path
 
 HOME = Path(__file__).resolve().parent.parent
 LIMIT = 1 << 20
-MODELS = {"replay": "slow_replay.py", "compile": "plan_model.py", "show": "plan_model.py"}
+MODELS = {
+    "replay": ["slow_replay.py"], "flows": ["slow_replay.py", "--flows"],
+    "rebalance": ["rebalance.py"], "audit": ["slow_audit.py"], "load": ["load_case.py"],
+    **dict.fromkeys(("compile", "show"), ["plan_model.py"]),
+}
 
 sys.dont_write_bytecode = True
 sys.path.insert(0, str(HOME / "model"))
@@ -27,9 +33,8 @@ def answer(args, folder):
     line, status = refusals.answer(args, Path(folder))
     if status:
         return "", f"{line}\n", status
-    if args[0] == "load":
-        return f"load {args[1]}\n", "", 0
-    command = [sys.executable, "-B", str(HOME / "model" / MODELS[args[0]]), *args[1:]]
+    model, *flags = MODELS[args[0]]
+    command = [sys.executable, "-B", str(HOME / "model" / model), *args[1:], *flags]
     done = subprocess.run(command, cwd=folder, capture_output=True, text=True)
     return done.stdout, done.stderr, done.returncode
 
@@ -73,6 +78,9 @@ def try_cases(cases, folder):
 
 def main():
     args = sys.argv[1:]
+    if args == ["--version"]:
+        print("kit", *re.search(r"logic\s+[0-9a-f]{16}", (HOME / "README.md").read_text())[0].split())
+        return
     if args[:1] != ["try"]:
         text, errors, status = answer(args, ".")
         sys.stdout.write(text)

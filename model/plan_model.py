@@ -11,6 +11,7 @@ import csv
 import sys
 import tomllib
 from functools import cache
+from itertools import compress, islice
 
 BITS = 104
 SOLO = {"leaf_rules": 8192, "switch": [{"name": "s0", "authority": 8192}]}
@@ -71,45 +72,90 @@ def meet(word, region):
     return word[0] | region[0], word[1] | region[1]
 
 
-def narrow(rules, region):
-    kept = []
-    for word, *rest in rules:
-        both = meet(word, region)
-        if both is not None:
-            kept.append((both, *rest))
-            if both == region:
-                break
-    return kept
-
-
 def halves(region, bit):
     value, mask = region[0], region[1] | 1 << bit
     return (value, mask), (value | 1 << bit, mask)
 
 
-def leaves(rules, region, cap):
-    if len(rules) <= cap:
-        return [(region, rules)]
-    least = None
-    for bit in range(BITS):
-        if not region[1] >> bit & 1:
-            sides = [narrow(rules, half) for half in halves(region, bit)]
-            sizes = [len(side) for side in sides]
-            cost = (max(sizes), sum(sizes), bit)
-            if least is None or cost < least[0]:
-                least = cost, sides
-    low, high = halves(region, least[0][2])
-    return leaves(least[1][0], low, cap) + leaves(least[1][1], high, cap)
+class Columns:
+    """For each bit of a header, the rules that want a 0 there and those that want a 1.
+
+    A set of rules is a number here, whose lowest bit says whether the first rule is in it.
+    """
+
+    def __init__(self, rules):
+        self.rules = rules
+        words = [word for word, *_ in rules]
+        zeros, ones = [mask & ~value for value, mask in words], [value for value, _ in words]
+        self.wanted = list(zip(columns(zeros), columns(ones)))
+
+    def covering(self, region):
+        """The rules that hold each header of the region, and those that do so but for one bit."""
+        once = twice = 0
+        for bit, (low, high) in enumerate(self.wanted):
+            if not region[1] >> bit & 1:
+                twice |= once & (low | high)
+                once |= low | high
+        return ~once, once & ~twice
+
+    def sides(self, inside, region):
+        """For each free bit the rules of both halves: those inside that meet a half, up to the
+        first one that holds all of it."""
+        whole, nearly = self.covering(region)
+        for bit, (low, high) in enumerate(self.wanted):
+            if not region[1] >> bit & 1:
+                yield bit, [
+                    up_to(inside & ~other, inside & (whole | nearly & own))
+                    for own, other in ((low, high), (high, low))
+                ]
+
+    def leaves(self, inside, region, cap):
+        """The regions of the leaves, each with its rules, from the rules inside a region on."""
+        if inside.bit_count() <= cap:
+            yield region, self.narrowed(inside, region)
+            return
+        least = min(self.sides(inside, region), key=cost)
+        for side, half in zip(least[1], halves(region, least[0])):
+            yield from self.leaves(side, half, cap)
+
+    def narrowed(self, inside, region):
+        """The rules of a set, each with the part of its word that lies in the region."""
+        held = compress(self.rules, map(int, f"{inside:b}"[::-1]))
+        return [(meet(word, region), *rest) for word, *rest in held]
+
+
+def columns(numbers):
+    """For each bit, from the lowest, a number whose bits are that one of the numbers in turn."""
+    spelled = [f"{one:0{BITS}b}" for one in reversed(numbers)]
+    return [int("".join(column), 2) for column in zip(*spelled)][::-1]
+
+
+def up_to(places, ends):
+    """Of the places those up to the first end, or all where there is no end."""
+    return places & ((ends & -ends) * 2 - 1)
+
+
+def cost(cut):
+    """By the larger side, then by both, and then by the bit."""
+    bit, sides = cut
+    sizes = [side.bit_count() for side in sides]
+    return max(sizes), sum(sizes), bit
+
+
+def leaves(rules, region, cap, most=None):
+    """The leaves of rules that lie in a region, or the first ones of them."""
+    return list(islice(Columns(rules).leaves((1 << len(rules)) - 1, region, cap), most))
 
 
 def targets_of(sizes, rooms, backups):
-    hosted = [[] for _ in sizes]
+    hosted, load = [[] for _ in sizes], [0] * len(rooms)
     for part in sorted(range(len(sizes)), key=lambda part: (-sizes[part], part)):
-        load = [sum(size for size, at in zip(sizes, hosted) if s in at) for s in range(len(rooms))]
         fit = [s for s in range(len(rooms)) if load[s] + sizes[part] <= rooms[s]]
         hosted[part] = sorted(fit, key=lambda s: (load[s], s))[: 1 + backups]
         if len(hosted[part]) <= backups:
             sys.exit(f"no room for part {part}")
+        for s in hosted[part]:
+            load[s] += sizes[part]
     return hosted
 
 

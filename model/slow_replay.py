@@ -57,11 +57,12 @@ def widen(header, region, rules, hit):
     The word stays within the region and the rule, and meets no earlier rule.
     """
     word = (header, EXACT)
+    apart = [(value ^ header) & mask for (value, mask), *_ in rules[:hit]]
     for bit in range(plan_model.BITS):
         mask = word[1] & ~(1 << bit)
         freed = (word[0] & mask, mask)
         within = covers(region, freed) and covers(rules[hit][0], freed)
-        if within and all(plan_model.meet(rule[0], freed) is None for rule in rules[:hit]):
+        if within and all(bits & mask for bits in apart):
             word = freed
     return word
 
@@ -127,7 +128,8 @@ class Plan:
         if words > MOST_WORDS:
             raise Refused(TOO_MANY_WORDS)
         self.words = words
-        self.parts = plan_model.leaves(rules, (0, 0), net.get("leaf_rules", 64))
+        leaf_rules = net.get("leaf_rules", 64)
+        self.parts = plan_model.leaves(rules, (0, 0), leaf_rules, MOST_PARTS + 1)
         if len(self.parts) > MOST_PARTS:
             raise Refused(TOO_MANY_PARTS)
         sizes = [len(rules) for _, rules in self.parts]

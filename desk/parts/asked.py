@@ -9,6 +9,7 @@ from .records import lines_of, record_at
 from .row_mistakes import CHANGE_HEADING, EDIT_FORMS, SCHEDULE_HEADING
 
 MOST_ROOM = 8192
+PLAYS = ("replay", "flows", "rebalance")
 
 
 class Asked:
@@ -24,8 +25,9 @@ class Asked:
                 del rest[at : at + 2 - joined]
                 break
         self.names = rest
-        self.schedule = rest[0] if args[0] == "replay" else None
-        self.policies = rest[1:] if args[0] == "replay" else rest[:1]
+        plays, several = args[0] in PLAYS, args[0] in (*PLAYS, "audit")
+        self.schedule = rest[0] if plays else None
+        self.policies = rest[1:] if several else rest[:1]
 
     def path(self, name):
         return self.folder / name

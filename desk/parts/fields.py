@@ -51,7 +51,7 @@ def address_fault(text):
     if "/" in text:
         return "a packet has one address, without a length"
     if ":" in text:
-        return "addresses are those of IPv4 alone"
+        return "only addresses of IPv4 are read"
     parts = text.split(".")
     if not any(map(str.isdigit, parts)):
         return "it is no address of four numbers joined by dots, and names aren't looked up"
@@ -163,7 +163,7 @@ def looks(text):
     blanks += [f"{blank_name(behind)} behind"] * (behind != "")
     blanks += ["a blank inside"] * (len(inside.split()) > 1)
     found = [" and ".join(blanks) + ", and blanks count"] * (blanks != [])
-    found += ["capitals, and lower case alone is read"] * (text != text.lower())
+    found += ["capitals, and only lower case is read"] * (text != text.lower())
     found += ["quotes, which aren't read"] * bool(QUOTES.search(text))
     return "it has " + ", and ".join(found)
 

@@ -128,6 +128,8 @@ class Case:
 def case_of(name):
     """The journal in this file, or in this folder, or in the example of this name."""
     path = Path(name)
+    if not path.exists() and (EXAMPLES / name).is_file():
+        path = EXAMPLES / name
     if path.is_file():
         return Case(path, str(path.parent))
     own = path.is_dir() or "/" in name or not (EXAMPLES / name).is_dir()

@@ -9,6 +9,7 @@ from difflib import get_close_matches
 from pathlib import Path
 
 from .asked import Asked, names_hint
+from .audit_mistakes import explain_audit
 from .change_mistakes import CHANGE, explain_change
 from .network_mistakes import NETWORK, explain_network
 from .policy_mistakes import POLICY, explain_policy
@@ -30,6 +31,8 @@ def explain(told, args, folder):
     if found:
         name, code, row = found[1], int(found[2]), int(found[3])
         lines = explain_refusal(Asked(args, folder), name, code, row)
+    elif told.startswith("difane: no line "):
+        lines = explain_audit(args, folder)
     elif told == "difane: words":
         lines = explain_words(args)
     elif told.startswith("difane: full row "):

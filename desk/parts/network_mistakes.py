@@ -8,7 +8,7 @@ from . import fields
 from .asked import MOST_ROOM
 from .cautions import network_cautions
 from .records import header_line, key_line, lines_of, quoted
-from .row_mistakes import HEADINGS
+from .row_mistakes import HEADINGS, is_utf16
 
 LINK_ROWS = 100
 NETWORK = {
@@ -68,6 +68,9 @@ class Place:
 
 def no_document(path, name, lines):
     """TOML's own line."""
+    if is_utf16(path):
+        yield f"{name} is in UTF-16: save it as UTF-8"
+        return
     try:
         path.read_bytes().decode()
     except UnicodeDecodeError as error:

@@ -1,5 +1,6 @@
 """What is wrong with a heading or a row, of a policy, a change or a schedule."""
 import re
+import tomllib
 
 from .records import is_open, lines_of, quoted, quoted_if_odd, record_at
 
@@ -64,7 +65,10 @@ def heading_fault(asked, name, heading):
     """Of a file without its heading: what stands in its place."""
     record = record_at(asked.path(name), 0)
     if record is None:
-        yield f"{name} has no record: it is empty, or has blank lines alone"
+        yield f"{name} has no record: it is empty, or has only blank lines"
+        return
+    if is_utf16(asked.path(name)):
+        yield f"{name} is in UTF-16: save it as UTF-8"
         return
     found = ",".join(record.fields)
     yield f"{name}, line {record.line}: {','.join(map(quoted_if_odd, record.fields))}"
@@ -72,11 +76,13 @@ def heading_fault(asked, name, heading):
     if found in HEADINGS:
         order = ": the schedule is named first, and then the policies" if asked.schedule else ""
         yield f"this is {HEADINGS[found]}{order}"
-    elif re.match(r"\s*(\[|#|\w+\s*=)", found):
+    elif re.match(r"\s*(\[|\w+\s*=)", found) or found[:1] == "#" and is_toml(asked.path(name)):
         yield "this looks like TOML: the network's file stands behind --net"
+    elif found.lstrip().startswith("#"):
+        yield f"there are no comments in these files: begin with {heading}"
     elif bare == heading:
         seen = ["blanks, which count"] * any(one != one.strip() for one in record.fields)
-        seen += ["capitals, and lower case alone is read"] * (found != found.lower())
+        seen += ["capitals, and only lower case is read"] * (found != found.lower())
         yield f"it has {' and '.join(seen) or 'quotes'}: write {heading}"
     elif found.replace(";", ",").replace("\t", ",") == heading:
         yield "the fields are joined by commas"
@@ -84,6 +90,21 @@ def heading_fault(asked, name, heading):
         yield f"the first record is a row: put {heading} before it"
     else:
         yield from differing_columns(record.fields, heading.split(","))
+
+
+def is_utf16(path):
+    """Whether the file is in UTF-16, with or without a mark at its begin."""
+    start = path.read_bytes()[:4]
+    return start[:2] in (b"\xff\xfe", b"\xfe\xff") or start[1::2] == b"\0\0" or (
+        start[::2] == b"\0\0")
+
+
+def is_toml(path):
+    """Whether the whole file is a document of TOML that says anything."""
+    try:
+        return tomllib.loads(path.read_text(encoding="utf-8-sig")) != {}
+    except ValueError:
+        return False
 
 
 def differing_columns(found, wanted):

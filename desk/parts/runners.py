@@ -4,18 +4,26 @@ A question is a folder with files, and the arguments of a command over them. An 
 program printed, its line on standard error, and its status.
 """
 import re
+import shutil
 import subprocess
 import sys
 import tempfile
 from pathlib import Path
 from typing import NamedTuple
 
+from .clock import Clock
 from .places import MODEL, TOP
 from .script import Mistake
 
 CRATE = TOP / "crates/difane"
 PROVED = CRATE / "out/difane"
-MODELS = {"replay": "slow_replay.py", "compile": "plan_model.py", "show": "plan_model.py"}
+MODELS = {
+    "replay": ["slow_replay.py"], "flows": ["slow_replay.py", "--flows"],
+    "rebalance": ["rebalance.py"], "load": ["load_case.py"],
+    **dict.fromkeys(("compile", "show"), ["plan_model.py"]),
+}
+BUILDS, WORKS, PLAYS = "rt builds the program", "the slow model works", "the program works"
+PLAYERS = ("replay", "flows", "rebalance")  # the commands that play a schedule
 KEPT_NAMES = ("program", "stdin", "stdout", "stderr", "case")  # by `rt try`, for itself
 MANY_MESSAGES = 990_000  # before a step that begins with so many the program stops full
 LARGE = 1 << 16  # bytes of a schedule from which on its journal may be too long for `rt try`
@@ -28,13 +36,23 @@ import refusals
 
 
 class Question(NamedTuple):
-    """Arguments over files of a folder; `label` names the folder where several are asked about."""
+    """Arguments over files of a folder; `label` names the folder where several are asked about.
+
+    The answer is written as `output` into the folder `home`, where the question comes from.
+    """
 
     folder: Path
     label: str
     args: list
     files: list
     output: str
+    home: Path
+
+    def name(self):
+        """What is asked, in a word: the file of the answer, or the command, behind its folder."""
+        if self.args[0] == "load":
+            return " ".join(self.args)
+        return f"{self.home.resolve().name}/{self.output or self.args[0]}"
 
 
 class Answer(NamedTuple):
@@ -49,22 +67,37 @@ class Answer(NamedTuple):
     by: str
 
 
-def finished(command, folder):
-    """Runs a command to its end; where it is interrupted it is let end by itself."""
+def finished(command, folder, what=""):
+    """Runs a command to its end, with a clock; where it is interrupted it is let end by itself."""
     pipes = {"stdin": subprocess.DEVNULL, "stdout": subprocess.PIPE, "stderr": subprocess.PIPE}
-    with subprocess.Popen(command, cwd=folder, text=True, **pipes) as child:
+    clock = Clock(what)
+    with subprocess.Popen(command, cwd=folder, text=True, errors="replace", **pipes) as child:
         try:
-            text, errors = child.communicate()
+            text, errors = awaited(child, clock)
         except KeyboardInterrupt:
             child.terminate()
             child.communicate()
             raise
+        finally:
+            clock.stop()
     return text, errors, child.returncode
+
+
+def awaited(child, clock):
+    """What a process writes until it ends."""
+    while True:
+        try:
+            return child.communicate(timeout=clock.step)
+        except subprocess.TimeoutExpired:
+            clock.tick()
 
 
 def by_program(program, question):
     """The answer of a program that is there."""
-    text, errors, status = finished([str(program), *question.args], question.folder)
+    try:
+        text, errors, status = finished([str(program), *question.args], question.folder, PLAYS)
+    except OSError as error:
+        raise Mistake(f"{program} can't be run: {error.strerror}") from error
     return Answer(text, errors.removesuffix("\n"), status, "program")
 
 
@@ -81,13 +114,27 @@ def readme_place():
     return f"README.md, line {told[0]}," if told else "README.md"
 
 
+def kit_fault():
+    """What is wrong with the `rt` on the path, or an empty text."""
+    if shutil.which("rt") is None:
+        return f"the command rt isn't on the path: {readme_place()} tells which kit it is of"
+    wanted = re.search(r"logic\s+([0-9a-f]{16})", (TOP / "README.md").read_text())
+    found = "".join(finished(["rt", "--version"], CRATE, "asks rt for its version")[:2]).strip().partition("\n")[0]
+    if wanted and wanted[1] not in found:
+        return f"rt is of another kit: it is {found!r}, and {readme_place()} wants {wanted[1]}"
+    return ""
+
+
 def by_model(question):
     """The answer of the slow model to files that are accepted."""
     command, *args = question.args
-    model = MODEL / MODELS[command]
-    text, errors, status = finished([sys.executable, "-B", str(model), *args], question.folder)
+    if command == "audit":  # the forecast has read the trace, and found each line good
+        return Answer("yes\n", "", 0, "model")
+    script, *flags = MODELS[command]
+    model = [sys.executable, "-B", str(MODEL / script), *args, *flags]
+    text, errors, status = finished(model, question.folder, WORKS)
     if status != 0:
-        raise Mistake(f"{model} ended with status {status}:\n{errors.rstrip()}")
+        raise Mistake(f"{MODEL / script} ended with status {status}:\n{errors.rstrip()}")
     if text.count("\n  sent ") >= MANY_MESSAGES:
         raise Mistake(f"the play has {MANY_MESSAGES:,} messages or more: only the program stops it")
     return Answer(text, "", 0, "model")
@@ -101,7 +148,7 @@ def forecast(question):
 
 def is_long(question):
     """Whether the journal may be too long for the quick runner, by the size of the schedule."""
-    path = question.folder / question.files[0] if question.args[0] == "replay" else None
+    path = question.folder / question.files[0] if question.args[0] in PLAYERS else None
     return path is not None and path.stat().st_size > LARGE
 
 
@@ -136,13 +183,13 @@ def try_all(questions):
     """
     begin = ["rt", "try", *data_flags(questions)]
     if len(questions) == 1:
-        return finished([*begin, "--", *tried_args(questions[0])], CRATE)
+        return finished([*begin, "--", *tried_args(questions[0])], CRATE, BUILDS)
     with tempfile.TemporaryDirectory(prefix="difane-") as folder:
         for number, question in enumerate(questions, 1):
             Path(folder, f"q{number}").touch()
             args = "".join(f"{arg}\n" for arg in tried_args(question))
             Path(folder, f"q{number}.args").write_text(args)
-        return finished([*begin, "--cases", folder], CRATE)
+        return finished([*begin, "--cases", folder], CRATE, BUILDS)
 
 
 def by_build(questions):
@@ -155,7 +202,14 @@ def by_build(questions):
         cut = re.split(r"^== (\S+)\n", text, flags=re.M)
         texts, form = dict(zip(cut[1::2], cut[2::2])), r"^case=(\S+)(.*)$"
     ends = ends_of(errors, form)
-    return [answer_of(texts.get(name, ""), ends.get(name), errors) for name in names]
+    found = [answer_of(texts.get(name, ""), ends.get(name), errors) for name in names]
+    return [without_label(*pair) for pair in zip(questions, found)]
+
+
+def without_label(question, answer):
+    """The answer, whose line names the file as the question does."""
+    told = answer.told.replace(f" {question.label}/", " ") if question.label else answer.told
+    return answer._replace(told=told)
 
 
 def ends_of(errors, form):

@@ -10,6 +10,9 @@ COMMANDS = {
     "replay": ("replay SCHEDULE POLICY.. [--net NET] [--quiet]", "a schedule and policies", 2, 65),
     "compile": ("compile POLICY [--net NET]", "one policy", 1, 1),
     "show": ("show POLICY SWITCH [--net NET]", "a policy and a switch", 2, 2),
+    "flows": ("flows SCHEDULE POLICY.. [--net NET]", "a schedule and policies", 2, 65),
+    "rebalance": ("rebalance SCHEDULE POLICY.. [--net NET]", "a schedule and policies", 2, 65),
+    "audit": ("audit TRACE POLICY..", "a trace and policies", 2, 65),
     "load": ("load N", "a number", 1, 1),
 }
 
@@ -67,9 +70,9 @@ def option_faults(rest, command):
     if rest and rest[-1] == "--net" or "--net=" in rest:
         yield "behind --net stands the name of a network's file"
     if "--quiet" in rest and command != "replay":
-        yield "--quiet goes with replay alone"
-    if command == "load" and any(arg.startswith("--net") for arg in rest):
-        yield "load takes no network"
+        yield "--quiet goes with replay only"
+    if command in ("load", "audit") and any(arg.startswith("--net") for arg in rest):
+        yield f"{command} takes no network"
     for at, arg in enumerate(rest):
         known = arg in ("--net", "--quiet") or arg.startswith("--net=")
         if arg.startswith("-") and not known:

@@ -1,0 +1,164 @@
+"""What desk/run is asked: its arguments, and the questions that they make of folders."""
+import os
+import stat
+import tomllib
+from itertools import takewhile
+from pathlib import Path
+
+from . import runners
+from .places import EXAMPLES
+from .runners import Question
+from .script import Mistake, say
+
+POLICY, SCHEDULE, NET, JOURNAL = "policy.csv", "schedule.csv", "net.toml", "journal.txt"
+FILES = {
+    **dict.fromkeys(("replay", "flows", "rebalance"), [SCHEDULE, POLICY]),
+    **dict.fromkeys(("compile", "show"), [POLICY]),
+    "audit": [JOURNAL, POLICY],
+}
+SEVERAL = ("replay", "flows", "rebalance", "audit")  # they take later policies too
+OUTPUTS = {
+    "replay": JOURNAL, "compile": "plan.txt", "show": "show-{}.txt", "flows": "flows.txt",
+    "rebalance": "rebalance.txt", "audit": "",
+}
+COMMANDS = (*FILES, "load")
+FLAGS = ("--quiet", "--build", "--model", "--recover")
+
+
+class Options:
+    """The arguments of desk/run: folders, commands, flags, and the path of a program."""
+
+    def __init__(self, words):
+        self.flags, self.folders, self.commands, self.program = set(), [], [], None
+        left = list(words)
+        while left:
+            word = left.pop(0)
+            if word in FLAGS:
+                self.flags.add(word)
+            elif word == "--program":
+                self.program = Path(self.next(left, "--program", "the path of a program")).resolve()
+            elif word.startswith("-"):
+                raise Mistake(f"there is no option {word}; --help tells which there are")
+            elif word in COMMANDS and (word != "load" or not self.folders):
+                self.commands.append([word, *self.behind(word, left)])
+            elif self.commands:
+                raise Mistake(f"{word!r} is behind a command: put folders in front")
+            else:
+                self.folders.append(word)
+        self.commands = self.commands or [["replay"]]
+        self.check()
+
+    def behind(self, word, left):
+        """The word that belongs to a command, if it takes one."""
+        if word == "show":
+            return [self.next(left, "show", f"the name of a switch{names_in(self.folders)}")]
+        return [self.next(left, "load", "a number from 1 to 1000")] if word == "load" else []
+
+    def check(self):
+        """That what is asked goes together."""
+        names = [name for name, *_ in self.commands]
+        who = [flag for flag in ("--build", "--model") if flag in self.flags]
+        who += ["--program"] * (self.program is not None)
+        if "load" in names and (len(names) > 1 or self.folders):
+            raise Mistake("load N takes no folder and no further command")
+        if "--quiet" in self.flags and "replay" not in names:
+            raise Mistake("--quiet goes with replay only")
+        if "--recover" in self.flags and names != ["replay"]:
+            raise Mistake("--recover goes with replay only, and with no further command")
+        if len(who) > 1:
+            raise Mistake(f"{who[0]} and {who[1]} say each who is asked: give one of them")
+        if "" in self.folders:
+            raise Mistake("the name of a folder is empty; the current one is .")
+
+    def next(self, left, word, what):
+        if not left or left[0].startswith("-"):
+            raise Mistake(f"{word} needs {what} behind it")
+        return left.pop(0)
+
+
+def names_in(folders):
+    """The switches of the network in the first folder, in words."""
+    try:
+        path = next(Path(base, folders[0], NET) for base in (".", EXAMPLES)
+                    if Path(base, folders[0]).is_dir())
+        names = [row["name"] for row in tomllib.loads(path.read_text())["switch"]]
+        return f": {', '.join(map(str, names[:20]))}"
+    except (OSError, ValueError, LookupError, TypeError, StopIteration):
+        return ""
+
+
+def folder_of(name):
+    """The folder at this path, or else the example of this name."""
+    try:
+        own, example = Path(name), EXAMPLES / name
+        is_named = example.is_dir() and example.resolve().parent == EXAMPLES
+        if own.is_dir():
+            if is_named and example.resolve() != own.resolve():
+                say(f"{name} is the folder here; the example is {example}")
+            return own
+    except (OSError, ValueError) as error:
+        raise Mistake(f"there is no folder {name[:80]!r}: {error}") from error
+    if is_named:
+        return example
+    raise Mistake(f"there is no folder and no example {name!r}; desk/run lists the examples")
+
+
+def is_example(folder):
+    return EXAMPLES in folder.resolve().parents
+
+
+def later_policies(folder):
+    """policy2.csv, policy3.csv and so on, as far as they are there."""
+    names = (f"policy{number}.csv" for number in range(2, 65))
+    return list(takewhile(lambda name: (folder / name).exists(), names))
+
+
+def labels_of(folders):
+    """A name for each folder, if there are several: no two are the same, nor one of the kit's."""
+    labels = []
+    for folder in folders if len(folders) > 1 else []:
+        name = folder.resolve().name.replace("=", "-")
+        while name in ("", *labels, *runners.KEPT_NAMES):
+            name += "-2"
+        labels.append(name)
+    return labels or [""] * len(folders)
+
+
+def check_kind(path):
+    """That it is a file or a folder, which the program refuses; others may have no end."""
+    mode = os.stat(path).st_mode
+    if not (stat.S_ISREG(mode) or stat.S_ISDIR(mode)):
+        raise Mistake(f"{path} is no file but a pipe or a device; put a file in its place")
+
+
+def question_of(folder, label, command, flags):
+    """The question that a command asks about a folder."""
+    name, *rest = command
+    files = list(FILES[name]) + (later_policies(folder) if name in SEVERAL else [])
+    absent = [file for file in files if not (folder / file).exists()]
+    if absent:
+        hint = "; replay makes it" if absent[0] == JOURNAL else ""
+        raise Mistake(f"{name} needs the file {folder / absent[0]}, which isn't there{hint}")
+    args = [name, *files, *rest]
+    if name == "replay" and "--quiet" in flags:
+        args.append("--quiet")
+    if name != "audit" and (folder / NET).exists():
+        files.append(NET)
+        args += ["--net", NET]
+    for file in files:
+        check_kind(folder / file)
+    return Question(folder, label, args, files, OUTPUTS[name].format(*rest), folder)
+
+
+def questions_of(options):
+    """Each command over each folder."""
+    if options.commands[0][0] == "load":
+        return [Question(runners.TOP, "", options.commands[0], [], "", runners.TOP)]
+    folders = [folder_of(name) for name in options.folders]
+    if not folders:
+        raise Mistake("put a folder, or the name of an example, in front of the commands")
+    return [
+        question_of(folder, label, command, options.flags)
+        for folder, label in zip(folders, labels_of(folders))
+        for command in options.commands
+    ]
