@@ -1,7 +1,7 @@
 """The plan of a policy: which switch gets how many rules, and of which headers."""
 import re
 
-from . import runners
+from .now import SAYS, answer_now
 from .script import Mistake
 from .table import table
 from .words import spelled
@@ -30,10 +30,7 @@ def answer_for(case, file):
     """What the program prints of the plan, where it is there, or the model."""
     if not (case.folder / file).is_file():
         raise Mistake(f"there is no file {case.folder / file}")
-    net = ["net.toml"] * (case.folder / "net.toml").is_file()
-    args = ["compile", file, *(["--net", *net] if net else [])]
-    question = runners.Question(case.folder, "", args, [file, *net], "")
-    found = runners.answer_now(question)
+    found = answer_now(case.folder, "compile", [file])
     if found.status:
         raise Mistake(f"{case.name}: {found.told}; desk/run {case.name} compile explains it")
     return found
@@ -68,7 +65,7 @@ def text(found):
     parts = found["parts"]
     rules = sum(len(part["rules"]) for part in parts)
     yield (f"{found['policy']}: {found['words']} words; parts {len(parts)}, with {rules} rules; "
-           f"{BY[found['by']]}")
+           f"{SAYS[found['by']]}")
     names = ["switch", "room", "rules", "first", "parts", "first of"]
     yield from table(names, [[one[name] for name in names] for one in found["switches"]])
     yield ""
@@ -81,6 +78,3 @@ def text(found):
         for part in parts for rule in part["rules"]
     ]
     yield from table(["part", "row", "action", "match"], rows)
-
-
-BY = {"program": "by the program", "model": "by the slow model"}

@@ -4,11 +4,11 @@ import tempfile
 from collections import Counter
 from pathlib import Path
 
-from . import runners
 from .boxes import Ranked, checked_box
 from .cover import cover
 from .dead import header_in
 from .folder import Case
+from .now import SAYS, answer_now
 from .packets import HEADER
 from .script import Mistake
 from .story import header_text
@@ -84,11 +84,10 @@ def played(case, probes, is_behind):
         folder, files = Path(name), ["schedule.csv", *policies_of(case, is_behind)]
         before = (case.folder / "schedule.csv").read_text("utf-8-sig") if is_behind else FRESH
         (folder / "schedule.csv").write_text(before.rstrip("\r\n") + "\n" + rows)
-        net = ["net.toml"] * (case.folder / "net.toml").is_file()
-        for file in files[1:] + net:
-            shutil.copy(case.folder / file, folder / file)
-        args = ["replay", *files, *(["--net", *net] if net else [])]
-        found = runners.answer_now(runners.Question(folder, "", args, files + net, ""))
+        for file in [*files[1:], "net.toml"]:
+            if (case.folder / file).is_file():
+                shutil.copy(case.folder / file, folder / file)
+        found = answer_now(folder, "replay", files)
         if found.status:
             raise Mistake(f"{case.name}: {found.told}; desk/run {case.name} explains it")
         (folder / "journal.txt").write_text(found.text)
@@ -106,7 +105,8 @@ def policies_of(case, is_behind):
 def text(found):
     """The headers, and the matrix: switches by ports and other ends, with counts of packets."""
     where = "behind the schedule" if found["behind"] else "as the network begins"
-    yield f"headers: {len(found['headers'])}, one for each row that decides; {where}"
+    count, by = len(found["headers"]), SAYS[found["by"]]
+    yield f"headers: {count}, one for each row that decides some; {where}, {by}"
     if len(found["headers"]) == 1:
         yield header_text(found["headers"][0])
     ends = {end for counts in found["from"].values() for end in counts}

@@ -178,11 +178,3 @@ def answer_of(text, end, errors):
     if not why and "no-answer" not in line:
         raise Mistake(f"rt try gave no answer:\n{errors.rstrip()}")
     return Answer("", why[1] if why else "the quick runner gave no answer", NO_ANSWER, "build")
-
-
-def answer_now(question):
-    """An answer without a build: of the proved program where it is there, or of the model."""
-    if PROVED.is_file():
-        return by_program(PROVED, question)
-    refused = forecast(question)
-    return refused if refused.status else by_model(question)
