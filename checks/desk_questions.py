@@ -33,6 +33,7 @@ import journal_text
 HOME = Path(__file__).resolve().parent.parent
 ASK, EXAMPLES = HOME / "desk/ask", HOME / "examples"
 SEEDS, POLICIES, SECONDS = 60, 400, 10
+ALONE = 6  # packets of a matrix that are played alone, too
 
 sys.dont_write_bytecode = True
 sys.path[:0] = [str(HOME / "desk"), str(HOME / "model")]
@@ -70,15 +71,26 @@ def random_rules(rng, count):
     return [Rule(row[0], "policy.csv", line, row) for line, row in enumerate(rows, 2)]
 
 
-def has(fields, header):
-    """Whether the row has the header, read by the slow model's functions."""
+def blocks_of(fields):
+    """Of each field the words of its values, by the slow model's functions."""
     src, dst, sport, dport, proto = fields[1:6]
-    words = [[plan_model.address(src)], [plan_model.address(dst)], plan_model.blocks(sport),
-             plan_model.blocks(dport), [plan_model.PROTOCOLS[proto]]]
-    return all(
-        any((value ^ part[0]) & part[1] == 0 for part in parts)
-        for value, parts in zip(header, words)
-    )
+    return [[plan_model.address(src)], [plan_model.address(dst)], [*plan_model.blocks(sport)],
+            [*plan_model.blocks(dport)], [plan_model.PROTOCOLS[proto]]]
+
+
+def is_in(value, words):
+    return any((value ^ word[0]) & word[1] == 0 for word in words)
+
+
+def has(fields, header):
+    """Whether the row has the header."""
+    return all(map(is_in, header, blocks_of(fields)))
+
+
+def headers_of(fields):
+    """All headers of VALUES that the row has."""
+    pairs = zip(VALUES, blocks_of(fields))
+    return {*product(*([one for one in values if is_in(one, words)] for values, words in pairs))}
 
 
 def numbers_of(header):
@@ -98,8 +110,7 @@ def dead_faults():
 def policy_faults(rules):
     """What is told of these rows, against every header."""
     falling = sorted(rules, key=lambda rule: -int(rule.priority))
-    holds = {rule.priority: {one for one in product(*VALUES) if has(rule.fields, one)}
-             for rule in falling}
+    holds = {rule.priority: headers_of(rule.fields) for rule in falling}
     action = {rule.priority: rule.fields[-1] for rule in rules}
     said, earlier, gone = dead.reached(Ranked(rules)), set(), []
     for rule in falling:
@@ -243,14 +254,15 @@ def matrix_faults(folder, rng):
     for behind in ([], ["behind"]):
         found, cells = reach.answer(case, *words, *behind), {}
         for one in found["packets"]:
+            end = f"port {one['port']}" if one["end"] == "out" else one["end"]
+            cells.setdefault(one["switch"], Counter())[end] += 1
+        if cells != found["from"]:
+            yield f"the matrix of {words} {behind} is {found['from']}, and not {cells}"
+        for one in rng.sample(found["packets"], min(ALONE, len(found["packets"]))):
             header = [one[name] for name in ("src", "dst", "sport", "dport", "proto")]
             end = end_of(folder, policies if behind else policies[:1], one["switch"], header, behind)
             if end != (one["end"], one["port"]):
                 yield f"{header} from {one['switch']} {behind} is {one['end']}, and not {end}"
-            name = f"port {end[1]}" if end[0] == "out" else end[0]
-            cells.setdefault(one["switch"], Counter())[name] += 1
-        if cells != found["from"]:
-            yield f"the matrix of {words} {behind} is {found['from']}, and not {cells}"
         yield from rows_faults(policies[0], words, found) if not behind else ()
 
 
