@@ -421,7 +421,7 @@ WRONG = [
     ["packets", "version"], ["packets", "colour", "red"], ["packets", "version", "x"],
     ["packets", "end", "gone"], ["packets", "switch", "zz"], ["packets", "from", "-1"],
     ["packets", "by", "cache", "by", "cache"], ["packets", "--csv", "--json"], ["ends", "--csv"],
-    ["dead", "x"], ["plan", "none.csv"], ["plan", "a", "b"], ["quiet", "x"], ["reach"],
+    ["dead", "x"], ["dead", "net.toml"], ["dead", "policy.csv", "x"], ["plan", "none.csv"], ["plan", "a", "b"], ["quiet", "x"], ["reach"],
     ["reach", "any", "any", "any", "any"], ["reach", "any", "any", "any", "any", "tcp", "x"],
     ["reach", "10.0.0.0/33", "any", "any", "any", "tcp"], ["reach", "any", "any", "9-1", "any", "1"],
     ["plan", "schedule.csv"],

@@ -1,8 +1,11 @@
 """Which rows of policies no header reaches, and a header that reaches each of the others."""
+from itertools import takewhile
+from pathlib import Path
+
 from .boxes import WHOLE, Ranked, places
 from .cover import cover, needed
 from .packets import HEADER
-from .policies import Change
+from .policies import Change, read_policy
 from .script import Mistake
 from .story import header_text
 from .table import table
@@ -11,29 +14,29 @@ from .words import PROTOCOLS, dotted
 MOST_FILES = 64
 
 
-def answer(case):
-    """For each policy file its rows; a change is applied to the rows of the file before it."""
+def answer(case, *names):
+    """For each policy file its rows, a change applied to the file before it; or those of one file."""
+    paths = [case.folder / name for name in names]
+    paths = paths or [*takewhile(Path.is_file, map(case.policy_file, range(1, MOST_FILES + 1)))]
+    if not paths or not paths[0].is_file():
+        raise Mistake(f"there is no file {paths[0] if paths else case.policy_file(1)}")
     found, rows = [], None
-    for file in range(1, MOST_FILES + 1):
-        path, stated = case.policy_file(file), case.stated(file)
-        if stated is None:
-            break
+    for path in paths:
+        stated = read_policy(path)
         is_change = isinstance(stated, Change)
         rows = changed(path, stated, rows) if is_change else stated
         found.append({"policy": path.name, "is change": is_change, **reached(Ranked(rows))})
-    if not found:
-        raise Mistake(f"there is no file {case.policy_file(1)}")
     return {"policies": found}
 
 
 def changed(path, change, rows):
     """The rows with the change of this file."""
-    code, at_fault = (None, "") if rows is not None else (23, "it is the first file")
-    if rows is not None:
-        code, at_fault = change.fault(rows)
+    if rows is None:
+        raise Mistake(f"{path} is a change, and there is no policy before it")
+    code, at_fault = change.fault(rows)
     if code:
         raise Mistake(f"{path} can't be applied to the file before it (code {code}): "
-                      f"{at_fault if rows is None else ' '.join(sorted(at_fault))}")
+                      f"{' '.join(sorted(at_fault))}")
     return change.of(rows)
 
 

@@ -14,7 +14,7 @@ from .script import Mistake
 from .story import header_text
 from .table import table
 
-MOST = 30_000  # packets of one question, so that the rows of its schedule are few enough
+MOST = 5000  # packets of one question
 FRESH = "event,arguments\n"
 
 
@@ -26,7 +26,7 @@ def answer(case, *words):
     names = [row["name"] for row in case.net()["switch"]]
     headers = headers_of(case, box, is_behind)
     if len(names) * len(headers) > MOST:
-        raise Mistake(f"{len(headers)} rows decide such headers: from {len(names)} switches these "
+        raise Mistake(f"{len(headers):,} rows decide such headers: from {len(names)} switches these "
                       f"are more than {MOST:,} packets, so name fewer headers")
     probes = [(name, header) for name in names for header in headers]
     packets, by = played(case, probes, is_behind)
