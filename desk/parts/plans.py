@@ -64,7 +64,8 @@ def text(found):
     """The switches, the parts, and then the rules of each part."""
     parts = found["parts"]
     rules = sum(len(part["rules"]) for part in parts)
-    yield (f"{found['policy']}: {found['words']} words; parts {len(parts)}, with {rules} rules; "
+    many = "s" * (len(parts) > 1)
+    yield (f"{found['policy']}: {found['words']} words, {rules} rules in {len(parts)} part{many}, "
            f"{SAYS[found['by']]}")
     names = ["switch", "room", "rules", "first", "parts", "first of"]
     yield from table(names, [[one[name] for name in names] for one in found["switches"]])
