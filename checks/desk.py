@@ -37,7 +37,7 @@ sys.path[:0] = [str(DESK), str(HOME / "model")]
 import fuzz
 import row_states
 import slow_replay
-from parts import journal, page, questions, words
+from parts import compared, dead, journal, listed, now, page, plans, questions, reach, rest, words
 from parts.folder import case_of
 from parts.network import Network
 from parts.packets import Play
@@ -59,7 +59,8 @@ def page_with_outputs(text):
 
     def block(match):
         out, errors, _ = ask(*match[1].split())
-        lines = [f"    {line}".rstrip() for line in (out + errors).splitlines()]
+        said = (out + errors).replace(now.SAYS["program"], now.SAYS["model"])
+        lines = [f"    {line}".rstrip() for line in said.splitlines()]
         return f"    $ {match[1]}\n" + "".join(f"{line}\n" for line in lines)
 
     return re.sub(r"^    \$ (.*)\n((?:    .*\n|\n(?=    (?!\$)))*)", block, text, flags=re.M)
@@ -71,18 +72,27 @@ def page_faults():
         yield "desk/README.md has other outputs than the commands print; see --write"
 
 
+def answer_to(question):
+    """The function that finds an answer."""
+    module = MODULES.get(question)
+    return module.answer if module else getattr(questions, question)
+
+
 def json_faults():
     """With --json each question prints what its function gives."""
-    for question, *rest in ASKED:
-        out, errors, status = ask(str(DESK / "ask"), "day", question, *rest, "--json")
-        args = [int(one) if one.isdecimal() else one for one in rest]
-        wanted = getattr(questions, question)(case_of("day"), *args)
+    for question, *further in ASKED:
+        out, errors, status = ask(str(DESK / "ask"), "day", question, *further, "--json")
+        args = [int(one) if question == "packet" else one for one in further]
+        wanted = answer_to(question)(case_of("day"), *args)
         if status or json.loads(out) != json.loads(json.dumps(wanted)):
             yield f"--json of {question} is another value: {errors}"
 
 
+MODULES = {"compare": compared, "packets": listed, "quiet": rest, "dead": dead, "plan": plans,
+           "reach": reach}
 ASKED = [["ends"], ["rules"], ["caches"], ["packet", "2"], ["updates"], ["losses"],
-         ["compare", "day"]]
+         ["compare", "day"], ["packets", "version", "1", "switch", "a"], ["quiet"], ["dead"],
+         ["plan", "policy2.csv"], ["reach", "any", "10.0.2.10", "any", "any", "tcp"]]
 SAMPLES = {
     "ROUTE": "a b",
     "WORD": "0" * 26 + "/" + "f" * 26,
@@ -300,9 +310,18 @@ def compare_faults(folder, other):
     """The packets that differ between two journals, against those whose outcomes do."""
     texts = [(one / "journal.txt").read_text() for one in (folder, other)]
     here, there = map(journal_text.outcomes, texts)
-    differ = questions.compare(case_of(str(folder)), str(other))["differ"]
-    found = [str(one["packet"]) for one in differ]
-    yield "compare", found, [packet for packet in here if here[packet] != there[packet]]
+    found = compared.answer(case_of(str(folder)), str(other))
+    differ = [str(one["packet"]) for one in found["differ"]]
+    wanted = [packet for packet in here if fate(here[packet]) != fate(there[packet])]
+    yield "compare", differ, wanted
+    others = sum(here[one][0] != there[one][0] for one in here if one not in wanted)
+    yield "compare, other rows", found["by another row"], others
+
+
+def fate(outcome):
+    """The action and the end, by whichever row."""
+    row, end = outcome
+    return row.partition(" ")[2], end
 
 
 def unequal(name, answers):
@@ -337,10 +356,13 @@ FILES = {"n.toml": "net.toml", "p1.csv": "policy.csv", "p2.csv": "policy2.csv",
 
 
 def write_journal(folder, first):
-    """Plays a random case from the policy with this number on, and leaves its journal; the world
-    anew, or None where the policy has no plan."""
-    order = [f"policy{'' if k == 1 else k}.csv" for k in (first, *{1, 2, 3} - {first})]
-    policies = [folder / name for name in order]
+    """Puts the policy with this number first, plays the random case, and leaves its journal; the
+    world anew, or None where the policy has no plan."""
+    policies = [folder / f"policy{number}.csv" for number in ("", 2, 3)]
+    texts = [path.read_text() for path in policies]
+    texts.insert(0, texts.pop(first - 1))
+    for path, text in zip(policies, texts):
+        path.write_text(text)
     rows = row_states.rows_of(folder / "schedule.csv")
     try:
         worlds = [row_states.world_of(folder / "net.toml", policies) for _ in range(2)]
@@ -495,7 +517,8 @@ def wrong_input_faults():
         folder = Path(name)
         for what, text in WRONG_JOURNALS.items():
             (folder / "journal.txt").write_bytes(text)
-            for script in (["ask", name, "ends"], ["ask", name, "packet", "1"], ["view", name]):
+            for script in (["ask", name, "ends"], ["ask", name, "quiet"],
+                           ["ask", name, "packet", "1"], ["view", name]):
                 yield from refusal_faults(what, *script)
         (folder / "journal.txt").write_text("row 1: hop 1\n  nothing\n")
         for what, text in WRONG_NETS.items():
@@ -538,6 +561,7 @@ def damage_faults():
         with tempfile.TemporaryDirectory() as name:
             folder = Path(name, path.parent.name)
             shutil.copytree(path.parent, folder)
+            (folder / "schedule.csv").unlink()  # a row that it hasn't would end each answer
             for _ in range(DAMAGES):
                 lines = damaged(rng, path.read_text().splitlines())
                 (folder / "journal.txt").write_text("".join(f"{line}\n" for line in lines))
@@ -547,7 +571,7 @@ def damage_faults():
 def damage_fault(folder):
     """What a damaged journal raises but a mistake."""
     tasks = [getattr(questions, name) for name in "ends rules caches updates losses".split()]
-    tasks += [lambda case: questions.packet(case, 1), page.page_of]
+    tasks += [lambda case: questions.packet(case, 1), page.page_of, rest.answer, listed.answer]
     for task in tasks:
         try:
             task(case_of(str(folder)))

@@ -4,6 +4,7 @@ import tomllib
 from collections import Counter
 from pathlib import Path
 
+from . import agreed
 from .journal import read_items
 from .network import CACHE, Network
 from .packets import Play
@@ -43,8 +44,23 @@ class Case:
         return self.folder.resolve().name
 
     def items(self):
-        """The items of the journal, one at a time."""
-        return read_items(self.journal)
+        """The items of the journal, one at a time; its rows are those of the schedule."""
+        schedule = agreed.schedule_of(self)
+        for item in read_items(self.journal):
+            if item.kind == "row" and schedule is not None:
+                agreed.check_row(self, schedule, item)
+            yield item
+
+    def followed(self, play):
+        """The items, each as the play has followed it; at the end all has to agree."""
+        meters = {}
+        for item in self.items():
+            play.follow(item)
+            if item.kind == "meter":
+                meters[item.said["port"]] = item.said["count"]
+            yield item
+        self.check_end(play, meters)
+        agreed.check(self, play)
 
     def net(self):
         """What the network's file says; without one, the switch s0 alone."""
@@ -106,12 +122,9 @@ class Case:
 
     def play(self):
         """The whole journal, followed to its end."""
-        play, meters = self.start(), {}
-        for item in self.items():
-            play.follow(item)
-            if item.kind == "meter":
-                meters[item.said["port"]] = item.said["count"]
-        self.check_end(play, meters)
+        play = self.start()
+        for _ in self.followed(play):
+            pass
         return play
 
     def check_end(self, play, meters):
@@ -127,6 +140,14 @@ class Case:
 
 def case_of(name):
     """The journal in this file, or in this folder, or in the example of this name."""
+    case = inputs_of(name)
+    if not case.journal.is_file():
+        raise Mistake(f"there is no file {case.journal}, which desk/run can print")
+    return case
+
+
+def inputs_of(name):
+    """The same, for questions that need no journal."""
     path = Path(name)
     if not path.exists() and (EXAMPLES / name).is_file():
         path = EXAMPLES / name
@@ -136,6 +157,4 @@ def case_of(name):
     folder = path if own else EXAMPLES / name
     if not folder.is_dir():
         raise Mistake(f"there is no folder, no journal and no example {name!r}")
-    if not (folder / "journal.txt").is_file():
-        raise Mistake(f"there is no file {folder / 'journal.txt'}, which desk/run can print")
     return Case(folder / "journal.txt", name)

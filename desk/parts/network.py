@@ -80,7 +80,8 @@ class Switch:
 class Message:
     """A message: what it says, and the rows that sent it, first delivered it and forgot it.
 
-    A cache rule has the number of the packet that was decided as it was sent.
+    A cache rule has the number of the packet that was decided as it was sent. `boot` is that of the
+    switch at its ends as it was sent.
     """
 
     def __init__(self, item):
@@ -88,7 +89,7 @@ class Message:
         self.number, self.switch = item.said["message"], item.said["switch"]
         self.to = item.said.get("to", self.switch)
         self.sent = item.row
-        self.delivered = self.forgotten = self.packet = None
+        self.delivered = self.forgotten = self.packet = self.boot = None
 
     def is_waiting(self):
         """Whether it was neither delivered nor forgotten."""
@@ -150,7 +151,7 @@ class Network:
         message, due = Message(item), len(self.messages) + 1
         if message.number != due:
             raise item.mistake(f"message {due} would be next")
-        self.messages[due] = message
+        self.messages[due], message.boot = message, self.switch(message.switch).boot
         if message.body == "installed":
             self.switch(message.switch).install(item.said["version"])
         elif message.body == "stamped":

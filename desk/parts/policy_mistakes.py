@@ -1,9 +1,16 @@
 """Explains the codes of policies."""
+import sys
+
 from . import fields
 from .asked import network_hints
+from .places import MODEL
 from .records import lines_of, records_of
 from .row_mistakes import CHANGE_HEADING, POLICY_HEADING
 from .row_mistakes import at_row, heading_fault, said_field, said_record, wrong_width
+
+sys.path.append(str(MODEL))
+
+import plan_model
 
 MOST_WORDS, MOST_LEAVES = 4096, 512
 POLICY = {
@@ -112,12 +119,23 @@ def too_many_words(asked, name, code):
         yield f"look at {asked.said_network()}: leaf_rules is {most}; a larger one has fewer leaves"
 
 
+def to_place(asked, wanted):
+    """How many rules there were to place, and how many there is room for."""
+    rules, _ = plan_model.rules_of(plan_model.rows_of(asked.path(asked.policies[0])))
+    parts = plan_model.leaves(rules, (0, 0), asked.network().get("leaf_rules", 64))
+    count = sum(len(held) for _, held in parts)
+    copies = f", {wanted} times: {wanted * count} in all" if wanted > 1 else ""
+    room = sum(row.get("authority", 0) for row in asked.switches())
+    return f"to place: {count} rules, in {len(parts)} part{'s' * (len(parts) > 1)}{copies}; there is room for {room}"
+
+
 def no_room(asked, part):
     """What the network says of room, since the row is a partition's number here."""
     wanted = 1 + asked.network().get("backups", 0)
     yield f"here the row is the number of a partition, {part}; no row of the policy is wrong"
     rooms = [(row["name"], row.get("authority", 0)) for row in asked.switches()]
     with_room = [f"{name} for {room}" for name, room in rooms if room]
+    yield to_place(asked, wanted)
     switches = f"{wanted} switch{'es' * (wanted > 1)}"
     yield f"look at {asked.said_network()}: {switches} must have room for each partition's rules"
     if not with_room:

@@ -1,7 +1,6 @@
 """The questions of desk/ask: each is a function from a case to plain values."""
 from collections import Counter
 
-from .folder import case_of
 from .network import DOWN
 from .packets import ENDS, TRAVELLING
 from .policies import ABSENT, TAKEN, TOO_MANY, Change
@@ -152,10 +151,12 @@ def match_in(item):
 def updates(case):
     """For each update its rows and messages, from submitted to the version before it retired."""
     play = case.play()
-    network, decided = play.network, Counter()
-    for one in play.packets.values():
-        if one.decision:
-            decided[one.decision["version"], one.decision["row"]] += 1
+    network = play.network
+    decided = {
+        one.number: (one.decision["version"], one.decision["row"])
+        for one in play.packets.values()
+        if one.decision
+    }
     return {
         "updates": [
             {**update_of(network, version, decided), **change_of(case, version)}
@@ -173,10 +174,10 @@ def update_of(network, version, decided):
     """One update: its three rows, its messages, what decided meanwhile, what it lacks."""
     done = network.versions[version.number - 1].retired
     messages = messages_of(network, version, done)
-    meanwhile = Counter()
-    for (number, row), count in decided.items():
+    meanwhile = {}
+    for packet, (number, row) in decided.items():
         if version.submitted < row and (done is None or row <= done):
-            meanwhile[number] += count
+            meanwhile.setdefault(f"v{number}", []).append(packet)
     pending = [] if done else [one for one in messages if one.delivered is None]
     down = [name for name, switch in network.switches.items() if switch.phase == DOWN]
     unconfirmed = [] if done else [name for name in down if name not in network.over]
@@ -187,7 +188,7 @@ def update_of(network, version, decided):
         "current": version.current,
         "retired": done,
         "messages": {body: sum(one.body == body for one in messages) for body in UPDATE},
-        "decided meanwhile": {f"v{number}": meanwhile[number] for number in sorted(meanwhile)},
+        "decided meanwhile": dict(sorted(meanwhile.items(), key=lambda pair: int(pair[0][1:]))),
         "missing": [pending_text(one) for one in pending],
         "down and not confirmed": unconfirmed,
     }
@@ -261,36 +262,3 @@ def loss_of(packet):
         "unusable": packet.unusable,
         "found down": [f"{one} {other} in row {row}" for one, other, row, _ in packet.found],
     }
-
-
-def compare(case, name):
-    """The same traffic in two journals: the packets that another row decided or that ended so."""
-    one, two = case.play().packets, case_of(name).play().packets
-    if len(one) != len(two):
-        raise Mistake(f"the traffic isn't the same: {len(one)} packets and {len(two)}")
-    pairs = [(one[number], two.get(number)) for number in one]
-    for left, right in pairs:
-        if right is None or (left.ingress, left.header) != (right.ingress, right.header):
-            raise Mistake(f"the traffic isn't the same: packet {left.number} is another one")
-    others = [
-        {"packet": left.number, "here": outcome_of(left), "there": outcome_of(right)}
-        for left, right in pairs
-        if outcome_of(left) != outcome_of(right)
-    ]
-    changes = Counter((change["here"], change["there"]) for change in others)
-    return {
-        "packets": len(one),
-        "same": len(one) - len(others),
-        "changes": [
-            {"here": here, "there": there, "packets": count}
-            for (here, there), count in changes.most_common()
-        ],
-        "differ": others,
-    }
-
-
-def outcome_of(packet):
-    """The row that decided a packet, and its end: `300 out:2, out`."""
-    said = packet.decision
-    decided = f"{said['rule']} {said['action']}" if said else "undecided"
-    return decided if packet.end in ("out", "dropped") else f"{decided}, {packet.end}"

@@ -115,8 +115,7 @@ TELLERS = {name.removeprefix("tell_"): tell for name, tell in vars().items() if 
 def story_of(case, number):
     """The play to its end, and the packet's items in order, each with its words."""
     play, before, told = case.start(), None, []
-    for item in case.items():
-        play.follow(item)
+    for item in case.followed(play):
         if play.about(item) == number:
             items = [before, item] if item.kind in ("entered", "closed") else [item]
             told += [(one, TELLERS[one.kind](one, play)) for one in items]

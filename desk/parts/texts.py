@@ -1,19 +1,9 @@
 """The answers of desk/ask as text: one function a question."""
 from .packets import TRAVELLING
 from .story import header_text
+from .table import table
 
-
-def table(heading, rows):
-    """Lines of columns; a column whose cells are all numbers stands to the right."""
-    cells = [list(map(str, row)) for row in [heading, *rows]]
-    wide = [max(map(len, column)) for column in zip(*cells)]
-    right = [all(isinstance(row[k], int) for row in rows) for k in range(len(heading))]
-    for row in cells:
-        texts = [
-            text.rjust(width) if is_right else text.ljust(width)
-            for text, width, is_right in zip(row, wide, right)
-        ]
-        yield "  ".join(texts).rstrip()
+NAMED = 10  # packets of a list, of which more are counted only
 
 
 def share(part, whole):
@@ -80,7 +70,7 @@ def updates(found):
             yield f"  {what}: {'row ' + str(one[name]) if one[name] else 'not in this journal'}"
         sent = ", ".join(f"{count} {body}" for body, count in one["messages"].items())
         yield f"  messages: {sum(one['messages'].values())} ({sent})"
-        meanwhile = ", ".join(f"{n} by {v}" for v, n in one["decided meanwhile"].items())
+        meanwhile = ", ".join(map(meanwhile_text, one["decided meanwhile"].items()))
         yield f"  packets decided meanwhile: {meanwhile or 'none'}"
         yield from (f"  missing: {text}" for text in one["missing"])
         yield from (f"  down and not confirmed: {it}" for it in one["down and not confirmed"])
@@ -88,6 +78,13 @@ def updates(found):
         yield f"row {one['row']}: the update to policy file {one['file']} is refused: {one['why']}"
     if not found["updates"] and not found["refused"]:
         yield "no updates"
+
+
+def meanwhile_text(pair):
+    """The packets that a version decided while the next one came; of many the first are named."""
+    version, packets = pair
+    named = " ".join(map(str, packets[:NAMED])) + " .." * (len(packets) > NAMED)
+    return f"{len(packets)} by {version} (packet{'s' * (len(packets) > 1)} {named})"
 
 
 def losses(found):
@@ -103,13 +100,3 @@ def losses(found):
         yield f"packet {one['packet']}: {one['end']}{row} at {one['at']}{bound}: {one['cause']}"
         yield from (f"  found down: {text}" for text in one["found down"])
         yield from (f"  then: {text}" for text in one["unusable"])
-
-
-def compare(found):
-    yield f"{found['same']} of {found['packets']} packets have the same rule, action and end"
-    if found["changes"]:
-        rows = [(one["packets"], one["here"], one["there"]) for one in found["changes"]]
-        yield from table(["packets", "here", "there"], rows)
-        yield ""
-        rows = [(one["packet"], one["here"], one["there"]) for one in found["differ"]]
-        yield from table(["packet", "here", "there"], rows)

@@ -1,0 +1,81 @@
+"""The plan of a policy: which switch gets how many rules, and of which headers."""
+import re
+
+from .now import SAYS, answer_now
+from .script import Mistake
+from .table import table
+from .words import spelled
+
+PART = re.compile(r"part (\d+) region (\S+) rules \d+ targets (.+)")
+RULE = re.compile(r"  rank (\d+) rule (\S+) word (\S+) (\S+)")
+
+
+def answer(case, file="policy.csv"):
+    """The partitions with their rules, and for each switch what it holds, beside its room."""
+    compiled = answer_for(case, file)
+    parts = parts_of(compiled.text)
+    rooms = {row["name"]: row.get("authority", 0) for row in case.net()["switch"]}
+    return {
+        "policy": file,
+        "by": compiled.by,
+        "words": int(compiled.text.split()[1]),
+        "switches": [
+            {"switch": name, "room": room, **held_by(name, parts)} for name, room in rooms.items()
+        ],
+        "parts": parts,
+    }
+
+
+def answer_for(case, file):
+    """What the program prints of the plan, where it is there, or the model."""
+    if not (case.folder / file).is_file():
+        raise Mistake(f"there is no file {case.folder / file}")
+    found = answer_now(case.folder, "compile", [file])
+    if found.status:
+        raise Mistake(f"{case.name}: {found.told}; desk/run {case.name} compile explains it")
+    return found
+
+
+def parts_of(text):
+    """The partitions in the lines of `compile`."""
+    parts = []
+    for line in text.splitlines():
+        if found := PART.fullmatch(line):
+            number, word, names = found.groups()
+            parts.append({"part": int(number), "region": spelled(word), "word": word,
+                          "targets": names.split(), "rules": []})
+        elif found := RULE.fullmatch(line):
+            rank, rule, word, action = found.groups()
+            parts[-1]["rules"].append({"rank": int(rank), "rule": rule, "match": spelled(word),
+                                       "word": word, "action": action})
+    return parts
+
+
+def held_by(name, parts):
+    """How many rules and parts the switch holds, and of how many it is the first target."""
+    held = [part for part in parts if name in part["targets"]]
+    first = [part for part in held if part["targets"][0] == name]
+    count = sum(len(part["rules"]) for part in first)
+    return {"rules": sum(len(part["rules"]) for part in held), "first": count,
+            "parts": len(held), "first of": len(first)}
+
+
+def text(found):
+    """The switches, the parts, and then the rules of each part."""
+    parts = found["parts"]
+    rules = sum(len(part["rules"]) for part in parts)
+    many = "s" * (len(parts) > 1)
+    yield (f"{found['policy']}: {found['words']} words, {rules} rules in {len(parts)} part{many}, "
+           f"{SAYS[found['by']]}")
+    names = ["switch", "room", "rules", "first", "parts", "first of"]
+    yield from table(names, [[one[name] for name in names] for one in found["switches"]])
+    yield ""
+    rows = [(one["part"], len(one["rules"]), " ".join(one["targets"]), one["region"])
+            for one in parts]
+    yield from table(["part", "rules", "switches", "region"], rows)
+    yield ""
+    rows = [
+        (part["part"], rule["rule"], rule["action"], rule["match"])
+        for part in parts for rule in part["rules"]
+    ]
+    yield from table(["part", "row", "action", "match"], rows)

@@ -1,0 +1,118 @@
+"""Who reaches whom: from each switch, the ports by which packets of a header leave."""
+import shutil
+import tempfile
+from collections import Counter
+from pathlib import Path
+
+from .boxes import Ranked, checked_box
+from .cover import cover
+from .dead import header_in
+from .folder import Case
+from .now import SAYS, answer_now
+from .packets import HEADER
+from .script import Mistake
+from .story import header_text
+from .table import table
+
+MOST = 5000  # packets of one question
+FRESH = "event,arguments\n"
+
+
+def answer(case, *words):
+    """For each switch and each header what becomes of its packet: over the network as it begins, or
+    behind the schedule.
+    """
+    box, is_behind = checked_box(words[:5], "the header"), words[5:] == ("behind",)
+    names = [row["name"] for row in case.net()["switch"]]
+    headers = headers_of(case, box, is_behind)
+    if len(names) * len(headers) > MOST:
+        raise Mistake(f"{len(headers):,} rows decide such headers: from {len(names)} switches these "
+                      f"are more than {MOST:,} packets, so name fewer headers")
+    probes = [(name, header) for name in names for header in headers]
+    packets, by = played(case, probes, is_behind)
+    ends = {name: Counter() for name in names}
+    for (name, _), packet in zip(probes, packets, strict=True):
+        ends[name][f"port {packet.port}" if packet.end == "out" else packet.end] += 1
+    return {
+        "behind": is_behind,
+        "by": by,
+        "headers": headers,
+        "from": {name: dict(counts) for name, counts in ends.items()},
+        "packets": [
+            {"switch": name, **header, "end": packet.end, "port": packet.port}
+            for (name, header), packet in zip(probes, packets)
+        ],
+    }
+
+
+def headers_of(case, box, is_behind):
+    """A header of the box for each row that decides some, of the versions by which switches work."""
+    if is_behind:
+        network = case.play().network
+        stamps = {switch.stamp for switch in network.switches.values()} & {*network.versions}
+        policies = [case.policy(network.versions[stamp]) for stamp in sorted(stamps)]
+    else:
+        policies = [case.stated(1)]
+    if None in policies:
+        raise Mistake(f"{case.folder} lacks a policy of the network")
+    found = [header for rules in policies for header in headers_in(Ranked(rules), box)]
+    return [dict(one) for one in dict.fromkeys(tuple(header.items()) for header in found)]
+
+
+def headers_in(ranked, box):
+    """A header of the box for each row of a policy that decides some, and one for the default."""
+    everything, rows = ranked.meeting(box, (1 << len(ranked.boxes)) - 1), 0
+    for at, own in enumerate(ranked.boxes):
+        if everything >> at & 1:
+            part = tuple((max(one[0], two[0]), min(one[1], two[1])) for one, two in zip(box, own))
+            free, _ = cover(ranked, part, rows)
+            rows |= 1 << at
+            if free:
+                yield header_in(free)
+    free, _ = cover(ranked, box, rows)
+    if free:
+        yield header_in(free)
+
+
+def played(case, probes, is_behind):
+    """The packets of these probes, each drained, and who played them."""
+    rows = "".join(
+        f"packet,{name},{','.join(header[field] for field in HEADER)}\ndrain\n"
+        for name, header in probes
+    )
+    with tempfile.TemporaryDirectory(prefix="difane-") as name:
+        folder, files = Path(name), ["schedule.csv", *policies_of(case, is_behind)]
+        before = (case.folder / "schedule.csv").read_text("utf-8-sig") if is_behind else FRESH
+        (folder / "schedule.csv").write_text(before.rstrip("\r\n") + "\n" + rows)
+        for file in [*files[1:], "net.toml"]:
+            if (case.folder / file).is_file():
+                shutil.copy(case.folder / file, folder / file)
+        found = answer_now(folder, "replay", files)
+        if found.status:
+            raise Mistake(f"{case.name}: {found.told}; desk/run {case.name} explains it")
+        (folder / "journal.txt").write_text(found.text)
+        packets = list(Case(folder / "journal.txt", name).play().packets.values())
+    return packets[len(packets) - len(probes) :], found.by
+
+
+def policies_of(case, is_behind):
+    """The policy files that are played: the first, or all that are there."""
+    names = [path.name for path in map(case.policy_file, range(1, 65))]
+    there = [name for name in names if (case.folder / name).is_file()]
+    return there if is_behind else there[:1]
+
+
+def text(found):
+    """The headers, and the matrix: switches by ports and other ends, with counts of packets."""
+    where = "behind the schedule" if found["behind"] else "as the network begins"
+    count, by = len(found["headers"]), SAYS[found["by"]]
+    yield f"headers: {count}, one for each row that decides some; {where}, {by}"
+    if len(found["headers"]) == 1:
+        yield header_text(found["headers"][0])
+    ends = {end for counts in found["from"].values() for end in counts}
+    ports = sorted((end for end in ends if end.startswith("port ")), key=lambda end: int(end[5:]))
+    columns = ports + sorted(ends - {*ports})
+    rows = [
+        (name, *(counts.get(end, 0) for end in columns)) for name, counts in found["from"].items()
+    ]
+    yield from table(["from", *columns], rows)

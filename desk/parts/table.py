@@ -1,0 +1,14 @@
+"""Lines of columns."""
+
+
+def table(heading, rows):
+    """Lines of columns; a column whose cells are all numbers stands to the right."""
+    cells = [list(map(str, row)) for row in [heading, *rows]]
+    wide = [max(map(len, column)) for column in zip(*cells)]
+    right = [all(isinstance(row[k], int) for row in rows) for k in range(len(heading))]
+    for row in cells:
+        texts = [
+            text.rjust(width) if is_right else text.ljust(width)
+            for text, width, is_right in zip(row, wide, right)
+        ]
+        yield "  ".join(texts).rstrip()
