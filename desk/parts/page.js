@@ -2,13 +2,13 @@
 // What the page shows: a row of the schedule, a packet, filters, and a page of the table. It all
 // stands in the address too. The state behind a row is that of all changes up to its last line.
 
-const PAGE = 50, MOST_LINES = 300, LARGE = 8, HALF_HIGH = 24, TEXT = 18, ASIDE = 7;
+const PAGE = 50, MOST_LINES = 300, LARGE = 8;
 const FILTERS = ["end", "switch", "rule", "version"];
 const byId = (id) => document.getElementById(id);
 const data = JSON.parse(byId("data").textContent);
 const lines = data.lines.split("\n");
 const names = data.switches.map((one) => one.name);
-const HALF_WIDE = Math.max(48, 10 + 4.75 * Math.max(...names.map((name) => name.length)));
+const [HALF_WIDE, HALF_HIGH] = data.box;
 const packets = new Map(data.packets.map((one) => [one.number, one]));
 const view = { row: 0, packet: 0, page: 0, end: "", switch: "", rule: "", version: "" };
 const state = {};
@@ -16,7 +16,7 @@ const state = {};
 // ---- elements
 
 function make(tag, attributes, ...children) {
-  const svg = ["g", "line", "rect", "text", "circle"].includes(tag);
+  const svg = ["g", "line", "polyline", "rect", "text", "circle"].includes(tag);
   const made = svg ? document.createElementNS("http://www.w3.org/2000/svg", tag)
     : document.createElement(tag);
   for (const [name, value] of Object.entries(attributes)) made.setAttribute(name, value);
@@ -76,28 +76,31 @@ function placeOf(row) {
 
 const drawn = { nodes: [], links: [] };
 
-// The end of an arrow short of the box, and of the text below it.
-function clipped(from, to) {
-  const x = to[0] - from[0], y = to[1] - from[1], high = HALF_HIGH + (y < 0 ? TEXT : 0);
-  const share = Math.min(HALF_WIDE / (Math.abs(x) || 1), high / (Math.abs(y) || 1), 0.9);
-  return [to[0] - x * share, to[1] - y * share];
+const pointsText = (points) => points.map((point) => point.join(",")).join(" ");
+
+// The point behind a share of a line.
+function spot(points, share) {
+  const longs = points.slice(1).map(([x, y], k) => Math.hypot(x - points[k][0], y - points[k][1]));
+  let left = share * longs.reduce((one, other) => one + other), k = 0;
+  while (k < longs.length - 1 && left > longs[k]) { left -= longs[k]; k += 1; }
+  const [from, to] = [points[k], points[k + 1]], part = left / (longs[k] || 1);
+  return [from[0] + (to[0] - from[0]) * part, from[1] + (to[1] - from[1]) * part];
 }
 
 function drawNetwork() {
   byId("network").setAttribute("viewBox", `0 0 ${data.size[0]} ${data.size[1]}`);
   byId("network").style.maxWidth = `${data.size[0] * 1.25}px`;
   if (names.length > LARGE) document.querySelector("main").prepend(byId("network-part"));
-  for (const [one, other] of data.links) {
-    const [a, b] = data.switches[one].at, [c, d] = data.switches[other].at;
-    drawn.links.push(make("g", { class: "link" },
-      make("line", { x1: a, y1: b, x2: c, y2: d }),
-      make("text", { x: (a + c) / 2, y: (b + d) / 2 + 4 }, "✕ down")));
+  for (const [one, other, line] of data.links) {
+    const [x, y] = spot(line, 0.5);
+    drawn.links.push(make("g", { class: "link", "data-ends": `${names[one]} ${names[other]}` },
+      make("polyline", { points: pointsText(line) }), make("text", { x, y: y + 4 }, "✕ down")));
   }
   for (const one of data.switches) {
     const [x, y] = one.at;
     const inside = make("text", { class: "inside", x, y: y + 15 });
     const below = make("text", { class: "below", x, y: y + HALF_HIGH + 15 });
-    drawn.nodes.push({ inside, below, group: make("g", { class: "node" },
+    drawn.nodes.push({ inside, below, group: make("g", { class: "node", "data-switch": one.name },
       make("rect", { x: x - HALF_WIDE, y: y - HALF_HIGH, width: 2 * HALF_WIDE,
         height: 2 * HALF_HIGH, rx: 7 }),
       make("text", { class: "name", x, y: y - 3 }, one.name), inside, below) });
@@ -192,7 +195,7 @@ function showState() {
   showNetwork(standing);
   showSwitches(standing);
   const down = [...state.down].sort((a, b) => a - b).map((number) => data.links[number]);
-  byId("down").textContent = down.map((ends) => ends.map((k) => names[k]).join(" ")).join(", ")
+  byId("down").textContent = down.map((ends) => `${names[ends[0]]} ${names[ends[1]]}`).join(", ")
     || "none";
   const waiting = [...state.waiting.values()];
   const kinds = Object.entries(count(waiting.map((one) => one.body)));
@@ -305,24 +308,27 @@ function showChosen() {
   showLines("packet-lines", packet.lines);
 }
 
+// The points of the arrow from one switch to another, along their link.
+function arrowOf(here, there) {
+  const link = data.links.find(([one, other]) =>
+    (one === here && other === there) || (one === there && other === here));
+  if (!link) return [data.switches[here].at, data.switches[there].at];
+  return link[0] === here ? link[3] : link[4];
+}
+
 // Each hop is an arrow right of its link; those behind the row of the slider are pale.
 function drawWay(packet) {
   const arrows = [], numbers = [], taken = {};
   const stood = packet ? packet.stood : [];
   const told = packet ? packet.lines.filter((line) => lines[line - 1].startsWith("  hopped")) : [];
   stood.slice(1).forEach((there, k) => {
-    const here = stood[k], from = data.switches[here].at, to = data.switches[there].at;
-    const long = Math.hypot(to[0] - from[0], to[1] - from[1]);
-    const aside = [(from[1] - to[1]) / long * ASIDE, (to[0] - from[0]) / long * ASIDE];
-    const [start, end] = [from, clipped(from, to)].map(([x, y]) => [x + aside[0], y + aside[1]]);
-    const leg = k < packet.tunnelHops ? "tunnel" : "exit", again = `${here} ${there}`;
+    const here = stood[k], arrow = arrowOf(here, there), again = `${here} ${there}`;
+    const leg = k < packet.tunnelHops ? "tunnel" : "exit";
     const pale = told[k] > lastLine(view.row) ? " later" : "";
     taken[again] = (taken[again] || 0) + 1;
-    const share = 0.3 + 0.14 * taken[again];
-    const x = from[0] + (to[0] - from[0]) * share + aside[0];
-    const y = from[1] + (to[1] - from[1]) * share + aside[1];
-    arrows.push(make("line", { class: `hop ${leg}${pale}`, "marker-end": `url(#${leg})`,
-      x1: start[0], y1: start[1], x2: end[0], y2: end[1] }));
+    const [x, y] = spot(arrow, Math.min(0.95, 0.36 + 0.14 * taken[again]));
+    arrows.push(make("polyline", { class: `hop ${leg}${pale}`, "marker-end": `url(#${leg})`,
+      "data-ends": `${names[here]} ${names[there]}`, points: pointsText(arrow) }));
     numbers.push(make("circle", { class: leg + pale, cx: x, cy: y, r: 10 }),
       make("text", { class: "order", x, y: y + 4 }, String(k + 1)));
   });

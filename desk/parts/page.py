@@ -7,6 +7,7 @@ import json
 from pathlib import Path
 
 from .layout import placed
+from .lines import HALF_HIGH, arrow_of, half_wide, lines_of
 from .packets import ENDS
 from .words import spelled
 
@@ -141,6 +142,15 @@ def rules_of(case, network):
     }
 
 
+def links_of(record, at):
+    """The links: their ends, their lines, and the arrows along them in both directions."""
+    half = half_wide(record.names)
+    for ends, line in lines_of(at, record.links).items():
+        arrows = arrow_of(line, half), arrow_of(line[::-1], half)
+        points = [[[round(k, 1) for k in point] for point in one] for one in (line, *arrows)]
+        yield [*map(record.names.index, ends), *points]
+
+
 def data_of(case):
     """All that the page shows of the case."""
     net, record = case.net(), Record(case)
@@ -155,7 +165,8 @@ def data_of(case):
             {"name": name, "at": at[name], "ports": ports[name], "room": row.get("authority", 0)}
             for name, row in zip(record.names, net["switch"])
         ],
-        "links": [list(map(record.names.index, ends)) for ends in record.links],
+        "box": [half_wide(record.names), HALF_HIGH],
+        "links": list(links_of(record, at)),
         "lines": "\n".join(record.lines),
         "rows": record.rows,
         "changes": record.changes,
