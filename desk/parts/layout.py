@@ -8,6 +8,7 @@ ROUNDS = 40  # of moving the switches; further ones change nothing that one sees
 TURNS = 24  # the angles that are tried, and so many more by which a link lies level
 WIDE, HIGH = 170, 130  # the least room of a switch with its texts
 BESIDE = 40  # at least between two boxes
+FEW = 5  # of the smallest drawings, of which the clearest is taken
 THROUGH = 3  # so many crossings are as bad as a link that must bend around a switch
 ROW = 1.2  # from one row of switches to the next, where two neighbours are 1 apart
 
@@ -199,5 +200,5 @@ def placed(names, links, ports):
     free = spread(names, near)
     turns = (scaled(facing(turned(free, angle)), wide) for angle in angles(free, links))
     rows = scaled(in_rows(names, near, ports or names), wide)
-    best = min(turns, key=lambda drawing: cost(drawing, links))
+    best = min(sorted(turns, key=area)[:FEW], key=lambda drawing: cost(drawing, links))
     return min(best, rows, key=lambda drawing: whole_cost(drawing, links))

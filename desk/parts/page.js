@@ -312,7 +312,6 @@ function showChosen() {
 function arrowOf(here, there) {
   const link = data.links.find(([one, other]) =>
     (one === here && other === there) || (one === there && other === here));
-  if (!link) return [data.switches[here].at, data.switches[there].at];
   return link[0] === here ? link[3] : link[4];
 }
 

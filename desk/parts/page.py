@@ -23,6 +23,7 @@ class Record:
         self.play = case.start()
         self.names = [row["name"] for row in net["switch"]]
         self.links = [tuple(link["ends"]) for link in net.get("link", [])]
+        self.joined = set(map(frozenset, self.links))
         self.lines, self.rows, self.changes = [], [], []
         self.told, self.hops, self.matches, self.shown = {}, {}, {}, {}
         for name in self.names:
@@ -98,7 +99,12 @@ class Record:
         switch = self.number(item.said["switch"], item)
         self.change(item.line, "at", item.said["packet"], switch)
 
-    on_hopped = on_entered
+    def on_hopped(self, item):
+        """A hop goes over a link, along which its arrow is drawn."""
+        self.on_entered(item)
+        ends = self.play.packet(item).stood[-2:]
+        if frozenset(ends) not in self.joined:
+            raise item.mistake(f"the network has no link {' '.join(ends)}")
 
     def on_decided(self, item):
         packet = item.said["packet"]
