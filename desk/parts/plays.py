@@ -82,11 +82,15 @@ class Player:
         self.refuse_wrong_files()
         return [record.fields for record in records_of(lines_of(path))][1:]
 
-    def check(self, rows):
-        """Writes a schedule; that it can be played over the files of the folder."""
+    def check_rows(self, rows):
+        """That a schedule of these rows isn't too long."""
         if len(rows) > MOST_ROWS:
             raise Mistake(f"{self.name}: the schedule would have {len(rows):,} rows, and 100,000 "
                           "are the most")
+
+    def check(self, rows):
+        """Writes a schedule; that it can be played over the files of the folder."""
+        self.check_rows(rows)
         (self.folder / SCHEDULE).unlink(missing_ok=True)
         with open(self.folder / SCHEDULE, "w", newline="", encoding="utf-8") as file:
             file.write(schedule_text(rows))
