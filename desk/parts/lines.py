@@ -5,8 +5,8 @@ from math import dist, hypot
 
 HALF_HIGH, TEXT = 24, 18  # of a box, and the room of the text below it
 LETTER = 4.75  # half the width of a letter of a name
-CLEAR = 5  # from a box to the lines of other switches, at least
-PADS = (12, 16, 20, 24)  # from a box to the corners of lines that bend around it, one behind another
+CLEAR = 9  # from a box to the lines of other switches, at least; an arrow has room beside them
+PADS = (14, 18, 22, 26)  # from a box to the corners of lines that bend around it, one behind another
 ASIDE = 7  # from a line to an arrow along it, so that the two directions stand apart
 
 

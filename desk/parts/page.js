@@ -3,20 +3,21 @@
 // stands in the address too. The state behind a row is that of all changes up to its last line.
 
 const PAGE = 50, MOST_LINES = 300, LARGE = 8;
-const FILTERS = ["end", "switch", "rule", "version"];
+const FILTERS = ["end", "switch", "rule", "version", "from", "to"];
 const byId = (id) => document.getElementById(id);
 const data = JSON.parse(byId("data").textContent);
 const lines = data.lines.split("\n");
 const names = data.switches.map((one) => one.name);
 const [HALF_WIDE, HALF_HIGH] = data.box;
 const packets = new Map(data.packets.map((one) => [one.number, one]));
-const view = { row: 0, packet: 0, page: 0, end: "", switch: "", rule: "", version: "" };
+const view = { row: 0, packet: 0, page: 0, policy: "",
+  ...Object.fromEntries(FILTERS.map((name) => [name, ""])) };
 const state = {};
 
 // ---- elements
 
 function make(tag, attributes, ...children) {
-  const svg = ["g", "line", "polyline", "rect", "text", "circle"].includes(tag);
+  const svg = ["g", "line", "polyline", "rect", "text", "circle", "title"].includes(tag);
   const made = svg ? document.createElementNS("http://www.w3.org/2000/svg", tag)
     : document.createElement(tag);
   for (const [name, value] of Object.entries(attributes)) made.setAttribute(name, value);
@@ -211,10 +212,46 @@ function showTime() {
   for (const at of document.querySelectorAll(".at")) at.textContent = place;
   byId("row").value = view.row;
   byId("row").setAttribute("aria-valuetext", place);
+  byId("go").value = row;
+  byId("mark-before").disabled = markBeside(-1) === undefined;
+  byId("mark-after").disabled = markBeside(1) === undefined;
   byId("before").disabled = view.row === 0;
   byId("after").disabled = view.row === data.rows.length;
   const last = data.rows.length ? data.rows[data.rows.length - 1][0] : 0;
   byId("when").textContent = row ? `${place} of ${last}: ${rowText()}` : place;
+}
+
+// ---- the marks of updates, crashes and links
+
+const marks = data.marks.map(([row, kind, line]) => ({ place: placeOf(row), kind, line }));
+
+function drawMarks() {
+  const seen = new Set(), width = Math.max(1, data.rows.length);
+  const drawnMarks = [];
+  for (const { place, kind, line } of marks) {
+    const x = Math.round(1000 * place / width);
+    if (seen.has(`${x} ${kind}`)) continue;
+    seen.add(`${x} ${kind}`);
+    drawnMarks.push(make("line", { class: kind, x1: x, x2: x, y1: 0, y2: 10 },
+      make("title", {}, line)));
+  }
+  fill("marks", drawnMarks);
+  byId("marks").setAttribute("aria-label", `${plural(marks.length, "row")} with updates, crashes,`
+    + " restarts and links");
+}
+
+// The place of the next mark behind the slider's row, or of the last one before it.
+function markBeside(side) {
+  return side > 0 ? marks.find(({ place }) => place > view.row)?.place
+    : marks.findLast(({ place }) => place < view.row)?.place;
+}
+
+function goToMark(event) {
+  const { left, width } = byId("marks").getBoundingClientRect();
+  const asked = (event.clientX - left) / width * data.rows.length;
+  const near = marks.reduce((one, other) =>
+    Math.abs(other.place - asked) < Math.abs(one.place - asked) ? other : one, marks[0]);
+  if (near) set({ row: near.place });
 }
 
 // The first step of the row, and how many follow.
@@ -259,6 +296,8 @@ const FITS = {
   switch: (packet, value) => packet.stood.includes(names.indexOf(value)),
   rule: (packet, value) => packet.rule === value,
   version: (packet, value) => String(packet.version) === value,
+  from: (packet, value) => packet.row >= Number(value),
+  to: (packet, value) => packet.row <= Number(value),
 };
 
 function filtered() {
@@ -289,6 +328,69 @@ function showPackets() {
   byId("earlier").disabled = view.page === 0;
   byId("later").disabled = view.page === pages - 1;
   document.querySelector("#packets tbody").replaceChildren(...shown.map(packetRow));
+}
+
+// ---- the packets as CSV
+
+const COLUMNS = {
+  packet: ({ number }) => number, row: ({ row }) => row, in: (packet) => packet.in,
+  ...Object.fromEntries(["src", "dst", "sport", "dport", "proto"].map((name, k) =>
+    [name, ({ header }) => header[k]])),
+  version: ({ version }) => version || "", rule: ({ rule }) => rule, action: ({ action }) => action,
+  by: ({ by }) => by, end: ({ end }) => end, port: ({ port }) => port ?? "",
+  end_row: ({ endRow }) => endRow ?? "", way: ({ stood }) => stood.map((k) => names[k]).join(" "),
+  cause: ({ cause }) => cause,
+};
+
+function csvText(found) {
+  const quoted = (value) => /[",\n]/.test(value) ? `"${String(value).replaceAll('"', '""')}"` : value;
+  const rows = found.map((packet) => Object.values(COLUMNS).map((of) => quoted(of(packet))));
+  return [Object.keys(COLUMNS), ...rows].map((row) => `${row.join(",")}\n`).join("");
+}
+
+function save() {
+  const address = URL.createObjectURL(new Blob([csvText(filtered())], { type: "text/csv" }));
+  const link = make("a", { href: address, download: `${data.name}-packets.csv` });
+  link.click();
+  setTimeout(() => URL.revokeObjectURL(address), 1000);
+}
+
+// ---- the policy's rows, with the packets that each decided
+
+function decidedBy(version) {
+  const counts = new Map();
+  for (const packet of data.packets) {
+    if (String(packet.version) !== version) continue;
+    const held = counts.get(packet.rule) || { authority: 0, cache: 0 };
+    held[packet.by.split(" ")[0]] += 1;
+    counts.set(packet.rule, held);
+  }
+  return counts;
+}
+
+function policyRow(rule, says, { authority, cache } = { authority: 0, cache: 0 }) {
+  const choose = make("button", { type: "button", "aria-label": `packets of row ${rule}` }, rule);
+  const numbers = [authority + cache, authority, cache];
+  const row = make("tr", { "data-rule": rule, class: numbers[0] ? "" : "unused" },
+    ...numbers.map((number) => make("td", { class: "count" }, String(number))),
+    make("td", {}, choose), make("td", {}, says));
+  row.addEventListener("click", () => {
+    set({ rule: numbers[0] ? rule : "", version: numbers[0] ? view.policy : "", page: 0 });
+    showFilters();
+  });
+  return row;
+}
+
+function showPolicy() {
+  const counts = decidedBy(view.policy), rules = data.rules[view.policy] || {};
+  const named = new Set([...Object.keys(rules), ...counts.keys()]);
+  named.delete("default");
+  const order = [...named].sort((one, other) => Number(other) - Number(one));
+  const rows = order.map((rule) => policyRow(rule, rules[rule] || "", counts.get(rule)));
+  rows.push(policyRow("default", "no row matches: drop", counts.get("default")));
+  document.querySelector("#policy tbody").replaceChildren(...rows);
+  const unused = order.filter((rule) => !counts.has(rule)).length;
+  byId("unused").textContent = `${unused} of ${plural(order.length, "row")} decided no packet`;
 }
 
 function showChosen() {
@@ -357,6 +459,19 @@ function addFilters() {
   options("version", counted(decided.map((packet) => packet.version)));
 }
 
+function addVersions() {
+  const versions = Object.keys(data.rules);
+  byId("policy-version").append(...versions.map((version) =>
+    make("option", { value: version }, version)));
+  const last = data.packets.findLast((packet) => packet.version);
+  view.policy = last ? String(last.version) : versions[versions.length - 1];
+  byId("policy-version").value = view.policy;
+}
+
+function showFilters() {
+  for (const name of FILTERS) byId("filters").elements[name].value = view[name];
+}
+
 function readAddress() {
   const asked = new URLSearchParams(location.hash.slice(1));
   for (const name of FILTERS) view[name] = asked.get(name) || "";
@@ -383,7 +498,7 @@ function set(changes) {
 }
 
 function showAll() {
-  for (const name of FILTERS) byId("filters").elements[name].value = view[name];
+  showFilters();
   showTime();
   showState();
   showPackets();
@@ -399,7 +514,16 @@ function listen() {
   byId("filters").addEventListener("change", (event) =>
     set({ [event.target.name]: event.target.value, page: 0 }));
   byId("filters").addEventListener("reset", () =>
-    set({ end: "", switch: "", rule: "", version: "", page: 0 }));
+    set({ ...Object.fromEntries(FILTERS.map((name) => [name, ""])), page: 0 }));
+  byId("go").addEventListener("change", () => set({ row: placeOf(Number(byId("go").value)) }));
+  byId("marks").addEventListener("click", goToMark);
+  byId("mark-before").addEventListener("click", () => set({ row: markBeside(-1) }));
+  byId("mark-after").addEventListener("click", () => set({ row: markBeside(1) }));
+  byId("save").addEventListener("click", save);
+  byId("policy-version").addEventListener("change", () => {
+    view.policy = byId("policy-version").value;
+    showPolicy();
+  });
   document.querySelector("#packets tbody").addEventListener("keydown", (event) => {
     const step = { ArrowDown: "nextElementSibling", ArrowUp: "previousElementSibling" }[event.key];
     const next = step && event.target.closest("tr")[step];
@@ -419,6 +543,9 @@ function begin() {
   restart();
   drawNetwork();
   addFilters();
+  addVersions();
+  drawMarks();
+  showPolicy();
   readAddress();
   showAll();
   listen();

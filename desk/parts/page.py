@@ -11,6 +11,8 @@ from .lines import HALF_HIGH, arrow_of, half_wide, lines_of
 from .packets import ENDS
 from .words import spelled
 
+MARKED = {"update": "update", "crash": "switch", "restart": "switch", "linkdown": "link",
+          "linkup": "link"}
 HERE = Path(__file__).resolve().parent
 PARTS = {"STYLE": "page.css", "SCRIPT": "page.js"}
 
@@ -24,7 +26,7 @@ class Record:
         self.names = [row["name"] for row in net["switch"]]
         self.links = [tuple(link["ends"]) for link in net.get("link", [])]
         self.joined = set(map(frozenset, self.links))
-        self.lines, self.rows, self.changes = [], [], []
+        self.lines, self.rows, self.changes, self.marks = [], [], [], []
         self.told, self.hops, self.matches, self.shown = {}, {}, {}, {}
         for name in self.names:
             self.show_switch(0, name)
@@ -41,6 +43,8 @@ class Record:
         self.lines.append(item.text if item.row == 0 or item.kind == "row" else "  " + item.text)
         if item.row:
             self.end_row(item)
+        if item.kind == "row" and item.said["event"] in MARKED:
+            self.marks.append([item.row, MARKED[item.said["event"]], item.text])
         if changed:
             self.number(changed, item)
             self.show_switch(item.line, changed)
@@ -175,6 +179,7 @@ def data_of(case):
         "links": list(links_of(record, at)),
         "lines": "\n".join(record.lines),
         "rows": record.rows,
+        "marks": record.marks,
         "changes": record.changes,
         "packets": [record.packet(packet) for packet in record.play.packets.values()],
         "matches": record.matches,

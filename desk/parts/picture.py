@@ -13,7 +13,7 @@ WIDER, HIGHER = 1.4, 1.15  # than a page's drawing, for numbers and arrows
 BESIDE, SLANT = 56, 34  # from a box to the end of an arrow to its side, or to its corner
 ROOM = 30  # around such an end nothing more is won
 BENDS = (0.25, -0.25, 0.45, -0.45, 0.7, -0.7)  # of the curves of messages, tried in turn
-ROUND = 22  # around a curve, for its numbers
+ROUND = 24  # around a curve, for its numbers
 INK, LINK, BAD = "#333", "#999", "#b01030"
 HALO = 'paint-order="stroke" stroke="#fff" stroke-width="4"'
 LEFTMOST = [(-1, 0), (-1, 1), (1, -1), (1, 0), (1, 1), (-1, -1)]
