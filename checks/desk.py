@@ -427,7 +427,7 @@ def faults_of_picture(svg, lines):
     wanted = sorted(str(number) for number in range(1, len(lines) + 1)) * 2
     if sorted(text for text in texts if text.isdecimal()) != sorted(wanted):
         yield "a number is missing, or stands too often"
-    if "circle" in kinds and {"line", "path", "rect"} & {*kinds[kinds.index("circle") :]}:
+    if "circle" in kinds and {"path", "polyline", "rect"} & {*kinds[kinds.index("circle") :]}:
         yield "a number stands below a line"
     if any(kind == "path" and "marker-end" not in one.attrib for kind, one in shapes):
         yield "a curve has no head"

@@ -1,13 +1,15 @@
 """Where the switches of a network stand in a drawing."""
 from itertools import combinations
-from math import cos, hypot, pi, sin
+from math import atan2, cos, hypot, pi, sin
+
+from .lines import box_of, half_wide, meets
 
 ROUNDS = 40  # of moving the switches; further ones change nothing that one sees
-TURNS = 24  # the angles that are tried
+TURNS = 24  # the angles that are tried, and so many more by which a link lies level
 WIDE, HIGH = 170, 130  # the least room of a switch with its texts
-LETTER = 9.5  # the width of a letter of a name
-NEAR = 32  # of a switch's middle runs a line through it
-THROUGH = 10  # so many crossings are as bad as a link that runs through a switch
+BESIDE = 40  # at least between two boxes
+FEW = 5  # of the smallest drawings, of which the clearest is taken
+THROUGH = 3  # so many crossings are as bad as a link that must bend around a switch
 ROW = 1.2  # from one row of switches to the next, where two neighbours are 1 apart
 
 
@@ -106,6 +108,25 @@ def turned(points, angle):
     }
 
 
+def angles(points, links):
+    """The angles that are tried: all around, and those by which one of the first links lies level."""
+    yield from (2 * pi * k / TURNS for k in range(TURNS))
+    for one, other in links[:TURNS]:
+        (a, b), (c, d) = points[one], points[other]
+        yield -atan2(d - b, c - a)
+
+
+def facing(points):
+    """The points mirrored so that of a network's switches the first ones stand left and above."""
+    sides = []
+    for k in (0, 1):
+        values = [point[k] for point in points.values()]
+        middle = sum(values) / len(values)
+        lean = sum(number * (value - middle) for number, value in enumerate(values))
+        sides.append(1 if lean >= 0 else -1)
+    return {name: (x * sides[0], y * sides[1]) for name, (x, y) in points.items()}
+
+
 def in_rows(names, near, ports):
     """Points in rows: switches with ports at the foot, others by how far they are from those."""
     steps = steps_from([name for name in names if name in ports], near)
@@ -146,33 +167,38 @@ def scaled(points, wide):
     return at, (right + round(wide / 2), foot + HIGH // 2)
 
 
-def passes(link, name, at):
-    """Whether the line of a link runs through another switch."""
-    (a, b), (c, d), (x, y) = at[link[0]], at[link[1]], at[name]
-    along = ((x - a) * (c - a) + (y - b) * (d - b)) / ((c - a) ** 2 + (d - b) ** 2)
-    return 0 < along < 1 and hypot(a + along * (c - a) - x, b + along * (d - b) - y) < NEAR
-
-
 def area(drawing):
     """The size of a drawing; one that is higher than wide counts as a square."""
     _, (right, foot) = drawing
     return max(right, foot) * foot
 
 
-def cost(drawing, links):
-    """How large a drawing is, and how hard to read: by links that cross, or run through others."""
-    at = drawing[0]
-    crossed = sum(crosses(one, two, at) for one, two in combinations(links, 2))
-    through = sum(
-        passes(link, name, at) for link in links for name in at if name not in link
+def bends(at, links):
+    """How many switches stand in the way of links."""
+    half = half_wide(at)
+    boxes = [(name, box_of(point, half)) for name, point in at.items()]
+    return sum(
+        meets(at[link[0]], at[link[1]], box) for link in links for name, box in boxes
+        if name not in link
     )
-    return area(drawing) * (1 + (crossed + THROUGH * through) / max(1, len(links)))
+
+
+def cost(drawing, links, crossed=0):
+    """How large a drawing is, and how hard to read: by links that cross, or that must bend."""
+    return area(drawing) * (1 + (crossed + THROUGH * bends(drawing[0], links)) / (len(links) or 1))
+
+
+def whole_cost(drawing, links):
+    """The same, where links may cross in different numbers."""
+    crossed = sum(crosses(one, two, drawing[0]) for one, two in combinations(links, 2))
+    return cost(drawing, links, crossed)
 
 
 def placed(names, links, ports):
     """The middle of each switch, and the drawing's size: of two ways the one that is clearer."""
-    near, wide = neighbours_of(names, links), max(WIDE, 60 + LETTER * max(map(len, names)))
+    near, wide = neighbours_of(names, links), max(WIDE, BESIDE + 2 * half_wide(names))
     free = spread(names, near)
-    turns = (scaled(turned(free, 2 * pi * k / TURNS), wide) for k in range(TURNS))
+    turns = (scaled(facing(turned(free, angle)), wide) for angle in angles(free, links))
     rows = scaled(in_rows(names, near, ports or names), wide)
-    return min(min(turns, key=area), rows, key=lambda drawing: cost(drawing, links))
+    best = min(sorted(turns, key=area)[:FEW], key=lambda drawing: cost(drawing, links))
+    return min(best, rows, key=lambda drawing: whole_cost(drawing, links))

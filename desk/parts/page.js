@@ -2,21 +2,22 @@
 // What the page shows: a row of the schedule, a packet, filters, and a page of the table. It all
 // stands in the address too. The state behind a row is that of all changes up to its last line.
 
-const PAGE = 50, MOST_LINES = 300, LARGE = 8, HALF_HIGH = 24, TEXT = 18, ASIDE = 7;
-const FILTERS = ["end", "switch", "rule", "version"];
+const PAGE = 50, MOST_LINES = 300, LARGE = 8;
+const FILTERS = ["end", "switch", "rule", "version", "from", "to"];
 const byId = (id) => document.getElementById(id);
 const data = JSON.parse(byId("data").textContent);
 const lines = data.lines.split("\n");
 const names = data.switches.map((one) => one.name);
-const HALF_WIDE = Math.max(48, 10 + 4.75 * Math.max(...names.map((name) => name.length)));
+const [HALF_WIDE, HALF_HIGH] = data.box;
 const packets = new Map(data.packets.map((one) => [one.number, one]));
-const view = { row: 0, packet: 0, page: 0, end: "", switch: "", rule: "", version: "" };
+const view = { row: 0, packet: 0, page: 0, policy: "",
+  ...Object.fromEntries(FILTERS.map((name) => [name, ""])) };
 const state = {};
 
 // ---- elements
 
 function make(tag, attributes, ...children) {
-  const svg = ["g", "line", "rect", "text", "circle"].includes(tag);
+  const svg = ["g", "line", "polyline", "rect", "text", "circle", "title"].includes(tag);
   const made = svg ? document.createElementNS("http://www.w3.org/2000/svg", tag)
     : document.createElement(tag);
   for (const [name, value] of Object.entries(attributes)) made.setAttribute(name, value);
@@ -76,28 +77,31 @@ function placeOf(row) {
 
 const drawn = { nodes: [], links: [] };
 
-// The end of an arrow short of the box, and of the text below it.
-function clipped(from, to) {
-  const x = to[0] - from[0], y = to[1] - from[1], high = HALF_HIGH + (y < 0 ? TEXT : 0);
-  const share = Math.min(HALF_WIDE / (Math.abs(x) || 1), high / (Math.abs(y) || 1), 0.9);
-  return [to[0] - x * share, to[1] - y * share];
+const pointsText = (points) => points.map((point) => point.join(",")).join(" ");
+
+// The point behind a share of a line.
+function spot(points, share) {
+  const longs = points.slice(1).map(([x, y], k) => Math.hypot(x - points[k][0], y - points[k][1]));
+  let left = share * longs.reduce((one, other) => one + other), k = 0;
+  while (k < longs.length - 1 && left > longs[k]) { left -= longs[k]; k += 1; }
+  const [from, to] = [points[k], points[k + 1]], part = left / (longs[k] || 1);
+  return [from[0] + (to[0] - from[0]) * part, from[1] + (to[1] - from[1]) * part];
 }
 
 function drawNetwork() {
   byId("network").setAttribute("viewBox", `0 0 ${data.size[0]} ${data.size[1]}`);
   byId("network").style.maxWidth = `${data.size[0] * 1.25}px`;
   if (names.length > LARGE) document.querySelector("main").prepend(byId("network-part"));
-  for (const [one, other] of data.links) {
-    const [a, b] = data.switches[one].at, [c, d] = data.switches[other].at;
-    drawn.links.push(make("g", { class: "link" },
-      make("line", { x1: a, y1: b, x2: c, y2: d }),
-      make("text", { x: (a + c) / 2, y: (b + d) / 2 + 4 }, "✕ down")));
+  for (const [one, other, line] of data.links) {
+    const [x, y] = spot(line, 0.5);
+    drawn.links.push(make("g", { class: "link", "data-ends": `${names[one]} ${names[other]}` },
+      make("polyline", { points: pointsText(line) }), make("text", { x, y: y + 4 }, "✕ down")));
   }
   for (const one of data.switches) {
     const [x, y] = one.at;
     const inside = make("text", { class: "inside", x, y: y + 15 });
     const below = make("text", { class: "below", x, y: y + HALF_HIGH + 15 });
-    drawn.nodes.push({ inside, below, group: make("g", { class: "node" },
+    drawn.nodes.push({ inside, below, group: make("g", { class: "node", "data-switch": one.name },
       make("rect", { x: x - HALF_WIDE, y: y - HALF_HIGH, width: 2 * HALF_WIDE,
         height: 2 * HALF_HIGH, rx: 7 }),
       make("text", { class: "name", x, y: y - 3 }, one.name), inside, below) });
@@ -192,7 +196,7 @@ function showState() {
   showNetwork(standing);
   showSwitches(standing);
   const down = [...state.down].sort((a, b) => a - b).map((number) => data.links[number]);
-  byId("down").textContent = down.map((ends) => ends.map((k) => names[k]).join(" ")).join(", ")
+  byId("down").textContent = down.map((ends) => `${names[ends[0]]} ${names[ends[1]]}`).join(", ")
     || "none";
   const waiting = [...state.waiting.values()];
   const kinds = Object.entries(count(waiting.map((one) => one.body)));
@@ -208,10 +212,46 @@ function showTime() {
   for (const at of document.querySelectorAll(".at")) at.textContent = place;
   byId("row").value = view.row;
   byId("row").setAttribute("aria-valuetext", place);
+  byId("go").value = row;
+  byId("mark-before").disabled = markBeside(-1) === undefined;
+  byId("mark-after").disabled = markBeside(1) === undefined;
   byId("before").disabled = view.row === 0;
   byId("after").disabled = view.row === data.rows.length;
   const last = data.rows.length ? data.rows[data.rows.length - 1][0] : 0;
   byId("when").textContent = row ? `${place} of ${last}: ${rowText()}` : place;
+}
+
+// ---- the marks of updates, crashes and links
+
+const marks = data.marks.map(([row, kind, line]) => ({ place: placeOf(row), kind, line }));
+
+function drawMarks() {
+  const seen = new Set(), width = Math.max(1, data.rows.length);
+  const drawnMarks = [];
+  for (const { place, kind, line } of marks) {
+    const x = Math.round(1000 * place / width);
+    if (seen.has(`${x} ${kind}`)) continue;
+    seen.add(`${x} ${kind}`);
+    drawnMarks.push(make("line", { class: kind, x1: x, x2: x, y1: 0, y2: 10 },
+      make("title", {}, line)));
+  }
+  fill("marks", drawnMarks);
+  byId("marks").setAttribute("aria-label", `${plural(marks.length, "row")} with updates, crashes,`
+    + " restarts and links");
+}
+
+// The place of the next mark behind the slider's row, or of the last one before it.
+function markBeside(side) {
+  return side > 0 ? marks.find(({ place }) => place > view.row)?.place
+    : marks.findLast(({ place }) => place < view.row)?.place;
+}
+
+function goToMark(event) {
+  const { left, width } = byId("marks").getBoundingClientRect();
+  const asked = (event.clientX - left) / width * data.rows.length;
+  const near = marks.reduce((one, other) =>
+    Math.abs(other.place - asked) < Math.abs(one.place - asked) ? other : one, marks[0]);
+  if (near) set({ row: near.place });
 }
 
 // The first step of the row, and how many follow.
@@ -256,6 +296,8 @@ const FITS = {
   switch: (packet, value) => packet.stood.includes(names.indexOf(value)),
   rule: (packet, value) => packet.rule === value,
   version: (packet, value) => String(packet.version) === value,
+  from: (packet, value) => packet.row >= Number(value),
+  to: (packet, value) => packet.row <= Number(value),
 };
 
 function filtered() {
@@ -288,6 +330,69 @@ function showPackets() {
   document.querySelector("#packets tbody").replaceChildren(...shown.map(packetRow));
 }
 
+// ---- the packets as CSV
+
+const COLUMNS = {
+  packet: ({ number }) => number, row: ({ row }) => row, in: (packet) => packet.in,
+  ...Object.fromEntries(["src", "dst", "sport", "dport", "proto"].map((name, k) =>
+    [name, ({ header }) => header[k]])),
+  version: ({ version }) => version || "", rule: ({ rule }) => rule, action: ({ action }) => action,
+  by: ({ by }) => by, end: ({ end }) => end, port: ({ port }) => port ?? "",
+  end_row: ({ endRow }) => endRow ?? "", way: ({ stood }) => stood.map((k) => names[k]).join(" "),
+  cause: ({ cause }) => cause,
+};
+
+function csvText(found) {
+  const quoted = (value) => /[",\n]/.test(value) ? `"${String(value).replaceAll('"', '""')}"` : value;
+  const rows = found.map((packet) => Object.values(COLUMNS).map((of) => quoted(of(packet))));
+  return [Object.keys(COLUMNS), ...rows].map((row) => `${row.join(",")}\n`).join("");
+}
+
+function save() {
+  const address = URL.createObjectURL(new Blob([csvText(filtered())], { type: "text/csv" }));
+  const link = make("a", { href: address, download: `${data.name}-packets.csv` });
+  link.click();
+  setTimeout(() => URL.revokeObjectURL(address), 1000);
+}
+
+// ---- the policy's rows, with the packets that each decided
+
+function decidedBy(version) {
+  const counts = new Map();
+  for (const packet of data.packets) {
+    if (String(packet.version) !== version) continue;
+    const held = counts.get(packet.rule) || { authority: 0, cache: 0 };
+    held[packet.by.split(" ")[0]] += 1;
+    counts.set(packet.rule, held);
+  }
+  return counts;
+}
+
+function policyRow(rule, says, { authority, cache } = { authority: 0, cache: 0 }) {
+  const choose = make("button", { type: "button", "aria-label": `packets of row ${rule}` }, rule);
+  const numbers = [authority + cache, authority, cache];
+  const row = make("tr", { "data-rule": rule, class: numbers[0] ? "" : "unused" },
+    ...numbers.map((number) => make("td", { class: "count" }, String(number))),
+    make("td", {}, choose), make("td", {}, says));
+  row.addEventListener("click", () => {
+    set({ rule: numbers[0] ? rule : "", version: numbers[0] ? view.policy : "", page: 0 });
+    showFilters();
+  });
+  return row;
+}
+
+function showPolicy() {
+  const counts = decidedBy(view.policy), rules = data.rules[view.policy] || {};
+  const named = new Set([...Object.keys(rules), ...counts.keys()]);
+  named.delete("default");
+  const order = [...named].sort((one, other) => Number(other) - Number(one));
+  const rows = order.map((rule) => policyRow(rule, rules[rule] || "", counts.get(rule)));
+  rows.push(policyRow("default", "no row matches: drop", counts.get("default")));
+  document.querySelector("#policy tbody").replaceChildren(...rows);
+  const unused = order.filter((rule) => !counts.has(rule)).length;
+  byId("unused").textContent = `${unused} of ${plural(order.length, "row")} decided no packet`;
+}
+
 function showChosen() {
   for (const row of document.querySelectorAll("#packets tbody tr")) {
     row.setAttribute("aria-selected", String(Number(row.dataset.packet) === view.packet));
@@ -305,24 +410,26 @@ function showChosen() {
   showLines("packet-lines", packet.lines);
 }
 
+// The points of the arrow from one switch to another, along their link.
+function arrowOf(here, there) {
+  const link = data.links.find(([one, other]) =>
+    (one === here && other === there) || (one === there && other === here));
+  return link[0] === here ? link[3] : link[4];
+}
+
 // Each hop is an arrow right of its link; those behind the row of the slider are pale.
 function drawWay(packet) {
   const arrows = [], numbers = [], taken = {};
   const stood = packet ? packet.stood : [];
   const told = packet ? packet.lines.filter((line) => lines[line - 1].startsWith("  hopped")) : [];
   stood.slice(1).forEach((there, k) => {
-    const here = stood[k], from = data.switches[here].at, to = data.switches[there].at;
-    const long = Math.hypot(to[0] - from[0], to[1] - from[1]);
-    const aside = [(from[1] - to[1]) / long * ASIDE, (to[0] - from[0]) / long * ASIDE];
-    const [start, end] = [from, clipped(from, to)].map(([x, y]) => [x + aside[0], y + aside[1]]);
-    const leg = k < packet.tunnelHops ? "tunnel" : "exit", again = `${here} ${there}`;
+    const here = stood[k], arrow = arrowOf(here, there), again = `${here} ${there}`;
+    const leg = k < packet.tunnelHops ? "tunnel" : "exit";
     const pale = told[k] > lastLine(view.row) ? " later" : "";
     taken[again] = (taken[again] || 0) + 1;
-    const share = 0.3 + 0.14 * taken[again];
-    const x = from[0] + (to[0] - from[0]) * share + aside[0];
-    const y = from[1] + (to[1] - from[1]) * share + aside[1];
-    arrows.push(make("line", { class: `hop ${leg}${pale}`, "marker-end": `url(#${leg})`,
-      x1: start[0], y1: start[1], x2: end[0], y2: end[1] }));
+    const [x, y] = spot(arrow, Math.min(0.95, 0.36 + 0.14 * taken[again]));
+    arrows.push(make("polyline", { class: `hop ${leg}${pale}`, "marker-end": `url(#${leg})`,
+      "data-ends": `${names[here]} ${names[there]}`, points: pointsText(arrow) }));
     numbers.push(make("circle", { class: leg + pale, cx: x, cy: y, r: 10 }),
       make("text", { class: "order", x, y: y + 4 }, String(k + 1)));
   });
@@ -352,6 +459,19 @@ function addFilters() {
   options("version", counted(decided.map((packet) => packet.version)));
 }
 
+function addVersions() {
+  const versions = Object.keys(data.rules);
+  byId("policy-version").append(...versions.map((version) =>
+    make("option", { value: version }, version)));
+  const last = data.packets.findLast((packet) => packet.version);
+  view.policy = last ? String(last.version) : versions[versions.length - 1];
+  byId("policy-version").value = view.policy;
+}
+
+function showFilters() {
+  for (const name of FILTERS) byId("filters").elements[name].value = view[name];
+}
+
 function readAddress() {
   const asked = new URLSearchParams(location.hash.slice(1));
   for (const name of FILTERS) view[name] = asked.get(name) || "";
@@ -378,7 +498,7 @@ function set(changes) {
 }
 
 function showAll() {
-  for (const name of FILTERS) byId("filters").elements[name].value = view[name];
+  showFilters();
   showTime();
   showState();
   showPackets();
@@ -394,7 +514,16 @@ function listen() {
   byId("filters").addEventListener("change", (event) =>
     set({ [event.target.name]: event.target.value, page: 0 }));
   byId("filters").addEventListener("reset", () =>
-    set({ end: "", switch: "", rule: "", version: "", page: 0 }));
+    set({ ...Object.fromEntries(FILTERS.map((name) => [name, ""])), page: 0 }));
+  byId("go").addEventListener("change", () => set({ row: placeOf(Number(byId("go").value)) }));
+  byId("marks").addEventListener("click", goToMark);
+  byId("mark-before").addEventListener("click", () => set({ row: markBeside(-1) }));
+  byId("mark-after").addEventListener("click", () => set({ row: markBeside(1) }));
+  byId("save").addEventListener("click", save);
+  byId("policy-version").addEventListener("change", () => {
+    view.policy = byId("policy-version").value;
+    showPolicy();
+  });
   document.querySelector("#packets tbody").addEventListener("keydown", (event) => {
     const step = { ArrowDown: "nextElementSibling", ArrowUp: "previousElementSibling" }[event.key];
     const next = step && event.target.closest("tr")[step];
@@ -414,6 +543,9 @@ function begin() {
   restart();
   drawNetwork();
   addFilters();
+  addVersions();
+  drawMarks();
+  showPolicy();
   readAddress();
   showAll();
   listen();

@@ -7,9 +7,12 @@ import json
 from pathlib import Path
 
 from .layout import placed
+from .lines import HALF_HIGH, arrow_of, half_wide, lines_of
 from .packets import ENDS
 from .words import spelled
 
+MARKED = {"update": "update", "crash": "switch", "restart": "switch", "linkdown": "link",
+          "linkup": "link"}
 HERE = Path(__file__).resolve().parent
 PARTS = {"STYLE": "page.css", "SCRIPT": "page.js"}
 
@@ -22,7 +25,8 @@ class Record:
         self.play = case.start()
         self.names = [row["name"] for row in net["switch"]]
         self.links = [tuple(link["ends"]) for link in net.get("link", [])]
-        self.lines, self.rows, self.changes = [], [], []
+        self.joined = set(map(frozenset, self.links))
+        self.lines, self.rows, self.changes, self.marks = [], [], [], []
         self.told, self.hops, self.matches, self.shown = {}, {}, {}, {}
         for name in self.names:
             self.show_switch(0, name)
@@ -39,6 +43,8 @@ class Record:
         self.lines.append(item.text if item.row == 0 or item.kind == "row" else "  " + item.text)
         if item.row:
             self.end_row(item)
+        if item.kind == "row" and item.said["event"] in MARKED:
+            self.marks.append([item.row, MARKED[item.said["event"]], item.text])
         if changed:
             self.number(changed, item)
             self.show_switch(item.line, changed)
@@ -97,7 +103,12 @@ class Record:
         switch = self.number(item.said["switch"], item)
         self.change(item.line, "at", item.said["packet"], switch)
 
-    on_hopped = on_entered
+    def on_hopped(self, item):
+        """A hop goes over a link, along which its arrow is drawn."""
+        self.on_entered(item)
+        ends = self.play.packet(item).stood[-2:]
+        if frozenset(ends) not in self.joined:
+            raise item.mistake(f"the network has no link {' '.join(ends)}")
 
     def on_decided(self, item):
         packet = item.said["packet"]
@@ -141,6 +152,15 @@ def rules_of(case, network):
     }
 
 
+def links_of(record, at):
+    """The links: their ends, their lines, and the arrows along them in both directions."""
+    half = half_wide(record.names)
+    for ends, line in lines_of(at, record.links).items():
+        arrows = arrow_of(line, half), arrow_of(line[::-1], half)
+        points = [[[round(k, 1) for k in point] for point in one] for one in (line, *arrows)]
+        yield [*map(record.names.index, ends), *points]
+
+
 def data_of(case):
     """All that the page shows of the case."""
     net, record = case.net(), Record(case)
@@ -155,9 +175,11 @@ def data_of(case):
             {"name": name, "at": at[name], "ports": ports[name], "room": row.get("authority", 0)}
             for name, row in zip(record.names, net["switch"])
         ],
-        "links": [list(map(record.names.index, ends)) for ends in record.links],
+        "box": [half_wide(record.names), HALF_HIGH],
+        "links": list(links_of(record, at)),
         "lines": "\n".join(record.lines),
         "rows": record.rows,
+        "marks": record.marks,
         "changes": record.changes,
         "packets": [record.packet(packet) for packet in record.play.packets.values()],
         "matches": record.matches,

@@ -1,0 +1,155 @@
+"""Plays schedules over the policies and the network of a folder, by a program or the slow model."""
+import sys
+import tempfile
+import tomllib
+from itertools import takewhile
+from pathlib import Path
+
+from . import runners
+from .folder import Case
+from .mistakes import explain
+from .places import EXAMPLES
+from .records import lines_of, records_of
+from .row_mistakes import SCHEDULE_HEADING
+from .script import Mistake
+
+import slow_replay  # of model/, which runners put on the path
+
+POLICIES = ["policy.csv", *(f"policy{number}.csv" for number in range(2, 65))]
+SCHEDULE, NET, JOURNAL, MOST_ROWS = "schedule.csv", "net.toml", "journal.txt", 100_000
+SAYS = {True: "by the program", False: "by the slow model, of which nothing is proved"}
+
+
+def folder_of(name):
+    """The folder at this path, or else the example of this name."""
+    own, example = Path(name), EXAMPLES / name
+    if name and own.is_dir():
+        return own
+    if name and example.is_dir() and example.resolve().parent == EXAMPLES:
+        return example
+    raise Mistake(f"there is no folder and no example {name!r}; desk/run lists the examples")
+
+
+def program_in(args):
+    """The program that is to play, or None for the slow model; its words are taken off."""
+    if "--program" in args:
+        at = args.index("--program")
+        path = Path(args[at + 1]).resolve() if args[at + 1 :] else None
+        if path is None or not path.is_file() or "--model" in args:
+            raise Mistake("behind --program stands the path of a program, and no --model")
+        del args[at : at + 2]
+        return path
+    if "--model" in args:
+        args.remove("--model")
+        return None
+    return runners.PROVED if runners.PROVED.is_file() else None
+
+
+class Player:
+    """The policies and the network of a folder, over which schedules are played."""
+
+    def __init__(self, name, program):
+        self.name, self.source, self.program = name, folder_of(name), program
+        there = takewhile(lambda file: (self.source / file).is_file(), POLICIES)
+        self.policies = list(there)
+        if not self.policies:
+            raise Mistake(f"there is no file {self.source / POLICIES[0]}")
+        self.files = self.policies + [NET] * (self.source / NET).is_file()
+        self.home = tempfile.TemporaryDirectory(prefix="difane-")
+        self.folder = Path(self.home.name)
+        for file in self.files:
+            (self.folder / file).symlink_to((self.source / file).resolve())
+        keep_plans()
+        self.check([])
+
+    def __enter__(self):
+        return self
+
+    def __exit__(self, *_):
+        self.home.cleanup()
+
+    def net(self):
+        """What the network's file says, or the network of one switch."""
+        return Case(self.folder / JOURNAL, self.name).net()
+
+    def own_rows(self):
+        """The rows of the folder's schedule, which is looked at first."""
+        path = self.source / SCHEDULE
+        if not path.is_file():
+            raise Mistake(f"there is no file {path}")
+        (self.folder / SCHEDULE).unlink(missing_ok=True)
+        (self.folder / SCHEDULE).symlink_to(path.resolve())
+        self.refuse_wrong_files()
+        return [record.fields for record in records_of(lines_of(path))][1:]
+
+    def check_rows(self, rows):
+        """That a schedule of these rows isn't too long."""
+        if len(rows) > MOST_ROWS:
+            raise Mistake(f"{self.name}: the schedule would have {len(rows):,} rows, and 100,000 "
+                          "are the most")
+
+    def check(self, rows):
+        """Writes a schedule; that it can be played over the files of the folder."""
+        self.check_rows(rows)
+        (self.folder / SCHEDULE).unlink(missing_ok=True)
+        with open(self.folder / SCHEDULE, "w", newline="", encoding="utf-8") as file:
+            file.write(schedule_text(rows))
+        self.refuse_wrong_files()
+
+    def refuse_wrong_files(self):
+        """What the program would refuse is told in one line."""
+        question = self.question()
+        told = runners.forecast(question).told
+        if told:
+            why = [line.strip() for line in explain(told, question.args, self.folder)][:2]
+            raise Mistake(f"{self.name}: {told.removeprefix('difane: ')}: {'; '.join(why)}")
+
+    def question(self):
+        args = ["replay", SCHEDULE, *self.policies] + ["--net", NET] * (NET in self.files)
+        return runners.Question(self.folder, "", args, [SCHEDULE, *self.files], JOURNAL)
+
+    def case(self, rows):
+        """The journal of these rows, which are written as a schedule where a program plays them."""
+        text = self.by_program(rows) if self.program else self.by_model(rows)
+        (self.folder / JOURNAL).write_text(text, encoding="utf-8")
+        return Case(self.folder / JOURNAL, self.name)
+
+    def by_program(self, rows):
+        self.check(rows)
+        answer = runners.by_program(self.program, self.question())
+        if answer.status:
+            raise Mistake(f"{self.name}: the program says {answer.told or answer.status}")
+        return answer.text
+
+    def by_model(self, rows):
+        path = self.folder / NET
+        net = tomllib.loads(path.read_text("utf-8-sig")) if NET in self.files else slow_replay.SOLO
+        world = slow_replay.World(net, [self.folder / name for name in self.policies])
+        world.play(rows)
+        if len(world.journal.messages) >= runners.MANY_MESSAGES:
+            raise Mistake(f"{self.name}: too many messages for the slow model; take a program")
+        lines = [*world.journal.lines, *world.journal.meter_lines()]
+        return "".join(f"{line}\n" for line in lines)
+
+
+def schedule_text(rows):
+    """Rows as a schedule; no field of a row needs quotes."""
+    return "".join(f"{line}\n" for line in [SCHEDULE_HEADING, *map(",".join, rows)])
+
+
+def keep_plans():
+    """Lets the slow model work out each plan once, however many schedules are played."""
+    make, kept = slow_replay.Plan, {}
+
+    def plan(rows, net):
+        key = str((rows, net))
+        if key not in kept:
+            kept[key] = make(rows, net)
+        return kept[key]
+
+    slow_replay.Plan = plan
+
+
+def say(script, player):
+    """Says who plays."""
+    print(f"{script}: {SAYS[player.program is not None]}", file=sys.stderr, flush=True)
