@@ -49,13 +49,9 @@ def pairwise(common, ones, others):
 
 def common_prefix(one, other):
     """The longer one of two prefixes where the other one has it, or nothing."""
-    longer, shorter = max(one, other, key=length_of), min(one, other, key=length_of)
+    longer, shorter = (one, other) if one[1] > other[1] else (other, one)
     shift = 32 - shorter[1]
     return longer if longer[0] >> shift == shorter[0] >> shift else None
-
-
-def length_of(prefix):
-    return prefix[1]
 
 
 def common_service(one, other):
