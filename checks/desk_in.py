@@ -1,18 +1,15 @@
 #!/usr/bin/env python3
-"""Checks `desk/traffic` and `desk/policy`: `checks/desk_in.py [SEED]`.
+"""Checks `desk/traffic`, and the samples of all ways in: `checks/desk_in.py [SEED]`.
 
 - Each line of the samples' index.txt is a name, a status and arguments. What the script writes is
-  compared with expected/NAME.csv, and what it says with expected/NAME.txt.
+  compared with expected/NAME.csv or NAME.toml, and what it says with expected/NAME.txt.
 - Random captures, of both formats, both orders of bytes and four link types, are compared with the
   rows that were drawn; so are lines as tcpdump prints them, and flows. Where tcpdump is installed,
   its text of the captures is read too.
-- Random filters and access lists, and those of the samples, are compared with their policies: the
-  line that decides a header by the source, evaluated here, is that of the row which decides it.
 - Files that are cut off or aren't readable end with 0 or 2, and with no trace of Python.
 
 It ends with 1 where anything differs. Of the scripts it uses nothing but their output.
 """
-import csv
 import random
 import re
 import shutil
@@ -22,37 +19,10 @@ import sys
 import tempfile
 from pathlib import Path
 
-HOME = Path(__file__).resolve().parent.parent
-EXAMPLES, DESK = HOME / "examples", HOME / "desk"
-SAMPLES = {"traffic": EXAMPLES / "traffic_samples", "policy": EXAMPLES / "policy_samples"}
-HEADERS = 1000
-LISTS, FILTERS, CAPTURES, DAMAGED = 12, 6, 12, 20
-SERVICES = {"www": 80, "domain": 53, "ntp": 123, "smtp": 25, "telnet": 23, "bootps": 67}
-SERVICES["netbios-ss"] = 139
-PROTOCOLS = {"icmp": 1, "igmp": 2, "tcp": 6, "udp": 17, "gre": 47, "esp": 50, "ospf": 89}
-TESTS = {
-    "eq": lambda port, values: port in values,
-    "neq": lambda port, values: port not in values,
-    "gt": lambda port, values: port > values[0],
-    "lt": lambda port, values: port < values[0],
-    "range": lambda port, values: values[0] <= port <= values[1],
-}
+from desk_kit import EXAMPLES, HEADERS, HOME, SAMPLES, dotted, run
 
-
-def run(script, *args, cwd=None):
-    """The status of a script, what it wrote, and what it said."""
-    command = [sys.executable, str(DESK / script), *map(str, args)]
-    done = subprocess.run(command, cwd=cwd, capture_output=True)
-    return done.returncode, done.stdout, done.stderr.decode()
-
-
-def number(text):
-    """The number of an address."""
-    return int.from_bytes(bytes(map(int, text.split("."))), "big")
-
-
-def dotted(address):
-    return ".".join(str(address >> shift & 255) for shift in (24, 16, 8, 0))
+CAPTURES, DAMAGED = 12, 20
+ENDINGS = {"topology": ".toml"}
 
 
 # ---- samples
@@ -63,7 +33,7 @@ def sample_faults(script, folder):
     for line in (folder / "index.txt").read_text().splitlines():
         name, status, *args = line.split()
         got = run(script, *args, cwd=folder)
-        files = [folder / "expected" / f"{name}{ending}" for ending in (".csv", ".txt")]
+        files = [folder / "expected" / f"{name}{ending}" for ending in (ENDINGS.get(script, ".csv"), ".txt")]
         rows, said = [path.read_bytes() if path.exists() else b"" for path in files]
         if got != (int(status), rows, said.decode()):
             yield f"desk/{script} {' '.join(args)}: other than expected/{name}"
@@ -214,229 +184,6 @@ def text_faults(rng, folder):
             yield f"{name}: other rows than were drawn"
 
 
-# ---- policies
-
-
-def port_of(word):
-    return SERVICES[word] if word in SERVICES else int(word)
-
-
-def side_fits(words, address, port):
-    """Whether an address and a port fit the first words of an entry, which are taken away."""
-    word = words.pop(0)
-    if word == "any":
-        fits = True
-    elif word == "host":
-        fits = number(words.pop(0)) == address
-    else:
-        wildcard = number(words.pop(0)) if words and words[0].count(".") == 3 else 0
-        fits = (number(word) ^ address) & ~wildcard == 0
-    if words and words[0] in TESTS:
-        test, values = words.pop(0), []
-        while words and (words[0].isdigit() or words[0] in SERVICES):
-            values.append(port_of(words.pop(0)))
-        fits = fits and TESTS[test](port, values)
-    return fits
-
-
-def entry_fits(line, header):
-    """Whether an entry of an access list matches a header; one without a protocol is standard."""
-    source, target, sport, dport, protocol = header
-    line = re.sub(r"\(\d+ matches\)|^\s*\d+ |access-list \d+ ", "", line.strip())
-    words = line.replace(", wildcard bits", "").split()[1:]
-    if words[0] not in ("ip", *PROTOCOLS) and not (words[0].isdigit()):
-        return side_fits(words, source, sport)
-    wanted = words.pop(0)
-    wanted = protocol if wanted == "ip" else PROTOCOLS.get(wanted) or int(wanted)
-    fits = [side_fits(words, source, sport), side_fits(words, target, dport)]
-    return all(fits) and wanted == protocol
-
-
-def filter_fits(line, header):
-    """Whether a filter of ClassBench matches a header."""
-    source, target, sport, dport, protocol = header
-    (a, m), (b, n) = re.findall(r"([\d.]+)/(\d+)\s", line)[:2]
-    ranges = re.findall(r"(\d+) : (\d+)", line)
-    value, mask = (int(text, 16) for text in re.findall(r"0x(\w+)", line)[:2])
-    prefixes = (number(a) ^ source) >> 32 - int(m) or (number(b) ^ target) >> 32 - int(n)
-    ports = zip((sport, dport), ranges)
-    inside = all(int(low) <= port <= int(high) for port, (low, high) in ports)
-    return not prefixes and inside and (value ^ protocol) & mask == 0
-
-
-def line_by_source(lines, numbers, header):
-    """The first of these lines that matches the header."""
-    for at in numbers:
-        fits = filter_fits if lines[at - 1].startswith("@") else entry_fits
-        if fits(lines[at - 1], header):
-            return at
-    return None
-
-
-def row_fits(row, header):
-    for text, address in zip(row[1:3], header[:2]):
-        prefix, _, length = text.partition("/")
-        if text != "any" and (number(prefix) ^ address) >> 32 - int(length or 32):
-            return False
-    for text, port in zip(row[3:5], header[2:4]):
-        low, _, high = text.partition("-")
-        if text != "any" and not int(low) <= port <= int(high or low):
-            return False
-    return row[5] == "any" or (PROTOCOLS.get(row[5]) or int(row[5])) == header[4]
-
-
-def drawn_header(rng, texts):
-    """A header whose fields stand in these lines, or near to what stands there."""
-    line = rng.choice(texts)
-    addresses = re.findall(r"\d+\.\d+\.\d+\.\d+", line) or ["10.0.0.1"]
-    ports = [int(text) for text in re.findall(r"(?<![\d./x])\d{1,5}(?![\d.])", line)]
-    ports += [port for name, port in SERVICES.items() if name in line] + [rng.getrandbits(16)]
-    ends = [number(rng.choice(addresses)) for _ in range(2)] if rng.random() < 0.3 else None
-    ends = ends or [number(addresses[0]), number(addresses[-1])]
-    for place in range(2):
-        for _ in range(rng.choice([0, 0, 0, 1, 2])):
-            ends[place] ^= 1 << rng.randrange(12 if rng.random() < 0.7 else 32)
-    chosen = [min(65535, max(0, rng.choice(ports) + rng.choice([0, 0, -1, 1]))) for _ in range(2)]
-    named = [value for name, value in PROTOCOLS.items() if name in line]
-    named += [int(text, 16) for text in re.findall(r"0x(\w\w)/", line)]
-    protocol = rng.choice(named or [6, 17]) if rng.random() < 0.8 else rng.getrandbits(8)
-    return ends[0], ends[1], *chosen, protocol
-
-
-def policy_faults(rng, name, text, folder, args, order, denied):
-    """Headers that a policy decides by other lines than its source, of which these are said."""
-    path, said = folder / "source", folder / "lines.csv"
-    path.write_text(text)
-    status, written, told = run("policy", path, "--permit", "out:7", "--lines", said, *args)
-    if status:
-        yield f"{name}: status {status}: {told}"
-    if status or "beyond the" in told:
-        return
-    rows = [row for row in csv.reader(written.decode().splitlines()[1:])]
-    rows.sort(key=lambda row: -int(row[0]))
-    with said.open(newline="") as file:
-        line_of = {priority: int(line) for priority, line, _ in list(csv.reader(file))[1:]}
-    if len({row[0] for row in rows}) != len(rows) or set(line_of.values()) != set(order):
-        yield f"{name}: the lines {sorted(set(line_of.values()) ^ set(order))} are said or not"
-        return
-    lines = text.splitlines()
-    for _ in range(HEADERS):
-        header = drawn_header(rng, [lines[at - 1] for at in order])
-        row = next((row for row in rows if row_fits(row, header)), None)
-        wanted = line_by_source(lines, order, header)
-        action = "drop" if wanted in denied else "out:7"
-        if (row and (line_of[row[0]], row[6])) != (wanted and (wanted, action)):
-            yield f"{name}: header {header}: row {row}, and line {wanted}"
-            return
-
-
-def drawn_address(rng):
-    """An address of an entry, and whether a policy can say it."""
-    address = dotted(10 << 24 | rng.getrandbits(10))
-    choice = rng.randrange(6)
-    if choice == 0:
-        return "any", True
-    if choice == 1:
-        return f"host {address}", True
-    if choice == 2:
-        wildcard = rng.choice([0x5, 0x101, 0x2FF, 0x10203, 0xFFF00F])
-        scattered = bin(wildcard & wildcard + 1).count("1")
-        return f"{address} {dotted(wildcard)}", scattered <= 2
-    return f"{address} {dotted((1 << rng.randrange(12)) - 1)}", True
-
-
-def drawn_ports(rng):
-    """What an entry says of ports, and whether a packet can have them."""
-    first = rng.choice([0, 1, 22, 80, 443, 1023, 65534, 65535, rng.getrandbits(16)])
-    choice = rng.randrange(8)
-    texts = {
-        0: f" eq {first}",
-        1: f" eq {first} {rng.getrandbits(10)} 7",
-        2: f" neq {first}",
-        3: f" range {first} {rng.randrange(first, 65536)}",
-        4: f" gt {first}",
-        5: f" lt {first}",
-        6: f" eq {rng.choice(list(SERVICES))}",
-    }
-    never = choice == 4 and first == 65535 or choice == 5 and first == 0
-    return texts.get(choice, ""), not never
-
-
-def drawn_entry(rng):
-    """An entry of an extended list, and whether a policy can say it."""
-    protocol = rng.choice(["ip", "tcp", "tcp", "udp", "icmp", "esp", "89"])
-    (source, a), (target, b) = drawn_address(rng), drawn_address(rng)
-    (sport, c), (dport, d) = (("", True), ("", True))
-    if protocol in ("tcp", "udp"):
-        sport, c = drawn_ports(rng) if rng.random() < 0.3 else ("", True)
-        dport, d = drawn_ports(rng)
-    tail = rng.choice(["", "", "", "", " log", " log-input", " established", " dscp ef"])
-    text = f"{protocol} {source}{sport} {target}{dport}{tail}"
-    sayable = a and b and c and d and tail in ("", " log", " log-input")
-    return rng.choice(["permit ", "deny "]) + text, sayable
-
-
-def drawn_list(rng, is_numbered):
-    """The text of an access list, and the lines that can be said, in the order of its entries."""
-    lines, said = [] if is_numbered else ["ip access-list extended DRAWN"], []
-    numbers = rng.sample(range(1, 900), 30)
-    for sequence in numbers:
-        entry, sayable = drawn_entry(rng)
-        head = "access-list 150 " if is_numbered else f" {sequence} "
-        lines.append(head + entry)
-        said += [(0 if is_numbered else sequence, len(lines))] if sayable else []
-    return "".join(f"{line}\n" for line in lines), [line for _, line in sorted(said)]
-
-
-def drawn_filter(rng):
-    """A filter of ClassBench, and whether a policy can say it."""
-    addresses = [dotted(10 << 24 | rng.getrandbits(10)) for _ in range(2)]
-    prefixes = "\t".join(f"{each}/{rng.choice([0, 8, 22, 27, 30, 32])}" for each in addresses)
-    ends = [0, 65535, 80, 1024, rng.getrandbits(16)]
-    ranges = [sorted(rng.choices(ends, k=2)) for _ in range(2)]
-    protocol, mask = rng.choice([6, 17, 1, 47]), rng.choice([0, 255, 255, 255, 254, 128])
-    flags = rng.choice(["0x0000/0x0000", "0x0000/0x0000", "0x1000/0x1000"])
-    ports = "\t".join(f"{low} : {high}" for low, high in ranges)
-    text = f"@{prefixes}\t{ports}\t0x{protocol:02X}/0x{mask:02X}\t{flags}\t"
-    return text, mask != 128 and flags.endswith("/0x0000")
-
-
-def drawn_filters(rng):
-    """The text of filters, and the lines that can be said."""
-    drawn = [drawn_filter(rng) for _ in range(40)]
-    text = "".join(f"{line}\n" for line, _ in drawn)
-    return text, [at for at, (_, sayable) in enumerate(drawn, 1) if sayable]
-
-
-def denied_in(text):
-    return {at for at, line in enumerate(text.splitlines(), 1) if re.search(r"\bdeny\b", line)}
-
-
-def sources(rng):
-    """Names, texts, arguments and sayable lines of the samples and of random sources."""
-    folder = SAMPLES["policy"]
-    config, shown = (folder / "edge.cfg").read_text(), (folder / "shown.txt").read_text()
-    hosts = [16, 17, 19, 20, 21, 24, 27, 28, 29, 31, 32]
-    yield "HOSTS-IN", config, ["--list", "HOSTS-IN"], hosts
-    yield "MANAGERS", config, ["--list", "MANAGERS"], [12, 13]
-    yield "list 10", config, ["--list", "10"], [34, 35, 36, 37]
-    yield "list 101", config, ["--list", "101"], [38, 39, 40]
-    yield "GUESTS", shown, ["--list", "GUESTS"], [6, 9, 7, 8, 10, 11]
-    filters = (folder / "classbench.txt").read_text()
-    yield "filters", filters, [], [1, 2, 3, 5, 6, 7, 8, 9, 12]
-    for seed in range(LISTS):
-        text, said = drawn_list(rng, seed % 2)
-        yield f"list drawn {seed}", text, ["--split", "1000"], said
-    for seed in range(FILTERS):
-        text, said = drawn_filters(rng)
-        yield f"filters drawn {seed}", text, [], said
-
-
-def all_policy_faults(rng, folder):
-    for name, text, args, order in sources(rng):
-        yield from policy_faults(rng, name, text, folder, args, order, denied_in(text))
-
-
 # ---- files that can't be read
 
 
@@ -469,11 +216,10 @@ def main():
     with tempfile.TemporaryDirectory() as name:
         faults += capture_faults(rng, Path(name))
         faults += text_faults(rng, Path(name))
-        faults += all_policy_faults(rng, Path(name))
         faults += damaged_faults(rng, Path(name))
     if not shutil.which("tcpdump"):
         print("tcpdump isn't installed: its text of the random captures is not compared")
-    print("\n".join(faults) or "samples, captures, policies and damaged files: all as expected")
+    print("\n".join(faults) or "samples, captures and damaged files: all as expected")
     sys.exit(bool(faults))
 
 

@@ -3,12 +3,14 @@
 
 - Whole texts of `show` alone are taken: none that is empty, cut anywhere, or has a line too many or
   too few. What is refused is told in one line, with status 2; Ctrl-C is one line too.
+- The ports that are listed with the flows of the examples can be made as it says there; with them
+  the flows are taken, and without them they aren't.
 - `--check`: each lookup of the examples is as in the journals.
 - `--network`: each packet of the examples without failures, of some random schedules, and of the
   folder that `model/fat_tree.py` makes, ends as in the journal. Folders that it can't play are
   refused, what is wrong in a journal is found, and Ctrl-C leaves nothing running.
 
-The last two need Open vSwitch; where it isn't there the check says that they are skipped. It ends
+The last three need Open vSwitch; where it isn't there the check says that they are skipped. It ends
 with 1 where anything is wrong.
 """
 import os
@@ -117,6 +119,30 @@ def interrupt_wrong():
     told = process.communicate()
     if told != ("", "desk/openvswitch: stopped\n") or process.returncode != -signal.SIGINT:
         yield f"Ctrl-C: {process.returncode} {told}"
+
+
+def takes(switch, flows):
+    """Whether the bridge takes these flows."""
+    try:
+        switch.add("br0", flows)
+    except daemon.Failed:
+        return False
+    return True
+
+
+def ports_wrong():
+    """What is wrong with the ports that are listed with the flows of a switch."""
+    for name, text in shows():
+        told = run(text=text).stdout
+        commands = re.findall(r"^# ovs-vsctl (.*)$", told, re.M)
+        with daemon.OpenVSwitch() as switch:
+            switch.configure(*daemon.bridge_args("br0", {}))
+            if takes(switch, told.splitlines()) and commands:
+                yield f"{name}: its flows are taken without a port"
+            for command in commands:
+                switch.configure(*re.sub(r"ADDRESS-OF-\S+", "192.0.2.1", command).split())
+            if not takes(switch, told.splitlines()):
+                yield f"{name}: its flows aren't taken with the ports that are listed"
 
 
 def lookups_wrong():
@@ -235,7 +261,7 @@ def main():
     if daemon.missing_tool():
         print(f"skipped: all that needs Open vSwitch, as {daemon.missing_tool()} isn't installed")
     else:
-        wrong += told(lookups_wrong)
+        wrong += [*told(ports_wrong), *told(lookups_wrong)]
         with tempfile.TemporaryDirectory() as home:
             for check in (examples_wrong, faults_wrong, refusals_wrong, stopping_wrong):
                 wrong += told(check, Path(home))

@@ -4,6 +4,7 @@ from collections import Counter
 
 from . import daemon, flows, tables
 
+TUNNEL = "to-"
 LINE = re.compile(
     r"row [1-9]\d*: \S.*|meter port \d+ notes \d+|quiet (yes|no)"
     rf"|  sent \d+ \S+ cache version \d+ word {tables.WORD} rule \S+ ({tables.ACTION})"
@@ -32,7 +33,7 @@ def tunnel_to(target):
     """The name of the port that leads to a switch."""
     if len(target) > 12:
         raise daemon.Failed(f"the name {target} has more than 12 letters, too long for a port")
-    return f"to-{target}"
+    return f"{TUNNEL}{target}"
 
 
 def sending(port):
@@ -100,10 +101,33 @@ def all_flows(held, journal):
             cached[number] = rest
         elif what == "forget":
             cached.pop(number, None)
-    yield from flows_of(held)
-    for number, (text,) in cached.items():
+    own, fresh = list(flows_of(held)), [text for text, in cached.values()]
+    yield from port_lines([*own, *fresh])
+    yield from own
+    for number, text in zip(cached, fresh):
         yield f"# the cache rule of message {number}"
         yield text
+
+
+def ports_in(texts):
+    """The names of the ports to which flows send packets: those of the network come first."""
+    named = {name for text in texts for name in re.findall(r"output:([\w-]+)", text)}
+    ports = [name for name in named if not name.startswith(TUNNEL)]
+    return sorted(ports, key=lambda name: int(name.removeprefix("port"))) + sorted(named - {*ports})
+
+
+def port_lines(texts):
+    """Comments that list the ports which the bridge needs, as commands that make them."""
+    names = ports_in(texts)
+    yield f"# {'before the flows make these ports' if names else 'the flows need no port'} of br0"
+    for name in names:
+        command = f"# ovs-vsctl add-port br0 {name} -- set interface {name} type="
+        if name.startswith(TUNNEL):
+            yield f"{command}vxlan options:remote_ip=ADDRESS-OF-{name.removeprefix(TUNNEL)}"
+        else:
+            yield f"{command}internal"
+    if any(not name.startswith(TUNNEL) for name in names):
+        yield "# portP is port P of the network: where that is at another switch, a tunnel to it"
 
 
 # ---- the check
@@ -114,8 +138,7 @@ class Bridge(daemon.OpenVSwitch):
 
     def load(self, own, later):
         """Adds the ports of all these flows, and loads those of the tables."""
-        named = set(re.findall(r"output:([\w-]+)", str([*own, *later])))
-        ports = dict.fromkeys(["in", *sorted(named)], daemon.DUMMY)
+        ports = dict.fromkeys(["in", *ports_in([*own, *later])], daemon.DUMMY)
         self.configure(*daemon.bridge_args("br0", ports))
         self.learn(own)
 

@@ -1,19 +1,21 @@
 """Reads access lists of IPv4 as IOS has them in its configuration, and as it shows them.
 
 These are lines `access-list NUMBER ..`, lists that begin with `ip access-list ..`, and the text of
-`show ip access-lists`. The entries of a list are taken by their sequence numbers.
+`show ip access-lists`. The entries of a list are taken by their sequence numbers. Object groups are
+read where they are in the same text.
 """
 import re
 from typing import NamedTuple
 
-from readers.common import Refused, Unsaid, prefix_of, protocol_of
-from readers.rules import ANY_ADDRESS, ANY_PORT, LAST_PORT, Rule
-from readers.rules import but, prefixes_of, wildcard_prefixes
+from readers.common import Refused, Unsaid
+from readers.groups import Groups
+from readers.rules import ANY_ADDRESS, ANY_SERVICE, Rule, services
+from readers.words import Words
 
 STANDARD = [range(1, 100), range(1300, 2000)]
 EXTENDED = [range(100, 200), range(2000, 2700)]
 STEP = 10  # from the sequence number of an entry to that of the next one
-PORTS = {6, 17}  # the protocols whose ports an entry may name
+GROUP = "object-group"
 HEADS = [
     re.compile(r"ip access-list (?:(standard|extended) )?(\S+)$", re.I),
     re.compile(r"(standard|extended) ip access list (\S+)$", re.I),
@@ -25,59 +27,6 @@ ENTRY = re.compile(
 )
 SHOWN = re.compile(r" \(\d+ match(es)?\)$| \(Compiled.*\)$")
 LOGS = {"log", "log-input"}
-COMPARISONS = {"eq", "neq", "lt", "gt", "range"}
-SERVICES = {
-    "echo": 7,
-    "discard": 9,
-    "daytime": 13,
-    "chargen": 19,
-    "ftp-data": 20,
-    "ftp": 21,
-    "ssh": 22,
-    "telnet": 23,
-    "smtp": 25,
-    "time": 37,
-    "nameserver": 42,
-    "whois": 43,
-    "tacacs": 49,
-    "domain": 53,
-    "bootps": 67,
-    "bootpc": 68,
-    "tftp": 69,
-    "gopher": 70,
-    "finger": 79,
-    "www": 80,
-    "hostname": 101,
-    "pop2": 109,
-    "pop3": 110,
-    "sunrpc": 111,
-    "ident": 113,
-    "nntp": 119,
-    "ntp": 123,
-    "msrpc": 135,
-    "netbios-ns": 137,
-    "netbios-dgm": 138,
-    "netbios-ss": 139,
-    "snmp": 161,
-    "snmptrap": 162,
-    "xdmcp": 177,
-    "bgp": 179,
-    "irc": 194,
-    "https": 443,
-    "mobile-ip": 434,
-    "pim-auto-rp": 496,
-    "isakmp": 500,
-    "lpd": 515,
-    "rip": 520,
-    "uucp": 540,
-    "klogin": 543,
-    "kshell": 544,
-    "non500-isakmp": 4500,
-}
-BY_PROTOCOL = {
-    6: {"exec": 512, "login": 513, "cmd": 514, "talk": 517},
-    17: {"biff": 512, "who": 513, "syslog": 514, "talk": 517, "dnsix": 195},
-}
 NO_LIST, STRAY = "of no access list", "an entry of no access list"
 
 
@@ -99,13 +48,14 @@ class Lists:
         entries = self.entries.setdefault(name, {})
         number = int(sequence) if sequence else max(entries, default=0) + STEP
         if number in entries:
-            self.refuse(name, entry.line, f"an earlier entry has the sequence number {number}")
+            self.refuse(name, entry.line, f"an earlier entry has the sequence number {number}",
+                        entry.words)
         else:
             entries[number] = entry
 
-    def refuse(self, name, line, why):
+    def refuse(self, name, line, why, words=()):
         self.entries.setdefault(name, {})
-        self.unsaid.setdefault(name, []).append((line, Unsaid(why)))
+        self.unsaid.setdefault(name, []).append((line, Unsaid(why, permits_of(words))))
 
 
 def read_lists(lines):
@@ -134,7 +84,7 @@ def read_lists(lines):
 def take(lists, head, number, entry):
     """Adds a line of the list that `head` names, or of none."""
     if head is None and entry:
-        lists.strays.append((number, Unsaid(STRAY)))
+        lists.strays.append((number, Unsaid(STRAY, permits_of(entry[2].split()))))
     elif head is None:
         lists.others.append((number, NO_LIST))
     elif head[1] is None:
@@ -142,7 +92,7 @@ def take(lists, head, number, entry):
     elif entry is None or entry[2].lower().startswith("no "):
         lists.refuse(head[0], number, "it is no entry of a list")
     elif not entry[2].lower().startswith("remark"):
-        words = entry[2].lower().split()
+        words = entry[2].split()
         lists.add(head[0], entry[1], Entry(number, words, head[1] == "standard"))
 
 
@@ -155,7 +105,8 @@ def kind_of(number):
 
 def rules_of(lines, most, name):
     """Each entry's line, and its rule or why it can't be said, and what is said of other lines."""
-    lists = read_lists(lines)
+    groups = Groups(lines)
+    lists = read_lists(["!" if at in groups.lines else line for at, line in enumerate(lines, 1)])
     names = list(lists.entries)
     if not names:
         raise Refused("neither filters of ClassBench nor an access list of IPv4")
@@ -165,7 +116,7 @@ def rules_of(lines, most, name):
         raise Refused(f"there is no list {name}, only {' '.join(names)}")
     chosen = name or names[0]
     entries = sorted(lists.entries[chosen].items())
-    found = [(entry.line, rule_of(entry, most)) for _, entry in entries]
+    found = [(entry.line, rule_of(entry, most, groups)) for _, entry in entries]
     others = [
         (entry.line, f"of the list {name}")
         for name, entries in lists.entries.items()
@@ -176,49 +127,49 @@ def rules_of(lines, most, name):
     return unsaid + found, lists.others + others
 
 
-def rule_of(entry, most):
+def rule_of(entry, most, groups):
     """The rule of an entry, or why it can't be said."""
-    words = Words(entry.words, most)
+    words = EntryWords(entry.words, most, groups)
     try:
         return words.standard() if entry.is_standard else words.extended()
     except Unsaid as why:
+        why.permits = permits_of(entry.words)
         return why
 
 
-class Words:
-    """The words of an entry that are still to be read."""
+def permits_of(words):
+    """Whether an entry that can't be said would permit, or nothing where it doesn't say."""
+    said = [word for word in words if word.lower() in ("permit", "deny")]
+    return said[0].lower() == "permit" if said else None
 
-    def __init__(self, words, most):
-        self.words, self.most = list(words), most
 
-    def next(self):
-        return self.words[0] if self.words else ""
+class EntryWords(Words):
+    """The words of an entry of a list, which may name object groups."""
 
-    def take(self):
-        if not self.words:
-            raise Unsaid("it ends too early")
-        return self.words.pop(0)
+    def __init__(self, words, most, groups):
+        super().__init__(words, most)
+        self.groups, self.has_groups = groups, False
 
     def standard(self):
-        """The rule of an entry that names sources alone."""
+        """The rule of an entry that names only sources."""
         permits = self.permits()
         sources = self.address()
-        self.end()
-        return Rule(permits, sources, [ANY_ADDRESS], [ANY_PORT], [ANY_PORT], [None])
+        self.end(LOGS)
+        return Rule(permits, sources, [ANY_ADDRESS], [ANY_SERVICE])
 
     def extended(self):
         """The rule of an entry that names a protocol, both addresses, and ports."""
         permits = self.permits()
-        word = self.take()
-        protocol = None if word in ("ip", "ipv4") else protocol_of(word)
-        if protocol is None and word not in ("ip", "ipv4"):
-            raise Unsaid(f"the protocol {word!r} isn't known")
-        sources = self.address()
-        sports = self.ports(protocol)
-        targets = self.address()
-        dports = self.ports(protocol)
-        self.end()
-        return Rule(permits, sources, targets, sports, dports, [protocol])
+        if self.next() == GROUP:
+            found = self.group("service")
+            sources, targets = self.address(), self.address()
+        else:
+            protocol = self.protocol()
+            sources, sports = self.address(), self.ports(protocol)
+            targets, dports = self.address(), self.ports(protocol)
+            found = services(sports, dports, [protocol])
+        self.end(LOGS)
+        return Rule(permits, sources, targets, found, self.has_groups)
 
     def permits(self):
         word = self.take()
@@ -227,61 +178,10 @@ class Words:
         return word == "permit"
 
     def address(self):
-        """The prefixes of an address: `any`, a host, an address with a wildcard, or a prefix."""
-        word = self.take()
-        if word == "any":
-            return [ANY_ADDRESS]
-        if word == "host":
-            word = self.take()
-            found = prefix_of(word)
-            if found is None or "/" in word:
-                raise Unsaid(f"the host {word!r} is no address of IPv4")
-            return [found]
-        found = prefix_of(word)
-        if found is None:
-            raise Unsaid(f"{word!r} is no address of IPv4")
-        if "/" in word:
-            return prefixes_of(found[0], (1 << 32 - found[1]) - 1, 1)
-        if prefix_of(self.next()) is None:
-            return [found]
-        return wildcard_prefixes(word, self.take(), self.most)
+        return self.group("network") if self.next() == GROUP else super().address()
 
-    def ports(self, protocol):
-        """The ranges of ports behind an address: all where it says nothing."""
-        if self.next() not in COMPARISONS:
-            return [ANY_PORT]
-        if protocol not in PORTS:
-            raise Unsaid("it names ports in a protocol other than TCP and UDP")
-        word, first = self.take(), self.port(protocol)
-        if word == "range":
-            last = self.port(protocol)
-            if last < first:
-                raise Unsaid(f"the range {first} {last} ends before it begins")
-            return [(first, last)]
-        if word in ("lt", "gt"):
-            low, high = (0, first - 1) if word == "lt" else (first + 1, LAST_PORT)
-            return [(low, high)] if low <= high else []
-        ports = [first]
-        while self.port_of(self.next(), protocol) is not None:
-            ports.append(self.port(protocol))
-        return but(ports) if word == "neq" else [(port, port) for port in sorted(set(ports))]
-
-    def port(self, protocol):
-        word = self.take()
-        found = self.port_of(word, protocol)
-        if found is None:
-            raise Unsaid(f"the port {word!r} isn't known")
-        return found
-
-    def port_of(self, word, protocol):
-        """The number of a port in digits or by its name, or nothing."""
-        if re.fullmatch(r"[0-9]{1,5}", word):
-            return int(word) if int(word) <= LAST_PORT else None
-        return SERVICES.get(word, BY_PROTOCOL.get(protocol, {}).get(word))
-
-    def end(self):
-        """Passes over logging, and refuses what else stands behind the fields."""
-        while self.next() in LOGS:
-            self.take()
-        if self.words:
-            raise Unsaid(f"{self.next()!r} can't be said")
+    def group(self, kind):
+        """What the object group has whose name comes next."""
+        self.take()
+        self.has_groups = True
+        return self.groups.of(kind, self.name())

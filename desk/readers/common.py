@@ -37,7 +37,14 @@ class Refused(Exception):
 
 
 class Unsaid(Exception):
-    """A line or a packet that difane's files can't say; the text says why."""
+    """A line or a packet that difane's files can't say; the text says why.
+
+    Of a line of a policy `permits` says whether it permits; nothing where that isn't known.
+    """
+
+    def __init__(self, why, permits=None):
+        super().__init__(why)
+        self.permits = permits
 
 
 class Parser(argparse.ArgumentParser):
@@ -137,13 +144,17 @@ def opened(name):
     return sys.stdin.buffer if name in (None, "-") else open(name, "rb")
 
 
-def finish(name, args, rows, left, passed, told):
-    """Says what was left out or passed over, and writes the rows unless --strict forbids it.
+def finish(name, args, rows, told, left, *others):
+    """Says what is told, what was left out and what else there is, with the word for it, and
+    writes the rows unless --strict forbids it.
 
     It gives the status.
     """
     shown = sys.maxsize if args.all else SHOWN
-    for line in [told, *left.lines("left out", shown), *passed.lines("passed over", shown)]:
+    lines = [*told, *left.lines("left out", shown)]
+    for begin, named in others:
+        lines += named.lines(begin, shown)
+    for line in lines:
         print(f"desk/{name}: {line}", file=sys.stderr)
     if args.strict and left.count:
         print(f"desk/{name}: --strict: nothing is written", file=sys.stderr)

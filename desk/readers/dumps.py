@@ -16,6 +16,7 @@ OTHER_LINKED = re.compile(r".*, (?:ethertype ([^ ,]+)[^,]*|(802\.3)), ")
 DETAILS = re.compile(r"\(tos .*?, offset (\d{1,5}), .*?proto \S+ \((\d{1,3})\), ")
 ADDRESS = r"(\d+\.\d+\.\d+\.\d+)(?:\.(\d{1,5}))?"
 HEADER = re.compile(rf"\s*{ADDRESS} > {ADDRESS}: *(.*)")
+NAMED = re.compile(r"\s*[\w.:-]+ > [\w.:-]+: ")
 BARE = re.compile(r"ip-proto-(\d{1,3})( \d+)?")
 NO_PACKET = re.compile(
     r"\s*$|\s+0x[0-9a-f]+:|\t|tcpdump: |listening on |reading from file |\d+ packets? |"
@@ -42,6 +43,7 @@ CUT = "the packet is cut short"
 LAST_PROTOCOL = 255
 FRAGMENT = "a later fragment, which has no ports"
 ALONE = "no addresses stand in the line behind it"
+NAMES = "names in the place of numbers, which `tcpdump -nn` prints"
 UNKNOWN = "not as `tcpdump -nn` prints a packet of IPv4"
 
 
@@ -54,9 +56,11 @@ def packets_of(lines):
     for number, line in enumerate(lines, 1):
         found = HEADER.match(line) if pending else None
         if pending:
-            yield pending[0], spoken(found, *pending[1:]) if found else Unsaid(ALONE)
-        pending = None if found else details_of(number, line)
-        if not (found or pending):
+            alone = Unsaid(NAMES if NAMED.match(line) else ALONE)
+            yield pending[0], spoken(found, *pending[1:]) if found else alone
+        is_second = found or pending and NAMED.match(line)
+        pending = None if is_second else details_of(number, line)
+        if not (is_second or pending):
             yield from read(number, line)
     if pending:
         yield pending[0], Unsaid(ALONE)
@@ -87,6 +91,7 @@ def read(number, line):
     elif not is_no_packet(line):
         other = None if rest else OTHER.match(line) or OTHER_LINKED.match(line)
         name = next(filter(None, other.groups())) if other else UNKNOWN
+        name = NAMES if rest and NAMED.match(rest) else name
         yield number, Unsaid(name.replace("IP6", "IPv6"))
 
 

@@ -4,7 +4,7 @@ flags, the last two each with a mask."""
 import re
 
 from readers.common import Unsaid, prefix_of
-from readers.rules import LAST_PORT, Rule, prefixes_of
+from readers.rules import LAST_PORT, Rule, prefixes_of, services
 
 FILTER = re.compile(
     r"@(\S+/\d+)\s+(\S+/\d+)\s+(\d{1,5})\s*:\s*(\d{1,5})\s+(\d{1,5})\s*:\s*(\d{1,5})\s+"
@@ -20,7 +20,14 @@ def rules_of(lines, most, ignore_flags):
             try:
                 yield number, rule_of(line.strip(), most, ignore_flags)
             except Unsaid as why:
+                why.permits = True
                 yield number, why
+
+
+def has_flags(lines):
+    """Whether a filter asks for flags."""
+    found = filter(None, (FILTER.fullmatch(line.strip()) for line in lines))
+    return any(int(each[10] or "0", 16) for each in found)
 
 
 def rule_of(line, most, ignore_flags):
@@ -34,7 +41,7 @@ def rule_of(line, most, ignore_flags):
     sources, targets = map(block_of, prefixes)
     ranges = range_of(a, b), range_of(c, d)
     protocols = protocols_of(int(protocol, 16), int(mask, 16), most)
-    return Rule(True, [sources], [targets], [ranges[0]], [ranges[1]], protocols)
+    return Rule(True, [sources], [targets], services([ranges[0]], [ranges[1]], protocols))
 
 
 def block_of(text):

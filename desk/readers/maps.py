@@ -9,28 +9,36 @@ HEADING = ["prefix", "switch"]
 NAME = re.compile(r"[A-Za-z][A-Za-z0-9_-]{0,15}")
 
 
+def checked_prefix(where, text):
+    """The address and the length of a prefix; `where` stands in front of what is wrong with it."""
+    found = prefix_of(text)
+    if found is None:
+        raise Refused(f"{where}: {text!r} is no prefix of IPv4")
+    address, length = found
+    start = address >> 32 - length << 32 - length
+    if start != address:
+        meant = address_text(start)
+        raise Refused(f"{where}: {text} has bits behind its length, {meant}/{length} none")
+    return found
+
+
 class Map:
     """Which switch each source comes in at: that of the longest prefix that has it."""
 
     def __init__(self):
-        self.tables, self.known = {}, {}
+        self.tables, self.known, self.places = {}, {}, {}
 
     def add(self, where, prefix, switch):
         """Adds a prefix; `where` stands in front of what is wrong with it."""
-        found = prefix_of(prefix)
-        if found is None:
-            raise Refused(f"{where}: {prefix!r} is no prefix of IPv4")
+        address, length = checked_prefix(where, prefix)
         if not NAME.fullmatch(switch) or switch == "controller":
             raise Refused(f"{where}: {switch!r} is no switch's name")
-        address, length = found
         key = address >> 32 - length
-        if key << 32 - length != address:
-            meant = address_text(key << 32 - length)
-            raise Refused(f"{where}: {prefix} has bits behind its length, {meant}/{length} none")
         table = self.tables.setdefault(length, {})
         if key in table:
             raise Refused(f"{where}: {prefix} stands there before")
         table[key] = switch
+        self.places.setdefault(switch, where)
         self.tables = dict(sorted(self.tables.items(), reverse=True))
 
     def switch_of(self, source):
@@ -40,29 +48,30 @@ class Map:
             self.known[source] = next(filter(None, found), None)
         return self.known[source]
 
-    def switches(self):
-        return {switch for table in self.tables.values() for switch in table.values()}
+
+def pairs_of(name, heading):
+    """The two fields of each row of a CSV file with this heading, and where the row is."""
+    with open(name, newline="", encoding="utf-8-sig", errors="replace") as file:
+        reader = csv.reader(file)
+        try:
+            if [text.strip() for text in next(reader, [])] != heading:
+                raise Refused(f"{name}:1: the heading isn't {','.join(heading)}")
+            for fields in filter(None, reader):
+                where = f"{name}:{reader.line_num}"
+                if len(fields) != 2:
+                    wanted = " and ".join(f"a {word}" for word in heading)
+                    raise Refused(f"{where}: {len(fields)} fields, not {wanted}")
+                yield where, *(text.strip() for text in fields)
+        except csv.Error as why:
+            raise Refused(f"{name}:{reader.line_num}: {why}") from why
 
 
 def read_map(name):
     """The map in a file: TOML where its name ends so, and else CSV."""
-    return read_toml_map(name) if name.endswith(".toml") else read_csv_map(name)
-
-
-def read_csv_map(name):
+    pairs = toml_pairs(name) if name.endswith(".toml") else pairs_of(name, HEADING)
     found = Map()
-    with open(name, newline="", encoding="utf-8-sig", errors="replace") as file:
-        reader = csv.reader(file)
-        try:
-            if [text.strip() for text in next(reader, [])] != HEADING:
-                raise Refused(f"{name}:1: the heading isn't {','.join(HEADING)}")
-            for fields in filter(None, reader):
-                where = f"{name}:{reader.line_num}"
-                if len(fields) != 2:
-                    raise Refused(f"{where}: {len(fields)} fields, not a prefix and a switch")
-                found.add(where, *(text.strip() for text in fields))
-        except csv.Error as why:
-            raise Refused(f"{name}:{reader.line_num}: {why}") from why
+    for where, prefix, switch in pairs:
+        found.add(where, prefix, switch)
     return found
 
 
@@ -74,15 +83,29 @@ def read_toml(name):
         raise Refused(f"{name}: {why}") from why
 
 
-def read_toml_map(name):
-    """A map whose keys are switches, each with a prefix or a list of them."""
-    found = Map()
-    for switch, prefixes in read_toml(name).items():
+def toml_pairs(name):
+    """Each prefix and its switch of a map whose keys are switches, and where the prefix is."""
+    document = read_toml(name)
+    with open(name, encoding="utf-8") as file:
+        lines, line = file.read().split("\n"), 1
+    for switch, prefixes in document.items():
+        line = line_with(lines, line, switch)
         for prefix in prefixes if isinstance(prefixes, list) else [prefixes]:
+            line = line_with(lines, line, prefix)
+            where = f"{name}:{line}: {switch}"
             if not isinstance(prefix, str):
-                raise Refused(f"{name}: {switch}: {prefix!r} is no prefix in quotes")
-            found.add(f"{name}: {switch}", prefix, switch)
-    return found
+                raise Refused(f"{where}: {prefix!r} is no prefix in quotes")
+            yield where, prefix, switch
+
+
+def line_with(lines, first, value):
+    """The number of the first line from this one on that has a value, but in a comment.
+
+    Where none has it as it is written here, the value is taken to be in the first line.
+    """
+    text = re.compile(rf"(?<![\w.]){re.escape(str(value))}(?![\w./])")
+    numbers = range(first, len(lines) + 1)
+    return next((at for at in numbers if text.search(lines[at - 1].split("#")[0])), first)
 
 
 def names_of(name):
