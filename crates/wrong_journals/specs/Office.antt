@@ -49,7 +49,7 @@ server_room = record { address = 167837696; len = 16 }
 
 -- `200,any,10.1.0.0/16,any,any,any,drop` and `100,any,any,any,any,any,out:2`
 abbrev pub office_policy : List Row
-first_policy = row_for 200 server_room Drop ∷ row_for 100 everywhere (Out 2) ∷ []
+office_policy = row_for 200 server_room Drop ∷ row_for 100 everywhere (Out 2) ∷ []
 
 -- `100,any,any,any,any,any,drop`
 abbrev pub second_policy : List Row
