@@ -54,6 +54,7 @@ played laws command files inputs journal full asked accepted sound play held =
       strong = whole.strong;
       entered = laws.entered inputs.setting inputs.events journal full play;
       held = held;
+      works = laws.works inputs.setting inputs.events journal full sound.setting sound.events play;
     }
 
 -- the answer that the judge gave is the one that is asked for

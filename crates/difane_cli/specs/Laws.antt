@@ -5,6 +5,7 @@ use Rattle.packet_laws.specs.Entries.{AreEntered, rows_played}
 use Rattle.flow_export.specs.Counted.{FlowLaws}
 use Rattle.journal.specs.declared.item.Item.{Item}
 use Rattle.forwarding_laws.specs.ToRest.{HasComeToRest}
+use Rattle.forwarding_laws.specs.Working.{PlaysKeepWorking}
 use Rattle.steps.specs.declared.step.Event.{Event}
 use Rattle.update_machine.specs.Full.{IsPlay}
 use Rattle.update_machine.specs.Quiet.{IsQuiet}
@@ -17,5 +18,6 @@ pub record AnswerLaws : Type 0 where
       → IsPlay setting events journal full → AreEntered (rows_played full events) journal
   pub quiet : HoldsBetween (λ setting journal.
       IsSetting setting → IsQuiet setting journal → HasComeToRest setting journal)
+  pub works : PlaysKeepWorking
   pub texts : TextsAreGood
   pub flows : FlowLaws

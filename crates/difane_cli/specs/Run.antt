@@ -17,6 +17,7 @@ use Rattle.steps.specs.Steps.{IsEvent}
 use Rattle.packet_laws.specs.StrongCauses.{StrongCause}
 use Rattle.packet_laws.specs.OnTheWay.{HeldOnTheWay}
 use Rattle.packet_laws.specs.Entries.{AreEntered, rows_played}
+use Rattle.forwarding_laws.specs.Working.{KeepsWorking}
 use Rattle.schedule.specs.Case.{load_case}
 use Rattle.difane_cli.specs.Limits.{AreWithinLimits}
 use Rattle.difane_cli.specs.FlowLines.{CountFlows, gone_by}
@@ -77,8 +78,8 @@ pub record MayBePlayed (inputs : Inputs) : Type 0 where
 
 -- the journal is that of the play of these inputs, which are those of the files and of the task,
 -- where these are known, to its end or to a row at which it stopped full; so it is a run of the
--- machine, its ends and items have their causes, and its rows and entries are the schedule's; and
--- what is to be kept held on the way
+-- machine, its ends and items have their causes, and its rows and entries are the schedule's; what
+-- is to be kept held on the way; and the network recovers, and drops nothing in a rollout
 pub record IsAnswer (command : Command) (files : Option Files) (inputs : Inputs)
     (journal : List Item) (full : Option ℕ) : Type 0 where
   pub asked : IsPlayOf command inputs
@@ -91,6 +92,7 @@ pub record IsAnswer (command : Command) (files : Option Files) (inputs : Inputs)
   pub strong : HaveCauses (StrongCause inputs.setting) [] journal
   pub entered : AreEntered (rows_played full inputs.events) journal
   pub held : HeldOnTheWay inputs.setting journal
+  pub works : KeepsWorking inputs.setting inputs.events journal full
 
 -- there are inputs such that the journal is that of their play, to its end or to a row at which it
 -- stopped full; the meters that were given back are those that stayed of the ones that were taken,

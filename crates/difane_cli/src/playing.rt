@@ -17,7 +17,7 @@ use crate::status::{Ended, Status};
 use crate::verdict::{asks_quiet, judge, write_answer};
 use command_line::Report;
 use flow_export::flow_laws;
-use forwarding_laws::quiet_networks_have_come_to_rest;
+use forwarding_laws::{plays_keep_working, quiet_networks_have_come_to_rest};
 use journal::Journal;
 use journal_reports::{summarize, summary_text};
 use journal_text::write_text;
@@ -89,6 +89,7 @@ pub fn answer_laws()
 {
     packet_rows_are_entered();
     quiet_networks_have_come_to_rest();
+    plays_keep_working();
     texts_are_good();
     flow_laws();
 }

@@ -1,8 +1,7 @@
 -- The leg of a packet has targets, which are switches of the network: so in a connected network the
 -- links lead to one.
-use Rattle.std.proofs.Common.{ℕ, ◌≡◌, ◌<◌, ◌⊎◌, false, Some, List, [], ◌∷◌, ◌++◌, All, length, get_or, map, Ok, refl, ap, sym, subst, ◌∙◌, arith, inl, inr, Contains}
+use Rattle.std.proofs.Common.{ℕ, ◌≡◌, ◌<◌, ◌⊎◌, Some, List, [], ◌∷◌, All, length, get_or, map, Ok, ap, sym, subst, ◌∙◌, arith, inl, inr, Contains}
 use Rattle.std.specs.Prelude.{⊤, option_to_list, unwrap_or}
-use Rattle.std.specs.List.{list_any}
 use Rattle.std.specs.Option.{option_map_or}
 use Rattle.std.proofs.lemmas.List.{get_or-map, length-map}
 use Rattle.std.proofs.lemmas.List.Elements.{All-cons, All-nil}
@@ -10,6 +9,7 @@ use Rattle.net_file.specs.Joins.{owner_of}
 use Rattle.net_file.specs.declared.net.Net.{Net}
 use Rattle.net_file.proofs.RowPlaces.{ports}
 use Rattle.partition.specs.Plan.{Hosted, IsPlan, sizes_of}
+use Rattle.policy_rules.specs.declared.packet.Cause.{Cause}
 use Rattle.policy_rules.specs.declared.packet.Leg.{Leg}
 use Rattle.policy_rules.specs.declared.packet.Leg.TheVariants.{Exit, Seek}
 use Rattle.policy_rules.specs.declared.policy.Row.{Row}
@@ -35,12 +35,14 @@ use Rattle.packet_laws.proofs.KeptFacts.{Knows, here_known, port_named}
 use Rattle.packet_laws.proofs.PlanLookups.{version_planned}
 use Rattle.packet_laws.proofs.ReachedJournals.{reached}
 use Rattle.packet_laws.proofs.RestingPackets.{IsWayItem, Past}
-use Rattle.forwarding_laws.specs.Rollout.{DropsNothing, IsApart, IsConnected, IsStuckCutOff, NoneIsStuck, NothingFails, says_stuck}
+use Rattle.convergence_laws.proofs.ListElements.{in_at}
+use Rattle.forwarding_laws.specs.Rollout.{AreCutOff, DropsNothing, IsConnected, IsStuckCutOff, NoneIsStuck, NothingFails}
+use Rattle.forwarding_laws.proofs.StandingItems.{stands_in}
 
 -- there are some, and all are switches of the network
-record AreSwitches (net : Net) (targets : List ℕ) : Type 0 where
-  some : 0 < length targets
-  there : All (λ s. s < length net.switches) targets
+pub record AreSwitches (net : Net) (targets : List ℕ) : Type 0 where
+  pub some : 0 < length targets
+  pub there : All (λ s. s < length net.switches) targets
 
 -- ---- the targets of a partition
 
@@ -125,47 +127,65 @@ targets_there setting before i s (Exit port) targets knows here on own =
     let home = exit_there setting before i s port knows here on in
     home_there setting.net port home.0 targets home.1 own.3
 
+-- ---- a packet that is stuck
+
+-- all that is known of an item of a packet on its way
+abbrev pub IsKeptItem : Setting → List Item → Item → Type 0
+IsKeptItem setting = Behind (Past (IsWayItem setting)) (AllKept setting)
+
+pub are_kept_items : (setting : Setting) (events : List Event) (journal : List Item)
+    → IsSetting setting → AreEvents setting events → BeginsAnswer setting events journal
+    → HaveCauses (IsKeptItem setting) [] journal
+are_kept_items setting events journal is own begins =
+    kept_before setting journal is
+    ((reached (λ setting journal. HaveCauses (IsWayItem setting) [] journal)
+    (λ setting journal is have. have)).begun setting events journal own begins is)
+
+-- it is at a switch of the network, and its leg has targets, which are switches of the network too
+pub record IsStuckAmong (net : Net) (switch : ℕ) (targets : List ℕ) : Type 0 where
+  pub there : HasSwitch net switch
+  pub among : AreSwitches net targets
+
+pub stuck_among : (setting : Setting) → IsSetting setting → (before : List Item)
+    (packet switch : ℕ) (cause : Cause) (leg : Leg) (down targets : List ℕ)
+    → IsKeptItem setting before (item.Stuck packet switch cause leg down)
+    → AreTargets setting before packet leg targets → IsStuckAmong setting.net switch targets
+stuck_among setting is before packet switch cause leg down targets kept own =
+    let next : Item = item.Stuck packet switch cause leg down in
+    let known : Knows setting before packet (stage_of before packet) =
+    knows setting before packet (known_before setting is before next kept) in
+    let finds : FindsNoRoute setting before packet switch cause leg down =
+    kept.caused.caused.way in
+    let here : IsHere setting before packet switch =
+    here_known setting before packet switch known finds.at in
+    record {
+      there = omega (arith, here.at, here.under.now);
+      among = targets_there setting before packet switch leg targets known here finds.on own;
+    }
+
 -- ---- connected networks
 
 leads_to_one : (net : Net) (switch : ℕ) (targets : List ℕ) → IsConnected net
-    → HasSwitch net switch → AreSwitches net targets → IsApart net switch targets → ⊥
-leads_to_one net switch [] connected there are apart = absurd (omega (arith, are.some))
-leads_to_one net switch (target ∷ targets) connected there are apart =
-    let way = connected switch target there (are.there 0 target (omega arith)) in
-    apart 0 target (omega arith) way.0 way.1
-
--- what is known of an item
-abbrev IsKnownItem : Setting → List Item → Item → Type 0
-IsKnownItem setting =
-    Both (DropsNothing setting) (Behind (Past (IsWayItem setting)) (AllKept setting))
+    → IsStuckAmong net switch targets → AreCutOff net switch targets → ⊥
+leads_to_one net switch [] connected stuck cut_off = absurd (omega (arith, stuck.among.some))
+leads_to_one net switch (target ∷ targets) connected stuck cut_off =
+    let way = connected switch target stuck.there (stuck.among.there 0 target (omega arith)) in
+    cut_off 0 target (omega arith) way.0 way.1
 
 abbrev IsNotStuck : List Item → Item → Type 0
 IsNotStuck before (item.Stuck packet switch cause leg down) = ⊥
 IsNotStuck before _ = ⊤
 
 not_stuck : (setting : Setting) → IsSetting setting → IsConnected setting.net
-    → (before : List Item) (next : Item) → IsKnownItem setting before next
-    → IsNotStuck before next
+    → (before : List Item) (next : Item)
+    → Both (DropsNothing setting) (IsKeptItem setting) before next → IsNotStuck before next
 not_stuck setting is connected before (item.Stuck packet switch cause leg down) both =
     let stuck : IsStuckCutOff setting before packet switch leg = both.first in
-    let next : Item = item.Stuck packet switch cause leg down in
-    let known : Knows setting before packet (stage_of before packet) =
-    knows setting before packet (known_before setting is before next both.second) in
-    let finds : FindsNoRoute setting before packet switch cause leg down =
-    both.second.caused.caused.way in
-    let here : IsHere setting before packet switch =
-    here_known setting before packet switch known finds.at in
     leads_to_one setting.net switch stuck.targets connected
-    (omega (arith, here.at, here.under.now))
-    (targets_there setting before packet switch leg stuck.targets known here finds.on stuck.own_leg)
-    stuck.apart
+    (stuck_among setting is before packet switch cause leg down stuck.targets both.second
+    stuck.own_leg)
+    stuck.cut_off
 not_stuck setting is connected before next both = tt
-
-none_among : (before items : List Item) → HaveCauses IsNotStuck before items
-    → list_any says_stuck items ≡ false
-none_among before [] have = refl
-none_among before (item.Stuck packet switch cause leg down ∷ items) have = absurd have.0
-none_among before (next ∷ items) have = none_among (before ++ next ∷ []) items have.1
 
 pub none_is_stuck : ((setting : Setting) (events : List Event) (journal : List Item)
     → IsSetting setting → AreEvents setting events → NothingFails events
@@ -173,11 +193,14 @@ pub none_is_stuck : ((setting : Setting) (events : List Event) (journal : List I
     → (setting : Setting) (events : List Event) (journal : List Item)
     → IsSetting setting → AreEvents setting events → NothingFails events
     → IsConnected setting.net → BeginsAnswer setting events journal → NoneIsStuck journal
-none_is_stuck drops setting events journal is own nothing connected begins =
-    none_among [] journal
-    (have_weaker (IsKnownItem setting) IsNotStuck (not_stuck setting is connected) [] journal
-    (have_both (DropsNothing setting) (Behind (Past (IsWayItem setting)) (AllKept setting)) []
-    journal (drops setting events journal is own nothing begins)
-    (kept_before setting journal is
-    ((reached (λ setting journal. HaveCauses (IsWayItem setting) [] journal)
-    (λ setting journal is have. have)).begun setting events journal own begins is))))
+none_is_stuck drops setting events journal is own nothing connected begins packet switch cause leg
+    down found =
+    (stands_in IsNotStuck [] journal (item.Stuck packet switch cause leg down) none
+    (in_at journal found.0 (item.Stuck packet switch cause leg down) found.1 found.2)).own
+  where
+    none : HaveCauses IsNotStuck [] journal
+    none = have_weaker (Both (DropsNothing setting) (IsKeptItem setting)) IsNotStuck
+        (not_stuck setting is connected) [] journal
+        (have_both (DropsNothing setting) (IsKeptItem setting) [] journal
+        (drops setting events journal is own nothing begins)
+        (are_kept_items setting events journal is own begins))

@@ -1,7 +1,6 @@
 -- Behind a drain no packet travels, so each that came in has ended.
-use Rattle.std.proofs.Common.{ℕ, ◌≡◌, ◌⊎◌, ◌==◌, ◌||◌, Bool, true, false, if◌then◌else◌, Option, Some, None, option_map, List, [], ◌∷◌, ◌++◌, refl, ap, sym, subst, ◌∙◌, Contains, inl, inr}
+use Rattle.std.proofs.Common.{ℕ, ◌≡◌, ◌⊎◌, ◌==◌, Bool, true, false, if◌then◌else◌, Option, Some, None, option_map, List, [], ◌∷◌, ◌++◌, refl, ap, sym, subst, ◌∙◌, inl, inr}
 use Rattle.std.specs.Prelude.{unwrap_or}
-use Rattle.std.specs.List.{list_any}
 use Rattle.std.specs.Option.{option_or}
 use Rattle.std.proofs.lemmas.Bool.{eq-eqb, eqb-true}
 use Rattle.five_tuple.specs.declared.header.Header.{Header}
@@ -9,19 +8,23 @@ use Rattle.journal.specs.declared.item.Item.{Item}
 use Rattle.journal.specs.declared.item.Item.TheVariants as item
 use Rattle.steps.specs.declared.step.Event.{Event}
 use Rattle.steps.specs.declared.step.Event.TheVariants.{Drain}
-use Rattle.steps.specs.declared.step.Step.TheVariants.{Hop}
+use Rattle.steps.specs.declared.step.Step.TheVariants.{Hop, Lose}
 use Rattle.update_machine.specs.Answers.{Answers, BeginsAnswer, next_hop}
+use Rattle.update_machine.specs.Causes.{HasCause, HaveCauses, LeavesRightly, present_step}
 use Rattle.update_machine.specs.Folds.{last_given}
 use Rattle.update_machine.specs.Numbers.{AreNumbered, packet_number}
 use Rattle.update_machine.specs.Setting.{IsSetting, Setting}
 use Rattle.update_machine.specs.Travels.{gives_travelling, next_travelling, packets_in, travels}
 use Rattle.update_machine.proofs.CallerLemmas.{answers_so_far, begins_itself}
-use Rattle.control_laws.specs.Always.{AreEvents}
+use Rattle.control_laws.specs.Always.{AreEvents, HoldsReached}
+use Rattle.control_laws.proofs.ItemFacts.{Both, have_both}
+use Rattle.packet_laws.specs.PacketCauses.{IsDroppedHere, PacketCause}
 use Rattle.convergence_laws.proofs.FinishedNetwork.{none_found}
 use Rattle.convergence_laws.proofs.FlushedSchedules.{last_ends}
-use Rattle.convergence_laws.proofs.ListElements.{IsIn, in_at, in_flat_map}
+use Rattle.convergence_laws.proofs.ListElements.{IsIn, in_at, in_flat_map, in_right}
 use Rattle.convergence_laws.proofs.NewsLaws.{contains_in}
-use Rattle.forwarding_laws.specs.Rollout.{AllAccounted, IsAccounted, IsConnected, NoneIsStuck, NothingFails, says_stuck}
+use Rattle.forwarding_laws.specs.Rollout.{AllAccounted, AllAccountedOrCutOff, DropsNothing, EndsOrIsCutOff, EndsRightly, HasItem, IsConnected, IsDroppedRightly, IsStuckCutOff, NoneIsStuck, NothingFails}
+use Rattle.forwarding_laws.proofs.StandingItems.{stands_in}
 
 -- ---- what items tell last
 
@@ -53,75 +56,85 @@ told_some {X = X} tells x y (first ∷ items) is told none =
 
 -- ---- how a packet ended
 
-any_stuck : (x : Item) (items : List Item) → IsIn x items → says_stuck x ≡ true
-    → list_any says_stuck items ≡ true
-any_stuck x [] is stuck = absurd is
-any_stuck x (y ∷ items) is stuck = elim is [
-  | inl here ↦ ap (λ b. b || list_any says_stuck items) (ap says_stuck here ∙ stuck)
-  | inr later ↦ by_test (says_stuck y) (any_stuck x items later stuck)
-]
-  where
-    by_test : (b : Bool) → list_any says_stuck items ≡ true → (b || list_any says_stuck items) ≡ true
-    by_test true any = refl
-    by_test false any = any
+-- what is known of an item
+abbrev IsKnownEnd : Setting → List Item → Item → Type 0
+IsKnownEnd setting =
+    Both (PacketCause setting) (Both (HasCause setting) (DropsNothing setting))
 
--- the item that ended it
-ended_by : (journal : List Item) (i : ℕ) (x : Item) → NoneIsStuck journal → IsIn x journal
-    → gives_travelling i x ≡ Some false → IsAccounted journal i
-ended_by journal i (item.Entered packet switch header) none is ends = absurd (by_test (packet == i) ends)
+same_number : (packet i : ℕ) → (if packet == i then Some false else None) ≡ Some false
+    → packet ≡ i
+same_number packet i ends = by_test (packet == i) refl ends
+  where
+    by_test : (b : Bool) → (packet == i) ≡ b → (if b then Some false else None) ≡ Some false
+        → packet ≡ i
+    by_test true e ends = eqb-true packet i e
+    by_test false e ends = absurd cc
+
+-- by the item that ended it
+ends_so : (setting : Setting) (i : ℕ) (before : List Item) (x : Item)
+    → IsKnownEnd setting before x → gives_travelling i x ≡ Some false
+    → EndsOrIsCutOff setting i before x
+ends_so setting i before (item.Entered packet switch header) known ends =
+    absurd (by_test (packet == i) ends)
   where
     by_test : (b : Bool) → (if b then Some true else None) ≡ Some false → ⊥
     by_test true e = absurd cc
     by_test false e = absurd cc
-ended_by journal i (item.Dropped packet) none is ends = by_test (packet == i) refl ends
-  where
-    by_test : (b : Bool) → (packet == i) ≡ b → (if b then Some false else None) ≡ Some false
-        → IsAccounted journal i
-    by_test true e ends = inl (subst (λ n. Contains journal (item.Dropped n)) (eqb-true packet i e)
-        (contains_in (item.Dropped packet) journal is))
-    by_test false e ends = absurd cc
-ended_by journal i (item.Left packet port leaving) none is ends = by_test (packet == i) refl ends
-  where
-    by_test : (b : Bool) → (packet == i) ≡ b → (if b then Some false else None) ≡ Some false
-        → IsAccounted journal i
-    by_test true e ends = inr (inl (
-      port,
-      leaving,
-      subst (λ n. Contains journal (item.Left n port leaving)) (eqb-true packet i e)
-          (contains_in (item.Left packet port leaving) journal is),
-    ))
-    by_test false e ends = absurd cc
-ended_by journal i (item.Lost packet) none is ends = by_test (packet == i) refl ends
-  where
-    by_test : (b : Bool) → (packet == i) ≡ b → (if b then Some false else None) ≡ Some false
-        → IsAccounted journal i
-    by_test true e ends = inr (inr (subst (λ n. Contains journal (item.Lost n)) (eqb-true packet i e)
-        (contains_in (item.Lost packet) journal is)))
-    by_test false e ends = absurd cc
-ended_by journal i (item.Stuck packet switch cause leg down) none is ends =
-    let clash : true ≡ false =
-    sym (any_stuck (item.Stuck packet switch cause leg down) journal is refl) ∙ none in
-    absurd cc
-ended_by journal i x none is ends = absurd cc
+ends_so setting i before (item.Dropped packet) known ends =
+    let dropped : IsDroppedHere before packet = known.first in
+    let own : IsDroppedRightly before packet =
+    record { decision = dropped.decision; decided = dropped.decided; drops = dropped.action } in
+    let same = same_number packet i ends in
+    (same, subst (IsDroppedRightly before) same own)
+ends_so setting i before (item.Left packet port leaving) known ends =
+    let same = same_number packet i ends in
+    (same, subst (λ n. LeavesRightly setting before n port leaving) same known.second.first)
+ends_so setting i before (item.Lost packet) known ends =
+    let same = same_number packet i ends in
+    (same, subst (λ n. present_step before ≡ Some (Lose n)) same known.second.second)
+ends_so setting i before (item.Stuck packet switch cause leg down) known ends =
+    let same = same_number packet i ends in
+    (same, subst (λ n. IsStuckCutOff setting before n switch leg) same known.second.second)
+ends_so setting i before x known ends = absurd cc
 
 -- a packet that came in and doesn't travel has ended
-entered_ended : (journal : List Item) (i s : ℕ) (header : Header) → NoneIsStuck journal
-    → IsIn (item.Entered i s header) journal → travels journal i ≡ false → IsAccounted journal i
+entered_ended : (setting : Setting) (journal : List Item) (i s : ℕ) (header : Header)
+    → HaveCauses (IsKnownEnd setting) [] journal → IsIn (item.Entered i s header) journal
+    → travels journal i ≡ false → HasItem (EndsOrIsCutOff setting i) journal
 unfolding travels
-entered_ended journal i s header none is ended =
+entered_ended setting journal i s header known is ended =
     by_last (last_given (gives_travelling i) journal) refl ended
   where
     came : gives_travelling i (item.Entered i s header) ≡ Some true
     came = ap (λ b. if b then Some true else None) (eq-eqb i i refl)
 
     by_last : (o : Option Bool) → last_given (gives_travelling i) journal ≡ o
-        → unwrap_or o false ≡ false → IsAccounted journal i
+        → unwrap_or o false ≡ false → HasItem (EndsOrIsCutOff setting i) journal
     by_last None e ended =
         absurd (told_some (gives_travelling i) true (item.Entered i s header) journal is came e)
     by_last (Some true) e ended = absurd cc
     by_last (Some false) e ended =
-        let found = given_by (gives_travelling i) false journal e in
-        ended_by journal i found.0 none found.1 found.2
+        let last = given_by (gives_travelling i) false journal e in
+        let at = stands_in (IsKnownEnd setting) [] journal last.0 known last.1 in
+        record {
+          before = at.front;
+          found = last.0;
+          rest = at.rest;
+          stands = at.split;
+          own = ends_so setting i at.front last.0 at.own last.2;
+        }
+
+-- where none is stuck it wasn't cut off
+not_cut_off : (setting : Setting) (i : ℕ) (journal before : List Item) (x : Item)
+    (rest : List Item) → NoneIsStuck journal → journal ≡ before ++ x ∷ rest
+    → EndsOrIsCutOff setting i before x → EndsRightly setting i before x
+not_cut_off setting i journal before (item.Stuck packet switch cause leg down) rest none stands
+    own =
+    let stuck : Item = item.Stuck packet switch cause leg down in
+    absurd (none packet switch cause leg down
+    (contains_in stuck journal
+    (subst (IsIn stuck) (sym stands) (in_right stuck before (stuck ∷ rest) (inl refl)))))
+not_cut_off setting i journal before x rest none stands own = own
 
 -- ---- behind a drain
 
@@ -141,27 +154,68 @@ none_travels journal i s header numbered none is =
     (subst (λ numbers. IsIn i numbers) numbered.packets
     (in_flat_map packet_number (item.Entered i s header) i journal is (inl refl)))
 
-pub all_accounted : ((setting : Setting) (events : List Event) (journal : List Item)
+abbrev Reaches : (Setting → List Item → Item → Type 0) → Type 0
+Reaches cause = HoldsReached (λ setting journal.
+    IsSetting setting → HaveCauses (cause setting) [] journal)
+
+pub accounted_or_cut_off : ((setting : Setting) (events : List Event) (journal : List Item)
     → BeginsAnswer setting events journal → AreNumbered journal)
+    → Reaches PacketCause → Reaches HasCause
     → ((setting : Setting) (events : List Event) (journal : List Item)
     → IsSetting setting → AreEvents setting events → NothingFails events
-    → IsConnected setting.net → BeginsAnswer setting events journal → NoneIsStuck journal)
+    → BeginsAnswer setting events journal → HaveCauses (DropsNothing setting) [] journal)
     → (setting : Setting) (events : List Event) (journal : List Item)
     → IsSetting setting → AreEvents setting (events ++ Drain ∷ [])
-    → NothingFails (events ++ Drain ∷ []) → IsConnected setting.net
-    → Answers setting (events ++ Drain ∷ []) journal → AllAccounted journal
-all_accounted number none_stuck setting events journal is own nothing connected answers i s header
-    found =
-    entered_ended journal i s header
-    (none_stuck setting (events ++ Drain ∷ []) journal is own nothing connected begins) there
-    (none_travels journal i s header (number setting (events ++ Drain ∷ []) journal begins)
+    → NothingFails (events ++ Drain ∷ [])
+    → Answers setting (events ++ Drain ∷ []) journal → AllAccountedOrCutOff setting journal
+accounted_or_cut_off number packets ends drops setting events journal is own nothing answers i s
+    header found =
+    entered_ended setting journal i s header known there
+    (none_travels journal i s header (number setting asked journal begins)
     (none_hops journal (subst (λ j. next_hop j ≡ None) (sym answers.written)
     (last_ends setting next_hop Drain (λ row before steps are. are) 1 events [] answers.steps
     answers.allowed))) there)
   where
-    begins : BeginsAnswer setting (events ++ Drain ∷ []) journal
-    begins = begins_itself setting (events ++ Drain ∷ []) journal
-        (answers_so_far setting (events ++ Drain ∷ []) journal answers)
+    asked : List Event
+    asked = events ++ Drain ∷ []
+
+    begins : BeginsAnswer setting asked journal
+    begins = begins_itself setting asked journal (answers_so_far setting asked journal answers)
+
+    known : HaveCauses (IsKnownEnd setting) [] journal
+    known = have_both (PacketCause setting) (Both (HasCause setting) (DropsNothing setting)) []
+        journal (packets.begun setting asked journal own begins is)
+        (have_both (HasCause setting) (DropsNothing setting) [] journal
+        (ends.begun setting asked journal own begins is)
+        (drops setting asked journal is own nothing begins))
 
     there : IsIn (item.Entered i s header) journal
     there = in_at journal found.0 (item.Entered i s header) found.1 found.2
+
+pub all_accounted : ((setting : Setting) (events : List Event) (journal : List Item)
+    → IsSetting setting → AreEvents setting events → NothingFails events
+    → IsConnected setting.net → BeginsAnswer setting events journal → NoneIsStuck journal)
+    → ((setting : Setting) (events : List Event) (journal : List Item)
+    → IsSetting setting → AreEvents setting (events ++ Drain ∷ [])
+    → NothingFails (events ++ Drain ∷ [])
+    → Answers setting (events ++ Drain ∷ []) journal → AllAccountedOrCutOff setting journal)
+    → (setting : Setting) (events : List Event) (journal : List Item)
+    → IsSetting setting → AreEvents setting (events ++ Drain ∷ [])
+    → NothingFails (events ++ Drain ∷ []) → IsConnected setting.net
+    → Answers setting (events ++ Drain ∷ []) journal → AllAccounted setting journal
+all_accounted none_stuck account setting events journal is own nothing connected answers i s header
+    found =
+    let end = account setting events journal is own nothing answers i s header found in
+    record {
+      before = end.before;
+      found = end.found;
+      rest = end.rest;
+      stands = end.stands;
+      own = not_cut_off setting i journal end.before end.found end.rest
+          (none_stuck setting asked journal is own nothing connected
+          (begins_itself setting asked journal (answers_so_far setting asked journal answers)))
+          end.stands end.own;
+    }
+  where
+    asked : List Event
+    asked = events ++ Drain ∷ []

@@ -1,6 +1,6 @@
 -- In a journal of rows that crash no switch and fail no link nothing fails, and a packet is stuck
 -- only where the network's links lead to no target.
-use Rattle.std.proofs.Common.{ℕ, ◌≡◌, ◌≢◌, ◌<◌, ◌⊎◌, ◌==◌, ◌&&◌, ◌||◌, Bool, true, false, not, if◌then◌else◌, Option, Some, None, List, [], ◌∷◌, ◌++◌, refl, ap, sym, subst, ◌∙◌, arith, inl, inr}
+use Rattle.std.proofs.Common.{ℕ, ◌≡◌, ◌≢◌, ◌<◌, ◌⊎◌, ◌==◌, ◌&&◌, ◌||◌, Bool, true, false, not, if◌then◌else◌, Option, Some, None, List, [], ◌∷◌, ◌++◌, length, refl, ap, sym, subst, ◌∙◌, arith, inl, inr}
 use Rattle.std.specs.Prelude.{⊤, IsTrue, IsFalse, get_or}
 use Rattle.std.specs.List.{list_any}
 use Rattle.std.specs.Option.{option_map_or}
@@ -9,7 +9,6 @@ use Rattle.std.proofs.lemmas.List.Folds.{list_any-append}
 use Rattle.net_file.specs.Joins.{are_linked}
 use Rattle.net_file.specs.Net.{IsNet}
 use Rattle.net_file.proofs.RowPlaces.{links}
-use Rattle.policy_rules.specs.declared.packet.Leg.{Leg}
 use Rattle.journal.specs.declared.item.Item.{Item}
 use Rattle.journal.specs.declared.item.Item.TheVariants as item
 use Rattle.steps.specs.declared.step.Event.{Event}
@@ -29,9 +28,11 @@ use Rattle.control_laws.proofs.ItemFacts.{AreKept, Behind, Both, have_both, have
 use Rattle.control_laws.proofs.FactsGrown.{up_more}
 use Rattle.packet_laws.proofs.SparedPackets.{IsNoRow}
 use Rattle.packet_laws.proofs.RestingPackets.{no_rows}
-use Rattle.forwarding_laws.specs.Rollout.{DropsNothing, FailsNothing, IsStuckCutOff, NothingFails, fails}
+use Rattle.packet_laws.specs.PacketCauses.{PacketCause}
+use Rattle.forwarding_laws.specs.Rollout.{DropsNothing, FailsNothing, NothingFails, fails}
+use Rattle.forwarding_laws.proofs.ConnectedTargets.{IsKeptItem, are_kept_items, stuck_among}
 use Rattle.forwarding_laws.proofs.WholeClaims.{ClaimsAll, are_claimed}
-use Rattle.forwarding_laws.proofs.UnfailingItems.{IsUnfailing, all_usable}
+use Rattle.forwarding_laws.proofs.UnfailingItems.{IsUnfailing, all_up, all_usable}
 
 -- ---- rows
 
@@ -224,45 +225,62 @@ module _ (setting : Setting) (net : IsNet setting.net) where
     leads_open before sound packet s next path target leads.1,
   )
 
-  stuck_apart : (before : List Item) → IsSound setting before → (packet switch : ℕ) (leg : Leg)
-      → IsStuckRightly setting before packet switch leg
-      → IsStuckCutOff setting before packet switch leg
-  stuck_apart before sound packet switch leg stuck = record {
-    stands = stuck.stands;
-    targets = stuck.targets;
-    own_leg = stuck.own_leg;
-    apart = λ k d within path leads.
-        stuck.no_path k d within path
-        (leads_open before sound packet switch switch path (get_or stuck.targets k d) leads);
-  }
+  not_empty : (targets : List ℕ) → 0 < length targets → targets ≢ []
+  not_empty [] some = absurd (omega (arith, some))
+  not_empty (target ∷ targets) some = λ none. absurd cc
 
-  drops_nothing : (before : List Item) (next : Item)
-      → Behind (IsCaused setting) (IsSound setting) before next → DropsNothing setting before next
-  drops_nothing before (item.Stuck packet switch cause leg down) behind =
-      stuck_apart before behind.known packet switch leg behind.caused.first
-  drops_nothing before (item.Lost packet) behind = elim behind.caused.first [
+  -- all that is known of an item
+  abbrev IsKnown : List Item → Item → Type 0
+  IsKnown = Both (Behind (IsCaused setting) (IsSound setting)) (IsKeptItem setting)
+
+  drops_nothing : IsSetting setting → (before : List Item) (next : Item) → IsKnown before next
+      → DropsNothing setting before next
+  drops_nothing is before (item.Stuck packet switch cause leg down) known =
+      let stuck : IsStuckRightly setting before packet switch leg = known.first.caused.first in
+      let among = stuck_among setting is before packet switch cause leg down stuck.targets
+      known.second stuck.own_leg in
+      record {
+        stands = stuck.stands;
+        targets = stuck.targets;
+        own_leg = stuck.own_leg;
+        has_targets = not_empty stuck.targets among.among.some;
+        cut_off = λ k d within path leads.
+            stuck.no_path k d within path
+            (leads_open before known.first.known packet switch switch path
+            (get_or stuck.targets k d) leads);
+      }
+  drops_nothing is before (item.Lost packet) known = elim known.first.caused.first [
     | inl own ↦ own
     | inr crashed ↦
-        let clash : true ≡ false = behind.known.step (Crash crashed.switch) crashed.crashes in
+        let clash : true ≡ false =
+        known.first.known.step (Crash crashed.switch) crashed.crashes in
         absurd cc
   ]
-  drops_nothing before (item.FoundDown packet one two) behind =
-      let down = behind.caused.first in
+  drops_nothing is before (item.FoundDown packet one two) known =
+      let down = known.first.caused.first in
       let clash : true ≡ false =
-      sym down.linked ∙ sym (all_usable setting before (safe_of before behind.known) one two)
+      sym down.linked ∙ sym (all_usable setting before (safe_of before known.first.known) one two)
       ∙ down.unusable in
       absurd cc
-  drops_nothing before next behind = tt
+  drops_nothing is before (item.Closed packet switch) known =
+      let refused : PacketCause setting before (item.Closed packet switch) =
+      known.second.caused.caused.way in
+      let clash : true ≡ false =
+      sym ((all_up before (safe_of before known.first.known)).serving switch) ∙ refused.1 in
+      absurd cc
+  drops_nothing is before next known = tt
 
 pub rollouts : HoldsReached (λ setting journal. IsSetting setting → HaveCauses (HasCause setting) [] journal)
     → (setting : Setting) (events : List Event) (journal : List Item)
     → IsSetting setting → AreEvents setting events → NothingFails events
     → BeginsAnswer setting events journal → HaveCauses (DropsNothing setting) [] journal
 rollouts ends setting events journal is own nothing begins =
-    have_weaker (Behind (IsCaused setting) (IsSound setting)) (DropsNothing setting)
-    (drops_nothing setting is.net) [] journal
+    have_weaker (Both (Behind (IsCaused setting) (IsSound setting)) (IsKeptItem setting))
+    (DropsNothing setting) (drops_nothing setting is.net is) [] journal
+    (have_both (Behind (IsCaused setting) (IsSound setting)) (IsKeptItem setting) [] journal
     (with_fact (IsCaused setting) (IsSound setting) (sound_kept setting is.net) [] journal caused
     (sound_at_first setting is.net))
+    (are_kept_items setting events journal is own begins))
   where
     both : HaveCauses (HasBothCauses setting) [] journal
     both = (behind_both (λ setting journal. HaveCauses (HasBothCauses setting) [] journal)

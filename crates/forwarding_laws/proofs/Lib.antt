@@ -14,8 +14,10 @@ pub mod RecoveredNetworks
 pub mod CacheStamps
 pub mod SecondRounds
 pub mod TwoRounds
+pub mod StandingItems
 pub mod UnfailingItems
 pub mod WholeClaims
-pub mod DroppedNothing
 pub mod ConnectedTargets
+pub mod DroppedNothing
 pub mod DrainedAccounts
+pub mod WorkingPlays

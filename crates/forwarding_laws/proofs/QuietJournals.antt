@@ -10,7 +10,6 @@ use Rattle.convergence_laws.specs.Stuck.{GetStuckApart}
 use Rattle.convergence_laws.specs.Updated.{IsUpdated}
 use Rattle.packet_laws.specs.Between.{HoldsBetween, steps_played}
 use Rattle.packet_laws.proofs.ReachedJournals.{between}
-use Rattle.packet_laws.proofs.RestingPackets.{IsSettled}
 use Rattle.forwarding_laws.specs.Forwards.{QuietForwards}
 use Rattle.forwarding_laws.specs.ToRest.{HasComeToRest}
 use Rattle.forwarding_laws.proofs.ForwardedPacket.{forwards}

@@ -5,3 +5,4 @@ pub mod Recovery
 pub mod Recovered
 pub mod NothingOld
 pub mod Rollout
+pub mod Working

@@ -2,22 +2,22 @@
 -- controller are lost, repeated or reordered: no packet is dropped by the network. That an update
 -- drops none is asked of it by Reitblatt, Foster, Rexford, Schlesinger and Walker, "Abstractions
 -- for Network Update".
-use Rattle.std.specs.Prelude.{⊤, ℕ, ◌≡◌, ◌⊎◌, Bool, true, false, Some, List, All, Contains, IsFalse}
-use Rattle.std.specs.List.{list_any}
+use Rattle.std.specs.Prelude.{⊤, ℕ, ◌≡◌, ◌≢◌, Bool, true, false, Some, List, [], ◌∷◌, ◌++◌, All, Contains, IsFalse}
 use Rattle.five_tuple.specs.declared.header.Header.{Header}
 use Rattle.journal.specs.declared.item.Item.{Item}
 use Rattle.journal.specs.declared.item.Item.TheVariants as item
 use Rattle.net_file.specs.Joins.{are_linked}
 use Rattle.net_file.specs.declared.net.Net.{Net}
-use Rattle.policy_rules.specs.declared.packet.Leaving.{Leaving}
+use Rattle.policy_rules.specs.declared.packet.Cause.{Cause}
 use Rattle.policy_rules.specs.declared.packet.Leg.{Leg}
+use Rattle.policy_rules.specs.declared.policy.Action.TheVariants.{Drop}
 use Rattle.steps.specs.Steps.{HasSwitch}
 use Rattle.steps.specs.declared.step.Event.{Event}
 use Rattle.steps.specs.declared.step.Event.TheVariants.{One}
 use Rattle.steps.specs.declared.step.Step.{Step}
 use Rattle.steps.specs.declared.step.Step.TheVariants.{Crash, LinkDown, Lose}
-use Rattle.update_machine.specs.Causes.{AreTargets, Leads, present_step}
-use Rattle.update_machine.specs.Packets.{standing}
+use Rattle.update_machine.specs.Causes.{AreTargets, Leads, LeavesRightly, present_step}
+use Rattle.update_machine.specs.Packets.{Decision, decision_of, standing}
 use Rattle.update_machine.specs.Setting.{Setting}
 
 -- a row that crashes a switch or fails a link
@@ -35,26 +35,28 @@ abbrev pub NothingFails : List Event → Type 0
 NothingFails events = All FailsNothing events
 
 -- the links of the network lead from the switch to none of the targets
-abbrev pub IsApart : Net → ℕ → List ℕ → Type 0
-IsApart net switch targets = All (λ target. (path : List ℕ)
+abbrev pub AreCutOff : Net → ℕ → List ℕ → Type 0
+AreCutOff net switch targets = All (λ target. (path : List ℕ)
     → ¬ Leads (are_linked net.links) switch path target) targets
 
--- a packet is stuck where it stands: the links of the network lead from there to no target of its
--- leg
+-- a packet is stuck where it stands: its leg has targets, and the links of the network lead from
+-- there to none of them
 pub record IsStuckCutOff (setting : Setting) (before : List Item) (packet switch : ℕ) (leg : Leg)
     : Type 0 where
   pub stands : standing before packet ≡ Some switch
   pub targets : List ℕ
   pub own_leg : AreTargets setting before packet leg targets
-  pub apart : IsApart setting.net switch targets
+  pub has_targets : targets ≢ []
+  pub cut_off : AreCutOff setting.net switch targets
 
--- so it is of each packet that is stuck; one is lost by its own row alone; and none finds a link
--- down
+-- so it is of each packet that is stuck; one is lost by its own row alone; none finds a link down;
+-- and none is refused by a closed switch
 abbrev pub DropsNothing : Setting → List Item → Item → Type 0
 DropsNothing setting before (item.Stuck packet switch cause leg down) =
     IsStuckCutOff setting before packet switch leg
 DropsNothing setting before (item.Lost packet) = present_step before ≡ Some (Lose packet)
 DropsNothing setting before (item.FoundDown packet one two) = ⊥
+DropsNothing setting before (item.Closed packet switch) = ⊥
 DropsNothing setting before _ = ⊤
 
 -- ---- connected networks
@@ -64,23 +66,51 @@ abbrev pub IsConnected : Net → Type 0
 IsConnected net = (one other : ℕ) → HasSwitch net one → HasSwitch net other
     → (path : List ℕ) × Leads (are_linked net.links) one path other
 
-abbrev pub says_stuck : Item → Bool
-says_stuck (item.Stuck packet switch cause leg down) = true
-says_stuck _ = false
-
 -- no packet is stuck
 abbrev pub NoneIsStuck : List Item → Type 0
-NoneIsStuck journal = IsFalse (list_any says_stuck journal)
+NoneIsStuck journal = (packet switch : ℕ) (cause : Cause) (leg : Leg) (down : List ℕ)
+    → ¬ Contains journal (item.Stuck packet switch cause leg down)
 
 -- ---- the whole account
 
--- the packet was dropped, left by a port, or was lost
-abbrev pub IsAccounted : List Item → ℕ → Type 0
-IsAccounted journal packet = Contains journal (item.Dropped packet)
-    ⊎ (((port : ℕ) × (leaving : Leaving) × Contains journal (item.Left packet port leaving))
-    ⊎ Contains journal (item.Lost packet))
+-- the packet was decided, and by that dropped
+pub record IsDroppedRightly (before : List Item) (packet : ℕ) : Type 0 where
+  pub decision : Decision
+  pub decided : decision_of before packet ≡ Some decision
+  pub drops : decision.action ≡ Drop
 
--- so it is of each packet that came in
-abbrev pub AllAccounted : List Item → Type 0
-AllAccounted journal = (packet switch : ℕ) (header : Header)
-    → Contains journal (item.Entered packet switch header) → IsAccounted journal packet
+-- how a packet ends where no switch of its targets is cut off: by its decision it is dropped, or
+-- leaves by the port of that; or it is lost by its own row
+abbrev pub EndsRightly : Setting → ℕ → List Item → Item → Type 0
+EndsRightly setting packet before (item.Dropped i) = (i ≡ packet) × IsDroppedRightly before packet
+EndsRightly setting packet before (item.Left i port leaving) =
+    (i ≡ packet) × LeavesRightly setting before packet port leaving
+EndsRightly setting packet before (item.Lost i) =
+    (i ≡ packet) × (present_step before ≡ Some (Lose packet))
+EndsRightly setting packet before _ = ⊥
+
+-- or it is stuck where it is cut off from its targets
+abbrev pub EndsOrIsCutOff : Setting → ℕ → List Item → Item → Type 0
+EndsOrIsCutOff setting packet before (item.Stuck i switch cause leg down) =
+    (i ≡ packet) × IsStuckCutOff setting before packet switch leg
+EndsOrIsCutOff setting packet before end = EndsRightly setting packet before end
+
+-- the journal has an item that is so behind those before it
+pub record HasItem (is : List Item → Item → Type 0) (journal : List Item) : Type 0 where
+  pub before : List Item
+  pub found : Item
+  pub rest : List Item
+  pub stands : journal ≡ before ++ found ∷ rest
+  pub own : is before found
+
+-- each packet that came in ended rightly
+abbrev pub AllAccounted : Setting → List Item → Type 0
+AllAccounted setting journal = (packet switch : ℕ) (header : Header)
+    → Contains journal (item.Entered packet switch header)
+    → HasItem (EndsRightly setting packet) journal
+
+-- or is stuck where it is cut off
+abbrev pub AllAccountedOrCutOff : Setting → List Item → Type 0
+AllAccountedOrCutOff setting journal = (packet switch : ℕ) (header : Header)
+    → Contains journal (item.Entered packet switch header)
+    → HasItem (EndsOrIsCutOff setting packet) journal

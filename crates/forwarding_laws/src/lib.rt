@@ -7,6 +7,7 @@
 mod laws;
 mod recovery;
 mod rollout;
+mod working;
 
 pub use laws::{
     converged_networks_forward, quiet_networks_forward, quiet_networks_have_come_to_rest,
@@ -16,5 +17,7 @@ pub use recovery::{
     recovered_neighbours_agree, recovered_networks_are_updated, recovered_networks_have_converged,
 };
 pub use rollout::{
-    connected_rollouts_leave_none_stuck, drained_rollouts_account_for_all, rollouts_drop_nothing,
+    connected_rollouts_leave_none_stuck, drained_rollouts_account_for_all,
+    drained_rollouts_account_or_cut_off, rollouts_drop_nothing,
 };
+pub use working::plays_keep_working;

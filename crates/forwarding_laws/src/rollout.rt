@@ -3,15 +3,15 @@ ghost use Rattle.std.specs.Prelude.{◌∷◌, ◌++◌, [], List};
 ghost use Rattle.steps.specs.declared.step.Event.TheVariants.{Drain};
 ghost use Rattle.update_machine.specs.Exports.{Answers, BeginsAnswer, Event, HaveCauses, IsSetting, Item, Setting};
 ghost use Rattle.control_laws.specs.Always.{AreEvents};
-ghost use Rattle.forwarding_laws.specs.Rollout.{AllAccounted, DropsNothing, IsConnected, NoneIsStuck, NothingFails};
+ghost use Rattle.forwarding_laws.specs.Rollout.{AllAccounted, AllAccountedOrCutOff, DropsNothing, IsConnected, NoneIsStuck, NothingFails};
 
-use packet_laws::ends_have_causes;
+use packet_laws::{ends_have_causes, packet_items_have_causes};
 use update_machine::answers_are_numbered;
 
 /// Where no switch crashes and no link fails, however many updates run, and however messages are
 /// lost, repeated or reordered, a packet is stuck only where the links of the network lead from
-/// where it stands to no target of its leg; it is lost by its own row alone; and none finds a link
-/// down.
+/// where it stands to no target of its leg; it is lost by its own row alone; none finds a link down;
+/// and none is refused at a closed switch.
 pub fn rollouts_drop_nothing()
     ensures { (setting : Setting) (events : List Event) (journal : List Item)
         → IsSetting setting → AreEvents setting events → NothingFails events
@@ -29,16 +29,29 @@ pub fn connected_rollouts_leave_none_stuck()
     rollouts_drop_nothing();
 }
 
-/// And where the schedule ends with a drain, each packet that came in was dropped, left by a port,
-/// or was lost. That the port is the one of its decision, that it was dropped by its decision, and
-/// that it was lost by its own row, say `ends_have_causes`, `answers_are_runs` and
-/// `rollouts_drop_nothing`.
+/// And where the schedule ends with a drain, each packet that came in was dropped by its decision,
+/// left by the port of that, or was lost by its own row; or it is stuck where the links of the
+/// network lead from where it stands to no target of its leg.
+pub fn drained_rollouts_account_or_cut_off()
+    ensures { (setting : Setting) (events : List Event) (journal : List Item)
+        → IsSetting setting → AreEvents setting (events ++ Drain ∷ [])
+        → NothingFails (events ++ Drain ∷ []) → Answers setting (events ++ Drain ∷ []) journal
+        → AllAccountedOrCutOff setting journal }
+{
+    answers_are_numbered();
+    packet_items_have_causes();
+    ends_have_causes();
+    rollouts_drop_nothing();
+}
+
+/// In a connected network each was dropped by its decision, left by the port of that, or was lost by
+/// its own row.
 pub fn drained_rollouts_account_for_all()
     ensures { (setting : Setting) (events : List Event) (journal : List Item)
         → IsSetting setting → AreEvents setting (events ++ Drain ∷ [])
         → NothingFails (events ++ Drain ∷ []) → IsConnected setting.net
-        → Answers setting (events ++ Drain ∷ []) journal → AllAccounted journal }
+        → Answers setting (events ++ Drain ∷ []) journal → AllAccounted setting journal }
 {
-    answers_are_numbered();
     connected_rollouts_leave_none_stuck();
+    drained_rollouts_account_or_cut_off();
 }

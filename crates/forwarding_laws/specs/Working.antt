@@ -1,0 +1,36 @@
+-- What the journal of a play says of its network at work: it recovers where the schedule ends so,
+-- nothing old is left behind a second round, and a rollout drops nothing. Of a play that stopped
+-- full only the last holds, for it didn't come to its end.
+use Rattle.std.specs.Prelude.{ℕ, ◌≡◌, Option, None, List, [], ◌∷◌, ◌++◌}
+use Rattle.journal.specs.declared.item.Item.{Item}
+use Rattle.steps.specs.declared.step.Event.{Event}
+use Rattle.steps.specs.declared.step.Event.TheVariants.{Drain}
+use Rattle.control_laws.specs.Always.{AreEvents}
+use Rattle.update_machine.specs.Causes.{HaveCauses}
+use Rattle.update_machine.specs.Full.{IsPlay}
+use Rattle.update_machine.specs.Setting.{IsSetting, Setting}
+use Rattle.forwarding_laws.specs.NothingOld.{EndsInTwoRounds, LeavesNothingOld}
+use Rattle.forwarding_laws.specs.Recovered.{HasRecovered}
+use Rattle.forwarding_laws.specs.Recovery.{EndsInRecovery}
+use Rattle.forwarding_laws.specs.Rollout.{AllAccounted, AllAccountedOrCutOff, DropsNothing, IsConnected, NoneIsStuck, NothingFails}
+
+-- the last row drains the network
+abbrev pub EndsInDrain : List Event → Type 0
+EndsInDrain events = (front : List Event) × (events ≡ front ++ Drain ∷ [])
+
+pub record KeepsWorking (setting : Setting) (events : List Event) (journal : List Item)
+    (full : Option ℕ) : Type 0 where
+  pub recovers : full ≡ None → EndsInRecovery setting.net events → HasRecovered setting journal
+  pub renews : full ≡ None → EndsInTwoRounds setting.net events → LeavesNothingOld setting journal
+  pub drops_nothing : NothingFails events → HaveCauses (DropsNothing setting) [] journal
+  pub leaves_none_stuck : NothingFails events → IsConnected setting.net → NoneIsStuck journal
+  pub accounts_or_cut_off : full ≡ None → EndsInDrain events → NothingFails events
+      → AllAccountedOrCutOff setting journal
+  pub accounts_for_all : full ≡ None → EndsInDrain events → NothingFails events
+      → IsConnected setting.net → AllAccounted setting journal
+
+-- so it is of each play of a setting, whose events name its own switches and ports
+abbrev pub PlaysKeepWorking : Type 0
+PlaysKeepWorking = (setting : Setting) (events : List Event) (journal : List Item)
+    (full : Option ℕ) → IsSetting setting → AreEvents setting events
+    → IsPlay setting events journal full → KeepsWorking setting events journal full

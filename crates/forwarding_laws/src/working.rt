@@ -1,0 +1,22 @@
+//! The law of plays.
+ghost use Rattle.forwarding_laws.specs.Exports.{PlaysKeepWorking};
+
+use crate::recovery::{networks_recover, nothing_old_is_left};
+use crate::rollout::{
+    connected_rollouts_leave_none_stuck, drained_rollouts_account_for_all,
+    drained_rollouts_account_or_cut_off, rollouts_drop_nothing,
+};
+
+/// A play keeps its network working: where its schedule ends in recovery, the network has
+/// recovered; behind a second round nothing old is left; and where nothing fails no packet is
+/// dropped but by its decision, also in a play that stopped full.
+pub fn plays_keep_working()
+    ensures { PlaysKeepWorking }
+{
+    networks_recover();
+    nothing_old_is_left();
+    rollouts_drop_nothing();
+    connected_rollouts_leave_none_stuck();
+    drained_rollouts_account_or_cut_off();
+    drained_rollouts_account_for_all();
+}
