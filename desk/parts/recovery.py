@@ -2,13 +2,9 @@
 
 The rows are a `confirm` of each switch, a `resend` of each switch, and a `flush`.
 """
-import atexit
 import csv
-import shutil
-import tempfile
-from pathlib import Path
 
-from .asking import SCHEDULE
+from .asking import SCHEDULE, joined
 from .folder import Case
 from .network import DOWN
 from .texts import table
@@ -26,10 +22,7 @@ BODIES = {
 
 def prepared(question):
     """The same question in a folder of its own, whose schedule has the recovery rows behind it."""
-    folder = Path(tempfile.mkdtemp(prefix="difane-"))
-    atexit.register(shutil.rmtree, folder, ignore_errors=True)
-    for name in question.files:
-        (folder / name).symlink_to((question.folder / name).resolve())
+    folder = joined({name: question.folder / name for name in question.files})
     schedule = (question.folder / SCHEDULE).read_bytes()
     end = b"" if schedule.endswith(b"\n") else b"\n"
     names = [row["name"] for row in Case(folder / JOURNAL, "").net()["switch"]]
