@@ -22,3 +22,11 @@ _difane() {
     fi
 }
 complete -o filenames -o plusdirs -F _difane difane
+
+# Of desk/run: the commands of the program and the options, and folders.
+_difane_run() {
+    local words='replay compile show flows rebalance audit load
+        --quiet --recover --trace --build --model --program --help'
+    mapfile -t COMPREPLY < <(compgen -W "$words" -- "${COMP_WORDS[COMP_CWORD]}")
+}
+complete -o plusdirs -F _difane_run difane-run desk/run

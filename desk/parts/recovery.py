@@ -25,7 +25,7 @@ def prepared(question):
     folder = joined({name: question.folder / name for name in question.files})
     schedule = (question.folder / SCHEDULE).read_bytes()
     end = b"" if schedule.endswith(b"\n") else b"\n"
-    names = [row["name"] for row in Case(folder / JOURNAL, "").net()["switch"]]
+    names = [row["name"] for row in Case(question.folder / JOURNAL, "").net()["switch"]]
     (folder / ROWS).write_bytes(schedule + end + recovery_rows(names).encode())
     args = [ROWS if arg == SCHEDULE else arg for arg in question.args]
     files = [ROWS if name == SCHEDULE else name for name in question.files]
@@ -82,7 +82,8 @@ class Report:
     def lines(self):
         """The report: what was lost, the version, the links and the switches."""
         network = self.play.network
-        yield f"lost before the recovery rows: {len(self.lost)} messages"
+        plural = "" if len(self.lost) == 1 else "s"
+        yield f"lost before the recovery rows: {len(self.lost)} message{plural}"
         if self.lost:
             yield from table(["message", "sent in row", "what it said", "lost"], self.lost)
         yield ""
