@@ -43,6 +43,9 @@ def faults(folder):
     for name, words, wanted in blocks:
         if call(prefix, folder, name, words, user) != wanted:
             yield f"difane-{name} {words} prints another text"
+    said = call(prefix, folder, "run", "first", user)
+    if "decided 1 v1 " not in said or "desk/run: " not in said:
+        yield f"difane-run first prints {said}"
     for place in ("share/man/man1/difane.1", "share/bash-completion/completions/difane"):
         if not (prefix / place).is_file():
             yield f"there is no {place}"

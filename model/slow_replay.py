@@ -550,8 +550,9 @@ class World:
         self.journal.switches = self.switches
         self.waited_for = set()
         self.controller = Controller(self.journal, len(self.switches))
-        self.packets = {}
+        self.packets, self.going = {}, []  # of those that are going some may have ended
         self.packet_rows = 0
+        self.flushed = 0  # no message up to this one waits
 
     # Links: which are usable, and what switches tell of them.
 
@@ -698,7 +699,8 @@ class World:
         return packet if packet is not None and packet.travels else None
 
     def all_travelling(self):
-        return [packet for packet in self.packets.values() if packet.travels]
+        self.going = [packet for packet in self.going if packet.travels]
+        return self.going
 
     def row_packet(self, name, src, dst, sport, dport, proto):
         """The number of a packet is that of its row, also where the switch doesn't serve."""
@@ -711,6 +713,7 @@ class World:
         addresses = [plan_model.address(text)[0] for text in (src, dst)]
         header = plan_model.pack(*addresses, int(sport), int(dport), protocol)
         self.packets[number] = Packet(number, header, here)
+        self.going.append(self.packets[number])
         self.say(f"entered {number} {name}")
         self.look_up(self.packets[number])
 
@@ -943,11 +946,10 @@ class World:
 
     def flush(self, row):
         """Each message that waits, in order; also those that are sent meanwhile."""
-        message = 1
-        while message <= len(self.journal.messages):
-            if message not in self.journal.delivered | self.journal.forgotten:
-                self.step(row, "deliver", message)
-            message += 1
+        while self.flushed < len(self.journal.messages):
+            self.flushed += 1
+            if self.flushed not in self.journal.delivered and self.journal.has(self.flushed):
+                self.step(row, "deliver", self.flushed)
 
     def play(self, rows):
         for row, (kind, *fields) in enumerate(rows, 1):

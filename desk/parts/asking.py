@@ -1,6 +1,9 @@
 """What desk/run is asked: its arguments, and the questions that they make of folders."""
+import atexit
 import os
+import shutil
 import stat
+import tempfile
 import tomllib
 from itertools import takewhile
 from pathlib import Path
@@ -29,7 +32,8 @@ class Options:
     """The arguments of desk/run: folders, commands, flags, and the path of a program."""
 
     def __init__(self, words):
-        self.flags, self.folders, self.commands, self.program = set(), [], [], None
+        self.flags, self.folders, self.commands = set(), [], []
+        self.program = self.trace = None
         left = list(words)
         while left:
             word = left.pop(0)
@@ -37,6 +41,8 @@ class Options:
                 self.flags.add(word)
             elif word == "--program":
                 self.program = Path(self.next(left, "--program", "the path of a program")).resolve()
+            elif word == "--trace":
+                self.trace = trace_of(self.next(left, "--trace", "the file of a journal"))
             elif word.startswith("-"):
                 raise Mistake(f"there is no option {word}; --help tells which there are")
             elif word in COMMANDS and (word != "load" or not self.folders):
@@ -65,6 +71,8 @@ class Options:
             raise Mistake("--quiet goes with replay only")
         if "--recover" in self.flags and names != ["replay"]:
             raise Mistake("--recover goes with replay only, and with no further command")
+        if self.trace and names != ["audit"]:
+            raise Mistake("--trace goes with audit only, and with no further command")
         if len(who) > 1:
             raise Mistake(f"{who[0]} and {who[1]} say each who is asked: give one of them")
         if "" in self.folders:
@@ -85,6 +93,14 @@ def names_in(folders):
         return f": {', '.join(map(str, names[:20]))}"
     except (OSError, ValueError, LookupError, TypeError, StopIteration):
         return ""
+
+
+def trace_of(name):
+    """The file at this path, or else that of the examples."""
+    path = Path(name) if Path(name).exists() else EXAMPLES / name
+    if not path.is_file():
+        raise Mistake(f"there is no file {name}")
+    return path.resolve()
 
 
 def folder_of(name):
@@ -131,13 +147,32 @@ def check_kind(path):
         raise Mistake(f"{path} is no file but a pipe or a device; put a file in its place")
 
 
-def question_of(folder, label, command, flags):
+def joined(places):
+    """A folder that is there as long as the script runs, with links of these names to files."""
+    folder = Path(tempfile.mkdtemp(prefix="difane-"))
+    atexit.register(shutil.rmtree, folder, ignore_errors=True)
+    for name, path in places.items():
+        (folder / name).symlink_to(path.resolve())
+    return folder
+
+
+def traced(question, trace):
+    """The same audit, of another trace."""
+    if trace is None:
+        return question
+    places = {name: question.folder / name for name in question.files} | {trace.name: trace}
+    files = [trace.name, *question.files]
+    return question._replace(folder=joined(places), files=files, args=["audit", *files])
+
+
+def question_of(folder, label, command, options):
     """The question that a command asks about a folder."""
-    name, *rest = command
+    (name, *rest), flags = command, options.flags
     files = list(FILES[name]) + (later_policies(folder) if name in SEVERAL else [])
+    files = [file for file in files if file != JOURNAL or options.trace is None]
     absent = [file for file in files if not (folder / file).exists()]
     if absent:
-        hint = "; replay makes it" if absent[0] == JOURNAL else ""
+        hint = "; replay makes it, --trace names another" if absent[0] == JOURNAL else ""
         raise Mistake(f"{name} needs the file {folder / absent[0]}, which isn't there{hint}")
     args = [name, *files, *rest]
     if name == "replay" and "--quiet" in flags:
@@ -147,7 +182,8 @@ def question_of(folder, label, command, flags):
         args += ["--net", NET]
     for file in files:
         check_kind(folder / file)
-    return Question(folder, label, args, files, OUTPUTS[name].format(*rest), folder)
+    question = Question(folder, label, args, files, OUTPUTS[name].format(*rest), folder)
+    return traced(question, options.trace)
 
 
 def questions_of(options):
@@ -158,7 +194,7 @@ def questions_of(options):
     if not folders:
         raise Mistake("put a folder, or the name of an example, in front of the commands")
     return [
-        question_of(folder, label, command, options.flags)
+        question_of(folder, label, command, options)
         for folder, label in zip(folders, labels_of(folders))
         for command in options.commands
     ]

@@ -2,13 +2,9 @@
 
 The rows are a `confirm` of each switch, a `resend` of each switch, and a `flush`.
 """
-import atexit
 import csv
-import shutil
-import tempfile
-from pathlib import Path
 
-from .asking import SCHEDULE
+from .asking import SCHEDULE, joined
 from .folder import Case
 from .network import DOWN
 from .texts import table
@@ -26,13 +22,10 @@ BODIES = {
 
 def prepared(question):
     """The same question in a folder of its own, whose schedule has the recovery rows behind it."""
-    folder = Path(tempfile.mkdtemp(prefix="difane-"))
-    atexit.register(shutil.rmtree, folder, ignore_errors=True)
-    for name in question.files:
-        (folder / name).symlink_to((question.folder / name).resolve())
+    folder = joined({name: question.folder / name for name in question.files})
     schedule = (question.folder / SCHEDULE).read_bytes()
     end = b"" if schedule.endswith(b"\n") else b"\n"
-    names = [row["name"] for row in Case(folder / JOURNAL, "").net()["switch"]]
+    names = [row["name"] for row in Case(question.folder / JOURNAL, "").net()["switch"]]
     (folder / ROWS).write_bytes(schedule + end + recovery_rows(names).encode())
     args = [ROWS if arg == SCHEDULE else arg for arg in question.args]
     files = [ROWS if name == SCHEDULE else name for name in question.files]
@@ -89,7 +82,8 @@ class Report:
     def lines(self):
         """The report: what was lost, the version, the links and the switches."""
         network = self.play.network
-        yield f"lost before the recovery rows: {len(self.lost)} messages"
+        plural = "" if len(self.lost) == 1 else "s"
+        yield f"lost before the recovery rows: {len(self.lost)} message{plural}"
         if self.lost:
             yield from table(["message", "sent in row", "what it said", "lost"], self.lost)
         yield ""

@@ -114,8 +114,15 @@ def readme_place():
     return f"README.md, line {told[0]}," if told else "README.md"
 
 
+def has_sources():
+    """Whether there is anything to build: a copy that was installed has no sources."""
+    return (CRATE / "src").is_dir()
+
+
 def kit_fault():
-    """What is wrong with the `rt` on the path, or an empty text."""
+    """Why nothing can be built, or an empty text."""
+    if not has_sources():
+        return "this copy has no sources: a clone builds the program"
     if shutil.which("rt") is None:
         return f"the command rt isn't on the path: {readme_place()} tells which kit it is of"
     wanted = re.search(r"logic\s+([0-9a-f]{16})", (TOP / "README.md").read_text())
