@@ -97,7 +97,7 @@ def rules_of(lines, most, name):
     found = [(number, rule) for number, rule in pairs if rule is not None]
     if chosen in chains.accepting:
         found.append((chains.accepting[chosen], ALL))
-    others = [(number, NO_EFFECT) for number, rule in pairs if rule is None]
+    others = sorted((number, NO_EFFECT) for number, rule in pairs if rule is None)
     jumps = {number for number, _ in pairs}
     for other, rules in chains.rules.items():
         if not jumps & {number for number, _ in rules}:
