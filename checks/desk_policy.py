@@ -168,7 +168,9 @@ def all_faults(rng, folder):
         lines = text.splitlines()
         decide = partial(decided, lines, groups_of(lines), order)
         ways = {"--permit": ("out:7", []), "--routes": (folder / "routes.csv", routes)}
-        for option, (value, by) in ways.items():
+        options = [rng.choice(list(ways))] if "drawn" in name else list(ways)
+        for option in options:
+            value, by = ways[option]
             given = [option, value, *args]
             yield from policy_faults(rng, name, text, folder, given, order, partial(decide, by))
 

@@ -2,7 +2,7 @@
 """Checks the smaller ways in and out of the desk: `checks/desk_ways.py [SEED]`.
 
 - Random lists of edges: the network that `desk/topology` makes has their switches, links, ports and
-  authorities; wrong lists and options are refused in one line, with status 2.
+  authorities. Wrong lists, routes and options are refused in one line, with status 2.
 - Lines of tcpdump with names are left out with their numbers, and a text of such lines is refused.
 - What is wrong in a random map is told with the number of its line.
 - `desk/policy --ignore-flags` says where it has no effect; what is left out says what fails.
@@ -34,6 +34,24 @@ WRONG = {
     "a port of no switch": ("a b\n", ["--ports", "=1"]),
     "four backups": ("a b\n", ["--backups", "4"]),
     "an unknown option": ("a b\n", ["--port", "x", "--nothing"]),
+}
+WRONG_ROUTES = {
+    "another heading": "prefix,switch\n",
+    "the port 64": "prefix,port\n10.0.0.0/8,64\n",
+    "no prefix": "prefix,port\n10.0.0/8,1\n",
+    "bits behind the length": "prefix,port\n10.0.0.1/8,1\n",
+    "a route twice": "prefix,port\n10.0.0.0/8,1\n10.0.0.0/8,2\n",
+    "three fields": "prefix,port\n10.0.0.0/8,1,2\n",
+}
+WRONG_POLICIES = {
+    "an empty file": ("", []),
+    "a text of something else": ("nothing\nat all\n", []),
+    "a list that isn't there": ("access-list 1 permit any\n", ["--list", "2"]),
+    "a chain that isn't there": ("-A X -j DROP\n", ["--list", "Y"]),
+    "two chains": ("-A X -j DROP\n-A Y -j DROP\n", []),
+    "chains without a rule": ("*filter\nCOMMIT\n", []),
+    "only another table": ("*nat\n-A X -j DROP\n", []),
+    "an action": ("access-list 1 permit any\n", ["--permit", "out:64"]),
 }
 
 
@@ -96,6 +114,22 @@ def wrong_network_faults(folder):
         status, written, said = run("topology", folder / "edges", *args)
         if (status, written, said.count("\n")) != (2, b"", 1) or "Traceback" in said:
             yield f"topology of {name}: status {status}: {said}"
+
+
+def wrong_policy_faults(folder):
+    """Wrong routes and texts, which are refused in one line; wrong routes with their line."""
+    calls = []
+    for name, text in WRONG_ROUTES.items():
+        calls.append((name, "access-list 1 permit any\n", text, ["--routes", folder / "routes"]))
+    for name, (text, args) in WRONG_POLICIES.items():
+        calls.append((name, text, "", ["--permit", "drop", *args]))
+    for name, text, routes, args in calls:
+        (folder / "list").write_text(text)
+        (folder / "routes").write_text(routes)
+        status, written, said = run("policy", folder / "list", *args)
+        place = f"routes:{routes.count(chr(10))}: " if routes else "desk/policy: "
+        if (status, written, said.count("\n")) != (2, b"", 1) or place not in said:
+            yield f"policy of {name}: status {status}: {said}"
 
 
 # ---- traffic
@@ -208,6 +242,7 @@ def main():
     with tempfile.TemporaryDirectory() as name:
         folder = Path(name)
         faults = [*network_faults(rng, folder), *wrong_network_faults(folder)]
+        faults += wrong_policy_faults(folder)
         faults += [*named_faults(rng, folder), *map_faults(rng, folder), *said_faults(folder)]
     faults += completion_faults()
     print("\n".join(faults) or "networks, names, maps, what is said, completion: all as expected")

@@ -109,7 +109,7 @@ def rules_of(lines, most, name):
     lists = read_lists(["!" if at in groups.lines else line for at, line in enumerate(lines, 1)])
     names = list(lists.entries)
     if not names:
-        raise Refused("neither filters of ClassBench nor an access list of IPv4")
+        raise Refused("neither an access list of IPv4, nor chains of iptables, nor filters")
     if name is None and len(names) > 1:
         raise Refused(f"there are {len(names)} lists, and --list NAME takes one: {' '.join(names)}")
     if name is not None and name not in names:

@@ -54,9 +54,12 @@ class Chains:
         """The chain of this name, or the only one with rules to which no other jumps."""
         jumps = {target_of(text) for rules in self.rules.values() for _, text in rules}
         names = [each for each, rules in self.rules.items() if rules and each not in jumps]
-        if name is None and len(names) != 1:
-            names = " ".join(names or self.rules)
-            raise Refused(f"--list NAME says which chain is taken: {names}")
+        names = names or list(self.rules)
+        if not names:
+            raise Refused("the table filter has no chain")
+        if name is None and len(names) > 1:
+            many = f"there are {len(names)} chains, and --list NAME takes one"
+            raise Refused(f"{many}: {' '.join(names)}")
         if name is not None and name not in self.rules:
             raise Refused(f"there is no chain {name}, only {' '.join(self.rules)}")
         return name or names[0]
@@ -97,7 +100,7 @@ def rules_of(lines, most, name):
     found = [(number, rule) for number, rule in pairs if rule is not None]
     if chosen in chains.accepting:
         found.append((chains.accepting[chosen], ALL))
-    others = [(number, NO_EFFECT) for number, rule in pairs if rule is None]
+    others = sorted((number, NO_EFFECT) for number, rule in pairs if rule is None)
     jumps = {number for number, _ in pairs}
     for other, rules in chains.rules.items():
         if not jumps & {number for number, _ in rules}:

@@ -1,5 +1,6 @@
 """What `desk/traffic` and `desk/policy` share: refusals, what is left out, how they end."""
 import argparse
+import io
 import os
 import re
 import sys
@@ -142,6 +143,12 @@ def opened(name):
     if name is None and sys.stdin.isatty():
         raise Refused("no FILE is given; --help says what it is")
     return sys.stdin.buffer if name in (None, "-") else open(name, "rb")
+
+
+def lines_of(data):
+    """The lines of a text in UTF-8, or in UTF-16 where it begins so."""
+    is_wide = data[:2] in (b"\xff\xfe", b"\xfe\xff")
+    return list(io.StringIO(data.decode("utf-16" if is_wide else "utf-8-sig", "replace"), None))
 
 
 def finish(name, args, rows, told, left, *others):

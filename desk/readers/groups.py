@@ -10,7 +10,6 @@ HEADS = [
     re.compile(r"object-group (\S+) (\S+)$", re.I),
     re.compile(r"(network|service) object group (\S+)$", re.I),
 ]
-MOST = 256  # prefixes of a mask that leaves bits free in its middle
 BOTH = {"tcp-udp": (6, 17), "tcpudp": (6, 17)}
 STARTS = re.compile(
     r"(host|range|group-object|description|any|\d+\.\d+\.\d+\.\d+)\b|(tcp|udp|tcp-udp)\b|"
@@ -50,7 +49,7 @@ class Groups:
     def read(self, kind, name, above):
         found = []
         for line, texts in self.members[kind, name]:
-            words = Words(texts, MOST)
+            words = Words(texts, 1)
             try:
                 found += self.member(kind, words, above)
                 words.end()
@@ -91,10 +90,14 @@ def addresses(words):
         if found is None:
             raise Unsaid(f"{word + length!r} is no prefix of IPv4")
         return prefixes_of(found[0], (1 << 32 - found[1]) - 1, 1)
-    address, mask = address_of(word), address_of(words.take())
+    text = words.take()
+    address, mask = address_of(word), address_of(text)
     if None in (address, mask):
-        raise Unsaid(f"{word!r} is no address with a mask")
-    return prefixes_of(address, ~mask & (1 << 32) - 1, MOST)
+        raise Unsaid(f"{word} {text} is no address with a mask")
+    free = ~mask & (1 << 32) - 1
+    if free & free + 1:
+        raise Unsaid(f"{text} is no mask of a subnet")
+    return prefixes_of(address, free, 1)
 
 
 def range_prefixes(first, last):
