@@ -11,8 +11,8 @@ import sys
 from pathlib import Path
 
 HOME = Path(__file__).resolve().parent.parent
-ARGS = {"map.py": ["--check"], "desk.py": ["5"]}
-HELPERS = {"crates.py", "browser.py", "journal_text.py", "stand_in.py"}
+ARGS = {"map.py": ["--check"], "desk.py": ["5"], "desk_layout.py": ["40"], "desk_trace.py": ["3"]}
+HELPERS = {"crates.py", "browser.py", "journal_text.py", "stand_in.py", "view_parts.py"}
 NO_CHECKS = {"all.py", "gate.py"} | HELPERS
 DEAR = {"desk_out.py", "fail_alloc.py", "view_check.py"}
 SEEDS = 100
@@ -26,6 +26,8 @@ def commands(program):
     if program:
         yield "checks/fail_alloc.py", [program]
         yield "checks/desk_out.py", []
+        yield "checks/desk_layout.py", []
+        yield "checks/desk_trace.py", ["10", program]
         yield "checks/view_check.py", []
         yield "checks/mistakes.py", [program]
         yield "checks/run.py", [program]

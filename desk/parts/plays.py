@@ -54,6 +54,8 @@ class Player:
         self.policies = list(there)
         if not self.policies:
             raise Mistake(f"there is no file {self.source / POLICIES[0]}")
+        if (self.source / NET).exists() and not (self.source / NET).is_file():
+            raise Mistake(f"{self.source / NET} is no file")
         self.files = self.policies + [NET] * (self.source / NET).is_file()
         self.home = tempfile.TemporaryDirectory(prefix="difane-")
         self.folder = Path(self.home.name)
