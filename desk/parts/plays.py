@@ -13,7 +13,8 @@ from .records import lines_of, records_of
 from .row_mistakes import SCHEDULE_HEADING
 from .script import Mistake
 
-import slow_replay  # of model/, which runners put on the path
+import refusals  # of model/, which runners put on the path
+import slow_replay
 
 POLICIES = ["policy.csv", *(f"policy{number}.csv" for number in range(2, 65))]
 SCHEDULE, NET, JOURNAL, MOST_ROWS = "schedule.csv", "net.toml", "journal.txt", 100_000
@@ -100,15 +101,14 @@ class Player:
 
     def refuse_wrong_files(self):
         """What the program would refuse is told in one line."""
-        question = self.question()
-        told = runners.forecast(question).told
+        told, _ = refusals.answer(self.arguments(), self.folder)
         if told:
-            why = [line.strip() for line in explain(told, question.args, self.folder)][:2]
+            why = [line.strip() for line in explain(told, self.arguments(), self.folder)][:2]
             raise Mistake(f"{self.name}: {told.removeprefix('difane: ')}: {'; '.join(why)}")
 
-    def question(self):
-        args = ["replay", SCHEDULE, *self.policies] + ["--net", NET] * (NET in self.files)
-        return runners.Question(self.folder, "", args, [SCHEDULE, *self.files], JOURNAL)
+    def arguments(self):
+        """Those of the program."""
+        return ["replay", SCHEDULE, *self.policies] + ["--net", NET] * (NET in self.files)
 
     def case(self, rows):
         """The journal of these rows, which are written as a schedule where a program plays them."""
@@ -118,10 +118,11 @@ class Player:
 
     def by_program(self, rows):
         self.check(rows)
-        answer = runners.by_program(self.program, self.question())
-        if answer.status:
-            raise Mistake(f"{self.name}: the program says {answer.told or answer.status}")
-        return answer.text
+        text, told, status = runners.finished([str(self.program), *self.arguments()], self.folder)
+        if status:
+            lines = told.splitlines() or [f"status {status}"]
+            raise Mistake(f"{self.name}: the program ends with {lines[0]!r}")
+        return text
 
     def by_model(self, rows):
         path = self.folder / NET
