@@ -1,4 +1,5 @@
 """Plays schedules over the policies and the network of a folder, by a program or the slow model."""
+import subprocess
 import sys
 import tempfile
 import tomllib
@@ -118,11 +119,13 @@ class Player:
 
     def by_program(self, rows):
         self.check(rows)
-        text, told, status = runners.finished([str(self.program), *self.arguments()], self.folder)
-        if status:
-            lines = told.splitlines() or [f"status {status}"]
+        command = [str(self.program), *self.arguments()]
+        pipes = {"capture_output": True, "stdin": subprocess.DEVNULL}
+        done = subprocess.run(command, cwd=self.folder, text=True, errors="replace", **pipes)
+        if done.returncode:
+            lines = done.stderr.splitlines() or [f"status {done.returncode}"]
             raise Mistake(f"{self.name}: the program ends with {lines[0]!r}")
-        return text
+        return done.stdout
 
     def by_model(self, rows):
         path = self.folder / NET
