@@ -11,9 +11,9 @@ import sys
 from pathlib import Path
 
 HOME = Path(__file__).resolve().parent.parent
-ARGS = {"map.py": ["--check"], "desk.py": ["5"]}
+ARGS = {"map.py": ["--check"], "desk.py": ["5"], "desk_layout.py": ["40"], "desk_trace.py": ["3"]}
 HELPERS = {"crates.py", "browser.py", "desk_kit.py", "journal_text.py", "list_reading.py",
-           "stand_in.py"}
+           "stand_in.py", "view_parts.py"}
 NO_CHECKS = {"all.py", "gate.py"} | HELPERS
 DEAR = {"desk_out.py", "fail_alloc.py", "view_check.py"}
 SEEDS = 100
@@ -27,6 +27,8 @@ def commands(program):
     if program:
         yield "checks/fail_alloc.py", [program]
         yield "checks/desk_out.py", []
+        yield "checks/desk_layout.py", []
+        yield "checks/desk_trace.py", ["10", program]
         yield "checks/view_check.py", []
         yield "checks/mistakes.py", [program]
         yield "checks/run.py", [program]

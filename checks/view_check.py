@@ -10,8 +10,6 @@ and no link of random networks (those of `checks/desk_layout.py`) may run throug
 opens a journal of more than 100,000 lines, which must take less than three seconds. With --shots
 each page is also stored as a picture. Without a browser it says so, and ends with 0.
 """
-import csv
-import io
 import json
 import re
 import subprocess
@@ -23,6 +21,7 @@ from pathlib import Path
 import browser
 import desk_layout
 import journal_text
+import view_parts
 
 HOME = Path(__file__).resolve().parent.parent
 sys.path.insert(0, str(HOME / "model"))
@@ -34,7 +33,6 @@ EXAMPLES, VIEW = HOME / "examples", HOME / "desk/view"
 PACKETS, LINES, SECONDS = 4500, 100_000, 3
 TURNS = 3  # how often the large page is opened; the shortest time counts, as others work here too
 NETWORKS = 20  # of random ones, whose drawings are looked at
-WIDTHS = (600, 900, 1100, 1300, 1400, 1500, 1700)  # of windows
 LEFT, RIGHT, HOME_KEY, ENTER = ("ArrowLeft", 37), ("ArrowRight", 39), ("Home", 36), ("Enter", 13)
 SPELLED = {"up": "up", "✕ down": "down", "✕ not opened": "closed"}
 
@@ -58,26 +56,6 @@ CHOSEN = """[...document.querySelectorAll("#packet-lines li")].map((one) =>
   [Number(one.querySelector("button").textContent), one.querySelector(".line").textContent])"""
 BOXES = """[...document.querySelectorAll("#nodes rect")].map((box) =>
   ["x", "y", "width", "height"].map((name) => Number(box.getAttribute(name))))"""
-DRAWN = """({
-  boxes: [...document.querySelectorAll("#nodes .node")].map((node) => [node.dataset.switch,
-    ["x", "y", "width", "height"].map((name) =>
-      Number(node.querySelector("rect").getAttribute(name)))]),
-  lines: [...document.querySelectorAll("#links .link, #way .hop")].map((one) => [
-    one.dataset.ends.split(" "), one.classList.contains("hop"),
-    (one.querySelector("polyline") || one).getAttribute("points")]) })"""
-MARKS = """[...document.querySelectorAll("#marks line")].map((one) =>
-  [one.getAttribute("class"), one.textContent])"""
-POLICY = """[...document.querySelectorAll("#policy tbody tr")].map((row) =>
-  [...row.children].map((cell) => cell.textContent))"""
-SAVED = """(() => { let kept; const make = URL.createObjectURL, of = HTMLAnchorElement.prototype;
-  const click = of.click; URL.createObjectURL = (blob) => { kept = blob; return ""; };
-  of.click = () => {}; document.getElementById("save").click();
-  URL.createObjectURL = make; of.click = click; return kept.text(); })()"""
-CUT = """[...document.querySelectorAll(".wide")].filter((one) =>
-  one.scrollWidth > one.clientWidth + 1).map((one) => one.querySelector("table").id)"""
-KINDS = {"update": "update", "crash": "switch", "restart": "switch", "linkdown": "link",
-         "linkup": "link"}
-AT = 'document.querySelector("#state-title .at").textContent'
 TITLE = 'document.getElementById("packet-title").textContent'
 FOUND = 'document.getElementById("found").textContent'
 CONTROLS = ("button", "slider", "spinbutton", "combobox", "checkbox", "textbox", "link")
@@ -207,30 +185,24 @@ def filter_faults(case, view):
     for name, test in tests.items():
         values = f"[...document.querySelector('[name={name}]').options].map((one) => one.value)"
         for value in filter(None, view.evaluate(values)):
-            choose(view, name, value)
+            view_parts.choose(view, name, value)
             wanted = sum(test(packet, value) for packet in outcomes)
             said = view.evaluate(FOUND)
             if said.split(" of ")[-1].split()[0] != (str(wanted) if wanted else "no"):
                 yield f"{name} {value} leaves {said}, and not {wanted}"
-        choose(view, name, "")
-
-
-def choose(view, name, value):
-    view.evaluate(f"""(() => {{ const one = document.querySelector('[name={name}]');
-      one.value = {json.dumps(value)};
-      one.dispatchEvent(new Event("change", {{ bubbles: true }})); }})()""")
+        view_parts.choose(view, name, "")
 
 
 def hand_faults(case, view):
     """The slider by keys, a packet by the mouse and by keys, and the address by name."""
     view.evaluate('document.getElementById("row").focus()')
     view.press(*HOME_KEY)
-    if view.evaluate(AT) != "before the first row":
-        yield f"the key Home leads to {view.evaluate(AT)}"
+    if view.evaluate(view_parts.AT) != "before the first row":
+        yield f"the key Home leads to {view.evaluate(view_parts.AT)}"
     view.press(*RIGHT)
     first = re.match(r"row (\d+)", case.text)[1]
-    if view.evaluate(AT) != f"behind row {first}":
-        yield f"an arrow leads to {view.evaluate(AT)}"
+    if view.evaluate(view_parts.AT) != f"behind row {first}":
+        yield f"an arrow leads to {view.evaluate(view_parts.AT)}"
     view.press(*LEFT)
     for packet in case.packets()[:1]:
         view.click(f'tr[data-packet="{packet}"] td:nth-child(4)')
@@ -241,103 +213,13 @@ def hand_faults(case, view):
         yield from packet_faults(case, view, packet)
 
 
-def mark_faults(case, view):
-    """The marks of the slider, the buttons from mark to mark, and the field of the row."""
-    events = re.findall(rf"^(row (\d+): ({'|'.join(KINDS)})\b.*)", case.text, re.M)
-    told = [tuple(mark) for mark in view.evaluate(MARKS)]
-    if not {*told} <= {(KINDS[kind], line) for line, _, kind in events}:
-        yield f"there are the marks {told}"
-    if not {KINDS[kind] for _, _, kind in events} == {kind for kind, _ in told}:
-        yield f"marks of {told} alone"
-    view.evaluate('(() => { const one = document.getElementById("go"); one.value = 0;'
-                  'one.dispatchEvent(new Event("change")); })()')
-    rows = sorted({int(row) for _, row, _ in events})
-    for button, order in (("mark-after", rows), ("mark-before", rows[-2::-1])):
-        for row in order:
-            view.evaluate(f'document.getElementById("{button}").click()')
-            if view.evaluate(AT) != f"behind row {row}":
-                yield f"{button} leads to {view.evaluate(AT)}, and not to row {row}"
-    for row in {int(row) for row in re.findall(r"^row (\d+)", case.text, re.M)[-2:]}:
-        view.evaluate(f'(() => {{ const one = document.getElementById("go"); one.value = {row};'
-                      'one.dispatchEvent(new Event("change")); })()')
-        if view.evaluate(AT) != f"behind row {row}":
-            yield f"the field leads to {view.evaluate(AT)}, and not to row {row}"
-
-
-def policy_faults(case, view):
-    """The rows of each version's policy with the packets that they decided."""
-    used = journal_text.rules(case.text)
-    values = '[...document.getElementById("policy-version").options].map((one) => one.value)'
-    for version in view.evaluate(values):
-        view.evaluate(f'''(() => {{ const one = document.getElementById("policy-version");
-          one.value = "{version}"; one.dispatchEvent(new Event("change")); }})()''')
-        said = {}
-        for packets, authority, cache, rule, _ in view.evaluate(POLICY):
-            said[version, rule, "authority"], said[version, rule, "cache"] = map(int, (authority, cache))
-            if int(packets) != int(authority) + int(cache):
-                yield f"row {rule} of version {version} has {packets} packets"
-        wanted = {key: count for key, count in used.items() if key[0] == version}
-        if {key: count for key, count in said.items() if count} != wanted:
-            yield f"the rows of version {version} decided {said}"
-
-
-def saved_faults(case, view):
-    """The packets as CSV: all, and those of some rows."""
-    wanted = [row_wanted(case.text, packet) for packet in case.packets()]
-    rows = [int(row["row"]) for row in wanted]
-    for first, last in [("", ""), *[(str(rows[len(rows) // 2]), str(rows[-1]))] * bool(rows)]:
-        choose(view, "from", first)
-        choose(view, "to", last)
-        found = list(csv.DictReader(io.StringIO(view.evaluate(SAVED))))
-        said = [{name: row[name] for name in wanted[0]} for row in found] if wanted else found
-        if said != [row for row in wanted if not first or int(first) <= int(row["row"]) <= int(last)]:
-            yield f"the packets of the rows {first} to {last} are saved as {said}"
-    choose(view, "from", "")
-    choose(view, "to", "")
-
-
-def row_wanted(text, packet):
-    """What the text of the journal says of a packet, as the saved file has it."""
-    came = re.search(rf"^row (\d+): packet (.*)\n  (?:entered|closed) {packet} ", text, re.M)
-    ingress, *header = came[2].split()
-    decided = re.search(rf"^  decided {packet} v(\d+) rule (\S+) (\S+) (\S+ \S+)", text, re.M)
-    version, rule, action, by = decided.groups() if decided else ("", "", "", "")
-    port = re.search(rf"^  out {packet} port (\d+)", text, re.M)
-    way = [ingress, *re.findall(rf"^  hopped {packet} (\S+)", text, re.M)]
-    return {
-        "packet": packet, "row": came[1], "in": ingress,
-        **dict(zip(("src", "dst", "sport", "dport", "proto"), header)),
-        "version": version, "rule": rule, "action": action, "by": by,
-        "end": journal_text.outcomes(text)[packet][1] or "travelling",
-        "port": port[1] if port else "", "way": " ".join(way),
-    }
-
-
-def width_faults(view):
-    """Tables that are cut in a window of some width."""
-    for width in WIDTHS:
-        view.call("Emulation.setDeviceMetricsOverride", width=width, height=1000,
-                  deviceScaleFactor=1, mobile=False)
-        yield from (f"the table {one} is cut at {width} px" for one in view.evaluate(CUT))
-    view.call("Emulation.clearDeviceMetricsOverride")
-
-
-def drawn_faults(view, links):
-    """Links and hops that run through switches, as the browser draws them."""
-    said = view.evaluate(DRAWN)
-    boxes = {name: (x, y, x + wide, y + high) for name, (x, y, wide, high) in said["boxes"]}
-    lines = [("hop" if hops else "link", ends, desk_layout.points_in(points))
-             for ends, hops, points in said["lines"]]
-    yield from desk_layout.faults_of(boxes, lines, links)
-
-
 def network_faults(case, view):
     """The drawing of a random network, and of the way of its packet."""
     links = re.findall(r'ends = \["(\S+)", "(\S+)"\]', (case.folder / "net.toml").read_text())
     view.open(case.address("packet=1"))
-    yield from drawn_faults(view, links)
+    yield from view_parts.drawn_faults(view, links)
     yield from box_faults(view)
-    yield from width_faults(view)
+    yield from view_parts.width_faults(view)
     yield from view.complaints()
 
 
@@ -371,12 +253,12 @@ def example_faults(case, view):
         yield from packet_faults(case, view, packet)
     yield from filter_faults(case, view)
     yield from hand_faults(case, view)
-    yield from mark_faults(case, view)
-    yield from policy_faults(case, view)
-    yield from saved_faults(case, view)
+    yield from view_parts.mark_faults(case, view)
+    yield from view_parts.policy_faults(case, view)
+    yield from view_parts.saved_faults(case, view)
     yield from name_faults(view)
     yield from box_faults(view)
-    yield from width_faults(view)
+    yield from view_parts.width_faults(view)
     row = re.findall(r"^row (\d+)", case.text, re.M)[-1]
     view.open(case.address(f"row={row}&packet={(case.packets() or ['0'])[-1]}"))
     for packet in case.packets()[-1:]:

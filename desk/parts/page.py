@@ -14,7 +14,7 @@ from .words import spelled
 MARKED = {"update": "update", "crash": "switch", "restart": "switch", "linkdown": "link",
           "linkup": "link"}
 HERE = Path(__file__).resolve().parent
-PARTS = {"STYLE": "page.css", "SCRIPT": "page.js"}
+PARTS = {"STYLE": ["page.css"], "SCRIPT": ["page.js", "packets.js"]}
 
 
 class Record:
@@ -192,6 +192,7 @@ def page_of(case):
     """The text of the page: one file, which asks nothing of a network."""
     data = json.dumps(data_of(case), separators=(",", ":")).replace("<", "\\u003c")
     text = (HERE / "page.html").read_text(encoding="utf-8")
-    for mark, file in PARTS.items():
-        text = text.replace(f"[[{mark}]]", (HERE / file).read_text(encoding="utf-8"))
+    for mark, files in PARTS.items():
+        parts = ((HERE / file).read_text(encoding="utf-8") for file in files)
+        text = text.replace(f"[[{mark}]]", "".join(parts))
     return text.replace("[[DATA]]", data)

@@ -1,4 +1,5 @@
 """Plays schedules over the policies and the network of a folder, by a program or the slow model."""
+import subprocess
 import sys
 import tempfile
 import tomllib
@@ -13,7 +14,8 @@ from .records import lines_of, records_of
 from .row_mistakes import SCHEDULE_HEADING
 from .script import Mistake
 
-import slow_replay  # of model/, which runners put on the path
+import refusals  # of model/, which runners put on the path
+import slow_replay
 
 POLICIES = ["policy.csv", *(f"policy{number}.csv" for number in range(2, 65))]
 SCHEDULE, NET, JOURNAL, MOST_ROWS = "schedule.csv", "net.toml", "journal.txt", 100_000
@@ -54,6 +56,8 @@ class Player:
         self.policies = list(there)
         if not self.policies:
             raise Mistake(f"there is no file {self.source / POLICIES[0]}")
+        if (self.source / NET).exists() and not (self.source / NET).is_file():
+            raise Mistake(f"{self.source / NET} is no file")
         self.files = self.policies + [NET] * (self.source / NET).is_file()
         self.home = tempfile.TemporaryDirectory(prefix="difane-")
         self.folder = Path(self.home.name)
@@ -98,15 +102,14 @@ class Player:
 
     def refuse_wrong_files(self):
         """What the program would refuse is told in one line."""
-        question = self.question()
-        told = runners.forecast(question).told
+        told, _ = refusals.answer(self.arguments(), self.folder)
         if told:
-            why = [line.strip() for line in explain(told, question.args, self.folder)][:2]
+            why = [line.strip() for line in explain(told, self.arguments(), self.folder)][:2]
             raise Mistake(f"{self.name}: {told.removeprefix('difane: ')}: {'; '.join(why)}")
 
-    def question(self):
-        args = ["replay", SCHEDULE, *self.policies] + ["--net", NET] * (NET in self.files)
-        return runners.Question(self.folder, "", args, [SCHEDULE, *self.files], JOURNAL)
+    def arguments(self):
+        """Those of the program."""
+        return ["replay", SCHEDULE, *self.policies] + ["--net", NET] * (NET in self.files)
 
     def case(self, rows):
         """The journal of these rows, which are written as a schedule where a program plays them."""
@@ -116,10 +119,13 @@ class Player:
 
     def by_program(self, rows):
         self.check(rows)
-        answer = runners.by_program(self.program, self.question())
-        if answer.status:
-            raise Mistake(f"{self.name}: the program says {answer.told or answer.status}")
-        return answer.text
+        command = [str(self.program), *self.arguments()]
+        pipes = {"capture_output": True, "stdin": subprocess.DEVNULL}
+        done = subprocess.run(command, cwd=self.folder, text=True, errors="replace", **pipes)
+        if done.returncode:
+            lines = done.stderr.splitlines() or [f"status {done.returncode}"]
+            raise Mistake(f"{self.name}: the program ends with {lines[0]!r}")
+        return done.stdout
 
     def by_model(self, rows):
         path = self.folder / NET
