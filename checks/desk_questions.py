@@ -5,7 +5,7 @@
   at every header; what covers a row does, and nothing less; each other row's header is its own.
   2,000 rows are answered within 10 seconds of the processor.
 - On 300 cases in which messages are lost and switches crash: whether the network is quiet is what
-  the model says, and behind the rows that are told it is.
+  the model says, and behind the rows that are told it is, but for adverts that are told to stay.
 - On SEEDS cases of `model/fuzz.py` (20 where no number is given): the packets that filters leave are
   those that patterns find in the text, and what the matrix says of a packet is what the model's
   journal of that one packet says. Each row that decides some header of the matrix has one there.
@@ -218,8 +218,18 @@ def rest_faults(folder, world):
         yield f"quiet is told to be {found['quiet']}"
     for row in found["rows"]:
         row_states.play_row(world, 0, *row.split(","))
-    if not world.is_quiet():
-        yield f"the rows {found['rows']} don't bring it to rest"
+    left = {number for number in lacking_in(world) if number not in found["may stay"]}
+    if left or (not found["may stay"] and not world.is_quiet()):
+        yield f"behind the rows {found['rows']} the messages {left} are missing"
+
+
+def lacking_in(world):
+    """The messages that keep the model's network from being quiet."""
+    for number in range(1, len(world.journal.messages) + 1):
+        heard = world.journal.delivered
+        if world.matters(number) and number not in heard:
+            if not any(world.replaces(later, number) for later in heard):
+                yield number
 
 
 DECIDED = re.compile(r"^  decided (\d+) v(\d+) rule (\S+) \S+ (authority|cache) ", re.M)
