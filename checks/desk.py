@@ -373,8 +373,8 @@ def write_journal(folder, first):
     return worlds[1]
 
 
-def write_case(seed, folder):
-    fuzz.write_case(seed, folder, KINDS, CHANGES)
+def write_case(seed, folder, kinds=KINDS):
+    fuzz.write_case(seed, folder, kinds, CHANGES)
     for old, new in FILES.items():
         Path(folder, old).rename(Path(folder, new))
 

@@ -4,10 +4,11 @@
 - Dead rows: of 400 policies over few values of each field, those that no header reaches, by looking
   at every header; what covers a row does, and nothing less; each other row's header is its own.
   2,000 rows are answered within 10 seconds of the processor.
-- On SEEDS cases of `model/fuzz.py` (60 where no number is given): whether the network is quiet is
-  what the model says, and behind the rows that are told it is. The packets that filters leave, and
-  those whose fates two journals tell otherwise, are those that patterns find in the text. Each cell
-  of the matrix is what the model's journal says of that one packet.
+- On 300 cases in which messages are lost and switches crash: whether the network is quiet is what
+  the model says, and behind the rows that are told it is, but for adverts that are told to stay.
+- On SEEDS cases of `model/fuzz.py` (20 where no number is given): the packets that filters leave are
+  those that patterns find in the text, and what the matrix says of a packet is what the model's
+  journal of that one packet says. Each row that decides some header of the matrix has one there.
 - The plan's sums are the model's, and code 15 says how many rules there were to place.
 - Nothing is said of a journal that its inputs contradict; a newer input is told in the first line.
 - Wrong words are told in one line, with status 2.
@@ -32,8 +33,10 @@ import journal_text
 
 HOME = Path(__file__).resolve().parent.parent
 ASK, EXAMPLES = HOME / "desk/ask", HOME / "examples"
-SEEDS, POLICIES, SECONDS = 60, 400, 10
+SEEDS, POLICIES, NIGHTS, SECONDS = 20, 400, 300, 10
 ALONE = 6  # packets of a matrix that are played alone, too
+NIGHT = {"update": 10, "deliver": 40, "forget": 12, "crash": 6, "restart": 6, "confirm": 4,
+         "linkdown": 4, "linkup": 4, "resend": 4, "flush": 3, "packet": 3}
 
 sys.dont_write_bytecode = True
 sys.path[:0] = [str(HOME / "desk"), str(HOME / "model")]
@@ -103,7 +106,7 @@ def numbers_of(header):
 def dead_faults():
     rng = random.Random(75)
     for number in range(POLICIES):
-        rules = random_rules(rng, rng.randint(1, 14))
+        rules = random_rules(rng, rng.randint(1, 24))
         yield from (f"policy {number}: {why}" for why in policy_faults(rules))
 
 
@@ -177,31 +180,56 @@ def time_faults():
 # ---- random cases
 
 
+def played(seed, folder, kinds):
+    """Leaves a random case and its journal; the world behind it, or None where it has no plan."""
+    desk.write_case(seed, folder, kinds)
+    world = desk.write_journal(folder, 1)
+    for _ in row_states.told(world, row_states.rows_of(folder / "schedule.csv")) if world else ():
+        pass
+    return world
+
+
+def night_faults():
+    """Nights in which messages are lost, and what is told of rest behind them."""
+    quiet = Counter()
+    for seed in range(NIGHTS):
+        with tempfile.TemporaryDirectory() as name:
+            world = played(seed, Path(name), NIGHT)
+            if world:
+                quiet[world.is_quiet()] += 1
+                yield from (f"night {seed}: {why}" for why in rest_faults(Path(name), world))
+    print(f"  nights that end quiet: {quiet[True]}, others: {quiet[False]}")
+
+
 def seed_faults(seed):
     """The faults of one random case; None where its first policy has no plan."""
     with tempfile.TemporaryDirectory() as name:
-        folder = Path(name)
-        desk.write_case(seed, folder)
-        world = desk.write_journal(folder, 1)
-        if world is None:
+        folder, rng = Path(name), random.Random(seed)
+        if played(seed, folder, desk.KINDS) is None:
             return None
-        rows = row_states.rows_of(folder / "schedule.csv")
-        for _ in row_states.told(world, rows):
-            pass
-        faults = [*rest_faults(folder, world, len(rows)), *filter_faults(folder, random.Random(seed))]
-        faults += matrix_faults(folder, random.Random(seed))
+        faults = [*filter_faults(folder, rng), *matrix_faults(folder, rng)]
         return [f"seed {seed}: {why}" for why in faults]
 
 
-def rest_faults(folder, world, last):
+def rest_faults(folder, world):
     """Whether it is quiet is what the model says, and the rows that are told bring it to rest."""
     found = rest.answer(case_of(str(folder)))
     if found["quiet"] != world.is_quiet():
         yield f"quiet is told to be {found['quiet']}"
-    for number, row in enumerate(found["rows"], last + 1):
-        row_states.play_row(world, number, *row.split(","))
-    if not world.is_quiet():
-        yield f"the rows {found['rows']} don't bring it to rest"
+    for row in found["rows"]:
+        row_states.play_row(world, 0, *row.split(","))
+    left = {number for number in lacking_in(world) if number not in found["may stay"]}
+    if left or (not found["may stay"] and not world.is_quiet()):
+        yield f"behind the rows {found['rows']} the messages {left} are missing"
+
+
+def lacking_in(world):
+    """The messages that keep the model's network from being quiet."""
+    for number in range(1, len(world.journal.messages) + 1):
+        heard = world.journal.delivered
+        if world.matters(number) and number not in heard:
+            if not any(world.replaces(later, number) for later in heard):
+                yield number
 
 
 DECIDED = re.compile(r"^  decided (\d+) v(\d+) rule (\S+) \S+ (authority|cache) ", re.M)
@@ -459,6 +487,7 @@ def main():
     checks = {
         "dead rows": dead_faults(), "2,000 rows": time_faults(), "two journals": compare_faults(),
         "stale journals": stale_faults(), "plans": plan_faults(), "wrong words": wrong_word_faults(),
+        "nights": night_faults(),
     }
     for name, found in checks.items():
         found = list(found)

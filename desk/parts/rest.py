@@ -8,7 +8,7 @@ RISING = ("stamp", "stamped", "collect")  # one of a later version says all that
 
 def answer(case):
     """The switches that are waited for, and the messages that matter and weren't received."""
-    network = case.play().network
+    network, links = case.play().network, [link["ends"] for link in case.net().get("link", [])]
     waited = [
         name for name, switch in network.switches.items()
         if switch.phase == DOWN and name not in network.over
@@ -19,6 +19,7 @@ def answer(case):
         "waited for": [{"switch": name, "row": network.switch(name).since} for name in waited],
         "missing": [missing_of(message) for message in missing],
         "rows": rows_to_rest(network, waited, missing),
+        "may stay": [one.number for one in missing if may_stay(network, links, one)],
     }
 
 
@@ -59,6 +60,21 @@ def claim_of(message):
     return (*ends, said.get("boot"), version), 0
 
 
+def may_stay(network, links, message):
+    """Whether it is a forgotten advert of a switch that is down, or cut off from its receiver."""
+    if message.body != "advert" or message.forgotten is None:
+        return False
+    usable = [
+        {*ends} for ends in links
+        if tuple(ends) not in network.links_down and tuple(ends[::-1]) not in network.links_down
+        and all(network.switch(end).phase != DOWN for end in ends)
+    ]
+    near = {message.switch}
+    while more := {name for ends in usable if ends & near for name in ends} - near:
+        near |= more
+    return message.said["other"] not in near
+
+
 def missing_of(message):
     said, is_report = message.said, message.to == CONTROLLER
     about = f" of {said['other']}" if message.body == "advert" else ""
@@ -96,6 +112,9 @@ def text(found):
         yield from table(["message", "what it says", "row", "since then"], rows)
     yield "rows that bring it to rest:"
     yield from (f"    {row}" for row in found["rows"])
+    for number in found["may stay"]:
+        yield (f"message {number} is the advert of a switch that is down or cut off: until that is "
+               "mended, `quiet` may stay `no`")
 
 
 def fate(forgotten):
