@@ -48,6 +48,7 @@ STOPS = {
     "ProposalOutcome": "placements that are proposed",
     "HeldOnTheWay": "what held on the way",
     "AreWithinLimits": "limits of files",
+    "KeepsWorking": "recovery and rollouts",
     "IsVerdict": "quiet networks",
     "asks_quiet": "quiet networks",
     "is_asked": "quiet networks",
