@@ -5,8 +5,9 @@ Without a file it looks at all pages: README.md, those of docs/ and desk/, and t
 model and of each example; and at the comments of the sources for the words of DIALECT.
 
 It ends with 1 where a sentence or a cell of a table has more than 40 words, or a line that is no
-row of a table, no link and no code more than 100 columns; and where a page or a comment has a word
-of DIALECT, beside which stands the plain one. What stands in backticks counts as one word.
+row of a table, no link and no code more than 100 columns; where a page or a comment has a word of
+DIALECT; and where a page has one of PAGES_ONLY. Beside each word is the plain one. Text in backticks
+counts as one word.
 """
 import re
 import sys
@@ -21,6 +22,22 @@ DIALECT = {
     r"than which": "at least as, at most as",
     r"so does no other": "no other does",
     r"[Tt]ests alone": "only tests",
+}
+PAGES_ONLY = {  # words that comments may have
+    r"by turns": "one after another",
+    r"less those": "except those",
+    r"counts? nowhere": "doesn't count",
+    r"comes? to (?:its|an|the) end": "ends",
+    r"stands? still": "doesn't change, stays",
+    r"in its midst": "half-way",
+    r"(?:goes|go) by the newest": "uses the newest",
+    r"(?:is|are|proof) dear": "expensive",
+    r"gives? way to": "takes precedence, said of the other one",
+    r"tells? of": "reports, is about",
+    r"anybody(?:'s)?": "any",
+    r"[Rr]ight behind": "right after",
+    r"taken as it stands": "taken as given",
+    r"come of (?:the|it|that)": "follow from, come from",
 }
 
 
@@ -47,10 +64,10 @@ def texts_of(lines):
             yield from ((number, cell) for cell in line.strip("|").split("|"))
 
 
-def dialect(lines):
-    """The dialect's words in these lines, each with its line and the plain ones."""
+def dialect(lines, refused):
+    """The refused words in these lines, each with its line and the plain ones."""
     for number, line in enumerate(lines, 1):
-        for words, plain in DIALECT.items():
+        for words, plain in refused.items():
             if found := re.search(rf"\b{words}\b", line):
                 yield number, f"{found[0]!r}: say {plain}"
 
@@ -65,7 +82,7 @@ def comments():
 def main():
     found = 0
     for path, lines in () if sys.argv[1:] else comments():
-        for number, why in dialect(lines):
+        for number, why in dialect(lines, DIALECT):
             print(f"{path}:{number}: {why}")
             found += 1
     for page in map(Path, sys.argv[1:]) if sys.argv[1:] else pages():
@@ -75,7 +92,7 @@ def main():
             for number, line in enumerate(lines, 1)
             if len(line) > COLUMNS and " " in line[:COLUMNS] and not re.match(r"[|!]|    ", line)
         ]
-        wrong += dialect(lines)
+        wrong += dialect(lines, DIALECT | PAGES_ONLY)
         for number, text in texts_of(lines):
             for sentence in re.split(r"(?<=[.?!])\s+", re.sub(r"`[^`]*`", "code", text)):
                 if len(sentence.split()) > LONGEST:
