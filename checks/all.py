@@ -12,7 +12,7 @@ from pathlib import Path
 
 HOME = Path(__file__).resolve().parent.parent
 ARGS = {"map.py": ["--check"], "desk.py": ["5"]}
-HELPERS = {"crates.py", "browser.py", "journal_text.py", "stand_in.py"}
+HELPERS = {"crates.py", "browser.py", "desk_headers.py", "journal_text.py", "stand_in.py"}
 NO_CHECKS = {"all.py", "gate.py"} | HELPERS
 DEAR = {"desk_out.py", "fail_alloc.py", "view_check.py"}
 SEEDS = 100
