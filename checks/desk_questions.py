@@ -2,7 +2,7 @@
 """Checks questions of desk/ask against the model and the text: `checks/desk_questions.py [SEEDS]`.
 
 - On 200 cases in which messages are lost and switches crash: whether the network is quiet is what
-  the model says, and behind the rows that are told it is, but for adverts that are told to stay.
+  the model says, and behind the rows that are told it is, but for messages that are told to stay.
 - On SEEDS cases of `model/fuzz.py` (20 where no number is given): the packets that filters leave are
   those that patterns find in the text, and what the matrix says of a packet is what the model's
   journal of that one packet says. Each row that decides some header of the matrix has one there.
