@@ -47,9 +47,9 @@ def corners(box, pad):
 
 def shortest(one, two, points, boxes):
     """The shortest line from one point to another over some of these, clear of the boxes."""
-    fringe, seen = [(dist(one, two), 0, [one])], set()
+    fringe, seen = [(0, [one])], set()
     while fringe:
-        _, long, way = heappop(fringe)
+        long, way = heappop(fringe)
         here = way[-1]
         if here == two:
             return way
@@ -57,8 +57,7 @@ def shortest(one, two, points, boxes):
             seen.add(here)
             for there in (*points, two):
                 if there not in seen and not any(meets(here, there, box) for box in boxes):
-                    far = long + dist(here, there)
-                    heappush(fringe, (far + dist(there, two), far, [*way, there]))
+                    heappush(fringe, (long + dist(here, there), [*way, there]))
     return [one, two]
 
 
