@@ -12,8 +12,8 @@ from pathlib import Path
 
 HOME = Path(__file__).resolve().parent.parent
 ARGS = {"map.py": ["--check"], "desk.py": ["5"], "desk_layout.py": ["40"], "desk_trace.py": ["3"]}
-HELPERS = {"crates.py", "browser.py", "desk_kit.py", "journal_text.py", "list_reading.py",
-           "stand_in.py", "view_parts.py"}
+HELPERS = {"crates.py", "browser.py", "desk_headers.py", "desk_kit.py", "journal_text.py",
+           "list_reading.py", "stand_in.py", "view_parts.py"}
 NO_CHECKS = {"all.py", "gate.py"} | HELPERS
 DEAR = {"desk_out.py", "fail_alloc.py", "view_check.py"}
 SEEDS = 100

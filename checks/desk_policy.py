@@ -80,7 +80,8 @@ def drawn_groups(rng):
 def drawn_entry(rng, names, services):
     """An entry of an extended list, and whether a policy can say it."""
     protocol = rng.choice(["ip", "tcp", "tcp", "udp", "icmp", "esp", "89"])
-    (source, a), (target, b) = drawn_address(rng, names), drawn_address(rng, names)
+    sides = [names, []] if rng.random() < 0.5 else [[], names]  # both make more rows than --split
+    (source, a), (target, b) = (drawn_address(rng, side) for side in sides)
     if services and rng.random() < 0.2:
         protocol = f"object-group {rng.choice(services)}"
     (sport, c), (dport, d) = (("", True), ("", True))

@@ -1,184 +1,43 @@
 #!/usr/bin/env python3
-"""Checks the questions of desk/ask that need more than a journal: `checks/desk_questions.py [SEEDS]`.
+"""Checks questions of desk/ask against the model and the text: `checks/desk_questions.py [SEEDS]`.
 
-- Dead rows: of 400 policies over few values of each field, those that no header reaches, by looking
-  at every header; what covers a row does, and nothing less; each other row's header is its own.
-  2,000 rows are answered within 10 seconds of the processor.
-- On 300 cases in which messages are lost and switches crash: whether the network is quiet is what
-  the model says, and behind the rows that are told it is, but for adverts that are told to stay.
+- On 200 cases in which messages are lost and switches crash: whether the network is quiet is what
+  the model says, and behind the rows that are told it is, but for messages that are told to stay.
 - On SEEDS cases of `model/fuzz.py` (20 where no number is given): the packets that filters leave are
   those that patterns find in the text, and what the matrix says of a packet is what the model's
   journal of that one packet says. Each row that decides some header of the matrix has one there.
+- Two journals of the same traffic differ in the fates that patterns find.
 - The plan's sums are the model's, and code 15 says how many rules there were to place.
-- Nothing is said of a journal that its inputs contradict; a newer input is told in the first line.
-- Wrong words are told in one line, with status 2.
 """
 import io
-import json
-import os
 import random
 import re
 import shutil
 import subprocess
 import sys
 import tempfile
-import time
-import tomllib
 from collections import Counter
 from contextlib import redirect_stderr
-from itertools import product
 from pathlib import Path
 
-import journal_text
-
-HOME = Path(__file__).resolve().parent.parent
-ASK, EXAMPLES = HOME / "desk/ask", HOME / "examples"
-SEEDS, POLICIES, NIGHTS, SECONDS = 20, 400, 300, 10
-ALONE = 6  # packets of a matrix that are played alone, too
-NIGHT = {"update": 10, "deliver": 40, "forget": 12, "crash": 6, "restart": 6, "confirm": 4,
-         "linkdown": 4, "linkup": 4, "resend": 4, "flush": 3, "packet": 3}
-
-sys.dont_write_bytecode = True
-sys.path[:0] = [str(HOME / "desk"), str(HOME / "model")]
-
 import desk
+import journal_text
+from desk_headers import first_row, has, numbers_of
+from desk_stale import EXAMPLES, HOME, write_model_journal
+
 import plan_model
 import row_states
 import slow_replay
-from parts import compared, dead, listed, plans, reach, rest
-from parts.boxes import Ranked
+from parts import compared, listed, plans, reach, rest
 from parts.folder import case_of, inputs_of
-from parts.policies import Rule
 
-HEADING = "priority,src,dst,sport,dport,proto,action"
-
-
-# ---- dead rows
-
-ENDS = [["any", "10.0.0.0/30", "10.0.0.0/31", "10.0.0.2/31", *(f"10.0.0.{k}" for k in range(4))],
-        ["any", "10.0.0.0/31", "10.0.0.0", "10.0.0.1"]]
-PORTS = [["any"] * 4 + ["0", "1-65535", "2-3", "0-2"], ["any", "0-1", "1-3", "0", "3", "4-65535"]]
-PROTOCOLS = ["any", "any", "tcp", "udp"]
-VALUES = [  # of each field one of each kind that its texts can tell apart
-    [10 << 24 | last for last in range(5)], [10 << 24 | last for last in range(3)],
-    range(5), range(5), [6, 17, 1],
-]
-
-
-def random_rules(rng, count):
-    """Rows over few values, whose priorities are in no order."""
-    rows = []
-    for priority in rng.sample(range(1, 500), count):
-        fields = [rng.choice(texts) for texts in (*ENDS, *PORTS, PROTOCOLS)]
-        rows.append([str(priority), *fields, rng.choice(["drop", "out:1", "out:2"])])
-    return [Rule(row[0], "policy.csv", line, row) for line, row in enumerate(rows, 2)]
-
-
-def blocks_of(fields):
-    """Of each field the words of its values, by the slow model's functions."""
-    src, dst, sport, dport, proto = fields[1:6]
-    return [[plan_model.address(src)], [plan_model.address(dst)], [*plan_model.blocks(sport)],
-            [*plan_model.blocks(dport)], [plan_model.PROTOCOLS[proto]]]
-
-
-def is_in(value, words):
-    return any((value ^ word[0]) & word[1] == 0 for word in words)
-
-
-def has(fields, header):
-    """Whether the row has the header."""
-    return all(map(is_in, header, blocks_of(fields)))
-
-
-def headers_of(fields):
-    """All headers of VALUES that the row has."""
-    pairs = zip(VALUES, blocks_of(fields))
-    return {*product(*([one for one in values if is_in(one, words)] for values, words in pairs))}
-
-
-def numbers_of(header):
-    texts = [header[name] for name in ("src", "dst", "sport", "dport", "proto")]
-    names = {"icmp": "1", "tcp": "6", "udp": "17"}
-    addresses = (int.from_bytes(bytes(map(int, text.split(".")))) for text in texts[:2])
-    return *addresses, int(texts[2]), int(texts[3]), int(names.get(texts[4], texts[4]))
-
-
-def dead_faults():
-    rng = random.Random(75)
-    for number in range(POLICIES):
-        rules = random_rules(rng, rng.randint(1, 24))
-        yield from (f"policy {number}: {why}" for why in policy_faults(rules))
-
-
-def policy_faults(rules):
-    """What is told of these rows, against every header."""
-    falling = sorted(rules, key=lambda rule: -int(rule.priority))
-    holds = {rule.priority: headers_of(rule.fields) for rule in falling}
-    action = {rule.priority: rule.fields[-1] for rule in rules}
-    said, earlier, gone = dead.reached(Ranked(rules)), set(), []
-    for rule in falling:
-        gone += [rule.priority] * (holds[rule.priority] <= earlier)
-        earlier |= holds[rule.priority]
-    if [row["rule"] for row in said["dead"]] != gone:
-        yield f"{gone} are dead, and not {said['dead']}"
-    for row in said["dead"]:
-        by = row["covered by"]
-        if not covered(holds, row["rule"], by) or any(int(one) < int(row["rule"]) for one in by):
-            yield f"{by} don't cover {row['rule']}"
-        if any(covered(holds, row["rule"], [one for one in by if one != other]) for other in by):
-            yield f"fewer than {by} cover {row['rule']}"
-        if row["of another action"] != [k for k in by if action[k] != action[row["rule"]]]:
-            yield f"the actions of {by} are told wrongly"
-    for row in said["live"]:
-        first = next(one for one in falling if has(one.fields, numbers_of(row["header"])))
-        if first.priority != row["rule"]:
-            yield f"{row['header']} reaches {first.priority}, and not {row['rule']}"
-    free = said["default"]
-    if (free is None) != (len(earlier) == len([*product(*VALUES)])):
-        yield f"the default is told to be reached by {free}"
-    if free and any(has(rule.fields, numbers_of(free)) for rule in rules):
-        yield f"{free} doesn't reach the default"
-
-
-def covered(holds, row, by):
-    return holds[row] <= set().union(*(holds[one] for one in by))
-
-
-def large_policies():
-    """Lists of 2,000 rows: filters as of ClassBench, and cells of a grid that cover blocks of it."""
-    rng = random.Random(5)
-    rows = [
-        [f"10.{rng.randrange(8)}.{rng.randrange(64)}.0/{rng.choice([14, 20, 22, 24])}",
-         f"10.{rng.randrange(8)}.{rng.randrange(64)}.0/{rng.choice([14, 20, 22, 24])}",
-         rng.choice(["any", "any", "1024-65535"]), rng.choice(["any", "80", "443", "22", "0-1023"]),
-         rng.choice(["any", "tcp", "udp"])]
-        for _ in range(2000)
-    ]
-    yield "filters", rows
-    cells = [(src, dst) for src in range(32) for dst in range(32)]
-    rng.shuffle(cells)
-    rows = [[f"10.{src}.0.0/16", f"11.{dst}.0.0/16", "any", "any", "tcp"] for src, dst in cells]
-    for _ in range(976):
-        src, dst = rng.choice([11, 12, 13, 14, 16]), rng.choice([11, 12, 13, 14, 16])
-        rows.append([f"10.{rng.randrange(32)}.0.0/{src}", f"11.{rng.randrange(32)}.0.0/{dst}",
-                     "any", rng.choice(["any", "80"]), "tcp"])
-    yield "grid", rows
-
-
-def time_faults():
-    for name, rows in large_policies():
-        rules = [Rule(str(9000 - at), "policy.csv", at + 2, [str(9000 - at), *row, "drop"])
-                 for at, row in enumerate(rows)]
-        before = time.process_time()
-        found = dead.reached(Ranked(rules))
-        spent = time.process_time() - before
-        print(f"  {name}: {len(rules)} rows, {len(found['dead'])} dead, {spent:.1f} s")
-        if spent > SECONDS:
-            yield f"{name}: {spent:.1f} s"
+SEEDS, NIGHTS = 20, 200
+ALONE = 6  # packets of a matrix that are played alone, too
+NIGHT = {"update": 10, "deliver": 40, "forget": 12, "crash": 6, "restart": 6, "confirm": 4,
+         "linkdown": 4, "linkup": 4, "resend": 4, "flush": 10, "packet": 3}
 
 
 # ---- random cases
-
 
 def played(seed, folder, kinds):
     """Leaves a random case and its journal; the world behind it, or None where it has no plan."""
@@ -312,7 +171,7 @@ def end_of(folder, policies, switch, header, behind):
 
 def rows_faults(policy, words, found):
     """Each row that decides some header of these words has one there: by random headers of them."""
-    rules = sorted(row_states.slow_replay.read_file(policy).rows, key=lambda row: -int(row[0]))
+    rules = sorted(slow_replay.read_file(policy).rows, key=lambda row: -int(row[0]))
     decided = {first_row(rules, numbers_of(header)) for header in found["headers"]}
     rng = random.Random(len(rules))
     for _ in range(200):
@@ -326,12 +185,7 @@ ADDRESSES += [10 << 24 | 1 << 16 | 9, 10 << 24 | 7 << 16 | 7 << 8 | 7, 8 << 24 |
 SOME = [ADDRESSES, ADDRESSES, [3, 9], [80, 85, 443, 9], [6, 17, 1]]
 
 
-def first_row(rules, header):
-    return next((row[0] for row in rules if has(row, header)), "default")
-
-
 # ---- two journals
-
 
 def fates(text):
     """For each packet what became of it, by patterns."""
@@ -363,53 +217,7 @@ def compare_faults():
             yield f"{found['by another row']} of {found['same fate']} have another row"
 
 
-def write_model_journal(folder):
-    done = subprocess.run([HOME / "desk/run", folder, "--model"], capture_output=True, text=True)
-    assert done.returncode == 0, done.stderr
-
-
-# ---- stale journals
-
-EDITS = {  # a file of the example `day`, what is edited, and by what
-    "another port": ("policy.csv", "any,443,tcp", "any,81,tcp"),
-    "another action": ("policy.csv", "443,tcp,out:2", "443,tcp,drop"),
-    "an earlier row": ("policy.csv", f"{HEADING}\n", f"{HEADING}\n900,any,any,any,any,any,drop\n"),
-    "another packet": ("schedule.csv", "10.0.1.6", "10.0.1.7"),
-    "another row": ("schedule.csv", "flush", "drain"),
-    "a row taken out": ("schedule.csv", "drain\n", ""),
-    "another switch": ("net.toml", 'name = "c"', 'name = "e"'),
-    "another port of a switch": ("net.toml", "ports = [2", "ports = [9"),
-}
-
-
-def stale_faults():
-    with tempfile.TemporaryDirectory() as name:
-        folder = Path(name, "day")
-        shutil.copytree(EXAMPLES / "day", folder)
-        write_model_journal(folder)
-        if "newer" in asked(folder, "ends")[0]:
-            yield "a fresh journal is told to be old"
-        os.utime(folder / "policy2.csv")
-        for question in (["ends"], ["packet", "1"], ["quiet"]):
-            first = asked(folder, *question)[0].partition("\n")[0]
-            if "policy2.csv is newer than journal.txt" not in first:
-                yield f"{question}: the first line is {first!r}"
-        out, errors, _ = asked(folder, "ends", "--json")
-        if "newer" not in errors or json.loads(out)["packets"] != 4:
-            yield "with --json the caution isn't on standard error"
-        for what, (file, old, new) in EDITS.items():
-            text = (folder / file).read_text()
-            edited = text.replace(old, new).replace('"c"', '"e"' if what == "another switch" else '"c"')
-            (folder / file).write_text(edited)
-            if edited == text:
-                yield f"{what} edits nothing"
-            for question in (["ends"], ["packet", "1"], ["rules"], ["packets"], ["quiet"]):
-                yield from desk.refusal_faults(f"{what}, {question}", "ask", str(folder), *question)
-            (folder / file).write_text(text)
-
-
 # ---- plans
-
 
 def plan_faults():
     """Sums by switch, against the model's plan; and what code 15 tells."""
@@ -443,41 +251,7 @@ def plan_faults():
             yield f"code 15 tells {told}"
 
 
-# ---- wrong words
-
-WRONG = [
-    ["packets", "version"], ["packets", "colour", "red"], ["packets", "version", "x"],
-    ["packets", "end", "gone"], ["packets", "switch", "zz"], ["packets", "from", "-1"],
-    ["packets", "by", "cache", "by", "cache"], ["packets", "--csv", "--json"], ["ends", "--csv"],
-    ["dead", "x"], ["dead", "net.toml"], ["dead", "policy.csv", "x"], ["plan", "none.csv"], ["plan", "a", "b"], ["quiet", "x"], ["reach"],
-    ["reach", "any", "any", "any", "any"], ["reach", "any", "any", "any", "any", "tcp", "x"],
-    ["reach", "10.0.0.0/33", "any", "any", "any", "tcp"], ["reach", "any", "any", "9-1", "any", "1"],
-    ["plan", "schedule.csv"],
-]
-WRONG_POLICIES = [
-    "1,10.0.0.0/40,any,any,any,any,drop", "x,any,any,any,any,any,drop",
-    "1,any,any,9-3,any,any,drop", "1,any,any,any,any,sctp,drop",
-    "1,any,any,any,any,any,drop\n1,any,any,any,any,tcp,drop", "1,any,any",
-]
-
-
-def wrong_word_faults():
-    for words in WRONG:
-        yield from desk.refusal_faults(" ".join(words), "ask", "day", *words)
-    with tempfile.TemporaryDirectory() as name:
-        yield from desk.refusal_faults("no policy", "ask", name, "dead")
-        for row in WRONG_POLICIES:
-            Path(name, "policy.csv").write_text(f"{HEADING}\n{row}\n")
-            for question in (["dead"], ["plan"], ["reach", "any", "any", "any", "any", "tcp"]):
-                yield from desk.refusal_faults(row, "ask", name, *question)
-
-
 # ---- all
-
-
-def asked(folder, *words):
-    done = subprocess.run([ASK, folder, *words], capture_output=True, text=True)
-    return done.stdout, done.stderr, done.returncode
 
 
 def main():
@@ -485,9 +259,7 @@ def main():
         sys.exit(__doc__)
     faults = []
     checks = {
-        "dead rows": dead_faults(), "2,000 rows": time_faults(), "two journals": compare_faults(),
-        "stale journals": stale_faults(), "plans": plan_faults(), "wrong words": wrong_word_faults(),
-        "nights": night_faults(),
+        "two journals": compare_faults(), "plans": plan_faults(), "nights": night_faults(),
     }
     for name, found in checks.items():
         found = list(found)

@@ -83,7 +83,8 @@ def saved_faults(case, view):
     """The packets as CSV: all, and those of some rows."""
     wanted = [row_wanted(case.text, packet) for packet in case.packets()]
     rows = [int(row["row"]) for row in wanted]
-    for first, last in [("", ""), *[(str(rows[len(rows) // 2]), str(rows[-1]))] * bool(rows)]:
+    some = [(str(rows[len(rows) // 2]), str(rows[-1]))] if rows else []
+    for first, last in [("", ""), *some]:
         choose(view, "from", first)
         choose(view, "to", last)
         found = list(csv.DictReader(io.StringIO(view.evaluate(SAVED))))

@@ -112,8 +112,11 @@ class Player:
         return ["replay", SCHEDULE, *self.policies] + ["--net", NET] * (NET in self.files)
 
     def case(self, rows):
-        """The journal of these rows, which are written as a schedule where a program plays them."""
+        """The journal of these rows, which are written as a schedule where a program plays them; else
+        none stands beside it."""
         text = self.by_program(rows) if self.program else self.by_model(rows)
+        if not self.program:
+            (self.folder / SCHEDULE).unlink(missing_ok=True)
         (self.folder / JOURNAL).write_text(text, encoding="utf-8")
         return Case(self.folder / JOURNAL, self.name)
 

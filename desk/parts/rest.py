@@ -61,9 +61,17 @@ def claim_of(message):
 
 
 def may_stay(network, links, message):
-    """Whether it is a forgotten advert of a switch that is down, or cut off from its receiver."""
-    if message.body != "advert" or message.forgotten is None:
+    """Whether it is forgotten, and perhaps no one sends it again: a copy of what was received, or an
+    advert of a switch that is down, or cut off from its receiver.
+    """
+    if message.forgotten is None:
         return False
+    if message.body != "advert":
+        claim, rank = claim_of(message)
+        return any(
+            one.delivered is not None and claim_of(one)[0] == claim and claim_of(one)[1] >= rank
+            for one in network.messages.values()
+        )
     usable = [
         {*ends} for ends in links
         if tuple(ends) not in network.links_down and tuple(ends[::-1]) not in network.links_down
@@ -72,7 +80,7 @@ def may_stay(network, links, message):
     near = {message.switch}
     while more := {name for ends in usable if ends & near for name in ends} - near:
         near |= more
-    return message.said["other"] not in near
+    return message.said["other"] not in near - {message.switch}
 
 
 def missing_of(message):
@@ -113,8 +121,8 @@ def text(found):
     yield "rows that bring it to rest:"
     yield from (f"    {row}" for row in found["rows"])
     for number in found["may stay"]:
-        yield (f"message {number} is the advert of a switch that is down or cut off: until that is "
-               "mended, `quiet` may stay `no`")
+        yield (f"message {number} is perhaps sent by no one again, since its sender is down or cut "
+               "off, or a copy of it was received: so `quiet` may stay `no`")
 
 
 def fate(forgotten):
