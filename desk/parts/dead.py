@@ -32,7 +32,8 @@ def answer(case, *names):
 def changed(path, change, rows):
     """The rows with the change of this file."""
     if rows is None:
-        raise Mistake(f"{path} is a change, and there is no policy before it")
+        raise Mistake(f"{path} is a change: ask without a FILE, and it is applied to the file "
+                      "before it")
     code, at_fault = change.fault(rows)
     if code:
         raise Mistake(f"{path} can't be applied to the file before it (code {code}): "

@@ -46,6 +46,8 @@ class Case:
     def items(self):
         """The items of the journal, one at a time; its rows are those of the schedule."""
         schedule = agreed.schedule_of(self)
+        if schedule and not self.journal.stat().st_size:
+            raise Mistake(f"{self.journal} is empty; desk/run {self.name} plays anew")
         for item in read_items(self.journal):
             if item.kind == "row" and schedule is not None:
                 agreed.check_row(self, schedule, item)

@@ -1,6 +1,7 @@
 """The plan of a policy: which switch gets how many rules, and of which headers."""
 import re
 
+from .mistakes import explain
 from .now import SAYS, answer_now
 from .script import Mistake
 from .table import table
@@ -32,7 +33,9 @@ def answer_for(case, file):
         raise Mistake(f"there is no file {case.folder / file}")
     found = answer_now(case.folder, "compile", [file])
     if found.status:
-        raise Mistake(f"{case.name}: {found.told}; desk/run {case.name} compile explains it")
+        net = ["--net", "net.toml"] * (case.folder / "net.toml").is_file()
+        why = [line.strip() for line in explain(found.told, ["compile", file, *net], case.folder)]
+        raise Mistake(f"{case.name}: {found.told.removeprefix('difane: ')}: {'; '.join(why[:3])}")
     return found
 
 

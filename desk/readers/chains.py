@@ -76,7 +76,9 @@ class Chains:
             elif self.is_plain(target, (*above, chain)):
                 yield from self.jump(number, text, target, (*above, chain))
             else:
-                yield number, Unsaid(f"its target {target} can't be said")
+                why = "its chain {} can't be said, for its RETURN or -g or a loop"
+                why = why if target in self.rules else "its target {} can't be said"
+                yield number, Unsaid(why.format(target))
 
     def is_plain(self, target, above):
         """Whether a target is a chain that has no jump back or away."""
