@@ -21,17 +21,7 @@ pub fn text(alloc: Global, journal: &Journal, net: &Net) -> Result<Vec<u8>, Allo
     requires { IsNet net.now }
     ensures { IfOk result (λ bytes. bytes.items ≡ journal_text net.now journal.now) }
 {
-    lines(alloc, journal.items(), net)
-}
-
-/// The lines of some items of a journal, as `text` has them.
-///
-/// # Errors
-/// Only out of memory.
-pub fn lines(alloc: Global, items: &[Item], net: &Net) -> Result<Vec<u8>, AllocError>
-    requires { IsNet net.now }
-    ensures { IfOk result (λ bytes. bytes.items ≡ journal_text net.now items.now) }
-{
+    let items = journal.items();
     let mut text = Vec::new(alloc);
     let mut line = Line::new();
     for item in items {

@@ -1,8 +1,8 @@
 //! The text of a journal: one line for each item, in which switches stand by their names.
 //!
-//! `text` and `lines` promise exactly the lines that their definition states, each ended by a line
-//! feed, and `write_text` writes that text to a sink. `lines_fit` is the law that no line is longer
-//! than 2,048 bytes.
+//! `text` promises exactly the lines that its definition states, each ended by a line feed, and
+//! `write_text` writes that text to a sink. `lines_fit` is the law that no line is longer than 2,048
+//! bytes.
 #![tactic(auto)]
 
 mod items;
@@ -12,6 +12,6 @@ mod names;
 mod rows;
 mod write;
 
-pub use items::{lines, text};
+pub use items::text;
 pub use laws::lines_fit;
 pub use write::write_text;

@@ -19,7 +19,7 @@ use Rattle.switch_core.specs.Ends.{around}
 use Rattle.switch_core.specs.State.{SwitchValue, held_tables}
 use Rattle.switch_core.specs.Answers.{Arrival}
 use Rattle.switch_core.specs.Answers as arrived
-use Rattle.switch_core.specs.declared.packet.Packet.{Packet}
+use Rattle.switch_core.specs.declared.tunnel_calls.Packet.{Packet}
 use Rattle.switch_table.specs.Tables.{Hosted}
 use Rattle.switch_table.specs.declared.tables.Tables.{Tables}
 use Rattle.update_machine.specs.Concerns.{NoneConcern, concerns_policies}

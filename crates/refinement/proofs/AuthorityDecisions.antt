@@ -12,8 +12,8 @@ use Rattle.journal.specs.declared.item.Item.TheVariants as item
 use Rattle.switch_core.specs.Deciding.{by_rule, rule_for_cache, no_rule, rule_in}
 use Rattle.switch_core.specs.Ends.{around, next_of}
 use Rattle.switch_core.specs.State.{SwitchValue}
-use Rattle.switch_core.specs.declared.answers.Decision.{Decision}
-use Rattle.switch_core.specs.declared.packet.Packet.{Packet}
+use Rattle.switch_core.specs.declared.deciding.Decision.{Decision}
+use Rattle.switch_core.specs.declared.tunnel_calls.Packet.{Packet}
 use Rattle.update_machine.specs.Messages.{is_sending, next_message, send_items, sent_from}
 use Rattle.update_machine.specs.Moves.{AuthorityRule, authority_items, cache_items, end_items, header_at, in_turn, cache_rule as rule_message}
 use Rattle.update_machine.specs.PacketRoutes.{found_down}

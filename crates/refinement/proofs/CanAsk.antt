@@ -10,7 +10,7 @@ use Rattle.net_file.specs.declared.ports.Ports.{Ports}
 use Rattle.switch_core.specs.Answering.{CanLookUp, IsAtAuthority}
 use Rattle.switch_core.specs.State.{SwitchValue, serves}
 use Rattle.switch_core.specs.Moving.{StandsAt, hop_answer}
-use Rattle.switch_core.specs.declared.answers.HopEnd.TheVariants as hop
+use Rattle.switch_core.specs.declared.tunnel_calls.HopEnd.TheVariants as hop
 use Rattle.refinement.specs.SwitchOf.{switch_of}
 use Rattle.refinement.proofs.AskedRequirements.{requirements_hold}
 use Rattle.tunnel.specs.Moves.{here}

@@ -13,9 +13,9 @@ use Rattle.journal.specs.declared.item.Item.{Item}
 use Rattle.journal.specs.declared.item.Item.TheVariants as item
 use Rattle.switch_core.specs.Ends.{around, exit_by, leave_by, next_of, set_out}
 use Rattle.switch_core.specs.State.{SwitchValue}
-use Rattle.switch_core.specs.declared.answers.Decision.{Decision as Decided}
-use Rattle.switch_core.specs.declared.answers.Next.TheVariants as next
-use Rattle.switch_core.specs.declared.packet.Packet.{Packet}
+use Rattle.switch_core.specs.declared.deciding.Decision.{Decision as Decided}
+use Rattle.switch_core.specs.declared.tunnel_calls.Next.TheVariants as next
+use Rattle.switch_core.specs.declared.tunnel_calls.Packet.{Packet}
 use Rattle.tunnel.specs.Tunnel.{TunnelValue}
 use Rattle.update_machine.specs.Moves.{end_items, leaving_item as left, leg_items}
 use Rattle.update_machine.specs.Packets.{decision_of, header_in}

@@ -10,8 +10,8 @@ use Rattle.switch_core.specs.Ends.{around}
 use Rattle.switch_core.specs.Answering.{received}
 use Rattle.switch_core.specs.Moving.{link_found_down, hop_answer}
 use Rattle.switch_core.specs.State.{SwitchValue, call_counted}
-use Rattle.switch_core.specs.declared.answers.HopEnd.{HopEnd}
-use Rattle.switch_core.specs.declared.answers.HopEnd.TheVariants as hop
+use Rattle.switch_core.specs.declared.tunnel_calls.HopEnd.{HopEnd}
+use Rattle.switch_core.specs.declared.tunnel_calls.HopEnd.TheVariants as hop
 use Rattle.tunnel.specs.Moves.{next}
 use Rattle.refinement.specs.Calls.{AreInStep}
 use Rattle.refinement.specs.SwitchOf.{switch_of}

@@ -12,7 +12,7 @@ use Rattle.switch_core.specs.Answering.{admitted, incoming_packet, looked_up}
 use Rattle.switch_core.specs.Ends.{around}
 use Rattle.switch_core.specs.State.{SwitchValue, serves as serves_now}
 use Rattle.switch_core.specs.Answers.{Answer}
-use Rattle.switch_core.specs.declared.packet.Packet.{Packet}
+use Rattle.switch_core.specs.declared.tunnel_calls.Packet.{Packet}
 use Rattle.update_machine.specs.Links.{serves}
 use Rattle.update_machine.specs.Messages.{next_message}
 use Rattle.update_machine.specs.Moves.{lookup_items}

@@ -18,8 +18,8 @@ use Rattle.switch_core.specs.Deciding.{by_entry, by_rule, rule_for_cache, no_rul
 use Rattle.switch_core.specs.Ends.{Site, around, next_of, set_out}
 use Rattle.switch_core.specs.State.{SwitchValue, stamp_tables}
 use Rattle.switch_core.specs.Answers.{Decided}
-use Rattle.switch_core.specs.declared.answers.Decision.{Decision}
-use Rattle.switch_core.specs.declared.packet.Packet.{Packet}
+use Rattle.switch_core.specs.declared.deciding.Decision.{Decision}
+use Rattle.switch_core.specs.declared.tunnel_calls.Packet.{Packet}
 use Rattle.switch_table.specs.Tables.{Hosted, has_target, part_of}
 use Rattle.switch_table.specs.declared.cache.CacheEntry.{CacheEntry}
 use Rattle.switch_table.specs.declared.search.Found.{Found}

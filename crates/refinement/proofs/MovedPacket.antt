@@ -19,9 +19,9 @@ use Rattle.switch_core.specs.Ends.{around, cause_of}
 use Rattle.switch_core.specs.Moving.{Moved, link_found_down as found_by, hop_answer, hopped_to, move_answer, moved_along, rerouted_here}
 use Rattle.switch_core.specs.State.{SwitchValue, call_counted}
 use Rattle.switch_core.specs.Answers.{Arrival}
-use Rattle.switch_core.specs.declared.answers.HopEnd.{HopEnd}
-use Rattle.switch_core.specs.declared.answers.HopEnd.TheVariants as hop
-use Rattle.switch_core.specs.declared.packet.Packet.{Packet}
+use Rattle.switch_core.specs.declared.tunnel_calls.HopEnd.{HopEnd}
+use Rattle.switch_core.specs.declared.tunnel_calls.HopEnd.TheVariants as hop
+use Rattle.switch_core.specs.declared.tunnel_calls.Packet.{Packet}
 use Rattle.switch_table.specs.Tables.{Hosted}
 use Rattle.tunnel.specs.Moves.{here, next}
 use Rattle.tunnel.specs.Tunnel.{TunnelValue}

@@ -20,9 +20,9 @@ use Rattle.switch_core.specs.Answering.{answer_by, decided_at, looked_up, seek_b
 use Rattle.switch_core.specs.Answers.{Answer}
 use Rattle.switch_core.specs.Answers as answer
 use Rattle.switch_core.specs.State.{SwitchValue, stamp_tables}
-use Rattle.switch_core.specs.declared.answers.Decision.{Decision}
-use Rattle.switch_core.specs.declared.answers.Next.TheVariants.{Out}
-use Rattle.switch_core.specs.declared.packet.Packet.{Packet}
+use Rattle.switch_core.specs.declared.deciding.Decision.{Decision}
+use Rattle.switch_core.specs.declared.tunnel_calls.Next.TheVariants.{Out}
+use Rattle.switch_core.specs.declared.tunnel_calls.Packet.{Packet}
 use Rattle.switch_table.specs.declared.search.Found.{Found}
 use Rattle.switch_table.specs.declared.search.Found.TheVariants as found
 use Rattle.tunnel.specs.Moves.{tunnel_begun}

@@ -5,9 +5,9 @@ use Rattle.policy_rules.specs.declared.packet.Leg.TheVariants.{Exit}
 use Rattle.policy_rules.specs.declared.policy.Action.TheVariants as action
 use Rattle.journal.specs.declared.item.Item.{Item}
 use Rattle.journal.specs.declared.item.Item.TheVariants as item
-use Rattle.switch_core.specs.declared.answers.Decision.{Decision}
-use Rattle.switch_core.specs.declared.answers.Next.{Next}
-use Rattle.switch_core.specs.declared.answers.Next.TheVariants as next
+use Rattle.switch_core.specs.declared.deciding.Decision.{Decision}
+use Rattle.switch_core.specs.declared.tunnel_calls.Next.{Next}
+use Rattle.switch_core.specs.declared.tunnel_calls.Next.TheVariants as next
 use Rattle.tunnel.specs.Moves.{tunnel_begun}
 use Rattle.tunnel.specs.Tunnel.{TunnelValue}
 use Rattle.packet_laws.specs.Facts.{PacketFacts}

@@ -14,7 +14,7 @@ use Rattle.switch_core.specs.Answering.{CanLookUp, IsAtAuthority}
 use Rattle.switch_core.specs.Moving.{StandsAt, hop_answer}
 use Rattle.switch_core.specs.State.{serves}
 use Rattle.switch_core.specs.Answers.{Answer}
-use Rattle.switch_core.specs.declared.answers.HopEnd.TheVariants as hop
+use Rattle.switch_core.specs.declared.tunnel_calls.HopEnd.TheVariants as hop
 use Rattle.refinement.specs.SwitchOf.{switch_of}
 use Rattle.travelling.specs.Travelling.{Flight}
 use Rattle.tunnel.specs.Moves.{here}

@@ -7,37 +7,37 @@ use Rattle.switch_core.specs.Answering.{admitted, enter_answer, incoming_packet,
 use Rattle.switch_core.specs.Deciding.{packet_with}
 use Rattle.switch_core.specs.Ends.{Site, are_isolated, cause_of, leave_by, next_of, set_out}
 use Rattle.switch_core.specs.State.{SwitchValue, call_counted, serves}
-use Rattle.switch_core.specs.Verdicts.{IsByLookup, answer_of}
-use Rattle.switch_core.specs.declared.answers.Entered.{Entered}
-use Rattle.switch_core.specs.declared.packet.Packet.{Packet}
-use Rattle.switch_core.specs.declared.verdicts.Forwarding.{Forwarding}
-use Rattle.switch_core.specs.declared.verdicts.Forwarding.TheVariants.{Out, Decided, Seek}
+use Rattle.switch_core.specs.Forwarding.{IsByLookup, answer_of}
+use Rattle.switch_core.specs.declared.tunnel_calls.Entered.{Entered}
+use Rattle.switch_core.specs.declared.tunnel_calls.Packet.{Packet}
+use Rattle.switch_core.specs.declared.forwarding.Forwarding.{Forwarding}
+use Rattle.switch_core.specs.declared.forwarding.Forwarding.TheVariants.{Out, Decided, Seek}
 use Rattle.switch_core.proofs.PacketArrivals.{entry_by}
 
 -- one more call changes no answer
-pub answer_counted : (s after : SwitchValue) (site : Site) (packet : Packet) (verdict : Forwarding) →
-    after ≡ call_counted s → answer_of after site packet verdict ≡ answer_of s site packet verdict
+pub answer_counted : (s after : SwitchValue) (site : Site) (packet : Packet) (forwarding : Forwarding) →
+    after ≡ call_counted s → answer_of after site packet forwarding ≡ answer_of s site packet forwarding
 unfolding next_of leave_by set_out cause_of are_isolated
-answer_counted s after site packet verdict is =
-    ap (λ w. answer_of w site packet verdict) is ∙ by_verdict verdict
+answer_counted s after site packet forwarding is =
+    ap (λ w. answer_of w site packet forwarding) is ∙ by_forwarding forwarding
   where
-    by_verdict : (verdict : Forwarding) →
-        answer_of (call_counted s) site packet verdict ≡ answer_of s site packet verdict
-    by_verdict (Out port) = refl
-    by_verdict (Decided decision word) = refl
-    by_verdict (Seek leg targets) = refl
+    by_forwarding : (forwarding : Forwarding) →
+        answer_of (call_counted s) site packet forwarding ≡ answer_of s site packet forwarding
+    by_forwarding (Out port) = refl
+    by_forwarding (Decided decision word) = refl
+    by_forwarding (Seek leg targets) = refl
 
 module _ (s after : SwitchValue) (site : Site) (number : ℕ) (header : Header)
-    (verdict : Forwarding) where
+    (forwarding : Forwarding) where
   -- what is said of a packet that comes in at a switch that serves
   pub was_admitted : (ingress : ℕ) → after ≡ call_counted s → serves s ≡ true → ingress ≡ s.number →
-      answer_of s site (packet_with number header ingress no_links) verdict
+      answer_of s site (packet_with number header ingress no_links) forwarding
       ≡ Answered (looked_up s site (packet_with number header ingress no_links)) →
-      Some (answer_of after site (incoming_packet s number header) verdict)
+      Some (answer_of after site (incoming_packet s number header) forwarding)
       ≡ option_map Answered (admitted s site (incoming_packet s number header))
   was_admitted ingress is serving here looked =
-      ap Some (answer_counted s after site (incoming_packet s number header) verdict is
-      ∙ subst (λ i. answer_of s site (packet_with number header i no_links) verdict
+      ap Some (answer_counted s after site (incoming_packet s number header) forwarding is
+      ∙ subst (λ i. answer_of s site (packet_with number header i no_links) forwarding
       ≡ Answered (looked_up s site (packet_with number header i no_links))) here looked)
       ∙ ap (option_map Answered)
       (sym (entry_by s site (incoming_packet s number header) true serving))
@@ -46,16 +46,16 @@ module _ (s after : SwitchValue) (site : Site) (number : ℕ) (header : Header)
   pub answered : (result : Entered) (ingress : ℕ) (down : List ℕ) → ingress ≡ s.number →
       down ≡ no_links →
       ((answer : Answer) →
-      answer_of after site (packet_with number header ingress down) verdict ≡ Answered answer →
+      answer_of after site (packet_with number header ingress down) forwarding ≡ Answered answer →
       result ≡ entered_with answer) →
-      Some (answer_of after site (incoming_packet s number header) verdict)
+      Some (answer_of after site (incoming_packet s number header) forwarding)
       ≡ option_map Answered (admitted s site (incoming_packet s number header)) →
       result ≡ enter_answer s site (incoming_packet s number header)
   answered result ingress down here none is =
       by_answer (admitted s site (incoming_packet s number header))
     where
       what : ℕ → List ℕ → Arrival
-      what i d = answer_of after site (packet_with number header i d) verdict
+      what i d = answer_of after site (packet_with number header i d) forwarding
 
       by_answer : (answer : Option Answer) →
           Some (what s.number no_links) ≡ option_map Answered answer → result ≡ entry_of answer
@@ -65,9 +65,9 @@ module _ (s after : SwitchValue) (site : Site) (number : ℕ) (header : Header)
           is answer (ap (λ i. what i down) here ∙ ap (what s.number) none ∙ own)
 
 -- of a packet that comes in there is a lookup
-pub by_lookup : (s : SwitchValue) (site : Site) (packet : Packet) (verdict : Forwarding)
+pub by_lookup : (s : SwitchValue) (site : Site) (packet : Packet) (forwarding : Forwarding)
     (answer : Option Answer) →
-    Some (answer_of s site packet verdict) ≡ option_map Answered answer → IsByLookup verdict
+    Some (answer_of s site packet forwarding) ≡ option_map Answered answer → IsByLookup forwarding
 by_lookup s site packet (Out port) None is = absurd cc
 by_lookup s site packet (Out port) (Some answer) is = absurd cc
 by_lookup s site packet (Decided decision word) answer is = tt

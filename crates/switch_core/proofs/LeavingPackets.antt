@@ -14,9 +14,9 @@ use Rattle.tunnel.specs.Tunnel.{TunnelValue}
 use Rattle.switch_core.specs.AnswerLaws.{route_known, setting_out}
 use Rattle.switch_core.specs.Ends.{Site, cause_of, exit_by, leave_by, next_of, set_out}
 use Rattle.switch_core.specs.State.{SwitchValue}
-use Rattle.switch_core.specs.declared.answers.Next.{Next}
-use Rattle.switch_core.specs.declared.answers.Next.TheVariants.{Dropped, Exit, Out, Stuck}
-use Rattle.switch_core.specs.declared.packet.Packet.{Packet}
+use Rattle.switch_core.specs.declared.tunnel_calls.Next.{Next}
+use Rattle.switch_core.specs.declared.tunnel_calls.Next.TheVariants.{Dropped, Exit, Out, Stuck}
+use Rattle.switch_core.specs.declared.tunnel_calls.Packet.{Packet}
 use Rattle.switch_core.proofs.LookupAnswers.{sets_out}
 
 -- ---- by the port's owner

@@ -8,6 +8,7 @@ pub mod LeavingPackets
 pub mod PacketArrivals
 pub mod PolicyDecisions
 pub mod OnWay
+pub mod NextSwitch
 pub mod OnlyAnswers
 pub mod AdmittedPackets
 pub mod FirstTargets

@@ -27,7 +27,7 @@ use Rattle.switch_core.specs.Deciding.{IsFirstHit, IsFound, by_entry, rule_for_c
 use Rattle.switch_core.specs.Ends.{Site, cause_of, next_of, set_out}
 use Rattle.switch_core.specs.State.{IsSwitch, SwitchValue, held_tables, holds_version, no_tables, serves, stamp_tables}
 use Rattle.switch_core.specs.Answers.{Answer, Decided, Seek, Stuck}
-use Rattle.switch_core.specs.declared.packet.Packet.{Packet}
+use Rattle.switch_core.specs.declared.tunnel_calls.Packet.{Packet}
 use Rattle.switch_core.proofs.OwnTables.{lookup_is_found}
 
 -- ---- the tables of a version

@@ -21,7 +21,7 @@ use Rattle.switch_core.specs.AnswerLaws.{IsSamePacket, down_with, route_around}
 use Rattle.switch_core.specs.Ends.{cause_of}
 use Rattle.switch_core.specs.Moving.{Moved, StandsAt, link_found_down, hop_answer, hopped_to, move_answer, moved_along, rerouted_here}
 use Rattle.switch_core.specs.State.{SwitchValue}
-use Rattle.switch_core.specs.declared.answers.HopEnd.TheVariants.{Arrive, Move, Stuck}
+use Rattle.switch_core.specs.declared.tunnel_calls.HopEnd.TheVariants.{Arrive, Move, Stuck}
 
 -- ---- a link that is found down
 
@@ -66,7 +66,7 @@ hop_moves s near t other is usable =
     ∙ ap (move_answer t) is
 
 -- along the way around a link
-hop_around : (s : SwitchValue) (near : ℕ) (t : TunnelValue) (other : ℕ)
+pub hop_around : (s : SwitchValue) (near : ℕ) (t : TunnelValue) (other : ℕ)
     (way : Option (List ℕ)) → link_found_down near (next t) ≡ Some other →
     route_around s near t other ≡ way →
     hop_answer s near t ≡ moved_along s near (marked_down t other) way

@@ -28,12 +28,12 @@ use Rattle.switch_core.specs.Ends.{Site, cause_of, next_of}
 use Rattle.switch_core.specs.Moving.{Moved, link_found_down, hop_answer}
 use Rattle.switch_core.specs.State.{SwitchValue, held_tables, serves, stamp_tables}
 use Rattle.switch_core.specs.Answers.{Answer, Decided, Seek, Stuck, arrived_with, entered_with}
-use Rattle.switch_core.specs.declared.answers.Arrived.{Arrived}
-use Rattle.switch_core.specs.declared.answers.Entered.{Entered}
-use Rattle.switch_core.specs.declared.answers.HopEnd.TheVariants as hop
-use Rattle.switch_core.specs.declared.answers.Next.{Next}
-use Rattle.switch_core.specs.declared.answers.Next.TheVariants as goes
-use Rattle.switch_core.specs.declared.packet.Packet.{Packet}
+use Rattle.switch_core.specs.declared.tunnel_calls.Arrived.{Arrived}
+use Rattle.switch_core.specs.declared.tunnel_calls.Entered.{Entered}
+use Rattle.switch_core.specs.declared.tunnel_calls.HopEnd.TheVariants as hop
+use Rattle.switch_core.specs.declared.tunnel_calls.Next.{Next}
+use Rattle.switch_core.specs.declared.tunnel_calls.Next.TheVariants as goes
+use Rattle.switch_core.specs.declared.tunnel_calls.Packet.{Packet}
 use Rattle.switch_core.proofs.LookupAnswers.{lookup_is}
 use Rattle.switch_core.proofs.PacketArrivals.{arrive_anew, arrive_held, arrive_out, entry_is}
 use Rattle.switch_core.proofs.LeavingPackets.{next_dropped, next_exit, next_no_owner, next_out}

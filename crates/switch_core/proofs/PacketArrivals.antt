@@ -14,9 +14,9 @@ use Rattle.switch_core.specs.Deciding.{IsFirstHit, place_of_first, no_part, own_
 use Rattle.switch_core.specs.Ends.{Site}
 use Rattle.switch_core.specs.State.{SwitchValue, held_tables, holds_version, serves}
 use Rattle.switch_core.specs.Answers.{Answer, Answered, Decided, Seek as SeekBy, Stuck, arrival_of, arrived_with, entered_with, entry_of}
-use Rattle.switch_core.specs.declared.answers.Arrived.TheVariants as arrival
-use Rattle.switch_core.specs.declared.answers.Entered.TheVariants as entry
-use Rattle.switch_core.specs.declared.packet.Packet.{Packet}
+use Rattle.switch_core.specs.declared.tunnel_calls.Arrived.TheVariants as arrival
+use Rattle.switch_core.specs.declared.tunnel_calls.Entered.TheVariants as entry
+use Rattle.switch_core.specs.declared.tunnel_calls.Packet.{Packet}
 use Rattle.switch_core.proofs.LookupAnswers.{hit_in, lookup_is, sound_held, version_held}
 use Rattle.switch_core.proofs.OwnTables.{own_hit}
 

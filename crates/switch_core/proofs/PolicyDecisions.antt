@@ -31,11 +31,11 @@ use Rattle.switch_core.specs.Deciding.{by_entry, by_rule, own_part}
 use Rattle.switch_core.specs.Ends.{Site, cause_of, next_of}
 use Rattle.switch_core.specs.State.{SwitchValue, held_tables, stamp_tables}
 use Rattle.switch_core.specs.Answers.{Answer, Decided, Seek, Stuck, arrived_with, entered_with, entry_of}
-use Rattle.switch_core.specs.declared.answers.Arrived.TheVariants as arrival
-use Rattle.switch_core.specs.declared.answers.Decision.{Decision}
-use Rattle.switch_core.specs.declared.answers.Entered.TheVariants as entry
-use Rattle.switch_core.specs.declared.answers.Next.{Next}
-use Rattle.switch_core.specs.declared.packet.Packet.{Packet}
+use Rattle.switch_core.specs.declared.tunnel_calls.Arrived.TheVariants as arrival
+use Rattle.switch_core.specs.declared.deciding.Decision.{Decision}
+use Rattle.switch_core.specs.declared.tunnel_calls.Entered.TheVariants as entry
+use Rattle.switch_core.specs.declared.tunnel_calls.Next.{Next}
+use Rattle.switch_core.specs.declared.tunnel_calls.Packet.{Packet}
 use Rattle.switch_core.proofs.LookupAnswers.{lookup_is, stamp_held, stamp_version}
 use Rattle.switch_core.proofs.PacketArrivals.{arrive_anew, arrive_held, arrive_out, entry_by}
 

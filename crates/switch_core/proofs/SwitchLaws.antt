@@ -18,7 +18,7 @@ use Rattle.ctrl_msg.specs.declared.message.Body.{Body}
 use Rattle.ctrl_msg.specs.declared.message.Body.TheVariants.{Install, OpenAt, Stamp, Collect, CacheRule, Advertise}
 use Rattle.switch_table.specs.Cache.{CacheValue, after_raise}
 use Rattle.switch_table.specs.declared.tables.Tables.{Tables}
-use Rattle.switch_core.specs.declared.packet.Packet.{Packet}
+use Rattle.switch_core.specs.declared.tunnel_calls.Packet.{Packet}
 use Rattle.switch_core.specs.Ends.{are_isolated, cause_of, is_seek, set_out}
 use Rattle.switch_core.specs.Hearing.{after_body, collected_to, with_message, with_heard, with_installed, obeys, raised_to, stamped_with}
 use Rattle.switch_core.specs.Laws.{IsHeard}

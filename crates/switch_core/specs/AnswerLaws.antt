@@ -39,15 +39,15 @@ use Rattle.switch_core.specs.Ends.{Site, cause_of, next_of}
 use Rattle.switch_core.specs.Moving.{Moved, StandsAt, link_found_down, hop_answer}
 use Rattle.switch_core.specs.State.{IsSwitch, SwitchValue, held_tables, holds_version, serves, stamp_tables}
 use Rattle.switch_core.specs.Answers.{Answer, Decided, Seek, Stuck, arrived_with, entered_with}
-use Rattle.switch_core.specs.declared.answers.Arrived.{Arrived}
-use Rattle.switch_core.specs.declared.answers.Arrived.TheVariants as arrival
-use Rattle.switch_core.specs.declared.answers.Decision.{Decision}
-use Rattle.switch_core.specs.declared.answers.Entered.{Entered}
-use Rattle.switch_core.specs.declared.answers.Entered.TheVariants as entry
-use Rattle.switch_core.specs.declared.answers.HopEnd.TheVariants as hop
-use Rattle.switch_core.specs.declared.answers.Next.{Next}
-use Rattle.switch_core.specs.declared.answers.Next.TheVariants as goes
-use Rattle.switch_core.specs.declared.packet.Packet.{Packet}
+use Rattle.switch_core.specs.declared.tunnel_calls.Arrived.{Arrived}
+use Rattle.switch_core.specs.declared.tunnel_calls.Arrived.TheVariants as arrival
+use Rattle.switch_core.specs.declared.deciding.Decision.{Decision}
+use Rattle.switch_core.specs.declared.tunnel_calls.Entered.{Entered}
+use Rattle.switch_core.specs.declared.tunnel_calls.Entered.TheVariants as entry
+use Rattle.switch_core.specs.declared.tunnel_calls.HopEnd.TheVariants as hop
+use Rattle.switch_core.specs.declared.tunnel_calls.Next.{Next}
+use Rattle.switch_core.specs.declared.tunnel_calls.Next.TheVariants as goes
+use Rattle.switch_core.specs.declared.tunnel_calls.Packet.{Packet}
 
 -- ---- terms
 

@@ -18,9 +18,9 @@ use Rattle.switch_table.specs.declared.search.Found.{Found}
 use Rattle.switch_table.specs.declared.search.Found.TheVariants.{Cached, Authority, Redirect}
 use Rattle.switch_core.specs.Answers.{Answer, Arrival, Decided, Seek, Stuck, arrival_of, entry_of}
 use Rattle.switch_core.specs.Answers as arrival
-use Rattle.switch_core.specs.declared.answers.Arrived.{Arrived}
-use Rattle.switch_core.specs.declared.answers.Entered.{Entered}
-use Rattle.switch_core.specs.declared.packet.Packet.{Packet}
+use Rattle.switch_core.specs.declared.tunnel_calls.Arrived.{Arrived}
+use Rattle.switch_core.specs.declared.tunnel_calls.Entered.{Entered}
+use Rattle.switch_core.specs.declared.tunnel_calls.Packet.{Packet}
 use Rattle.switch_core.specs.Deciding.{by_entry, by_rule, packet_with, rule_for_cache, place_of_first, own_part, part_numbered, rule_in}
 use Rattle.switch_core.specs.Ends.{Site, next_of, set_out}
 use Rattle.switch_core.specs.State.{SwitchValue, held_tables, holds_version, serves, stamp_tables}

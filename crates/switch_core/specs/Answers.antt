@@ -3,12 +3,12 @@ use Rattle.std.specs.Prelude.{ℕ, Option, Some, None}
 use Rattle.ctrl_msg.specs.declared.message.Body.{Body}
 use Rattle.policy_rules.specs.declared.packet.Cause.{Cause}
 use Rattle.policy_rules.specs.declared.packet.Leg.{Leg}
-use Rattle.switch_core.specs.declared.answers.Arrived.{Arrived}
-use Rattle.switch_core.specs.declared.answers.Arrived.TheVariants as arrived
-use Rattle.switch_core.specs.declared.answers.Decision.{Decision}
-use Rattle.switch_core.specs.declared.answers.Entered.{Entered}
-use Rattle.switch_core.specs.declared.answers.Entered.TheVariants as entered
-use Rattle.switch_core.specs.declared.answers.Next.{Next}
+use Rattle.switch_core.specs.declared.tunnel_calls.Arrived.{Arrived}
+use Rattle.switch_core.specs.declared.tunnel_calls.Arrived.TheVariants as arrived
+use Rattle.switch_core.specs.declared.deciding.Decision.{Decision}
+use Rattle.switch_core.specs.declared.tunnel_calls.Entered.{Entered}
+use Rattle.switch_core.specs.declared.tunnel_calls.Entered.TheVariants as entered
+use Rattle.switch_core.specs.declared.tunnel_calls.Next.{Next}
 use Rattle.tunnel.specs.Tunnel.{TunnelValue}
 
 -- of a packet whose header was looked up: it is decided, with a rule for the cache of the switch

@@ -18,8 +18,8 @@ use Rattle.switch_table.specs.declared.tables.Tables.{Tables}
 use Rattle.cache_maker.specs.Independent.{widen}
 use Rattle.ctrl_msg.specs.declared.message.Body.{Body}
 use Rattle.ctrl_msg.specs.declared.message.Body.TheVariants.{CacheRule}
-use Rattle.switch_core.specs.declared.answers.Decision.{Decision}
-use Rattle.switch_core.specs.declared.packet.Packet.{Packet}
+use Rattle.switch_core.specs.declared.deciding.Decision.{Decision}
+use Rattle.switch_core.specs.declared.tunnel_calls.Packet.{Packet}
 
 -- ---- rules by their numbers
 

@@ -15,9 +15,9 @@ use Rattle.failover.specs.Isolated.{is_isolated}
 use Rattle.failover.specs.Routes.{route_of}
 use Rattle.tunnel.specs.Tunnel.{TunnelValue}
 use Rattle.tunnel.specs.Moves.{tunnel_begun}
-use Rattle.switch_core.specs.declared.answers.Next.{Next}
-use Rattle.switch_core.specs.declared.answers.Next.TheVariants.{Dropped, Out, Exit, Stuck}
-use Rattle.switch_core.specs.declared.packet.Packet.{Packet}
+use Rattle.switch_core.specs.declared.tunnel_calls.Next.{Next}
+use Rattle.switch_core.specs.declared.tunnel_calls.Next.TheVariants.{Dropped, Out, Exit, Stuck}
+use Rattle.switch_core.specs.declared.tunnel_calls.Packet.{Packet}
 use Rattle.switch_core.specs.declared.site.Site as given
 use Rattle.switch_core.specs.State.{SwitchValue}
 
@@ -59,12 +59,6 @@ set_out s near packet leg targets =
     (λ route. tunnel_begun packet.number packet.header packet.ingress leg targets route packet.down)
     (route_of s.database s.number targets near packet.down))
     (cause_of s near packet.down leg targets)
-
--- what a route that was found makes of the packet
-abbrev pub begun_by : Packet → Leg → List ℕ → Result (List ℕ) Cause → Result TunnelValue Cause
-begun_by packet leg targets (Ok route) =
-    Ok (tunnel_begun packet.number packet.header packet.ingress leg targets route packet.down)
-begun_by packet leg targets (Err cause) = Err cause
 
 -- ---- the exit rule
 

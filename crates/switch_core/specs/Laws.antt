@@ -9,7 +9,7 @@ use Rattle.policy_rules.specs.declared.packet.Leg.{Leg}
 use Rattle.policy_rules.specs.declared.packet.Cause.TheVariants.{NoAuthority}
 use Rattle.ctrl_msg.specs.declared.message.Body.{Body}
 use Rattle.switch_table.specs.declared.tables.Tables.{Tables}
-use Rattle.switch_core.specs.declared.packet.Packet.{Packet}
+use Rattle.switch_core.specs.declared.tunnel_calls.Packet.{Packet}
 use Rattle.switch_core.specs.Ends.{cause_of, is_seek, set_out}
 use Rattle.switch_core.specs.Hearing.{collected_to, with_message, with_heard, with_installed, obeys, raised_to, stamped_with}
 use Rattle.switch_core.specs.State.{HasOwnUpTo, SwitchValue, held_tables}

@@ -1,10 +1,10 @@
 pub mod State
-pub mod KeptRoutes
+pub mod Routes
 pub mod Ends
 pub mod Deciding
 pub mod Answers
 pub mod Answering
-pub mod Verdicts
+pub mod Forwarding
 pub mod Moving
 pub mod Hearing
 pub mod Life

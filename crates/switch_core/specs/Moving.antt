@@ -1,11 +1,13 @@
 -- What becomes of a packet that is on its way at a switch, as a function. What it says is the
 -- relation `IsHop`, which allows nothing else.
-use Rattle.std.specs.Prelude.{ℕ, ◌≡◌, Bool, true, Option, Some, None, if◌then◌else◌, List, slice_get}
+use Rattle.std.specs.Prelude.{ℕ, ◌≡◌, Option, Some, None, if◌then◌else◌, List, slice_get}
 use Rattle.base.specs.Masks.{has}
 use Rattle.tunnel.specs.Tunnel.{TunnelValue}
 use Rattle.tunnel.specs.Moves.{next, advanced_tunnel, marked_down, on_route, route_from_here}
-use Rattle.switch_core.specs.declared.answers.HopEnd.{HopEnd}
-use Rattle.switch_core.specs.declared.answers.HopEnd.TheVariants.{Arrive, Move, Stuck}
+use Rattle.switch_core.specs.declared.tunnel_calls.HopEnd.{HopEnd}
+use Rattle.switch_core.specs.declared.tunnel_calls.HopEnd.TheVariants.{Arrive, Move, Stuck}
+use Rattle.switch_core.specs.declared.packet.Onward.{Onward}
+use Rattle.switch_core.specs.declared.packet.Onward.TheVariants.{AtEnd, Next, LinkDown}
 use Rattle.switch_core.specs.Ends.{cause_of}
 use Rattle.switch_core.specs.State.{SwitchValue}
 
@@ -48,7 +50,7 @@ hopped_to s near t (Some other) = rerouted_here s near (marked_down t other)
 unfoldable pub hop_answer : SwitchValue → ℕ → TunnelValue → Moved
 hop_answer s near t = hopped_to s near t (link_found_down near (next t))
 
--- a packet with this next switch finds no link down
-abbrev pub is_free : ℕ → Option ℕ → Bool
-is_free near None = true
-is_free near (Some other) = has near other
+-- where a packet with this next switch goes on
+abbrev pub onward_to : ℕ → Option ℕ → Onward
+onward_to near None = AtEnd
+onward_to near (Some other) = if has near other then Next other else LinkDown other

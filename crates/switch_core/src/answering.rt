@@ -1,54 +1,22 @@
 ghost use Rattle.std.specs.Prelude.{◌≡◌, ◌+◌, ℕ, List, None, IsSomeAnd, IsTrue, option_map, slice_get};
 ghost use Rattle.policy_rules.specs.Hosted.{is_in};
 ghost use Rattle.policy_rules.specs.declared.packet.Leg.TheVariants.{Seek as SeekLeg};
-ghost use Rattle.tunnel.specs.Moves.{next};
 ghost use Rattle.switch_core.specs.Answers.{Answered};
-ghost use Rattle.switch_core.specs.Exports.{CanLookUp, IsAtAuthority, IsFirstHit, IsFound, IsUncached, Site as SiteValue, StandsAt, admitted, admitted_as, answer_by, answer_of, around, arrive_answer, arrived_on, call_counted, decided_at, decided_in, enter_answer, holds_version, incoming_packet, looked_up, own_part, packet_of, packet_with, serves};
+ghost use Rattle.switch_core.specs.Exports.{CanLookUp, IsAtAuthority, IsFirstHit, IsFound, IsUncached, Site as SiteValue, StandsAt, admitted, admitted_as, answer_by, answer_of, arrived_on, call_counted, decided_at, decided_in, holds_version, incoming_packet, looked_up, own_part, packet_with, serves};
 
-use crate::answers::{Arrived, Decision, Entered};
-use crate::deciding::{cache_word, own_part, rule_in};
+use crate::deciding::{Decision, cache_word, own_part, rule_in};
+use crate::forwarding::Forwarding;
 use crate::kept::KeptTables;
-use crate::packet::{Arriving, Packet};
-use crate::site::Site;
+use crate::packet::Arriving;
 use crate::switch::Switch;
-use crate::verdicts::Forwarding;
-use failover::DownSet;
 use five_tuple::Header;
-use net_file::Ports;
 use policy_rules::{Leg, Partition};
 use switch_table::{Found, Tables};
-use tunnel::Tunnel;
 
 impl Switch {
-    /// A packet of this number comes into the network here: closed exactly where the switch doesn't
-    /// serve. Otherwise it is looked up under the switch's stamp, and is decided by a cached or an
-    /// authority rule, or sets out to its partition's targets; nothing is sent to a cache.
-    /// `enter_laws` and `lookup_laws` say how.
-    ///
-    /// `near` has a bit for each switch to which there is a usable link.
-    pub fn enter(&mut self, packet: u32, h: &Header, near: u64, ports: &Ports) -> Entered
-        requires { CanLookUp self.old }
-        ensures answer { result
-            ≡ enter_answer self.old (around near ports.now)
-            (incoming_packet self.old packet h.now) }
-        ensures uncached { IsUncached
-            (admitted self.old (around near ports.now) (incoming_packet self.old packet h.now)) }
-        ensures after { self.new ≡ call_counted self.old }
-    {
-        let packet = Packet {
-            number: packet,
-            header: *h,
-            ingress: self.number,
-            down: DownSet::empty(),
-        };
-        match self.admit(h) {
-            None => Entered::Closed,
-            Some(verdict) => self.answer_entry(Site { near, ports }, &packet, verdict),
-        }
-    }
-
-    /// `enter` before any route is taken: what is said of a packet that comes in here, whatever its
-    /// number; `None` exactly where the switch doesn't serve. It copies no route and no set of
+    /// What becomes of a packet that comes into the network here, whatever its number: `None`
+    /// exactly where the switch doesn't serve. Otherwise it is looked up under the switch's stamp,
+    /// and nothing is sent to a cache. `lookup_laws` says how. It copies no route and no set of
     /// links.
     pub fn admit(&mut self, h: &Header) -> Option<Forwarding>
         requires { CanLookUp self.old }
@@ -63,39 +31,15 @@ impl Switch {
             self.count();
             return None;
         }
-        let verdict = self.look_up(h, self.number);
+        let forwarding = self.look_up(h, self.number);
         self.count();
-        Some(verdict)
+        Some(forwarding)
     }
 
-    /// A packet stands here, at the end of its route. On its way to a port it leaves. On its way to
-    /// an authority switch it is decided by the tables of its version. Where these aren't there, it
-    /// is looked up anew under the switch's stamp. `arrive_laws` and `lookup_laws` say how.
-    ///
-    /// `near` has a bit for each switch to which there is a usable link.
-    #[tactic(auto, unfolding(crate::specs::Answering::received))]
-    pub fn arrive(&mut self, t: &Tunnel, near: u64, ports: &Ports) -> Arrived
-        requires serving { IsTrue (serves self.old) }
-        requires stamped { CanLookUp self.old }
-        requires here { StandsAt self.old t.now.route t.now.place }
-        requires last { next t.now ≡ None }
-        requires authority { IsAtAuthority self.old t.now.header t.now.leg }
-        ensures answer { result ≡ arrive_answer self.old (around near ports.now) t.now }
-        ensures after { self.new ≡ call_counted self.old }
-    {
-        let verdict = self.receive(Arriving {
-            header: &t.header,
-            ingress: t.ingress,
-            leg: t.leg,
-            route: &t.route,
-            place: t.place,
-        });
-        self.answer_arrival(Site { near, ports }, &carried(t), verdict)
-    }
-
-    /// `arrive` before any route is taken: what is said of a packet that stands here, at the end of
-    /// its route, whatever its number and the links that it found down. It copies no route and no
-    /// set of links.
+    /// What becomes of a packet that stands here, at the end of its route, whatever its number and
+    /// the links that it found down. On its leg to a port it leaves. On its leg to an authority
+    /// switch it is decided by the tables of its version. Where these aren't there, it is looked up
+    /// anew under the switch's stamp. It copies no route and no set of links.
     pub fn receive(&mut self, t: Arriving) -> Forwarding
         requires serving { IsTrue (serves self.old) }
         requires stamped { CanLookUp self.old }
@@ -115,9 +59,9 @@ impl Switch {
                 Forwarding::Out(port)
             }
             Leg::Seek { version, partition } => {
-                let verdict = self.judge(t.header, t.ingress, version, partition);
+                let forwarding = self.judge(t.header, t.ingress, version, partition);
                 self.count();
-                verdict
+                forwarding
             }
         }
     }
@@ -217,17 +161,5 @@ impl Switch {
             decision: Decision::by_rule(self.number, version, part.number, rule),
             word: cache_word(self.number, h, ingress, part, place),
         }
-    }
-}
-
-// The packet of a tunnel.
-fn carried(t: &Tunnel) -> Packet
-    ensures { result ≡ packet_of t.now }
-{
-    Packet {
-        number: t.packet,
-        header: t.header,
-        ingress: t.ingress,
-        down: t.down,
     }
 }

@@ -1,14 +1,24 @@
 ghost use Rattle.std.specs.Prelude.{◌≡◌, ◌<◌, ℕ, List, length};
 ghost use Rattle.std.specs.Option.{option_copied};
 ghost use Rattle.switch_core.specs.Deciding.{IsFirstHit, by_entry, by_rule, rule_for_cache, own_part, packet_with, rule_in};
-ghost use Rattle.switch_core.specs.Verdicts.{cached_by};
+ghost use Rattle.switch_core.specs.Forwarding.{cached_by};
 
-use crate::answers::Decision;
 use cache_maker::widen;
 use five_tuple::Header;
-use policy_rules::{How, Partition, Rule};
+use policy_rules::{Action, How, Partition, Rule};
 use switch_table::{CacheEntry, Tables};
 use ternary::Word;
+
+/// By which rule a switch decides a packet.
+#[derive(Clone, Copy, Debug, PartialEq, Eq)]
+pub struct Decision {
+    /// The version of the policy that has the rule.
+    pub version: u32,
+    /// The priority of the row, or `None` for the default.
+    pub rule: Option<u32>,
+    pub action: Action,
+    pub how: How,
+}
 
 impl Decision {
     /// By a cached rule.

@@ -4,14 +4,25 @@ ghost use Rattle.ctrl_msg.specs.declared.message.Body.TheVariants.{Advertise};
 ghost use Rattle.ctrl_msg.specs.Kinds.{to_controller};
 ghost use Rattle.switch_core.specs.Hearing.{IsSoundBody, collected_to, flood, with_message, with_heard, with_installed, is_news_here, with_learnt, obeys, opening_stamp, opened_with, opened_by, raised_to, replies, replies_to, stamped_with};
 
-use crate::answers::{Heard, Replies};
 use crate::kept::KeptTables;
 use crate::switch::Switch;
-use base::has;
+use base::{Items, has};
 use ctrl_msg::{Body, Message, Place, SharedTables};
 use failover::Advert;
 use std::alloc::{AllocError, Global};
 use switch_table::{CacheEntry, Touched};
+
+/// What a message causes at a switch.
+#[derive(Drop)]
+pub struct Heard {
+    /// The messages to be sent, in order.
+    pub replies: Replies,
+    /// The stamp of a switch that has opened just now.
+    pub opened: Option<u32>,
+}
+
+/// Messages in the order in which they are to be sent.
+pub type Replies = Items<Message>;
 
 impl Switch {
     /// The message of this number is delivered here. A switch that is down does nothing, nor does

@@ -5,36 +5,46 @@
 //! many packet calls it answered. The laws say what those steps are in terms of lookups, rules,
 //! routes and tunnels. Only `begin`, `hear` and `shared_route` take memory.
 //!
+//! A packet comes in by `admit` and goes on by `pass`; `receive` says what becomes of it at the end
+//! of its route, and `shared_route` finds the route of a leg. `enter`, `hop` and `arrive` are the
+//! same calls by whole tunnels.
+//!
 //! ```text
 //! let mut switch = Switch::begin(alloc, 0, 256, tables, base)?;
-//! if let Entered::Seek(mut packet) = switch.enter(1, &header, near, &ports) {
-//!     let hop = switch.hop(&mut packet, near);
+//! if let Some(Forwarding::Seek { leg, targets }) = switch.admit(&header) {
+//!     let route = switch.shared_route(alloc, near, None, leg, &targets)?; // or why there is none
+//!     if let Onward::LinkDown(other) = switch.pass(route.get(), 0, near) {
+//!         down.add(0, other);
+//!         let other_route = switch.shared_route(alloc, near, Some(&down), leg, &targets)?;
+//!     }
 //! }
 //! let heard = switch.hear(7, &body, near)?;
 //! ```
 #![tactic(auto)]
 
 mod answering;
-mod answers;
 mod deciding;
 mod ends;
+mod forwarding;
 mod hearing;
-mod hopping;
 mod kept;
-mod kept_routes;
 mod laws;
 mod life;
 mod packet;
+mod passing;
+mod routes;
 mod site;
 mod switch;
-mod verdicts;
+mod tunnel_calls;
 
-pub use answers::{Arrived, Decision, Entered, Heard, Hop, HopEnd, Next, Replies};
+pub use deciding::Decision;
+pub use forwarding::Forwarding;
+pub use hearing::{Heard, Replies};
 pub use laws::{
     arrive_laws, decision_laws, enter_laws, exit_laws, hop_laws, lookup_laws, switch_laws,
 };
-pub use packet::Arriving;
+pub use packet::{Arriving, Onward};
 pub use policy_rules::{Cause, How};
 pub use site::Site;
 pub use switch::Switch;
-pub use verdicts::Forwarding;
+pub use tunnel_calls::{Arrived, Entered, Hop, HopEnd, Next};

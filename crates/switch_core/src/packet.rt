@@ -1,20 +1,9 @@
-use failover::{DownSet, Route};
+use failover::Route;
 use five_tuple::Header;
 use policy_rules::Leg;
 
-/// A packet at a switch, as it sets out on a leg.
-#[derive(Drop)]
-pub struct Packet {
-    pub number: u32,
-    pub header: Header,
-    /// The switch where it entered.
-    pub ingress: u32,
-    /// The links that it found down.
-    pub down: DownSet,
-}
-
-/// A packet on its way that is put to a switch at the end of its route, as it is kept: neither its
-/// number nor the links that it found down make a difference to what is said of it.
+/// A packet that is put to a switch at the end of its route, as it is kept: neither its number nor
+/// the links that it found down make a difference to what is said of it.
 #[derive(Clone, Copy)]
 pub struct Arriving<'a> {
     pub header: &'a Header,
@@ -24,4 +13,15 @@ pub struct Arriving<'a> {
     pub route: &'a Route,
     /// The place on the route, from 0.
     pub place: u32,
+}
+
+/// Where a packet goes on from a switch of its route.
+#[derive(Clone, Copy, Debug, PartialEq, Eq)]
+pub enum Onward {
+    /// Nowhere: it stands at the end of its route.
+    AtEnd,
+    /// To this next switch of its route.
+    Next(u32),
+    /// Not on along its route, since the link to this next switch is down.
+    LinkDown(u32),
 }

@@ -5,7 +5,7 @@ ghost use Rattle.switch_table.specs.Tables.{AreSoundTables};
 ghost use Rattle.switch_core.specs.State.{HasOwnUpTo, IsSwitch, new_switch, call_counted, held_tables, holds_version, serves, stamp_tables};
 
 use crate::kept::KeptTables;
-use crate::kept_routes::SharedRoutes;
+use crate::routes::Routes;
 use ctrl_msg::SharedTables;
 use failover::{Advert, Database};
 use std::alloc::{AllocError, Global};
@@ -24,7 +24,7 @@ pub struct Switch {
     pub(crate) collected: u32,
     pub(crate) tables: Vec<KeptTables>,
     pub(crate) cache: Cache,
-    pub(crate) database: SharedRoutes,
+    pub(crate) database: Routes,
     pub(crate) seq: u32,
     pub(crate) handled: u64,
 }
@@ -71,7 +71,7 @@ impl Switch {
             collected: 0,
             tables: list,
             cache: Cache::new(alloc, cache),
-            database: SharedRoutes::new(alloc, base),
+            database: Routes::new(alloc, base),
             seq: 1,
             handled: 0,
         })
@@ -120,12 +120,11 @@ impl Switch {
         self.held_tables(version).is_some()
     }
 
-    /// How many packet calls it answered: of `enter` or `admit` for a packet that comes in here, of
-    /// `hop` or `pass` for one that stands here at a place of its route, and of `arrive` or
-    /// `receive` for one that stands here at its route's end. No call counts without the packet's
-    /// header, or its route and its place there, which has to be this switch. `admit`, `pass` and
-    /// `receive` are the first parts of the others and count in their place; a `pass` that answers
-    /// `None` counts nothing. The count stands still at its last value.
+    /// How many packet calls it answered: of `admit` for a packet that comes in here, of `pass` for
+    /// one that stands here at a place of its route, and of `receive` for one that stands here at
+    /// its route's end. `enter`, `hop` and `arrive` make one of these each. No call counts without
+    /// the packet's header, or its route and its place there, which has to be this switch. The count
+    /// stands still at its last value.
     pub fn handled(&self) -> u64
         ensures { result ≡ self.now.handled }
     {

@@ -1,7 +1,7 @@
 -- The packets on their way, by their numbers.
 use Rattle.std.specs.Prelude.{ℕ, ◌≡◌, ◌+◌, ◌<◌, ◌≤◌, ◌==◌, Bool, true, false, if◌then◌else◌, Option, Some, None, List, IsSome, MatchOption, filter, length, slice_index_or, unwrap_or}
 use Rattle.std.specs.List.{range_with_len}
-use Rattle.failover.specs.Links.{no_links}
+use Rattle.failover.specs.Links.{no_links, with_link}
 use Rattle.five_tuple.specs.declared.header.Header.{Header}
 use Rattle.policy_rules.specs.declared.packet.Leg.{Leg}
 use Rattle.tunnel.specs.Moves.{tunnel_begun, here}
@@ -66,6 +66,10 @@ standing_at switch flight = record {
   switch = switch;
   down = flight.tunnel.down;
 }
+
+-- the link from its switch to another was found down
+abbrev pub marked_at : Standing → ℕ → Standing
+marked_at at other = record at { down = with_link at.down at.switch other }
 
 -- at the beginning of this route on its leg
 abbrev pub begun_at : Standing → Leg → List ℕ → List ℕ → TunnelValue

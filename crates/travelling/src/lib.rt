@@ -2,12 +2,12 @@
 //!
 //! `Travelling` keeps what is known of each packet that travels: its tunnel, and the version and
 //! the rule of its decision. It promises that each call changes only the packet of its number, and
-//! that `next` finds the least number of one that travels. To make a `StoredFlight`, a `Standing`
-//! or its links may take memory, and so may `put`; no other call does.
+//! that `next` finds the least number of one that travels. To make a `Standing` or its links may take
+//! memory, and so may `put`; no other call does.
 //!
 //! ```text
 //! let mut travelling = Travelling::new(alloc);
-//! travelling.put(7, StoredFlight::new(alloc, &tunnel, 0, None, route)?)?;
+//! travelling.put(7, StoredFlight::begin(standing, leg, targets, route))?;
 //! travelling.move_to(7, 1);
 //! while let Some(packet) = travelling.next(1) {
 //!     travelling.remove(packet);
@@ -25,4 +25,3 @@ pub use journal::SharedRoute;
 pub use standing::Standing;
 pub use stored_flight::StoredFlight;
 pub use travelling::Travelling;
-pub use tunnel::Tunnel;

@@ -1,12 +1,11 @@
-ghost use Rattle.std.specs.Prelude.{◌≡◌, IfOk, unwrap_or};
+ghost use Rattle.std.specs.Prelude.{◌≡◌, ◌≢◌, ◌<◌, IfOk, OnErr, OnOk, unwrap_or};
 ghost use Rattle.std.specs.Option.{option_copied};
 ghost use Rattle.failover.specs.Links.{no_links};
-ghost use Rattle.travelling.specs.Travelling.{standing_at, standing_kept, travels_by};
+ghost use Rattle.travelling.specs.Travelling.{marked_at, standing_kept};
 
 use five_tuple::Header;
 use journal::{DownSet, SharedLinks};
 use std::alloc::{AllocError, Global};
-use tunnel::Tunnel;
 
 /// A packet at a switch: as it comes in, or at the end of its route.
 #[derive(Drop)]
@@ -25,33 +24,26 @@ pub struct Standing {
 }
 
 impl Standing {
-    /// The packet of this tunnel at a switch, with a copy of its links, and with the version and
-    /// the rule of its decision.
+    /// The link from the switch where it stands to this other one was found down.
     ///
     /// # Errors
-    /// Only out of memory.
-    pub fn of(
-        alloc: Global,
-        tunnel: &Tunnel,
-        version: u32,
-        rule: Option<u32>,
-        switch: u32,
-    ) -> Result<Standing, AllocError>
-        ensures at { IfOk result (λ at. standing_kept at
-            ≡ standing_at switch (travels_by tunnel.now version rule)) }
-        ensures version { IfOk result (λ at. at.version ≡ version) }
-        ensures rule { IfOk result (λ at. at.rule ≡ rule) }
+    /// Out of memory; nothing changes then.
+    pub fn mark_down(&mut self, alloc: Global, other: u32) -> Result<(), AllocError>
+        requires different { other ≢ self.old.switch }
+        requires here { self.old.switch < 64 }
+        requires switch { other < 64 }
+        ensures marked { OnOk result
+            (standing_kept self.new ≡ marked_at (standing_kept self.old) other) }
+        ensures rest { self.new ≡ record self.old { down = self.new.down } }
+        ensures unchanged { OnErr result (self.new ≡ self.old) }
     {
-        let down = SharedLinks::new(alloc, tunnel.down)?;
-        Ok(Standing {
-            packet: tunnel.packet,
-            header: tunnel.header,
-            ingress: tunnel.ingress,
-            switch,
-            down: Some(down),
-            version,
-            rule,
-        })
+        let mut down = match &self.down {
+            None => DownSet::empty(),
+            Some(links) => *links.get(),
+        };
+        down.add(self.switch, other);
+        self.down = Some(SharedLinks::new(alloc, down)?);
+        Ok(())
     }
 
     /// The links that it found down, if there is one.
@@ -67,7 +59,7 @@ impl Standing {
     /// The set of the links that it found down, shared.
     ///
     /// # Errors
-    /// Only out of memory, which is taken only where it found none.
+    /// Out of memory, which is taken only where it found none.
     pub fn into_links(self, alloc: Global) -> Result<SharedLinks, AllocError>
         ensures { IfOk result (λ links. links ≡ (standing_kept self).down) }
     {

@@ -1,14 +1,14 @@
 ghost use Rattle.std.specs.Prelude.{◌≡◌, ◌<◌, IfOk};
-ghost use Rattle.tunnel.specs.Moves.{here};
+ghost use Rattle.tunnel.specs.Moves.{here, next};
 ghost use Rattle.travelling.specs.Travelling.{HasPlace, begun_at, placed_at, standing_at, standing_kept, travels_by};
 
 use crate::standing::Standing;
 use five_tuple::Header;
-use journal::{DownSet, SharedLinks, SharedRoute};
+use journal::{SharedLinks, SharedRoute};
 use policy_rules::{Leg, Targets};
 use std::alloc::{AllocError, Global};
 use std::marker::Model;
-use tunnel::{Route, Tunnel};
+use tunnel::Route;
 
 /// What the table keeps of a packet on its way: its route is the one that the journal's item has,
 /// and a set of links is there only where the packet found one down. Contracts see the packet in
@@ -41,41 +41,6 @@ impl Model for StoredFlight {
 }
 
 impl StoredFlight {
-    /// What is kept of the packet of this tunnel, whose route is shared, with the version and the
-    /// rule of its decision.
-    ///
-    /// # Errors
-    /// Only out of memory, which is taken only where it found links down.
-    pub fn new(
-        alloc: Global,
-        tunnel: &Tunnel,
-        version: u32,
-        rule: Option<u32>,
-        route: SharedRoute,
-    ) -> Result<StoredFlight, AllocError>
-        requires { route ≡ tunnel.now.route }
-        ensures { IfOk result (λ kept. kept ≡ travels_by tunnel.now version rule) }
-    {
-        let _here = tunnel.here();
-        let down = if tunnel.down == DownSet::empty() {
-            None
-        } else {
-            Some(SharedLinks::new(alloc, tunnel.down)?)
-        };
-        Ok(StoredFlight {
-            packet: tunnel.packet,
-            header: tunnel.header,
-            ingress: tunnel.ingress,
-            leg: tunnel.leg,
-            targets: tunnel.targets,
-            route,
-            place: tunnel.place,
-            down,
-            version,
-            rule,
-        })
-    }
-
     /// What is kept of a packet that begins this route on its leg to these targets. The route and
     /// the set of links stay shared, and it takes no memory.
     pub fn begin(at: Standing, leg: Leg, targets: Targets, route: SharedRoute) -> StoredFlight
@@ -121,6 +86,13 @@ impl StoredFlight {
         })
     }
 
+    /// Its number.
+    pub fn packet(&self) -> u32
+        ensures { result ≡ self.now.tunnel.packet }
+    {
+        self.packet
+    }
+
     /// The leg that it is on.
     pub fn leg(&self) -> Leg
         ensures { result ≡ self.now.tunnel.leg }
@@ -128,38 +100,11 @@ impl StoredFlight {
         self.leg
     }
 
-    /// The version of its decision; 0 before it.
-    pub fn version(&self) -> u32
-        ensures { result ≡ self.now.version }
+    /// The switches of its leg, the first of which is asked first.
+    pub fn targets(&self) -> &Targets
+        ensures { result.now ≡ self.now.tunnel.targets }
     {
-        self.version
-    }
-
-    /// The rule of its decision: a row's priority, or `None` for the default and before it.
-    pub fn rule(&self) -> Option<u32>
-        ensures { result ≡ self.now.rule }
-    {
-        self.rule
-    }
-
-    /// Its tunnel, with a copy of its route. It takes no memory.
-    pub fn tunnel(&self) -> Tunnel
-        ensures { result ≡ self.now.tunnel }
-    {
-        let down = match &self.down {
-            None => DownSet::empty(),
-            Some(links) => *links.get(),
-        };
-        Tunnel {
-            packet: self.packet,
-            header: self.header,
-            ingress: self.ingress,
-            leg: self.leg,
-            targets: self.targets,
-            route: *self.route.get(),
-            place: self.place,
-            down,
-        }
+        &self.targets
     }
 
     /// The switch where it stands.
@@ -183,6 +128,17 @@ impl StoredFlight {
         ensures few { result < 64 }
     {
         self.place
+    }
+
+    /// The switch after that one on its route; `None` exactly at the route's end.
+    pub fn next(&self) -> Option<u32>
+        ensures { result ≡ next self.now.tunnel }
+    {
+        self.route
+            .get()
+            .items()
+            .get(self.place as usize + 1)
+            .copied()
     }
 
     /// It stands at this place of its route. It takes no memory.

@@ -6,3 +6,4 @@ pub mod HoppedPacket
 pub mod LosingAt
 pub mod HopLogs
 pub mod RelinkingAdverts
+pub mod HopsAround

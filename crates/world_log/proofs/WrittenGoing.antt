@@ -1,6 +1,6 @@
 -- Where a packet goes by its switch's answer, as what was written of it.
-use Rattle.std.proofs.Common.{ℕ, ◌≡◌, ◌==◌, ◌<◌, Bool, if◌then◌else◌, Option, Some, None, List, [], ◌∷◌, refl, sym, subst}
-use Rattle.std.specs.Prelude.{Result, Ok, Err}
+use Rattle.std.proofs.Common.{ℕ, ◌≡◌, ◌==◌, ◌<◌, Bool, if◌then◌else◌, Option, Some, None, List, [], ◌∷◌, ap, refl, sym, subst, ◌∙◌}
+use Rattle.std.specs.Prelude.{Result, Ok, Err, ok_or, option_map}
 use Rattle.ctrl_msg.specs.declared.message.Body.TheVariants.{CacheRule}
 use Rattle.ctrl_msg.specs.declared.message.Place.TheVariants as receiver
 use Rattle.message_bag.specs.Feeding.{HasShortSpelling}
@@ -13,27 +13,43 @@ use Rattle.policy_rules.specs.declared.packet.Leg.TheVariants.{Exit as ExitLeg}
 use Rattle.policy_rules.specs.declared.policy.Action.{Action}
 use Rattle.policy_rules.specs.declared.policy.Action.TheVariants.{Out as OutBy}
 use Rattle.switch_core.specs.Answering.{seek_by}
-use Rattle.switch_core.specs.Deciding.{packet_with}
-use Rattle.switch_core.specs.Ends.{Site, begun_by, exit_by, leave_by, next_of, set_out}
+use Rattle.switch_core.specs.Ends.{Site, cause_of, exit_by, leave_by, next_of, set_out}
 use Rattle.switch_core.specs.State.{SwitchValue}
-use Rattle.switch_core.specs.declared.answers.Decision.{Decision}
-use Rattle.switch_core.specs.declared.answers.Next.{Next}
-use Rattle.switch_core.specs.declared.answers.Next.TheVariants.{Out, Stuck}
+use Rattle.failover.specs.Routes.{route_of}
+use Rattle.tunnel.specs.Moves.{tunnel_begun}
+use Rattle.switch_core.specs.declared.tunnel_calls.Packet.{Packet}
+use Rattle.switch_core.specs.declared.deciding.Decision.{Decision}
+use Rattle.switch_core.specs.declared.tunnel_calls.Next.{Next}
+use Rattle.switch_core.specs.declared.tunnel_calls.Next.TheVariants.{Out, Stuck}
 use Rattle.ternary.specs.Word.{WordValue}
 use Rattle.travelling.specs.Travelling.{Standing}
 use Rattle.tunnel.specs.Tunnel.{TunnelValue}
 use Rattle.world_log.specs.Writing.{LogAfter, answer_items, answer_posts, answer_flight, decided_flight, end_item, exit_leg, packet_standing, set_item, set_flight}
 use Rattle.world_log.specs.declared.log.Log.{Log}
 
--- the way that the switch knows
-pub way_is : (s : SwitchValue) (near : ℕ) (at : Standing) (leg : Leg) (targets links : List ℕ)
-    (way : Result (List ℕ) Cause) → links ≡ at.down
-    → set_out s near (packet_with at.packet at.header at.ingress links) leg targets
-    ≡ begun_by (packet_with at.packet at.header at.ingress links) leg targets way
-    → begun_by (packet_standing at) leg targets way ≡ set_out s near (packet_standing at) leg targets
-way_is s near at leg targets links way same is =
-    sym (subst (λ down. set_out s near (packet_with at.packet at.header at.ingress down) leg targets
-    ≡ begun_by (packet_with at.packet at.header at.ingress down) leg targets way) same is)
+-- the route that the switch knows
+pub route_known : (s : SwitchValue) (near : ℕ) (packet : Packet) (leg : Leg)
+    (targets links route : List ℕ) → links ≡ packet.down
+    → route_of s.database s.number targets near links ≡ Some route
+    → Ok (tunnel_begun packet.number packet.header packet.ingress leg targets route packet.down)
+    ≡ set_out s near packet leg targets
+unfolding set_out
+route_known s near packet leg targets links route same is =
+    sym (ap (λ found. ok_or (option_map (λ route. tunnel_begun packet.number packet.header
+    packet.ingress leg targets route packet.down) found) (cause_of s near packet.down leg targets))
+    (subst (λ down. route_of s.database s.number targets near down ≡ Some route) same is))
+
+-- or why there is none
+pub none_known : (s : SwitchValue) (near : ℕ) (packet : Packet) (leg : Leg)
+    (targets links : List ℕ) (cause : Cause) → links ≡ packet.down
+    → route_of s.database s.number targets near links ≡ None
+    → cause ≡ cause_of s near links leg targets → Err cause ≡ set_out s near packet leg targets
+unfolding set_out
+none_known s near packet leg targets links cause same none is =
+    ap Err (subst (λ down. cause ≡ cause_of s near down leg targets) same is)
+    ∙ sym (ap (λ found. ok_or (option_map (λ route. tunnel_begun packet.number packet.header
+    packet.ingress leg targets route packet.down) found) (cause_of s near packet.down leg targets))
+    (subst (λ down. route_of s.database s.number targets near down ≡ None) same none))
 
 module _ {T E : Type 0} (r : Result T E) (at : Standing) (packet : ℕ) (old new : Log) where
   -- to an authority switch

@@ -5,15 +5,16 @@ use Rattle.failover.specs.Links.{no_links}
 use Rattle.five_tuple.specs.declared.header.Header.{Header}
 use Rattle.journal.specs.declared.item.Item.{Item}
 use Rattle.journal.specs.declared.item.Item.TheVariants as item
+use Rattle.policy_rules.specs.declared.packet.Leg.{Leg}
 use Rattle.net_file.specs.declared.ports.Ports.{Ports}
 use Rattle.switch_core.specs.Answering.{CanLookUp, IsAtAuthority, admitted, incoming_packet, received}
 use Rattle.switch_core.specs.Ends.{around}
-use Rattle.switch_core.specs.Moving.{StandsAt, link_found_down, hop_answer}
+use Rattle.switch_core.specs.Moving.{Moved, StandsAt, link_found_down, hop_answer, move_answer}
 use Rattle.switch_core.specs.State.{SwitchValue, call_counted, serves}
 use Rattle.switch_core.specs.Answers.{Answer}
 use Rattle.switch_core.specs.declared.site.Site as given
-use Rattle.switch_core.specs.declared.answers.HopEnd.{HopEnd}
-use Rattle.switch_core.specs.declared.answers.HopEnd.TheVariants as hop
+use Rattle.switch_core.specs.declared.tunnel_calls.HopEnd.{HopEnd}
+use Rattle.switch_core.specs.declared.tunnel_calls.HopEnd.TheVariants as hop
 use Rattle.tunnel.specs.Moves.{next}
 use Rattle.travelling.specs.Travelling.{Flight, Standing, flight, standing_at}
 use Rattle.world_log.specs.Writing.{LogAfter, arrived_items, arrived_posts, arrived_flight}
@@ -105,6 +106,41 @@ hop_flight s near ports t =
 
 abbrev pub hopped_switch : SwitchValue → ℕ → Flight → SwitchValue
 hopped_switch s near t = ended_switch (call_counted s) (hop_answer s near t.tunnel).end
+
+-- ---- along a new route
+
+-- a packet at the beginning of this route moves to the second switch, or is at the end
+abbrev pub followed : Flight → Moved
+followed t = move_answer t.tunnel (next t.tunnel)
+
+abbrev pub followed_items : ℕ → SwitchValue → ℕ → Ports → Flight → List Item
+followed_items number s near ports t =
+    ended_items number s near ports (record t { tunnel = (followed t).tunnel }) (followed t).end
+
+abbrev pub followed_posts : SwitchValue → ℕ → Ports → Flight → List Post
+followed_posts s near ports t =
+    ended_posts s near ports (record t { tunnel = (followed t).tunnel }) (followed t).end
+
+abbrev pub followed_flight : SwitchValue → ℕ → Ports → Flight → Option Flight
+followed_flight s near ports t =
+    ended_flight s near ports (record t { tunnel = (followed t).tunnel }) (followed t).end
+
+-- the packet that stands there, with this version and this rule, on its leg to these targets, is
+-- this one; its switch was asked where it goes on, and the link to another is down
+pub record MeetsDownLink (at : Standing) (its_version : ℕ) (its_rule : Option ℕ) (its_leg : Leg)
+    (its_targets : List ℕ) (other : ℕ) (before after : SwitchValue) (near : ℕ) (t : Flight)
+    : Type 0 where
+  pub stands : at ≡ standing_at before.number t
+  pub version : its_version ≡ t.version
+  pub rule : its_rule ≡ t.rule
+  pub leg : its_leg ≡ t.tunnel.leg
+  pub targets : its_targets ≡ t.tunnel.targets
+  pub here : StandsAt before t.tunnel.route t.tunnel.place
+  pub found : link_found_down near (next t.tunnel) ≡ Some other
+  pub asked : after ≡ call_counted before
+  pub authority : (hop_answer before near t.tunnel).end ≡ hop.Arrive
+      → IsAtAuthority before t.tunnel.header t.tunnel.leg
+  pub ingress : t.tunnel.ingress < 64
 
 -- ---- what a hop needs, and all that it makes of a log
 

@@ -14,10 +14,10 @@ use Rattle.journal.specs.declared.item.Item.TheVariants as item
 use Rattle.switch_core.specs.Deciding.{packet_with}
 use Rattle.switch_core.specs.Answers.{Answer, Arrival}
 use Rattle.switch_core.specs.Answers as answer
-use Rattle.switch_core.specs.declared.answers.Decision.{Decision}
-use Rattle.switch_core.specs.declared.answers.Next.{Next}
-use Rattle.switch_core.specs.declared.answers.Next.TheVariants as next
-use Rattle.switch_core.specs.declared.packet.Packet.{Packet}
+use Rattle.switch_core.specs.declared.deciding.Decision.{Decision}
+use Rattle.switch_core.specs.declared.tunnel_calls.Next.{Next}
+use Rattle.switch_core.specs.declared.tunnel_calls.Next.TheVariants as next
+use Rattle.switch_core.specs.declared.tunnel_calls.Packet.{Packet}
 use Rattle.tunnel.specs.Tunnel.{TunnelValue}
 use Rattle.update_machine.specs.Messages.{sent_from}
 use Rattle.update_machine.specs.Moves.{takes_route}

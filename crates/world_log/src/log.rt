@@ -1,17 +1,16 @@
-ghost use Rattle.std.specs.Prelude.{◌≡◌, ◌+◌, ◌-◌, ◌^◌, ◌<◌, [], ◌∷◌, ◌++◌, Some, None, IsSomeAnd, OnOk, OnErr, length, option_map};
+ghost use Rattle.std.specs.Prelude.{◌≡◌, ◌+◌, ◌-◌, ◌^◌, ◌<◌, [], ◌∷◌, ◌++◌, None, IsSomeAnd, OnOk, OnErr, length, option_map};
 ghost use Rattle.message_bag.specs.Posts.{new_post};
 ghost use Rattle.message_bag.specs.Feeding.{HasShortSpelling};
 ghost use Rattle.journal.specs.declared.item.Item.TheVariants.{Hopped as HoppedItem, Sent as SentItem, Stuck as StuckItem};
-ghost use Rattle.switch_core.specs.Exports.{begun_by};
-ghost use Rattle.travelling.specs.Travelling.{HasPlace, WithOne, placed_at, standing_kept, flight};
+ghost use Rattle.travelling.specs.Travelling.{HasPlace, placed_at, standing_kept, flight};
 ghost use Rattle.update_machine.specs.Exports.{takes_route};
-ghost use Rattle.world_log.specs.Writing.{LogAfter, left_item, packet_standing, set_item, set_flight};
+ghost use Rattle.world_log.specs.Writing.{LogAfter, left_item};
 
 use journal::{Item, Journal, Leaving, Message, PackedLeaving, SharedRoute};
 use message_bag::PostBag;
-use policy_rules::{Cause, Leg, Targets};
+use policy_rules::{Cause, Leg};
 use std::alloc::{AllocError, Global};
-use travelling::{Standing, StoredFlight, Travelling};
+use travelling::{Standing, Travelling};
 
 /// What happened so far, the packets that are on their way, and the messages that were sent.
 #[derive(Drop)]
@@ -37,35 +36,6 @@ impl Log {
     {
         let (number, message) = self.bag.post_shared(alloc, message)?;
         self.journal.push(Item::Sent { number, message })
-    }
-
-    // The packet sets out on the leg by this way, which the item and the table share, or is stuck
-    // there.
-    pub(crate) fn set_out(
-        &mut self,
-        alloc: Global,
-        at: Standing,
-        leg: Leg,
-        targets: Targets,
-        way: Result<SharedRoute, Cause>,
-    ) -> Result<(), AllocError>
-        ensures { LogAfter result
-            (set_item (standing_kept at) leg
-            (begun_by (packet_standing (standing_kept at)) leg targets way) ∷ [])
-            [] at.packet (set_flight at.version at.rule
-            (begun_by (packet_standing (standing_kept at)) leg targets way))
-            self.old self.new }
-    {
-        match way {
-            Err(cause) => self.stuck(alloc, at, cause, leg),
-            Ok(route) => {
-                let packet = at.packet;
-                let item = takes_route(packet, leg, route.clone()?);
-                let kept = StoredFlight::begin(at, leg, targets, route);
-                self.travelling.put(packet, kept)?;
-                self.journal.push(item)
-            }
-        }
     }
 
     // The packet is stuck on this leg.
@@ -133,8 +103,8 @@ pub fn leaves(at: &Standing, port: u32) -> Item
     }
 }
 
-// The packet takes the route on the leg.
-fn takes_route(packet: u32, leg: Leg, route: SharedRoute) -> Item
+/// The packet takes the route on the leg.
+pub fn takes_route(packet: u32, leg: Leg, route: SharedRoute) -> Item
     ensures { result ≡ takes_route packet leg route }
 {
     match leg {

@@ -1,22 +1,22 @@
-ghost use Rattle.std.specs.Prelude.{◌≡◌, ◌+◌, ◌-◌, ◌^◌, ◌<◌, ◌++◌, [], ◌∷◌, Some, IfOk, IsSomeAnd, OnOk, OnErr, length, map};
+ghost use Rattle.std.specs.Prelude.{◌≡◌, ◌≢◌, ◌+◌, ◌-◌, ◌^◌, ◌<◌, ◌++◌, [], ◌∷◌, None, IsTrue, OnOk, OnErr, length, map};
 ghost use Rattle.message_bag.specs.Posts.{new_post};
-ghost use Rattle.switch_core.specs.Exports.{CanLookUp, answer_of, cached_by, call_counted, link_found_down, next_of, site_of};
-ghost use Rattle.travelling.specs.Travelling.{flight, standing_kept, travels_by};
-ghost use Rattle.journal.specs.declared.item.Item.TheVariants.{Rerouted};
+ghost use Rattle.switch_core.specs.Exports.{CanLookUp, IsAtAuthority, StandsAt, answer_of, cached_by, call_counted, next_of, serves, set_out, site_of};
+ghost use Rattle.switch_core.specs.State.{SwitchValue};
+ghost use Rattle.travelling.specs.Travelling.{Flight, standing_kept};
 ghost use Rattle.tunnel.specs.Moves.{next};
 ghost use Rattle.update_machine.specs.Exports.{sent_from};
-ghost use Rattle.world_log.specs.Packets.{Hops, MayGoOn, coming_in, entry};
-ghost use Rattle.world_log.specs.Writing.{LogAfter, arrived_items, arrived_posts, arrived_flight, cache_message, decided_flight, end_item, entered_items, entered_posts, entered_flight, message_list, packet_standing};
+ghost use Rattle.world_log.specs.Packets.{HasHopped, Hops, MeetsDownLink, MayGoOn, coming_in, ended_switch, entry, followed, followed_flight, followed_items, followed_posts};
+ghost use Rattle.world_log.specs.Writing.{LogAfter, arrived_items, arrived_posts, arrived_flight, cache_message, decided_flight, end_item, entered_items, entered_posts, entered_flight, message_list, packet_standing, set_flight, set_item};
 
-use crate::log::{Log, leaves};
+use crate::log::{Log, leaves, takes_route};
+use base::Failure;
 use five_tuple::Header;
-use journal::{Item, Message, Place, SharedRoute};
+use journal::{Item, Message, Place};
 use policy_rules::{Action, Cause, Leg, Targets};
 use std::alloc::{AllocError, Global};
-use switch_core::{Arriving, Decision, Forwarding, HopEnd, Site, Switch};
+use switch_core::{Arriving, Decision, Forwarding, Onward, Site, Switch};
 use ternary::Word;
 use travelling::{Standing, StoredFlight};
-use tunnel::Tunnel;
 
 impl Log {
     /// A packet comes in at the switch, which is asked what becomes of it there.
@@ -53,7 +53,7 @@ impl Log {
                     switch: number,
                 },
             ),
-            Some(verdict) => {
+            Some(forwarding) => {
                 self.journal.push(Item::Entered {
                     packet,
                     switch: number,
@@ -68,7 +68,7 @@ impl Log {
                     version: 0,
                     rule: None,
                 };
-                self.settle(alloc, at, verdict, switch, site)
+                self.settle(alloc, at, forwarding, switch, site)
             }
         }
     }
@@ -95,104 +95,124 @@ impl Log {
         let route = kept.route();
         let place = kept.place();
         match switch.pass(route, place, site.near) {
-            None => {
-                let other = route.items()[place as usize + 1];
-                self.go_around(alloc, packet, other, switch, site)
-            }
-            Some(Some(next)) => self.move_on(packet, place + 1, next),
-            Some(None) => {
+            Onward::Next(next) => self.move_on(packet, place + 1, next),
+            Onward::AtEnd => {
                 let leg = kept.leg();
                 let at = kept.standing(switch.number())?;
-                let verdict = switch.receive(Arriving {
+                let forwarding = switch.receive(Arriving {
                     header: &at.header,
                     ingress: at.ingress,
                     leg,
                     route,
                     place,
                 });
-                self.settle(alloc, at, verdict, switch, site)
+                self.settle(alloc, at, forwarding, switch, site)
+            }
+            Onward::LinkDown(other) => {
+                let leg = kept.leg();
+                let targets = *kept.targets();
+                let at = kept.standing(switch.number())?;
+                self.go_around(alloc, at, leg, targets, other, switch, site)
             }
         }
     }
 
-    // `hop` where the link to this switch is found down, by a copy of the packet's tunnel. The
-    // compiler clears the room of this copy wherever the function's code stands, so it isn't inlined
-    // into the common way.
+    // `hop` where the link to this switch is down: the packet takes another route on its leg to
+    // these targets, or is stuck.
     #[cold]
     #[inline(never)]
     fn go_around(
         &mut self,
         alloc: Global,
-        packet: u32,
+        mut at: Standing,
+        leg: Leg,
+        targets: Targets,
         other: u32,
         switch: &mut Switch,
         site: Site,
     ) -> Result<(), AllocError>
-        requires may { MayGoOn self.old packet switch.old site.near }
-        requires blocked { IsSomeAnd (flight self.old.travelling packet)
-            (λ t. link_found_down site.near (next t.tunnel) ≡ Some other) }
-        ensures { Hops result packet switch.old site.entry self.old switch.new self.new }
+        requires serving { IsTrue (serves switch.old) }
+        requires stamped { CanLookUp switch.old }
+        requires met { (before : SwitchValue) × ((t : Flight) × MeetsDownLink (standing_kept at) at.version
+            at.rule leg targets other before switch.old site.near t) }
+        requires here { at.switch < 64 }
+        requires different { other ≢ at.switch }
+        requires other { other < 64 }
+        requires few { length self.old.bag < 2 ^ 32 - 1 }
+        ensures { (before : SwitchValue) (t : Flight)
+            → MeetsDownLink (standing_kept at) at.version at.rule leg targets other before switch.old
+            site.entry.near t
+            → HasHopped result at.packet before site.entry.near site.entry.ports.now self.old switch.new
+            self.new t }
     {
-        let kept = self.travelling.look(packet).unwrap();
-        let version = kept.version();
-        let rule = kept.rule();
-        let leg = kept.leg();
-        let mut tunnel = kept.tunnel();
-        let hop = switch.hop(&mut tunnel, site.near);
-        let here = switch.number();
+        let packet = at.packet;
         self.journal.push(Item::FoundDown {
             packet,
-            one: here,
+            one: at.switch,
             two: other,
         })?;
-        match hop.end {
-            HopEnd::Stuck(cause) => {
-                let at = Standing::of(alloc, &tunnel, version, rule, here)?;
-                self.stuck(alloc, at, cause, leg)
+        at.mark_down(alloc, other)?;
+        match switch.shared_route(alloc, site.near, at.links(), leg, &targets) {
+            Err(Failure::NoMemory) => Err(AllocError),
+            Err(Failure::Refused(cause)) => self.stuck(alloc, at, cause, leg),
+            Ok(route) => {
+                self.journal.push(Item::Rerouted {
+                    packet,
+                    route: route.clone()?,
+                })?;
+                let kept = StoredFlight::begin(at, leg, targets, route);
+                self.follow(alloc, kept, switch, site)
             }
-            HopEnd::Move(next) => {
-                let kept = self.reroute(alloc, &tunnel, version, rule)?;
+        }
+    }
+
+    // The packet that took this route moves to the next switch of it, or is at its end.
+    fn follow(
+        &mut self,
+        alloc: Global,
+        mut kept: StoredFlight,
+        switch: &mut Switch,
+        site: Site,
+    ) -> Result<(), AllocError>
+        requires serving { IsTrue (serves switch.old) }
+        requires stamped { CanLookUp switch.old }
+        requires last { next kept.tunnel ≡ None
+            → StandsAt switch.old kept.tunnel.route kept.tunnel.place
+            × IsAtAuthority switch.old kept.tunnel.header kept.tunnel.leg }
+        requires ingress { kept.tunnel.ingress < 64 }
+        requires few { length self.old.bag < 2 ^ 32 - 1 }
+        ensures log { LogAfter result
+            (followed_items (length self.old.bag + 1) switch.old site.entry.near site.entry.ports.now kept)
+            (followed_posts switch.old site.entry.near site.entry.ports.now kept)
+            kept.tunnel.packet
+            (followed_flight switch.old site.entry.near site.entry.ports.now kept)
+            self.old self.new }
+        ensures asked { OnOk result (switch.new ≡ ended_switch switch.old (followed kept).end) }
+    {
+        let place = kept.place();
+        match kept.next() {
+            Some(next) => {
+                let packet = kept.packet();
+                kept.move_to(place + 1);
                 self.travelling.put(packet, kept)?;
                 self.journal.push(Item::Hopped {
                     packet,
                     switch: next,
                 })
             }
-            HopEnd::Arrive => {
-                let kept = self.reroute(alloc, &tunnel, version, rule)?;
-                let at = kept.standing(here)?;
-                let verdict = switch.receive(Arriving {
+            None => {
+                let leg = kept.leg();
+                let at = kept.standing(switch.number())?;
+                let forwarding = switch.receive(Arriving {
                     header: &at.header,
                     ingress: at.ingress,
                     leg,
                     route: kept.route(),
-                    place: kept.place(),
+                    place,
                 });
-                self.settle(alloc, at, verdict, switch, site)
+                self.settle(alloc, at, forwarding, switch, site)
             }
         }
-    }
-
-    // The packet takes another route on its leg, which the item and what is kept of it share.
-    fn reroute(
-        &mut self,
-        alloc: Global,
-        tunnel: &Tunnel,
-        version: u32,
-        rule: Option<u32>,
-    ) -> Result<StoredFlight, AllocError>
-        ensures kept { IfOk result (λ kept. kept ≡ travels_by tunnel.now version rule) }
-        ensures written { OnOk result (self.new.journal ≡ self.old.journal
-            ++ Rerouted tunnel.now.packet tunnel.now.route ∷ []) }
-        ensures unwritten { OnErr result (self.new.journal ≡ self.old.journal) }
-        ensures unsent { self.new.bag ≡ self.old.bag }
-        ensures travelling { self.new.travelling ≡ self.old.travelling }
-    {
-        let packet = tunnel.packet;
-        let route = SharedRoute::new(alloc, tunnel.route)?;
-        let kept = StoredFlight::new(alloc, tunnel, version, rule, route.clone()?)?;
-        self.journal.push(Item::Rerouted { packet, route })?;
-        Ok(kept)
     }
 
     // This becomes of the packet.
@@ -200,7 +220,7 @@ impl Log {
         &mut self,
         alloc: Global,
         at: Standing,
-        verdict: Forwarding,
+        forwarding: Forwarding,
         switch: &mut Switch,
         site: Site,
     ) -> Result<(), AllocError>
@@ -208,15 +228,15 @@ impl Log {
         requires few { length self.old.bag < 2 ^ 32 - 1 }
         ensures log { LogAfter result
             (arrived_items (length self.old.bag + 1) (standing_kept at) at.version at.rule
-            (answer_of switch.old (site_of site.entry) (packet_standing (standing_kept at)) verdict))
+            (answer_of switch.old (site_of site.entry) (packet_standing (standing_kept at)) forwarding))
             (arrived_posts (standing_kept at)
-            (answer_of switch.old (site_of site.entry) (packet_standing (standing_kept at)) verdict))
+            (answer_of switch.old (site_of site.entry) (packet_standing (standing_kept at)) forwarding))
             at.packet (arrived_flight at.version at.rule
-            (answer_of switch.old (site_of site.entry) (packet_standing (standing_kept at)) verdict))
+            (answer_of switch.old (site_of site.entry) (packet_standing (standing_kept at)) forwarding))
             self.old self.new }
         ensures same { switch.new ≡ switch.old }
     {
-        match verdict {
+        match forwarding {
             Forwarding::Out(port) => self.end(at.packet, leaves(&at, port)),
             Forwarding::Decided { decision, word } => {
                 self.journal.push(Item::Decided {
@@ -230,8 +250,39 @@ impl Log {
                 self.leave(alloc, at, decision, switch, site)
             }
             Forwarding::Seek { leg, targets } => {
-                let way = switch.shared_route(alloc, site.near, at.links(), leg, &targets)?;
-                self.set_out(alloc, at, leg, targets, way)
+                self.set_out(alloc, at, leg, targets, switch, site.near)
+            }
+        }
+    }
+
+    // The packet sets out on the leg by its switch's route, which the item and the table share, or
+    // is stuck there.
+    fn set_out(
+        &mut self,
+        alloc: Global,
+        at: Standing,
+        leg: Leg,
+        targets: Targets,
+        switch: &mut Switch,
+        near: u64,
+    ) -> Result<(), AllocError>
+        ensures log { LogAfter result
+            (set_item (standing_kept at) leg
+            (set_out switch.old near (packet_standing (standing_kept at)) leg targets) ∷ [])
+            [] at.packet (set_flight at.version at.rule
+            (set_out switch.old near (packet_standing (standing_kept at)) leg targets))
+            self.old self.new }
+        ensures same { switch.new ≡ switch.old }
+    {
+        match switch.shared_route(alloc, near, at.links(), leg, &targets) {
+            Err(Failure::NoMemory) => Err(AllocError),
+            Err(Failure::Refused(cause)) => self.stuck(alloc, at, cause, leg),
+            Ok(route) => {
+                let packet = at.packet;
+                let item = takes_route(packet, leg, route.clone()?);
+                let kept = StoredFlight::begin(at, leg, targets, route);
+                self.travelling.put(packet, kept)?;
+                self.journal.push(item)
             }
         }
     }
@@ -296,8 +347,7 @@ impl Log {
                     }
                     let leg = Leg::Exit { port };
                     let targets = Targets::new(&[owner]).unwrap();
-                    let way = switch.shared_route(alloc, site.near, at.links(), leg, &targets)?;
-                    self.set_out(alloc, at, leg, targets, way)
+                    self.set_out(alloc, at, leg, targets, switch, site.near)
                 }
             },
         }

@@ -19,10 +19,10 @@ returns-then-not-serves-clause-uncached c = λ site number.
 pub returns-clause-answer : goal.returns-clause-answer
 returns-clause-answer c = λ site number.
     was_admitted c.args.self.now c.count-2.new.self site number c.args.h.now
-    c.look_up-verdict.result c.self.inside.number c.count-2.ensures
+    c.look_up-forwarding.result c.self.inside.number c.count-2.ensures
     (sym c.serves.ensures ∙ c.if-not-serves.false)
     (ap (λ (s : SwitchValue). s.number) c.self.view_is)
-    (c.look_up-verdict.ensures site number no_links)
+    (c.look_up-forwarding.ensures site number no_links)
 
 pub returns-clause-uncached : goal.returns-clause-uncached
 returns-clause-uncached c = λ site number.

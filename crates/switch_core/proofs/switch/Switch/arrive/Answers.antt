@@ -3,8 +3,8 @@ use Rattle.tunnel.specs.Tunnel.{TunnelValue}
 use Rattle.switch_core.specs.Answering.{arrived_on, packet_of, received}
 use Rattle.switch_core.specs.Answers.{arrival_of}
 use Rattle.switch_core.specs.Ends.{around}
-use Rattle.switch_core.specs.Verdicts.{answer_of}
-use Rattle.switch_core.specs.declared.packet.Packet.{Packet}
+use Rattle.switch_core.specs.Forwarding.{answer_of}
+use Rattle.switch_core.specs.declared.tunnel_calls.Packet.{Packet}
 use Rattle.switch_core.proofs.switch.Switch.arrive.Goals as goal
 
 pub returns-clause-answer : goal.returns-clause-answer
@@ -12,9 +12,9 @@ unfolding received
 returns-clause-answer c =
     let site = around c.args.near c.args.ports.now in
     c.answer_arrival.ensures
-    ∙ ap (λ (p : Packet). arrival_of (answer_of c.receive-verdict.new.self site p
-    c.receive-verdict.result)) c.carried.ensures
+    ∙ ap (λ (p : Packet). arrival_of (answer_of c.receive-forwarding.new.self site p
+    c.receive-forwarding.result)) c.carried.ensures
     ∙ ap arrival_of (subst (λ (t : TunnelValue).
-    answer_of c.receive-verdict.new.self site (packet_of t) c.receive-verdict.result
+    answer_of c.receive-forwarding.new.self site (packet_of t) c.receive-forwarding.result
     ≡ arrived_on c.args.self.now site (packet_of t) t.leg) c.t.view_is
-    (c.receive-verdict.ensures.answer site c.t.inside.packet c.t.inside.down))
+    (c.receive-forwarding.ensures.answer site c.t.inside.packet c.t.inside.down))

@@ -8,6 +8,6 @@ pub returns-in-Seek-clause-answer : goal.returns-in-Seek-clause-answer
 returns-in-Seek-clause-answer c = λ site number down.
     let packet = packet_with number c.args.t.header.now c.args.t.ingress down in
     answer_counted c.args.self.now c.count-in-Seek.new.self site packet
-    c.judge-verdict.result c.count-in-Seek.ensures
-    ∙ c.judge-verdict.ensures site number down
+    c.judge-forwarding.result c.count-in-Seek.ensures
+    ∙ c.judge-forwarding.ensures site number down
     ∙ ap (arrived_on c.args.self.now site packet) (sym c.in-Seek.is)

@@ -5,7 +5,7 @@ use Rattle.std.specs.Prelude.{IsSomeAnd, is_some, slice_index}
 use Rattle.std.proofs.lemmas.Result.{on_ok_weaker}
 use Rattle.switch_core.specs.Answering.{IsAtAuthority}
 use Rattle.switch_core.specs.Moving.{StandsAt, hop_answer}
-use Rattle.switch_core.specs.declared.answers.HopEnd.TheVariants.{Arrive}
+use Rattle.switch_core.specs.declared.tunnel_calls.HopEnd.TheVariants.{Arrive}
 use Rattle.world_log.proofs.HopLogs.{of_kept}
 use Rattle.refinement.proofs.AskingSwitch.{can_ask, ingress_below, within_here, number_of_packet}
 use Rattle.world.proofs.StepFrame.{files_stay, goes_nothing, goes_quiet, none_in, plane_stays}

@@ -5,7 +5,7 @@ use Rattle.journal.specs.declared.item.Item.TheVariants as item
 use Rattle.switch_core.specs.Answering.{admitted, incoming_packet}
 use Rattle.switch_core.specs.Answers.{Answer, Answered, Arrival}
 use Rattle.switch_core.specs.Ends.{site_of}
-use Rattle.switch_core.specs.Verdicts.{answer_of}
+use Rattle.switch_core.specs.Forwarding.{answer_of}
 use Rattle.travelling.specs.Travelling.{Standing}
 use Rattle.world_log.specs.Packets.{coming_in}
 use Rattle.world_log.specs.Writing.{LogAfter, arrived_flight, arrived_items, arrived_posts, entered_items, entered_posts, entered_flight, packet_standing}
@@ -58,7 +58,7 @@ returns-in_ok-push-in-Some-clause-log c =
     let number : ℕ = length self.bag + 1 in
     let coming : ℕ → Standing = coming_in c.args.packet c.args.header.now in
     let said : ℕ → Arrival = λ here. answer_of c.admit.new.self (site_of c.args.site)
-    (packet_standing (coming here)) c.in-Some.verdict in
+    (packet_standing (coming here)) c.in-Some.forwarding in
     let P : ℕ → Type 0 = λ here.
     LogAfter c.settle.result (item.Entered c.args.packet here c.args.header.now
     ∷ arrived_items number (coming here) 0 None (said here)) (arrived_posts (coming here) (said here))

@@ -1,18 +1,16 @@
 -- What was written of a packet that was decided is the way that its decision says.
 use Rattle.std.proofs.Common.{ℕ, ◌≡◌, ◌∙◌, ◌∷◌, [], None, List, true, false, eq-eqb, ne_eqb, subst, sym}
-use Rattle.std.specs.Option.{option_copied}
-use Rattle.std.specs.Prelude.{Result, unwrap_or}
-use Rattle.failover.specs.Links.{no_links}
+use Rattle.std.specs.Prelude.{Result}
 use Rattle.journal.specs.declared.item.Item.{Item}
 use Rattle.policy_rules.specs.declared.packet.Cause.{Cause}
 use Rattle.policy_rules.specs.declared.packet.Leg.TheVariants.{Exit as ExitLeg}
 use Rattle.policy_rules.specs.declared.policy.Action.TheVariants.{Drop, Out as OutBy}
 use Rattle.switch_core.specs.Ends.{next_of, set_out, site_of}
-use Rattle.switch_core.specs.declared.answers.Decision.{Decision}
+use Rattle.switch_core.specs.declared.deciding.Decision.{Decision}
 use Rattle.travelling.specs.Travelling.{standing_kept}
 use Rattle.tunnel.specs.Tunnel.{TunnelValue}
 use Rattle.world_log.specs.Writing.{LogAfter, packet_standing, set_item, set_flight}
-use Rattle.world_log.proofs.WrittenGoing.{by_action, exits, owned, unowned, way_is}
+use Rattle.world_log.proofs.WrittenGoing.{by_action, exits, owned, unowned}
 use Rattle.world_log.proofs.log.Log.leave.Goals as goal
 
 pub returns-in-Drop-clause-log : goal.returns-in-Drop-clause-log
@@ -39,8 +37,8 @@ returns-then-owner-number-clause-log c =
     None c.args.self.now c.end-then-owner-number.new.self) c.leaves.ensures
     c.end-then-owner-number.ensures)
 
-pub returns-in_ok-way-in-Some-clause-log : goal.returns-in_ok-way-in-Some-clause-log
-returns-in_ok-way-in-Some-clause-log c =
+pub returns-else-owner-number-clause-log : goal.returns-else-owner-number-clause-log
+returns-else-owner-number-clause-log c =
     let at = standing_kept c.args.at in
     let s = c.args.switch.now in
     let site = site_of c.args.site in
@@ -49,12 +47,9 @@ returns-in_ok-way-in-Some-clause-log c =
     let to : List ℕ = c.in-Some.owner ∷ [] in
     let targets : c.unwrap-targets.result ≡ to =
     rw c.unwrap-targets.ensures at c.new.ensures.list in
-    let is = way_is s site.near at leg c.unwrap-targets.result
-    (unwrap_or (option_copied c.links.result) no_links) c.in_ok-way-in-Some.way
-    c.links.ensures (c.in_ok-way-in-Some.ensures.way at.packet at.header at.ingress) in
-    let Q : Result TunnelValue Cause → Type 0 = λ way.
-    LogAfter c.set_out.result (set_item at leg way ∷ []) [] c.args.at.packet
-    (set_flight decision.version decision.rule way) c.args.self.now c.set_out.new.self in
+    let Q : Result TunnelValue Cause → Type 0 = λ found.
+    LogAfter c.set_out.result (set_item at leg found ∷ []) [] c.args.at.packet
+    (set_flight decision.version decision.rule found) c.args.self.now c.set_out.new.self in
     owned c.set_out.result at c.args.at.packet c.args.self.now c.set_out.new.self s site
     c.args.decision c.in-Out.port c.in-Some.owner false c.in-Out.is
     (sym c.owner.ensures ∙ c.in-Some.is)
@@ -63,4 +58,4 @@ returns-in_ok-way-in-Some-clause-log c =
     (exits c.set_out.result at c.args.at.packet c.args.self.now c.set_out.new.self decision
     (set_out s site.near (packet_standing at) leg to)
     (subst (λ these. Q (set_out s site.near (packet_standing at) leg these)) targets
-    (subst Q is c.set_out.ensures)))
+    c.set_out.ensures.log))

@@ -6,7 +6,7 @@ use Rattle.ctrl_msg.specs.declared.message.Place.TheVariants as receiver
 use Rattle.journal.specs.declared.item.Item.TheVariants as item
 use Rattle.message_bag.specs.Feeding.{HasShortSpelling}
 use Rattle.message_bag.specs.Posts.{new_post}
-use Rattle.switch_core.specs.Verdicts.{cached_by}
+use Rattle.switch_core.specs.Forwarding.{cached_by}
 use Rattle.ternary.specs.Word.{WordValue}
 use Rattle.update_machine.specs.Messages.{sent_from}
 use Rattle.world_log.specs.Writing.{cache_message, message_list}

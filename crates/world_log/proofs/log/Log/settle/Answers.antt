@@ -1,21 +1,16 @@
 -- What was written of a packet is its switch's answer.
-use Rattle.std.proofs.Common.{◌+◌, ◌∷◌, [], List, None, length, map, refl, subst, sym, ◌∙◌}
-use Rattle.std.specs.Option.{option_copied}
-use Rattle.std.specs.Prelude.{Result, unwrap_or}
+use Rattle.std.proofs.Common.{◌+◌, ◌∷◌, [], List, None, length, map, subst, sym, ◌∙◌}
 use Rattle.base.proofs.ListsJoined.{both_written}
-use Rattle.failover.specs.Links.{no_links}
 use Rattle.journal.specs.declared.item.Item.{Item}
 use Rattle.journal.specs.declared.item.Item.TheVariants as item
 use Rattle.message_bag.specs.Posts.{Post, new_post}
-use Rattle.policy_rules.specs.declared.packet.Cause.{Cause}
 use Rattle.switch_core.specs.Ends.{set_out, site_of}
-use Rattle.switch_core.specs.Verdicts.{answer_of, cached_by}
-use Rattle.switch_core.specs.declared.verdicts.Forwarding.{Forwarding}
+use Rattle.switch_core.specs.Forwarding.{answer_of, cached_by}
+use Rattle.switch_core.specs.declared.forwarding.Forwarding.{Forwarding}
 use Rattle.travelling.specs.Travelling.{standing_kept}
-use Rattle.tunnel.specs.Tunnel.{TunnelValue}
 use Rattle.update_machine.specs.Messages.{sent_from}
-use Rattle.world_log.specs.Writing.{LogAfter, arrived_flight, arrived_items, arrived_posts, cache_message, message_list, packet_standing, set_item, set_flight}
-use Rattle.world_log.proofs.WrittenGoing.{sought, way_is}
+use Rattle.world_log.specs.Writing.{LogAfter, arrived_flight, arrived_items, arrived_posts, cache_message, message_list, packet_standing}
+use Rattle.world_log.proofs.WrittenGoing.{sought}
 use Rattle.world_log.proofs.LogCalls.{log_ends, log_failed, log_unwritten}
 use Rattle.world_log.proofs.StepWrites.{part_first}
 use Rattle.world_log.proofs.log.Log.settle.Goals as goal
@@ -23,8 +18,8 @@ use Rattle.world_log.proofs.log.Log.settle.Goals as goal
 pub returns-in-Out-clause-log : goal.returns-in-Out-clause-log
 returns-in-Out-clause-log c =
     let at = standing_kept c.args.at in
-    let P : Forwarding → Type 0 = λ verdict.
-    let what = answer_of c.args.switch.now (site_of c.args.site) (packet_standing at) verdict in
+    let P : Forwarding → Type 0 = λ forwarding.
+    let what = answer_of c.args.switch.now (site_of c.args.site) (packet_standing at) forwarding in
     LogAfter c.end.result
     (arrived_items (length c.args.self.now.bag + 1) at c.args.at.version c.args.at.rule what)
     (arrived_posts at what) c.args.at.packet
@@ -40,8 +35,8 @@ returns-in_err-push-in-Decided-clause-log c =
 pub returns-in_err-send_rule-in-Decided-clause-log : goal.returns-in_err-send_rule-in-Decided-clause-log
 returns-in_err-send_rule-in-Decided-clause-log c =
     let at = standing_kept c.args.at in
-    let P : Forwarding → Type 0 = λ verdict.
-    let what = answer_of c.args.switch.now (site_of c.args.site) (packet_standing at) verdict in
+    let P : Forwarding → Type 0 = λ forwarding.
+    let what = answer_of c.args.switch.now (site_of c.args.site) (packet_standing at) forwarding in
     LogAfter c.from_residual-in_err-send_rule-in-Decided.result
     (arrived_items (length c.args.self.now.bag + 1) at c.args.at.version c.args.at.rule what)
     (arrived_posts at what) c.args.at.packet
@@ -61,8 +56,8 @@ returns-in_ok-send_rule-in-Decided-clause-log c =
     decision.how in
     let sends : List Item = sent_from (length c.args.self.now.bag + 1) (message_list message) in
     let posts : List Post = map new_post (message_list message) in
-    let P : Forwarding → Type 0 = λ verdict.
-    let what = answer_of c.args.switch.now (site_of c.args.site) (packet_standing at) verdict in
+    let P : Forwarding → Type 0 = λ forwarding.
+    let what = answer_of c.args.switch.now (site_of c.args.site) (packet_standing at) forwarding in
     LogAfter c.leave.result
     (arrived_items (length c.args.self.now.bag + 1) at c.args.at.version c.args.at.rule what)
     (arrived_posts at what) c.args.at.packet
@@ -75,31 +70,20 @@ returns-in_ok-send_rule-in-Decided-clause-log c =
     c.in_ok-push-in-Decided.ensures.pushed c.in_ok-send_rule-in-Decided.ensures.written)
     c.in_ok-send_rule-in-Decided.ensures.posted c.in_ok-send_rule-in-Decided.ensures.travelling c.leave.ensures.log)
 
-pub returns-in_err-way-in-Seek-clause-log : goal.returns-in_err-way-in-Seek-clause-log
-returns-in_err-way-in-Seek-clause-log c =
-    log_unwritten c.from_residual-in_err-way-in-Seek.ensures.0 refl
-
-pub returns-in_ok-way-in-Seek-clause-log : goal.returns-in_ok-way-in-Seek-clause-log
-returns-in_ok-way-in-Seek-clause-log c =
+pub returns-in-Seek-clause-log : goal.returns-in-Seek-clause-log
+returns-in-Seek-clause-log c =
     let at = standing_kept c.args.at in
     let site = site_of c.args.site in
     let s = c.args.switch.now in
     let leg = c.in-Seek.leg in
-    let P : Forwarding → Type 0 = λ verdict.
-    let what = answer_of s site (packet_standing at) verdict in
+    let P : Forwarding → Type 0 = λ forwarding.
+    let what = answer_of s site (packet_standing at) forwarding in
     LogAfter c.set_out.result
     (arrived_items (length c.args.self.now.bag + 1) at c.args.at.version c.args.at.rule what)
     (arrived_posts at what) c.args.at.packet
     (arrived_flight c.args.at.version c.args.at.rule what) c.args.self.now
     c.set_out.new.self in
-    let is = way_is s site.near at leg c.in-Seek.targets
-    (unwrap_or (option_copied c.links.result) no_links) c.in_ok-way-in-Seek.way c.links.ensures
-    (c.in_ok-way-in-Seek.ensures.way at.packet at.header at.ingress) in
-    let Q : Result TunnelValue Cause → Type 0 = λ way.
-    LogAfter c.set_out.result (set_item at leg way ∷ []) [] c.args.at.packet
-    (set_flight c.args.at.version c.args.at.rule way) c.args.self.now c.set_out.new.self in
     subst P (sym c.in-Seek.is)
     (sought c.set_out.result at c.args.at.packet c.args.self.now c.set_out.new.self
     (length c.args.self.now.bag + 1) leg c.args.at.version c.args.at.rule
-    (set_out s site.near (packet_standing at) leg c.in-Seek.targets)
-    (subst Q is c.set_out.ensures))
+    (set_out s site.near (packet_standing at) leg c.in-Seek.targets) c.set_out.ensures.log)

@@ -1,7 +1,7 @@
 ghost use Rattle.std.specs.Prelude.{◌≡◌, ◌∷◌, [], All, IfOk, IfSome, Some, unwrap_or};
 ghost use Rattle.std.specs.Option.{option_copied};
 ghost use Rattle.failover.specs.Exports.{after_hearing, is_news, no_adverts, no_links, route_of};
-ghost use Rattle.switch_core.specs.KeptRoutes.{IsRouteBy};
+ghost use Rattle.switch_core.specs.Routes.{IsRouteBy};
 
 use base::Shared;
 use failover::{Advert, Database, DownSet, Route};
@@ -25,15 +25,15 @@ pub struct KeptRoute {
 /// The adverts that a switch holds, and routes that it found by them, so that packets share these.
 /// Contracts see the adverts.
 #[derive(Drop)]
-pub struct SharedRoutes {
+pub struct Routes {
     database: Database,
     kept: Vec<KeptRoute>,
 }
 
-impl Model for SharedRoutes {
+impl Model for Routes {
     ghost use Rattle.std.specs.Prelude.{List, Option, All};
     ghost use Rattle.failover.specs.declared.advert.Advert.{Advert};
-    ghost use Rattle.switch_core.specs.KeptRoutes.{IsRouteBy};
+    ghost use Rattle.switch_core.specs.Routes.{IsRouteBy};
 
     ghost Value = { List (Option Advert) };
 
@@ -42,12 +42,12 @@ impl Model for SharedRoutes {
     ghost invariant = { λ w. All (IsRouteBy w.database) w.kept.items };
 }
 
-impl SharedRoutes {
+impl Routes {
     /// These adverts. It takes no memory yet.
-    pub fn new(alloc: Global, database: Database) -> SharedRoutes
+    pub fn new(alloc: Global, database: Database) -> Routes
         ensures { result ≡ database }
     {
-        SharedRoutes {
+        Routes {
             database,
             kept: Vec::new(alloc),
         }

@@ -1,6 +1,6 @@
 use Rattle.std.proofs.Common.{◌≡◌, take}
 use Rattle.journal_text.specs.Lines.{journal_text}
-use Rattle.journal_text.proofs.items.lines.Given as goal
+use Rattle.journal_text.proofs.items.text.Given as goal
 
 abbrev pub invariant-loop-item : goal.invariant-loop-item
 invariant-loop-item l = l.text.items ≡ journal_text l.net (take l.item-index l.items)

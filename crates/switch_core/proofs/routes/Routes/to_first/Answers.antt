@@ -4,7 +4,7 @@ use Rattle.std.specs.Prelude.{unwrap_or}
 use Rattle.failover.specs.Links.{no_links}
 use Rattle.failover.specs.Routes.{route_of}
 use Rattle.switch_core.proofs.FirstTargets.{to_any}
-use Rattle.switch_core.proofs.kept_routes.SharedRoutes.to_first.Goals as goal
+use Rattle.switch_core.proofs.routes.Routes.to_first.Goals as goal
 
 pub returns-in-Some-kept_route-clause-route : goal.returns-in-Some-kept_route-clause-route
 returns-in-Some-kept_route-clause-route c =

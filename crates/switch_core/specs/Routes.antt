@@ -3,7 +3,7 @@ use Rattle.std.specs.Prelude.{◌≡◌, Option, Some, List, [], ◌∷◌}
 use Rattle.failover.specs.declared.advert.Advert.{Advert}
 use Rattle.failover.specs.Links.{no_links}
 use Rattle.failover.specs.Routes.{route_of}
-use Rattle.switch_core.specs.declared.kept_routes.KeptRoute.{KeptRoute}
+use Rattle.switch_core.specs.declared.routes.KeptRoute.{KeptRoute}
 
 -- the way is the route by these adverts, where no link was found down
 abbrev pub IsRouteBy : List (Option Advert) → KeptRoute → Type 0

@@ -8,10 +8,10 @@ use Rattle.switch_core.specs.Ends.{Site, next_of, set_out}
 use Rattle.switch_core.specs.State.{SwitchValue}
 use Rattle.switch_core.specs.Answers.{Arrival}
 use Rattle.switch_core.specs.Answers as answer
-use Rattle.switch_core.specs.declared.answers.Decision.{Decision}
-use Rattle.switch_core.specs.declared.packet.Packet.{Packet}
-use Rattle.switch_core.specs.declared.verdicts.Forwarding.{Forwarding}
-use Rattle.switch_core.specs.declared.verdicts.Forwarding.TheVariants.{Out, Decided, Seek}
+use Rattle.switch_core.specs.declared.deciding.Decision.{Decision}
+use Rattle.switch_core.specs.declared.tunnel_calls.Packet.{Packet}
+use Rattle.switch_core.specs.declared.forwarding.Forwarding.{Forwarding}
+use Rattle.switch_core.specs.declared.forwarding.Forwarding.TheVariants.{Out, Decided, Seek}
 
 -- the decision's rule with this word, for a cache
 abbrev pub cached_by : Decision → Option WordValue → Option Body
@@ -29,7 +29,7 @@ answer_of s site packet (Seek leg targets) =
 
 -- the answer to a packet that comes in
 abbrev pub admitted_as : SwitchValue → Site → Packet → Option Forwarding → Option Arrival
-admitted_as s site packet verdict = option_map (answer_of s site packet) verdict
+admitted_as s site packet forwarding = option_map (answer_of s site packet) forwarding
 
 -- no lookup says of a packet that it is at the end of its way to a port
 abbrev pub IsByLookup : Forwarding → Type 0

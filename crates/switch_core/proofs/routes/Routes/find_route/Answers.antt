@@ -2,7 +2,7 @@ use Rattle.std.proofs.Common.{◌≡◌, ◌∙◌, sym, subst, Some, List, ℕ}
 use Rattle.failover.specs.Links.{no_links}
 use Rattle.failover.specs.Routes.{route_of}
 use Rattle.switch_core.proofs.FirstTargets.{to_any}
-use Rattle.switch_core.proofs.kept_routes.SharedRoutes.find_route.Goals as goal
+use Rattle.switch_core.proofs.routes.Routes.find_route.Goals as goal
 
 pub returns-clause-route : goal.returns-clause-route
 returns-clause-route c =

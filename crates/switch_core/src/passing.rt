@@ -1,0 +1,39 @@
+ghost use Rattle.std.specs.Prelude.{◌≡◌, ◌≢◌, ◌+◌, ◌<◌, ℕ, IsTrue, slice_get};
+ghost use Rattle.failover.specs.RouteList.{IsRouteList};
+ghost use Rattle.switch_core.specs.declared.packet.Onward.TheVariants.{LinkDown};
+ghost use Rattle.switch_core.specs.Exports.{StandsAt, call_counted, onward_to, serves};
+
+use crate::packet::Onward;
+use crate::switch::Switch;
+use base::has;
+use failover::Route;
+
+impl Switch {
+    /// Where a packet that stands here, at this place of its route, goes on; no tunnel is made for
+    /// it. A link is down where it isn't usable.
+    ///
+    /// `near` has a bit for each switch to which there is a usable link.
+    pub fn pass(&mut self, route: &Route, place: u32, near: u64) -> Onward
+        requires serving { IsTrue (serves self.old) }
+        requires here { StandsAt self.old route.now place }
+        ensures onward { result ≡ onward_to near (slice_get route.now (place + 1)) }
+        ensures other { (other : ℕ) → result ≡ LinkDown other
+            → (other ≢ self.old.number) × (other < 64) }
+        ensures after { self.new ≡ call_counted self.old }
+    {
+        self.count();
+        match next_switch(route, place) {
+            None => Onward::AtEnd,
+            Some(next) if has(near, next) => Onward::Next(next),
+            Some(next) => Onward::LinkDown(next),
+        }
+    }
+}
+
+// The switch behind this place of the route.
+fn next_switch(route: &Route, place: u32) -> Option<u32>
+    ensures next { result ≡ slice_get route.now (place + 1) }
+    ensures route { IsRouteList route.now }
+{
+    route.items().get(place as usize + 1).copied()
+}

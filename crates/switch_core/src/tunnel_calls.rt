@@ -1,0 +1,323 @@
+//! The calls by whole tunnels, as other programs may make them: `enter` and `arrive` give the packet
+//! its route at once, and `hop` takes the next one where a link is down. The program makes none of
+//! them, but those that they stand on: it shares one route among packets. What each answers is as
+//! its name here says, and each is thin: it asks `admit`, `receive` or `pass`.
+ghost use Rattle.std.specs.Prelude.{◌≡◌, ◌∷◌, [], IsTrue, None};
+ghost use Rattle.policy_rules.specs.declared.packet.Leg.TheVariants.{Exit as ExitLeg};
+ghost use Rattle.tunnel.specs.Moves.{next};
+ghost use Rattle.switch_core.specs.Answers.{Answered};
+ghost use Rattle.switch_core.specs.Exports.{Answer, CanLookUp, IsAtAuthority, IsByLookup, IsUncached, StandsAt, admitted, answer_of, around, arrival_of, arrive_answer, cached_by, call_counted, enter_answer, entered_with, exit_by, hop_answer, incoming_packet, link_found_down, next_of, packet_of, rerouted_here, serves, set_out, site_of};
+
+use crate::deciding::Decision;
+use crate::forwarding::Forwarding;
+use crate::packet::{Arriving, Onward};
+use crate::site::Site;
+use crate::switch::Switch;
+use ctrl_msg::Body;
+use failover::DownSet;
+use five_tuple::Header;
+use net_file::Ports;
+use policy_rules::{Action, Cause, Leg, Targets};
+use ternary::Word;
+use tunnel::Tunnel;
+
+/// A packet at a switch, as it sets out on a leg.
+#[derive(Drop)]
+pub struct Packet {
+    pub number: u32,
+    pub header: Header,
+    /// The switch where it entered.
+    pub ingress: u32,
+    /// The links that it found down.
+    pub down: DownSet,
+}
+
+/// Where a packet goes that was decided.
+#[derive(Drop)]
+pub enum Next {
+    Dropped,
+    /// Out of the network, by this port of the switch itself.
+    Out(u32),
+    /// To the switch of its port.
+    Exit(Tunnel),
+    Stuck(Cause),
+}
+
+/// What a switch answers to a packet that comes into the network.
+#[derive(Drop)]
+pub enum Entered {
+    /// The switch doesn't serve.
+    Closed,
+    Decided { decision: Decision, next: Next },
+    /// To an authority switch of the packet's partition.
+    Seek(Tunnel),
+    /// There is no route for this leg, which the lookup gave.
+    Stuck { cause: Cause, leg: Leg },
+}
+
+/// What a switch answers to a packet at the end of its route.
+#[derive(Drop)]
+pub enum Arrived {
+    /// Out of the network, by this port of the switch.
+    Out(u32),
+    Decided {
+        decision: Decision,
+        /// A rule for the cache of the switch where the packet entered, unless that is this one.
+        cache: Option<Body>,
+        next: Next,
+    },
+    /// To an authority switch of the packet's partition.
+    Seek(Tunnel),
+    /// There is no route for this leg, which the lookup gave.
+    Stuck {
+        cause: Cause,
+        leg: Leg,
+    },
+}
+
+/// What becomes of a packet that is on its way.
+#[derive(Clone, Copy, Debug, PartialEq, Eq)]
+pub struct Hop {
+    /// The switch to which the link was found down, if one was.
+    pub found: Option<u32>,
+    pub end: HopEnd,
+}
+
+/// Where a hop ends.
+#[derive(Clone, Copy, Debug, PartialEq, Eq)]
+pub enum HopEnd {
+    /// At the end of the route, where it stands.
+    Arrive,
+    /// At this next switch of the route.
+    Move(u32),
+    Stuck(Cause),
+}
+
+impl Switch {
+    /// A packet of this number comes into the network here: closed exactly where the switch doesn't
+    /// serve. Otherwise it is looked up under the switch's stamp, and is decided by a cached or an
+    /// authority rule, or sets out to its partition's targets; nothing is sent to a cache.
+    /// `enter_laws` and `lookup_laws` say how.
+    ///
+    /// `near` has a bit for each switch to which there is a usable link.
+    pub fn enter(&mut self, packet: u32, h: &Header, near: u64, ports: &Ports) -> Entered
+        requires { CanLookUp self.old }
+        ensures answer { result
+            ≡ enter_answer self.old (around near ports.now)
+            (incoming_packet self.old packet h.now) }
+        ensures uncached { IsUncached
+            (admitted self.old (around near ports.now) (incoming_packet self.old packet h.now)) }
+        ensures after { self.new ≡ call_counted self.old }
+    {
+        let packet = Packet {
+            number: packet,
+            header: *h,
+            ingress: self.number,
+            down: DownSet::empty(),
+        };
+        match self.admit(h) {
+            None => Entered::Closed,
+            Some(forwarding) => self.answer_entry(Site { near, ports }, &packet, forwarding),
+        }
+    }
+
+    /// A packet stands here, at the end of its route. On its way to a port it leaves. On its way to
+    /// an authority switch it is decided by the tables of its version. Where these aren't there, it
+    /// is looked up anew under the switch's stamp. `arrive_laws` and `lookup_laws` say how.
+    ///
+    /// `near` has a bit for each switch to which there is a usable link.
+    #[tactic(auto, unfolding(crate::specs::Answering::received))]
+    pub fn arrive(&mut self, t: &Tunnel, near: u64, ports: &Ports) -> Arrived
+        requires serving { IsTrue (serves self.old) }
+        requires stamped { CanLookUp self.old }
+        requires here { StandsAt self.old t.now.route t.now.place }
+        requires last { next t.now ≡ None }
+        requires authority { IsAtAuthority self.old t.now.header t.now.leg }
+        ensures answer { result ≡ arrive_answer self.old (around near ports.now) t.now }
+        ensures after { self.new ≡ call_counted self.old }
+    {
+        let forwarding = self.receive(Arriving {
+            header: &t.header,
+            ingress: t.ingress,
+            leg: t.leg,
+            route: &t.route,
+            place: t.place,
+        });
+        self.answer_arrival(Site { near, ports }, &carried(t), forwarding)
+    }
+
+    /// A packet that stands here goes on: at the end of its route it arrives. Where the link to the
+    /// next switch is usable it moves there. Otherwise that link is found down and the packet takes
+    /// a new route, on which it moves or arrives, or is stuck. `hop_laws` says how. A packet that
+    /// arrives stands here, at the end of its route.
+    ///
+    /// `near` has a bit for each switch to which there is a usable link.
+    #[tactic(auto, unfolding(crate::specs::Moving::hop_answer))]
+    pub fn hop(&mut self, t: &mut Tunnel, near: u64) -> Hop
+        requires serving { IsTrue (serves self.old) }
+        requires here { StandsAt self.old t.old.route t.old.place }
+        ensures found { result.found ≡ link_found_down near (next t.old) }
+        ensures end { result.end ≡ (hop_answer self.old near t.old).end }
+        ensures tunnel { t.new ≡ (hop_answer self.old near t.old).tunnel }
+        ensures after { self.new ≡ call_counted self.old }
+    {
+        match self.pass(&t.route, t.place, near) {
+            Onward::AtEnd => Hop {
+                found: None,
+                end: HopEnd::Arrive,
+            },
+            Onward::Next(next) => {
+                t.advance();
+                Hop {
+                    found: None,
+                    end: HopEnd::Move(next),
+                }
+            }
+            Onward::LinkDown(other) => {
+                t.mark_down(other);
+                Hop {
+                    found: Some(other),
+                    end: self.reroute(near, t),
+                }
+            }
+        }
+    }
+
+    // Along a new route, once a link was found down.
+    #[tactic(auto, unfolding(crate::specs::Moving::rerouted_here))]
+    fn reroute(&self, near: u64, t: &mut Tunnel) -> HopEnd
+        ensures end { result ≡ (rerouted_here self.now near t.old).end }
+        ensures tunnel { t.new ≡ (rerouted_here self.now near t.old).tunnel }
+    {
+        if !t.reroute(self.database.database(), near) {
+            return HopEnd::Stuck(self.cause(near, &t.down, &t.leg, &t.targets));
+        }
+        match t.next() {
+            None => HopEnd::Arrive,
+            Some(next) => {
+                t.advance();
+                HopEnd::Move(next)
+            }
+        }
+    }
+
+    /// The answer to a packet that comes in, of this forwarding.
+    fn answer_entry(&self, site: Site, packet: &Packet, forwarding: Forwarding) -> Entered
+        requires { IsByLookup forwarding }
+        ensures { (answer : Answer)
+            → answer_of self.now (site_of site.entry) packet.now forwarding ≡ Answered answer
+            → result ≡ entered_with answer }
+    {
+        match forwarding {
+            Forwarding::Out(_) => unreachable!(),
+            Forwarding::Decided { decision, .. } => Entered::Decided {
+                decision,
+                next: self.next(site, packet, decision.action),
+            },
+            Forwarding::Seek { leg, targets } => match self.set_out(
+                site.near, packet, leg, &targets,
+            ) {
+                Ok(tunnel) => Entered::Seek(tunnel),
+                Err(cause) => Entered::Stuck { cause, leg },
+            },
+        }
+    }
+
+    /// The answer to a packet at the end of its route, of this forwarding.
+    fn answer_arrival(&self, site: Site, packet: &Packet, forwarding: Forwarding) -> Arrived
+        ensures { result
+            ≡ arrival_of (answer_of self.now (site_of site.entry) packet.now forwarding) }
+    {
+        match forwarding {
+            Forwarding::Out(port) => Arrived::Out(port),
+            Forwarding::Decided { decision, word } => Arrived::Decided {
+                decision,
+                cache: cached_by(&decision, word),
+                next: self.next(site, packet, decision.action),
+            },
+            Forwarding::Seek { leg, targets } => match self.set_out(
+                site.near, packet, leg, &targets,
+            ) {
+                Ok(tunnel) => Arrived::Seek(tunnel),
+                Err(cause) => Arrived::Stuck { cause, leg },
+            },
+        }
+    }
+
+    // Where a packet goes that was decided by this action.
+    #[tactic(auto, unfolding(crate::specs::Ends::next_of, crate::specs::Ends::leave_by))]
+    fn next(&self, site: Site, packet: &Packet, action: Action) -> Next
+        ensures { result ≡ next_of self.now (site_of site.entry) packet.now action }
+    {
+        match action {
+            Action::Drop => Next::Dropped,
+            Action::Out(port) => match site.ports.owner(port) {
+                None => Next::Stuck(Cause::NoRoute),
+                Some(owner) if owner == self.number => Next::Out(port),
+                Some(owner) => self.exit(site.near, packet, port, owner),
+            },
+        }
+    }
+
+    // To the switch of its port.
+    fn exit(&self, near: u64, packet: &Packet, port: u32, owner: u32) -> Next
+        ensures { result ≡ exit_by (set_out self.now near packet.now (ExitLeg port) (owner ∷ [])) }
+    {
+        let targets = Targets::new(&[owner]).unwrap();
+        match self.set_out(near, packet, Leg::Exit { port }, &targets) {
+            Ok(tunnel) => Next::Exit(tunnel),
+            Err(cause) => Next::Stuck(cause),
+        }
+    }
+
+    /// The packet at the beginning of its route to the first of these targets that it reaches.
+    ///
+    /// # Errors
+    /// Why there is none.
+    #[tactic(auto, unfolding(crate::specs::Ends::set_out))]
+    fn set_out(
+        &self,
+        near: u64,
+        packet: &Packet,
+        leg: Leg,
+        targets: &Targets,
+    ) -> Result<Tunnel, Cause>
+        ensures { result ≡ set_out self.now near packet.now leg targets.now }
+    {
+        let database = self.database.database();
+        match database.route(self.number, targets, near, &packet.down) {
+            None => Err(self.cause(near, &packet.down, &leg, targets)),
+            Some(route) => Ok(Tunnel::begin(
+                packet.number,
+                packet.header,
+                packet.ingress,
+                leg,
+                *targets,
+                route,
+                packet.down,
+            )),
+        }
+    }
+}
+
+// The packet of a tunnel.
+fn carried(t: &Tunnel) -> Packet
+    ensures { result ≡ packet_of t.now }
+{
+    Packet {
+        number: t.packet,
+        header: t.header,
+        ingress: t.ingress,
+        down: t.down,
+    }
+}
+
+// The rule for a cache, where there is a word.
+fn cached_by(decision: &Decision, word: Option<Word>) -> Option<Body>
+    ensures { result ≡ cached_by decision.now word }
+{
+    match word {
+        None => None,
+        Some(word) => Some(decision.cache_rule(word)),
+    }
+}

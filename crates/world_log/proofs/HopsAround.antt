@@ -1,0 +1,180 @@
+-- What a hop wrote where a link was found down: the way around it, or that there is none.
+use Rattle.std.proofs.Common.{ℕ, ◌≡◌, ◌++◌, Option, Some, None, List, ◌∷◌, [], ap, append-nil, subst, sym, ◌∙◌}
+use Rattle.std.specs.Prelude.{Result}
+use Rattle.std.proofs.lemmas.Option.{get_or_from_slice_get}
+use Rattle.failover.specs.Links.{with_link}
+use Rattle.failover.specs.Routes.{route_of}
+use Rattle.journal.specs.declared.item.Item.TheVariants as item
+use Rattle.net_file.specs.declared.ports.Ports.{Ports}
+use Rattle.policy_rules.specs.declared.packet.Cause.{Cause}
+use Rattle.policy_rules.specs.declared.packet.Leg.{Leg}
+use Rattle.switch_core.specs.AnswerLaws.{down_with}
+use Rattle.switch_core.specs.Ends.{are_isolated, cause_of}
+use Rattle.switch_core.specs.Answering.{IsAtAuthority}
+use Rattle.switch_core.specs.Moving.{Moved, StandsAt, hop_answer, move_answer, moved_along}
+use Rattle.switch_core.specs.State.{SwitchValue, call_counted}
+use Rattle.switch_core.specs.declared.tunnel_calls.HopEnd.TheVariants as hop
+use Rattle.switch_core.proofs.OnWay.{hop_around, hop_stays}
+use Rattle.tunnel.specs.Moves.{here, marked_down, next, on_route}
+use Rattle.travelling.specs.Travelling.{Flight, Standing, begun_at, marked_at, standing_at, travels_by}
+use Rattle.world_log.specs.Packets.{MeetsDownLink, ended_switch, followed, followed_flight, followed_items, followed_posts, hop_flight, hop_posts, hop_written, hopped_switch}
+use Rattle.world_log.specs.Writing.{LogAfter}
+use Rattle.world_log.specs.declared.log.Log.{Log}
+use Rattle.world_log.proofs.LogCalls.{log_behind}
+use Rattle.world_log.proofs.HoppedPacket.{authority_counted}
+use Rattle.world_log.proofs.HopLogs.{hop_log, turned_along}
+
+-- the switch finds a route around the link, or none, as it does for the packet
+module _ (at : Standing) (version : ℕ) (rule : Option ℕ) (leg : Leg) (targets : List ℕ)
+    (other : ℕ) (before s : SwitchValue) (near : ℕ) (t : Flight)
+    (met : MeetsDownLink at version rule leg targets other before s near t) (links : List ℕ)
+    (links_are : links ≡ (marked_at at other).down) where
+  pub stands : here t.tunnel ≡ before.number
+  stands = get_or_from_slice_get t.tunnel.route t.tunnel.place before.number 0 met.here
+
+  links_is : links ≡ down_with t.tunnel other
+  links_is = links_are
+      ∙ ap (λ (a : Standing). with_link a.down a.switch other) met.stands
+      ∙ ap (λ n. with_link t.tunnel.down n other) (sym stands)
+
+  pub around : (found : Option (List ℕ)) → route_of s.database s.number targets near links ≡ found
+      → hop_answer before near t.tunnel ≡ moved_along before near (marked_down t.tunnel other) found
+  around found is = hop_around before near t.tunnel other found met.found
+      (ap (λ n. route_of before.database n t.tunnel.targets near (down_with t.tunnel other)) stands
+      ∙ ap (λ these. route_of before.database before.number these near (down_with t.tunnel other))
+      (sym met.targets)
+      ∙ ap (route_of before.database before.number targets near) (sym links_is)
+      ∙ subst (λ (w : SwitchValue). route_of w.database w.number targets near links ≡ found)
+      met.asked is)
+
+  pub why : (cause : Cause) → cause ≡ cause_of s near links leg targets
+      → cause ≡ cause_of before near (down_with t.tunnel other) t.tunnel.leg t.tunnel.targets
+  unfolding cause_of are_isolated
+  why cause is =
+      subst (λ w. cause ≡ cause_of w near links leg targets) met.asked is
+      ∙ ap (λ down. cause_of before near down leg targets) links_is
+      ∙ ap (λ l. cause_of before near (down_with t.tunnel other) l targets) met.leg
+      ∙ ap (cause_of before near (down_with t.tunnel other) t.tunnel.leg) met.targets
+
+  -- on that route
+  abbrev pub turned : List ℕ → Flight
+  turned route = record t { tunnel = on_route (marked_down t.tunnel other) route }
+
+  pub turned_is : (route : List ℕ)
+      → travels_by (begun_at (marked_at at other) leg targets route) version rule ≡ turned route
+  turned_is route =
+      ap (λ (a : Standing). travels_by (begun_at (marked_at a other) leg targets route) version rule)
+      met.stands
+      ∙ ap (λ n. travels_by (begun_at (marked_at (standing_at n t) other) leg targets route) version
+      rule) (sym stands)
+      ∙ ap (λ l. travels_by (begun_at (marked_at (standing_at (here t.tunnel) t) other) l targets
+      route) version rule) met.leg
+      ∙ ap (λ these. travels_by (begun_at (marked_at (standing_at (here t.tunnel) t) other)
+      t.tunnel.leg these route) version rule) met.targets
+      ∙ ap (λ n. travels_by (turned route).tunnel n rule) met.version
+      ∙ ap (travels_by (turned route).tunnel t.version) met.rule
+
+  -- ---- there is none
+
+  module _ (cause : Cause) (none : route_of s.database s.number targets near links ≡ None)
+      (why_is : cause ≡ cause_of s near links leg targets) where
+    is_stuck : hop_answer before near t.tunnel
+        ≡ record { end = hop.Stuck cause; tunnel = marked_down t.tunnel other }
+    is_stuck = around None none
+        ∙ ap (λ c. record { end = hop.Stuck c; tunnel = marked_down t.tunnel other })
+        (sym (why cause why_is))
+
+    pub stuck_log : {T E : Type 0} (r : Result T E) (ports : Ports) (number : ℕ)
+        (old mid new : Log)
+        → mid.journal ≡ old.journal ++ item.FoundDown at.packet at.switch other ∷ []
+        → mid.bag ≡ old.bag → mid.travelling ≡ old.travelling
+        → LogAfter r (item.Stuck at.packet at.switch cause leg (marked_at at other).down ∷ []) []
+        at.packet None mid new
+        → LogAfter r (hop_written number before near ports t) (hop_posts before near ports t)
+        at.packet (hop_flight before near ports t) old new
+    stuck_log r ports number old mid new grown same_bag same log =
+        let packet = at.packet in
+        hop_log before near ports t r number packet (Some other)
+        (record { end = hop.Stuck cause; tunnel = marked_down t.tunnel other }) old new met.found
+        is_stuck
+        (subst (λ n. LogAfter r (item.FoundDown t.tunnel.packet before.number other
+        ∷ item.Stuck t.tunnel.packet before.number cause t.tunnel.leg
+        (with_link t.tunnel.down n other) ∷ []) [] packet None old new) (sym stands)
+        (subst (λ l. LogAfter r (item.FoundDown t.tunnel.packet before.number other
+        ∷ item.Stuck t.tunnel.packet before.number cause l
+        (with_link t.tunnel.down before.number other) ∷ []) [] packet None old new) met.leg
+        (subst (λ (a : Standing). LogAfter r (item.FoundDown a.packet a.switch other
+        ∷ item.Stuck a.packet a.switch cause leg (marked_at a other).down ∷ []) [] packet None old
+        new) met.stands
+        (log_behind r (item.FoundDown at.packet at.switch other ∷ [])
+        (item.Stuck at.packet at.switch cause leg (marked_at at other).down ∷ []) [] [] packet None
+        old mid new grown (same_bag ∙ sym (append-nil old.bag)) same log))))
+
+    pub stuck_switch : call_counted before ≡ hopped_switch before near t
+    stuck_switch = ap (λ (m : Moved). ended_switch (call_counted before) m.end) (sym is_stuck)
+
+  -- ---- along a route
+
+  module _ (route : List ℕ) (some : route_of s.database s.number targets near links ≡ Some route)
+    where
+      goes : hop_answer before near t.tunnel ≡ followed (turned route)
+      goes = around (Some route) some
+
+      abbrev begun : Flight
+      begun = travels_by (begun_at (marked_at at other) leg targets route) version rule
+
+      pub turned_log : {T E : Type 0} (r : Result T E) (ports : Ports) (number : ℕ)
+          (old mid new : Log)
+          → mid.journal ≡ old.journal ++ item.FoundDown at.packet at.switch other
+          ∷ item.Rerouted at.packet route ∷ []
+          → mid.bag ≡ old.bag → mid.travelling ≡ old.travelling
+          → LogAfter r (followed_items number s near ports begun)
+          (followed_posts s near ports begun) at.packet
+          (followed_flight s near ports begun) mid new
+          → LogAfter r (hop_written number before near ports t) (hop_posts before near ports t)
+          at.packet (hop_flight before near ports t) old new
+      turned_log r ports number old mid new grown same_bag same log =
+          let packet = at.packet in
+          let m : Moved = followed (turned route) in
+          hop_log before near ports t r number packet (Some other) m old new met.found goes
+          (log_behind r _ (followed_items number (call_counted before) near ports (turned route)) []
+          (followed_posts (call_counted before) near ports (turned route)) packet
+          (followed_flight (call_counted before) near ports (turned route)) old mid new
+          (grown
+          ∙ ap (λ (a : Standing). old.journal ++ item.FoundDown a.packet a.switch other
+          ∷ item.Rerouted a.packet route ∷ []) met.stands
+          ∙ ap (λ js. old.journal ++ js) (sym (turned_along t.tunnel.packet before.number other
+          (turned route).tunnel (next (turned route).tunnel))))
+          (same_bag ∙ sym (append-nil old.bag)) same
+          (subst (λ w. LogAfter r (followed_items number w near ports (turned route))
+          (followed_posts w near ports (turned route)) packet
+          (followed_flight w near ports (turned route)) mid new) met.asked
+          (subst (λ f. LogAfter r (followed_items number s near ports f)
+          (followed_posts s near ports f) packet
+          (followed_flight s near ports f) mid new) (turned_is route) log)))
+
+      -- where its route is that one switch it has arrived there
+      pub last_here : next begun.tunnel ≡ None → StandsAt s begun.tunnel.route begun.tunnel.place
+          × IsAtAuthority s begun.tunnel.header begun.tunnel.leg
+      last_here none =
+          let its : next (turned route).tunnel ≡ None =
+          ap (λ (f : Flight). next f.tunnel) (sym (turned_is route)) ∙ none in
+          let ends : hop_answer before near t.tunnel
+          ≡ record { end = hop.Arrive; tunnel = (turned route).tunnel } =
+          goes ∙ ap (move_answer (turned route).tunnel) its in
+          let arrives : (hop_answer before near t.tunnel).end ≡ hop.Arrive =
+          ap (λ (m : Moved). m.end) ends in
+          let there = subst (λ (m : Moved). StandsAt before m.tunnel.route m.tunnel.place) ends
+          (hop_stays before near t.tunnel met.here arrives) in
+          let at = authority_counted before t.tunnel.header t.tunnel.leg (met.authority arrives) in
+          subst (λ (f : Flight). StandsAt s f.tunnel.route f.tunnel.place
+          × IsAtAuthority s f.tunnel.header f.tunnel.leg) (sym (turned_is route))
+          (subst (λ w. StandsAt w (turned route).tunnel.route (turned route).tunnel.place
+          × IsAtAuthority w t.tunnel.header t.tunnel.leg) (sym met.asked) (there, at))
+
+      pub turned_switch : (now : SwitchValue) → now ≡ ended_switch s (followed begun).end
+          → now ≡ hopped_switch before near t
+      turned_switch now is =
+          is ∙ ap (λ f. ended_switch s (followed f).end) (turned_is route)
+          ∙ ap (λ w. ended_switch w (followed (turned route)).end) met.asked
+          ∙ ap (λ (m : Moved). ended_switch (call_counted before) m.end) (sym goes)

@@ -1,0 +1,141 @@
+-- A packet moves to the second switch of its route, or has arrived.
+use Rattle.std.proofs.Common.{ℕ, ◌≡◌, ◌+◌, ◌<◌, ◌∷◌, [], Option, Some, None, ap, length, refl, subst, sym, ◌∙◌}
+use Rattle.std.specs.Prelude.{Result, slice_get}
+use Rattle.std.proofs.lemmas.Option.{slice_get_within}
+use Rattle.std.proofs.lemmas.Result.{on_ok_weaker}
+use Rattle.journal.specs.declared.item.Item.TheVariants as item
+use Rattle.net_file.specs.declared.ports.Ports.{Ports}
+use Rattle.switch_core.specs.Answering.{IsAtAuthority, arrived_on}
+use Rattle.switch_core.specs.Ends.{around}
+use Rattle.switch_core.specs.Moving.{StandsAt, move_answer}
+use Rattle.switch_core.specs.State.{SwitchValue}
+use Rattle.travelling.specs.Travelling.{Flight, Standing, WithOne, placed_at, standing_at, standing_kept}
+use Rattle.tunnel.specs.Moves.{next}
+use Rattle.world_log.specs.Packets.{ended_flight, ended_items, ended_posts, ended_switch, followed, followed_flight, followed_items, followed_posts}
+use Rattle.world_log.specs.Writing.{LogAfter, arrived_flight, arrived_items, arrived_posts, packet_standing}
+use Rattle.world_log.specs.declared.log.Log.{Log}
+use Rattle.world_log.proofs.LogCalls.{log_one, log_unwritten}
+use Rattle.world_log.proofs.HopLogs.{arrival_log, placed, settled_log}
+use Rattle.world_log.proofs.log.Log.follow.Goals as goal
+
+-- by the next switch of its route
+module _ {T E : Type 0} (r : Result T E) (number : ℕ) (s : SwitchValue) (near : ℕ) (ports : Ports)
+    (t : Flight) (packet : ℕ) (old new : Log) where
+  by_next : (onward : Option ℕ) → next t.tunnel ≡ onward
+      → (let m = move_answer t.tunnel onward in
+      LogAfter r (ended_items number s near ports (record t { tunnel = m.tunnel }) m.end)
+      (ended_posts s near ports (record t { tunnel = m.tunnel }) m.end) packet
+      (ended_flight s near ports (record t { tunnel = m.tunnel }) m.end) old new)
+      → LogAfter r (followed_items number s near ports t) (followed_posts s near ports t) packet
+      (followed_flight s near ports t) old new
+  by_next onward is log =
+      subst (λ o. let m = move_answer t.tunnel o in
+      LogAfter r (ended_items number s near ports (record t { tunnel = m.tunnel }) m.end)
+      (ended_posts s near ports (record t { tunnel = m.tunnel }) m.end) packet
+      (ended_flight s near ports (record t { tunnel = m.tunnel }) m.end) old new) (sym is) log
+
+-- the switch was asked so often
+asked : (s : SwitchValue) (t : Flight) (onward : Option ℕ) → next t.tunnel ≡ onward
+    → ended_switch s (move_answer t.tunnel onward).end ≡ ended_switch s (followed t).end
+asked s t onward is = ap (λ o. ended_switch s (move_answer t.tunnel o).end) (sym is)
+
+-- ---- it moves on
+
+pub move_to-requires : goal.move_to-requires
+move_to-requires c =
+    subst (λ place. place < length c.args.kept.tunnel.route)
+    (ap (λ place. place + 1) (sym c.place-place.ensures.place))
+    (slice_get_within c.args.kept.tunnel.route (c.args.kept.tunnel.place + 1) c.in-Some.next
+    (sym c.next.ensures ∙ c.in-Some.is))
+
+pub returns-in_err-put-in-Some-clause-log : goal.returns-in_err-put-in-Some-clause-log
+returns-in_err-put-in-Some-clause-log c = log_unwritten c.from_residual.ensures.0 refl
+
+pub returns-in_ok-put-in-Some-clause-log : goal.returns-in_ok-put-in-Some-clause-log
+returns-in_ok-put-in-Some-clause-log c =
+    let t = c.args.kept in
+    let self = c.args.self.now in
+    let now : Log = record self { journal = c.push.new.self; travelling = c.put.new.self } in
+    let moved : c.move_to.new.self ≡ placed_at (t.tunnel.place + 1) t =
+    c.move_to.ensures ∙ ap (λ place. placed_at (place + 1) t) c.place-place.ensures.place in
+    by_next c.push.result (length self.bag + 1) c.args.switch.now c.args.site.near
+    c.args.site.ports.now t t.tunnel.packet self now (Some c.in-Some.next)
+    (sym c.next.ensures ∙ c.in-Some.is)
+    (subst (λ packet. LogAfter c.push.result (item.Hopped packet c.in-Some.next ∷ []) [] packet
+    (Some (placed_at (t.tunnel.place + 1) t)) self now) c.packet-packet.ensures
+    (log_one c.push.result (item.Hopped c.packet-packet.result c.in-Some.next)
+    c.packet-packet.result (Some (placed_at (t.tunnel.place + 1) t)) self now
+    c.push.ensures.pushed c.push.ensures.unchanged refl
+    (subst (λ (k : Flight). WithOne self.travelling c.packet-packet.result (Some k) c.put.new.self)
+    moved c.in_ok-put-in-Some.ensures)))
+
+pub returns-in_ok-put-in-Some-clause-asked : goal.returns-in_ok-put-in-Some-clause-asked
+returns-in_ok-put-in-Some-clause-asked c =
+    on_ok_weaker c.push.result (λ _. asked c.args.switch.now c.args.kept (Some c.in-Some.next)
+    (sym c.next.ensures ∙ c.in-Some.is)) c.push.ensures.pushed
+
+-- ---- or it has arrived
+
+pub receive-forwarding-requires-clause-here : goal.receive-forwarding-requires-clause-here
+receive-forwarding-requires-clause-here c =
+    let t = c.args.kept.tunnel in
+    placed (StandsAt c.args.switch.now) c.route.result.now c.place-place.result t
+    c.route.ensures c.place-place.ensures.place
+    (c.requires.last (sym c.next.ensures ∙ c.in-None.is)).0
+
+pub receive-forwarding-requires-clause-last : goal.receive-forwarding-requires-clause-last
+receive-forwarding-requires-clause-last c =
+    let t = c.args.kept.tunnel in
+    placed (λ route place. ◌≡◌ {A = Option ℕ} (slice_get route (place + 1)) None)
+    c.route.result.now c.place-place.result t c.route.ensures c.place-place.ensures.place
+    (sym c.next.ensures ∙ c.in-None.is)
+
+pub receive-forwarding-requires-clause-authority : goal.receive-forwarding-requires-clause-authority
+receive-forwarding-requires-clause-authority c =
+    let t = c.args.kept.tunnel in
+    let s = c.args.switch.now in
+    let at = c.in_ok-at-in-None.at in
+    subst (λ h. IsAtAuthority s h c.leg-leg.result)
+    (sym (ap (λ (a : Standing). a.header) c.in_ok-at-in-None.ensures.at))
+    (subst (IsAtAuthority s t.header) (sym c.leg-leg.ensures)
+    (c.requires.last (sym c.next.ensures ∙ c.in-None.is)).1)
+
+pub returns-in_err-at-in-None-clause-log : goal.returns-in_err-at-in-None-clause-log
+returns-in_err-at-in-None-clause-log c =
+    log_unwritten c.from_residual-in_err-at-in-None.ensures.0 refl
+
+pub returns-in_ok-at-in-None-clause-log : goal.returns-in_ok-at-in-None-clause-log
+returns-in_ok-at-in-None-clause-log c =
+    let t = c.args.kept in
+    let s = c.args.switch.now in
+    let near = c.args.site.near in
+    let ports = c.args.site.ports.now in
+    let self = c.args.self.now in
+    let n = length self.bag + 1 in
+    let at = c.in_ok-at-in-None.at in
+    let says = c.in_ok-at-in-None.ensures in
+    let stands : standing_kept at ≡ standing_at s.number t =
+    says.at ∙ ap (λ n. standing_at n t) c.number.ensures.number in
+    let Q : ℕ → Type 0 = λ packet. LogAfter c.settle.result
+    (arrived_items n (standing_kept at) at.version at.rule
+    (arrived_on s (around near ports) (packet_standing (standing_kept at)) c.leg-leg.result))
+    (arrived_posts (standing_kept at)
+    (arrived_on s (around near ports) (packet_standing (standing_kept at)) c.leg-leg.result))
+    packet (arrived_flight at.version at.rule
+    (arrived_on s (around near ports) (packet_standing (standing_kept at)) c.leg-leg.result))
+    self c.settle.new.self in
+    by_next c.settle.result n s near ports t t.tunnel.packet self c.settle.new.self None
+    (sym c.next.ensures ∙ c.in-None.is)
+    (arrival_log c.settle.result n s near ports t (standing_kept at) at.version at.rule
+    c.leg-leg.result t.tunnel.packet self c.settle.new.self stands says.version says.rule
+    c.leg-leg.ensures
+    (subst Q (ap (λ (a : Standing). a.packet) stands)
+    (settled_log c.settle.result n (standing_kept at) at.version at.rule at.packet self
+    c.settle.new.self _ _ (c.receive-forwarding.ensures.answer (around near ports) at.packet
+    (standing_kept at).down) c.settle.ensures.log)))
+
+pub returns-in_ok-at-in-None-clause-asked : goal.returns-in_ok-at-in-None-clause-asked
+returns-in_ok-at-in-None-clause-asked c =
+    on_ok_weaker c.settle.result (λ _. c.settle.ensures.same ∙ c.receive-forwarding.ensures.after
+    ∙ asked c.args.switch.now c.args.kept None (sym c.next.ensures ∙ c.in-None.is))
+    c.settle.ensures.log.written

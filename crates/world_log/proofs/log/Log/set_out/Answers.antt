@@ -1,0 +1,62 @@
+-- A packet sets out by the route that its switch finds, or is stuck.
+use Rattle.std.proofs.Common.{ℕ, ◌≡◌, ◌∷◌, [], List, Option, Some, None, ap, refl, subst, ◌∙◌}
+use Rattle.std.specs.Option.{option_copied}
+use Rattle.std.specs.Prelude.{Result, unwrap_or}
+use Rattle.base.specs.Refusals.{IfRefused}
+use Rattle.failover.specs.Links.{no_links}
+use Rattle.journal.specs.declared.item.Item.{Item}
+use Rattle.policy_rules.specs.declared.packet.Cause.{Cause}
+use Rattle.failover.specs.Routes.{route_of}
+use Rattle.switch_core.specs.Ends.{cause_of}
+use Rattle.world_log.specs.declared.log.Log.{Log}
+use Rattle.travelling.specs.Travelling.{Flight, WithOne, begun_at, standing_kept, travels_by}
+use Rattle.tunnel.specs.Tunnel.{TunnelValue}
+use Rattle.update_machine.specs.Moves.{takes_route}
+use Rattle.world_log.specs.Writing.{LogAfter, packet_standing, set_flight, set_item}
+use Rattle.world_log.proofs.WrittenGoing.{none_known, route_known}
+use Rattle.world_log.proofs.LogCalls.{log_one}
+use Rattle.world_log.proofs.log.Log.set_out.Goals as goal
+
+pub returns-in-Err-Refused-clause-log : goal.returns-in-Err-Refused-clause-log
+returns-in-Err-Refused-clause-log c =
+    let at = standing_kept c.args.at in
+    let s = c.args.switch.now in
+    let links : List ℕ = unwrap_or (option_copied c.links.result) no_links in
+    let cause = c.in-Err-Refused.cause in
+    let both : (route_of s.database s.number c.args.targets c.args.near links ≡ None)
+    × (cause ≡ cause_of s c.args.near links c.args.leg c.args.targets) =
+    subst (IfRefused (λ cause.
+    (route_of s.database s.number c.args.targets c.args.near links ≡ None)
+    × (cause ≡ cause_of s c.args.near links c.args.leg c.args.targets)))
+    c.in-Err-Refused.field-0-is c.in-Err-Refused.ensures.refused in
+    let Q : Result TunnelValue Cause → Type 0 = λ found.
+    LogAfter c.stuck.result (set_item at c.args.leg found ∷ []) [] c.args.at.packet
+    (set_flight c.args.at.version c.args.at.rule found) c.args.self.now c.stuck.new.self in
+    subst Q (none_known s c.args.near (packet_standing at) c.args.leg c.args.targets links cause
+    c.links.ensures both.0 both.1) (rw c.in-Err-Refused.field-0-is at c.stuck.ensures)
+
+pub returns-in_ok-put-in-Ok-clause-log : goal.returns-in_ok-put-in-Ok-clause-log
+returns-in_ok-put-in-Ok-clause-log c =
+    let at = standing_kept c.args.at in
+    let s = c.args.switch.now in
+    let links : List ℕ = unwrap_or (option_copied c.links.result) no_links in
+    let route : List ℕ = c.in-Ok.route in
+    let some : ◌≡◌ {A = Option (List ℕ)}
+    (route_of s.database s.number c.args.targets c.args.near links) (Some route) =
+    c.in-Ok.ensures.route in
+    let kept : Flight = travels_by (begun_at at c.args.leg c.args.targets route) c.args.at.version
+    c.args.at.rule in
+    let now : Log = record c.args.self.now { journal = c.push.new.self; travelling = c.put.new.self } in
+    let item_is : c.takes_route-item.result ≡ takes_route c.args.at.packet c.args.leg route =
+    c.takes_route-item.ensures ∙ ap (takes_route c.args.at.packet c.args.leg) c.in_ok-clone-in-Ok.ensures.cases in
+    let Q : Result TunnelValue Cause → Type 0 = λ found.
+    LogAfter c.push.result (set_item at c.args.leg found ∷ []) [] c.args.at.packet
+    (set_flight c.args.at.version c.args.at.rule found) c.args.self.now now in
+    subst Q (route_known s c.args.near (packet_standing at) c.args.leg c.args.targets links route
+    c.links.ensures some)
+    (subst (λ (i : Item). LogAfter c.push.result (i ∷ []) [] c.args.at.packet (Some kept)
+    c.args.self.now now) item_is
+    (log_one c.push.result c.takes_route-item.result c.args.at.packet (Some kept) c.args.self.now
+    now c.push.ensures.pushed c.push.ensures.unchanged refl
+    (subst (λ (k : Flight). WithOne c.args.self.now.travelling c.args.at.packet (Some k)
+    c.put.new.self) c.begin-kept.ensures c.in_ok-put-in-Ok.ensures)))
