@@ -21,3 +21,4 @@ pub mod ConnectedTargets
 pub mod DroppedNothing
 pub mod DrainedAccounts
 pub mod WorkingPlays
+mod NoPremiseIdle

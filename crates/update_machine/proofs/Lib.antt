@@ -1,5 +1,5 @@
 pub mod ExampleNetworks
-mod ComputedSteps
+pub mod ComputedSteps
 mod CacheRows
 mod BootRows
 mod OverRows
