@@ -63,7 +63,7 @@ impl Counters {
         }
     }
 
-    /// How many planes, from the first, hold all the counts of both: no counter has a bit past
+    /// How many planes, from the first, hold all the counts of both: no counter has a bit beyond
     /// them.
     pub fn height(&self, other: &Counters) -> usize
         ensures here { IsHeight self.now.planes result }
@@ -79,7 +79,7 @@ impl Counters {
         height
     }
 
-    /// How often this bit was counted, where so many planes hold all the counts.
+    /// How often this bit was counted, where this many planes hold all the counts.
     pub fn count(&self, bit: u32, height: usize) -> u32
         requires bit { bit < 128 }
         requires here { IsHeight self.now.planes height }
@@ -94,7 +94,7 @@ impl Counters {
         count
     }
 
-    /// The bits that were counted more often here than there, where so many planes hold all the
+    /// The bits that were counted more often here than there, where this many planes hold all the
     /// counts.
     pub fn more_than(&self, other: &Counters, height: usize) -> u128
         requires here { IsHeight self.now.planes height }

@@ -183,7 +183,7 @@ pub fn read_files<F: Shelf>(
     Ok(read)
 }
 
-/// What is played, and what the play is to tell.
+/// What is played, and what the play prints.
 #[derive(Drop)]
 pub struct PlayInputs {
     pub events: Vec<Event>,

@@ -1,12 +1,12 @@
 //! Access-control policies: prioritised rows of five-tuple fields, the first match of a header
-//! among them, the list of rules over ternary words that a policy gives, and changes of policies.
+//! among them, the list of a policy's rules over ternary words, and changes of policies.
 //!
 //! `Policy::scan` promises the first match by its definition: of all rows that match a header, the
-//! one that no matching row exceeds in priority, and a drop where no row matches. `to_rules`
-//! promises the defined list, in which the first rule that holds a header has the rule and the
-//! action of that first match. `apply` promises the policy with a change applied to it: the rows
-//! that stay, in order, and then the added ones. What holds of policies, of a row's words, of rule
-//! lists and of changes without a call stands in `policy_laws`, `row_words_laws`, `rule_list_laws`
+//! one that no matching row exceeds in priority, and a drop if no row matches. `to_rules` promises
+//! the defined list, in which the first rule that holds a header has the rule and the action of
+//! that first match. `apply` promises the policy with a change applied to it: the rows that stay,
+//! in order, and then the added ones. What is true of policies, of a row's words, of rule lists
+//! and of changes without a call is stated by `policy_laws`, `row_words_laws`, `rule_list_laws`
 //! and `amendment_laws`.
 //!
 //! ```text

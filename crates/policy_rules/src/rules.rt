@@ -8,7 +8,7 @@ use base::SharedList;
 use five_tuple::Header;
 use ternary::Word;
 
-/// A rule as a switch holds it: a row of a policy, or its default, for the headers of one word.
+/// A rule as a switch has it: a row of a policy, or its default, for the headers of one word.
 ///
 /// Of the rules that hold a header, the one of the least rank decides.
 #[derive(Clone, Copy, Debug, PartialEq, Eq)]

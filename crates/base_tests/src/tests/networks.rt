@@ -164,8 +164,8 @@ fn three(alloc: Global) -> Result<Net, NetError>
     read_net(alloc, text.as_bytes())
 }
 
-// Whether the switches are known by their names, and 2 and 0 are printed by theirs, and not one that
-// isn't there.
+// Whether the switches are known by their names, and 2 and 0 are printed by theirs, and one that
+// doesn't exist isn't.
 fn have_names(alloc: Global, net: &Net) -> Result<bool, AllocError>
     requires { IsNet net.now }
 {
@@ -193,7 +193,7 @@ fn is_copied(net: &Net) -> Result<bool, AllocError>
     Ok(copy.number(b"b") == Some(1))
 }
 
-// Whether the three answer on their names, links and ports, and a copy does.
+// Whether the network of three, and a copy of it, know their names, links and ports.
 fn answer(alloc: Global) -> Result<bool, NetError> {
     let net = three(alloc)?;
     Ok(have_names(alloc, &net)? && have_links_and_ports(&net) && is_copied(&net)?)

@@ -55,7 +55,7 @@ fn reads_files_without_faults(rt: HostRuntime) {
     assert!(rt; gives_in_calm(rt.alloc()) == Ok(true));
 }
 
-// Whether a sink that takes ten bytes at once, and fails at the second write, has the first ten.
+// Whether a sink that accepts ten bytes at once, and fails at the second write, has the first ten.
 fn keeps_first(alloc: Global) -> Result<bool, AllocError> {
     let mut sink = MemSink::new(alloc, 10, vec![in alloc; 2]?);
     let written = write_whole(&mut sink, b"twenty-five bytes of text");
@@ -112,7 +112,7 @@ fn tells_a_full_slice(rt: HostRuntime) {
     assert!(rt; written.err() == Some(SinkError::Failed) && room.as_slice() == b"fou".as_slice());
 }
 
-// What it takes is held back until the flush, which finds room for three bytes.
+// What it accepts is buffered until the flush, which finds room for three bytes.
 #[test]
 fn tells_a_failed_flush(rt: HostRuntime) -> Result<(), Fail> {
     let mut room = [0; 3];
@@ -128,7 +128,7 @@ struct Signalled {
     flushed: bool,
 }
 
-// Nothing, where it was done before, and else that a signal interrupted it.
+// `Ok` if it was done before; otherwise the error of a signal that interrupted it.
 fn once_interrupted(done: &mut bool) -> io::Result<()> {
     if *done {
         return Ok(());
