@@ -1,4 +1,4 @@
--- A list in the first of many places, where the others are 0.
+-- A list in the first of many places, with 0 in the others.
 use Rattle.std.specs.Prelude.{ℕ, ◌≡◌, ◌-◌, ◌≤◌, List, ◌++◌, length, take, drop, replicate}
 use Rattle.std.proofs.Common.{arith, length-take, take-append-drop, ap, sym, ◌∙◌}
 

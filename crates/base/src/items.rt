@@ -18,7 +18,7 @@ impl<T> Model for Items<T> {
 }
 
 impl<T: Drop> Items<T> {
-    /// The list of no items; it takes no memory yet.
+    /// The list of no items; it allocates nothing yet.
     pub fn new(alloc: Global) -> Self
         ensures { result ≡ [] }
     {

@@ -43,7 +43,7 @@ pub struct AuditArgs<'a> {
     pub policies: Vec<&'a str>,
 }
 
-/// A replay names at most so many policies, and so does an audit.
+/// A replay names at most this many policies, and so does an audit.
 pub const MAX_POLICIES: usize = 64;
 
 /// The greatest number of a load case.

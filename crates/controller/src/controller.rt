@@ -258,7 +258,7 @@ impl Controller {
         Ok(Sends::from_items(acts))
     }
 
-    // A body that isn't for the controller causes nothing: settled marks stay as they are.
+    // A body that isn't for the controller causes nothing: settled marks stay unchanged.
     fn unheard(&self, alloc: Global) -> Sends
         ensures none { result ≡ [] }
         ensures idle { settling_acts (current_touched self.now) self.now.marks self.now.marks ≡ [] }

@@ -1,5 +1,5 @@
 //! The controller of a network: the plan of each version of a policy, and the tables that a plan
-//! gives to a switch.
+//! gives a switch.
 //!
 //! `compile` promises the defined plan of a policy on a network, or the first reason why there is
 //! none. From each switch the plan's tables lead each header to the policy's first match.

@@ -33,7 +33,7 @@ impl Cost {
     }
 }
 
-/// The cost of the least cut of the region; `None` where no bit is free.
+/// The cost of the least cut of the region; `None` if no bit is free.
 pub fn least_cut(rules: &[Rule], region: &Word) -> Option<Cost>
     requires few { length rules.now < 2 ^ 32 }
     requires within { All (LiesIn region.now) rules.now }
@@ -60,8 +60,7 @@ pub fn free_bits(region: &Word) -> u128
     ALL_BITS & !region.mask()
 }
 
-// Of the bits of a set the first whose cut costs least, where this many planes hold all the
-// counts.
+// Of the bits of a set the first whose cut costs least, if this many planes have all the counts.
 fn least_bit(low: &Counters, high: &Counters, bits: u128, height: usize) -> u32
     requires some { bits ≢ 0 }
     requires low { IsHeight low.now.planes height }

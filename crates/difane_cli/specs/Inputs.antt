@@ -230,8 +230,8 @@ print_task read = and_then read (λ printing. Ok (Print printing))
 abbrev pub audit_task : Result Auditing Refusal → Result Task Refusal
 audit_task read = and_then read (λ auditing. Ok (Audit auditing))
 
--- the task or the refusal, if it is known: that of a load case always is, since it reads no files,
--- and that of another command is if the files are known
+-- the task or the refusal, if it is known: that of a load case always is, because it reads no
+-- files, and that of another command is if the files are known
 abbrev pub task_of : Option Files → Command → Option (Result Task Refusal)
 task_of files (asked.Replay args) = option_map (λ all. play_task (inputs_of all args)) files
 task_of files (asked.Print args) = option_map (λ all. print_task (printing_of all args)) files

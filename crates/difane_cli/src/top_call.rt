@@ -20,12 +20,12 @@ use std::alloc::{AllocError, Global};
 /// Does what the arguments ask: `replay SCHEDULE POLICY ..` plays the schedule, whose updates name
 /// the policies by their places, and writes the journal to `out`, and with `--quiet` whether the
 /// network is quiet; `flows SCHEDULE POLICY ..` plays the same, and writes the flow records of the
-/// meters that left, and then of those that stayed; `rebalance SCHEDULE POLICY ..` plays it with no
-/// meters, and writes the placement that is proposed for the partitions of the current version;
-/// `compile POLICY` writes the plan of the policy, and `show POLICY SWITCH` the tables that it gives
-/// to the switch; each of these on the network of `--net NET` or on one switch. `load N` plays the
-/// load case of N, and writes the eleven counts of its journal. `audit TRACE POLICY ..` checks a
-/// printed trace, and writes `yes` where each of its lines is good.
+/// meters that left, and then of those that stayed; `rebalance SCHEDULE POLICY ..` plays it with
+/// no meters, and writes the placement that is proposed for the partitions of the current version;
+/// `compile POLICY` writes the plan of the policy, and `show POLICY SWITCH` the tables that it
+/// gives to the switch; each of these on the network of `--net NET` or on one switch. `load N`
+/// plays the load case of N, and writes the eleven counts of its journal. `audit TRACE POLICY ..`
+/// checks a printed trace, and writes `yes` if each of its lines is good.
 ///
 /// A status other than `Ok` writes its line to `errs`. The words are the arguments of the command
 /// line, without the program's name. The first refusal ends the call, in the order of work: the

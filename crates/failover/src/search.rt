@@ -41,7 +41,7 @@ fn route_to(neighbours: &[u64; 64], down: &DownSet, from: u32, target: u32) -> O
 }
 
 // How many links the switch is away from the target. At each place below that number `balls` gets
-// the switches that are at most so many links away.
+// the switches that are at most that many links away.
 fn distance(
     neighbours: &[u64; 64],
     down: &DownSet,

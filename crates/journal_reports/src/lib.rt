@@ -2,7 +2,7 @@
 //! is quiet.
 //!
 //! `summarize` counts what became of the packets, how many decisions cached rules made, and what
-//! was sent, and takes the versions' marks from the end; `summary_text` gives the eleven lines
+//! was sent, and takes the versions' marks from the end; `summary_text` returns the eleven lines
 //! that the load generator prints. `quiet` returns exactly whether the network is quiet, for any
 //! journal: it goes over the items once for all switches, backwards, and keeps for each switch the
 //! messages that were delivered and may replace others. In a quiet network all has converged, by

@@ -40,7 +40,7 @@ abbrev pub mask_text : Net → ℕ → List ℕ
 mask_text net mask =
     if mask == 0 then codes " -" else names_text net (filter (has mask) switches)
 
--- a packet and a switch, as where the packet came in
+-- a packet and a switch, as in an entry
 abbrev pub packet_at : Net → List ℕ → ℕ → ℕ → List ℕ
 packet_at net text packet s = with_number text packet ++ codes " " ++ name_of net s
 

@@ -42,9 +42,9 @@ impl MessageState {
 pub struct Deliveries {
     statuses: Vec<MessageState>,
     // No message up to this number waits, and the next one does, if there is one. So it passes
-    // each message once, and a search from 1 begins where it ends; so does a search that begins
-    // after the message that such a search returned and that was delivered since. Flushes look at
-    // each message once in all.
+    // each message once, and a search from 1 begins where it ends. A search that begins after the
+    // message that such a search returned, and that was delivered since, begins there too. Flushes
+    // look at each message once in all.
     passed: u32,
 }
 

@@ -11,8 +11,8 @@
 //!
 //! ```text
 //! fn first_rule(alloc: Global, rows: Vec<Row>, header: &Header) -> anyhow::Result<Option<Rule>> {
-//!     let policy = Policy::new(alloc, rows)?;  // SamePriority, where two rows share a priority
-//!     let rules = to_rules(alloc, &policy)?;   // TooManyWords, where the words are over 4,096
+//!     let policy = Policy::new(alloc, rows)?;  // SamePriority, if two rows share a priority
+//!     let rules = to_rules(alloc, &policy)?;   // TooManyWords, if the words are over 4,096
 //!     let place = first_hit(&rules, header);   // always some: the last rule holds each header
 //!     Ok(place.map(|place| rules[place]))      // decides as policy.scan(header) does
 //! }
@@ -20,7 +20,7 @@
 //! fn replace(alloc: Global, policy: &Policy, row: Row) -> anyhow::Result<Policy> {
 //!     let removed = Vec::from_slice(alloc, &[row.priority])?;
 //!     let change = Amendment::new(alloc, removed, Vec::from_slice(alloc, &[row])?)?;
-//!     Ok(apply(alloc, policy, &change)?)       // Absent, where no row has the priority
+//!     Ok(apply(alloc, policy, &change)?)       // Absent, if no row has the priority
 //! }
 //! ```
 #![tactic(auto)]

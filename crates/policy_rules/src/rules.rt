@@ -34,7 +34,7 @@ pub struct Partition {
     pub rules: Rules,
 }
 
-/// The place of the first rule whose word holds the header; `None` where no word does.
+/// The place of the first rule whose word holds the header; `None` if no word does.
 pub fn first_hit(rules: &[Rule], header: &Header) -> Option<usize>
     ensures place { result ≡ position (is_held (number_of header.now)) rules.now }
     ensures bound { IfSome result (λ place. place < length rules.now) }

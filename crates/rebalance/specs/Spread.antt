@@ -47,7 +47,7 @@ pub record AreWeighed (sizes weights rooms : List ℕ) : Type 0 where
   pub few : length rooms ≤ 64
 
 pub record SpreadLaws (sizes weights rooms : List ℕ) (backups : ℕ) : Type 0 where
-  -- a spread fits, and so does a placement by size alone
+  -- a spread fits, and so does a placement only by size
   pub fits : (placement : List (List ℕ)) → IsSpread sizes weights rooms backups placement
       → Fits sizes rooms backups placement
   pub placed : (placement : List (List ℕ)) → IsPlacement sizes rooms backups placement

@@ -47,7 +47,7 @@ fn carry(carried: &mut [u64], weights: &[u64], targets: &[Targets])
     }
 }
 
-// Adds the weight to what the first of the targets carries, if it is there.
+// Adds the weight to what the first of the targets carries, if there is one.
 fn add_first(carried: &mut [u64], targets: &Targets, weight: u64)
     requires { All (λ load. load + weight < 2 ^ 64) carried.old }
     ensures { (s : ℕ) → s < length carried.old → slice_index carried.new s

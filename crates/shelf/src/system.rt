@@ -85,7 +85,7 @@ impl<R: Files + AllocGlobal + Drop> Shelf for DiskShelf<R> {
 /// Its model is the bytes that the stream has, if its type says them, and the count of its faults,
 /// which rises at each error and when the stream accepts nothing of a piece that has bytes. A
 /// write that a signal interrupts is no error, and is tried again. Its writes allocate nothing. As
-/// a sink its bytes aren't known, since an error may leave a part of a piece in the stream.
+/// a sink its bytes aren't known, because an error may leave a part of a piece in the stream.
 #[derive(Drop)]
 pub struct StdSink<W: Write + Drop> {
     stream: W,

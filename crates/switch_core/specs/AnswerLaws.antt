@@ -140,7 +140,7 @@ pub record IsRightAnswer (s : SwitchValue) (site : Site) (packet : Packet)
       lookup_by_stamp s packet.header ≡ Authority partition place →
       (by : IsDecidedIn s site packet s.stamp (stamp_tables s) partition answer)
       × (by.own.place ≡ place)
-  -- a partition rule sends it to exactly its targets, and it is stuck on that leg exactly where no
+  -- a partition rule sends it to exactly its targets, and it is stuck on that leg exactly if no
   -- route leads to them
   pub redirect : (partition : ℕ) (targets : List ℕ) →
       lookup_by_stamp s packet.header ≡ Redirect partition targets →

@@ -22,6 +22,6 @@ pub enum Onward {
     AtEnd,
     /// To this next switch of its route.
     Next(u32),
-    /// Not on along its route, since the link to this next switch is down.
+    /// Not on along its route, because the link to this next switch is down.
     LinkDown(u32),
 }

@@ -85,7 +85,7 @@ impl Switch {
         self.number
     }
 
-    /// Whether it is up and open, so that it answers packets.
+    /// Whether it is up and open, so that it handles packets.
     pub fn serves(&self) -> bool
         ensures { result ≡ serves self.now }
     {

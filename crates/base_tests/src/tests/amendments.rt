@@ -164,7 +164,7 @@ fn takes_2000_rows_and_no_more(rt: HostRuntime) {
     assert!(rt; takes_most(rt.alloc()) == Some(true));
 }
 
-// The edit that repeats one, where a change removes and adds these.
+// The edit that repeats one, in a change that removes and adds these.
 fn repeated(alloc: Global, removed: &[u32], added: &[Row]) -> Option<Failure<Repeated>>
     requires { length removed.now + length added.now < 2 ^ 32 }
 {

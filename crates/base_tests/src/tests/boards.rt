@@ -82,7 +82,7 @@ fn leaving_from(packet: u32, x: u32) -> Leaving
     }
 }
 
-// What is recorded of port 3: so many packets from 10.1.1.X.
+// What is recorded of port 3: this many packets from 10.1.1.X.
 fn record_from(x: u32, packets: u64) -> FlowRecord
     requires { x < 256 }
 {

@@ -159,7 +159,7 @@ fn takes_2000_edits_and_no_more(rt: HostRuntime) {
     assert!(rt; reads_most(rt.alloc()) == Ok(true));
 }
 
-// What the check returns for the added row, which names port 4, where there are these ports.
+// What the check returns for the added row, which names port 4, on a network with these ports.
 fn checked(alloc: Global, ports: u64) -> Option<Result<(), NoPort>> {
     let text = file(alloc).ok()?;
     let change = read_file(alloc, &text).ok()?;

@@ -131,7 +131,7 @@ fn refuses_other_bytes(rt: HostRuntime) {
     assert!(rt; refused(rt.alloc(), &[255]) == Some((1, 0)));
 }
 
-// The head of a text, and so many values in the array that it opens.
+// The head of a text, and this many values in the array that it opens.
 fn with_many(alloc: Global, head: &str, count: u32) -> Result<String, AllocError> {
     let mut text = String::from_str(alloc, head)?;
     for _ in 0..count {
@@ -141,7 +141,7 @@ fn with_many(alloc: Global, head: &str, count: u32) -> Result<String, AllocError
     Ok(text)
 }
 
-// Whether a text with so many values is refused for their count.
+// Whether a text with this many values is refused for their count.
 fn has_too_many(alloc: Global, head: &str, count: u32) -> Result<bool, AllocError> {
     let text = with_many(alloc, head, count)?;
     Ok(refused(alloc, text.as_bytes()) == Some((10, 0)))

@@ -122,7 +122,7 @@ fn policy_of(alloc: Global, row: &str) -> Option<Policy> {
     read_policy(alloc, &text).ok()
 }
 
-// What the check returns for a row that names port 2, where there are these ports.
+// What the check returns for a row that names port 2, on a network with these ports.
 fn checked(alloc: Global, ports: u64) -> Option<Result<(), NoPort>> {
     let policy = policy_of(alloc, "1,any,any,any,any,any,out:2\n")?;
     Some(check_ports(&policy, ports))

@@ -28,7 +28,7 @@ fn gives(shelf: &mut impl Shelf, name: &str, limit: u64, content: &[u8]) -> bool
     }
 }
 
-// Whether a shelf in memory, whose first call fails, gives the one file or says why not.
+// Whether a shelf in memory, whose first call fails, returns the one file or says why not.
 fn gives_in_memory(alloc: Global) -> Result<bool, AllocError> {
     let mut shelf = MemShelf::new(alloc, one_file(alloc)?, vec![in alloc; 1]?);
     Ok(
@@ -44,7 +44,7 @@ fn reads_files_in_memory(rt: HostRuntime) {
     assert!(rt; gives_in_memory(rt.alloc()) == Ok(true));
 }
 
-// Whether a shelf without faults gives its file.
+// Whether a shelf without faults returns its file.
 fn gives_in_calm(alloc: Global) -> Result<bool, AllocError> {
     let mut calm = CalmShelf::new(alloc, one_file(alloc)?);
     Ok(gives(&mut calm, "policy", 5, b"first"))
@@ -68,7 +68,7 @@ fn keeps_what_came_before_a_fault(rt: HostRuntime) {
     assert!(rt; keeps_first(rt.alloc()) == Ok(true));
 }
 
-// Whether so many bytes are written.
+// Whether this many bytes are written.
 fn takes(alloc: Global, count: usize) -> Result<bool, AllocError> {
     let bytes = vec![in alloc; 7u8; count]?;
     let mut calm = CalmSink::new(alloc);

@@ -88,7 +88,7 @@ fn wait(bag: &mut PostBag) -> Result<bool, Fail> {
     Ok(are_there && is_delivered && first_waits)
 }
 
-// Whether the second is delivered again, and the first one is gone once it is forgotten.
+// Whether the second is delivered again, and the first one no longer exists once it is forgotten.
 fn go(bag: &mut PostBag) -> Result<bool, Fail> {
     let is_gone = deliver(bag, 2) && forget(bag, 1) && told(bag, 1)?.is_none();
     let is_kept = told(bag, 2)? == Some((Some(4), None));

@@ -64,7 +64,7 @@ fn own_partitions(alloc: Global, s: u32) -> Result<(u32, usize, Vec<u32>), Fail>
     Ok((tables.version, tables.parts.items().len(), numbers))
 }
 
-// Whether the tables of three partitions give these to the switch.
+// Whether the tables of three partitions give the switch these.
 fn owns(alloc: Global, s: u32, own: &[u32]) -> Result<bool, Fail> {
     let (version, named, numbers) = own_partitions(alloc, s)?;
     Ok(version == 5 && named == 3 && numbers.as_slice() == own)
