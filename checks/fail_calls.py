@@ -3,9 +3,10 @@
 
 The commands are those of checks/fail_alloc.py. `strace` makes the N-th read or write of the program
 return an error, for each N and each of four errors. After EINTR the call must be made again: the
-status is 0 and the output whole. After another error of a read the status is 4 and there is no
-output; after one of a write the status is 5 and the output is a part of the whole, from the front.
-The line of errors must be that of the status. Else this ends with 1. It needs strace and Linux.
+status is 0 and the output whole. After another error of a write the status is 5, and of a read 4,
+or 7 if it was ENOMEM. What was written by then is a part of the whole, from the front, and nothing
+if a read failed. The line of errors must be that of the status. Else this ends with 1. It needs
+strace and Linux.
 """
 import re
 import shutil
@@ -19,7 +20,8 @@ from fail_alloc import COMMANDS, HOME
 
 ERRORS = ("EIO", "ENOMEM", "EAGAIN", "EINTR")
 STATUSES = {"read": 4, "write": 5}
-LINES = {0: b"", 4: b"difane: read fault\n", 5: b"difane: write fault\n"}
+NO_MEMORY = 7
+LINES = {4: b"difane: read fault\n", 5: b"difane: write fault\n", NO_MEMORY: b"difane: no memory\n"}
 LOADS = r"\\177ELF"  # the loader reads a library, before the program begins
 
 
@@ -43,7 +45,8 @@ def is_right(ended, whole, call, error):
     if error == "EINTR":
         return ended == whole
     is_part = out == b"" if call == "read" else whole[1].startswith(out) and out != whole[1]
-    return status == STATUSES[call] and is_part and line == LINES[status]
+    wanted = NO_MEMORY if (call, error) == ("read", "ENOMEM") else STATUSES[call]
+    return status == wanted and is_part and line == LINES[status]
 
 
 def fail_each(command, log, call):
