@@ -2,9 +2,9 @@
 """Runs the checks that need no proof, and tells which failed: `checks/all.py [BIN]`.
 
 With BIN, the program as it was built (`rt run` leaves it in crates/difane/out/difane), it also lets
-each allocation, read and write fail in turn, sends packets through Open vSwitch, opens pages in a browser, asks the
-program for each mistake, and plays random schedules by the program and by the model; these take
-minutes. What a check prints is shown where it failed. It ends with 1 where one did.
+each allocation, read and write fail in turn, sends packets through Open vSwitch, opens pages in a
+browser, asks the program for each mistake, and plays random schedules by the program and by the
+model; these take minutes. What a check prints is shown if it failed. It ends with 1 if one did.
 """
 import subprocess
 import sys
