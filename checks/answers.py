@@ -7,7 +7,7 @@ A section whose heading names a crate in backticks is that crate's. Its tables w
 - Empty: a fact, with at least one reference in the last cell.
 - Calls of the crate, of which the row says what they answer. The last cell names clauses that each
   of them has, `ensures` for the one that has no name, and references to others.
-- Calls whose second cell says "never out of memory"; those behind the word "but" are left out.
+- Calls whose second cell says "never out of memory"; those after the word "except" are left out.
 
 A reference is `call.clause`, or the call alone where its contract has one clause, with a crate and
 `::` before it where it is another crate's; `*` stands for any letters. In all other text of
@@ -151,7 +151,7 @@ def check_answer(crate, calls, clauses):
 
 def check_memory(crate, cell):
     """The faults of a row of the calls that never want memory."""
-    named, _, others = cell.partition(" but ")
+    named, _, others = cell.partition(" except ")
     left_out = names_in(others)
     yield from (missing_call(crate, call) for call in left_out)
     calls, public = calls_of(crate)

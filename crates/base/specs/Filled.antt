@@ -1,12 +1,12 @@
--- A list in the first of many places, where the others are 0.
+-- A list in the first of many places, with 0 in the others.
 use Rattle.std.specs.Prelude.{ℕ, ◌≡◌, ◌-◌, ◌≤◌, List, ◌++◌, length, take, drop, replicate}
 use Rattle.std.proofs.Common.{arith, length-take, take-append-drop, ap, sym, ◌∙◌}
 
--- the places that hold this list
+-- the places that contain this list
 abbrev pub filled_places : ℕ → List ℕ → List ℕ
 filled_places most xs = xs ++ replicate (most - length xs) 0
 
--- places that are 0 past so many are those that hold their first so many
+-- places that are 0 beyond this many are those that contain their first this many
 pub filled-take : (most len : ℕ) (places : List ℕ) → length places ≡ most → len ≤ most
     → drop len places ≡ replicate (most - len) 0
     → (length (take len places) ≡ len) × (filled_places most (take len places) ≡ places)

@@ -1,15 +1,15 @@
--- What a call refuses, and what a text is read to, where it may be refused in a row.
+-- What a call refuses, and the result of reading a text that may be refused in a row.
 use Rattle.std.specs.Prelude.{⊤, ℕ, ◌≡◌, Result, Ok, Err}
 use Rattle.base.specs.declared.error.Failure.{Failure}
 use Rattle.base.specs.declared.error.Failure.TheVariants.{Refused, NoMemory}
 use Rattle.base.specs.declared.row.InRow.{InRow}
 
--- what is refused is so, or memory ran out
+-- this is true of the refusal, or memory ran out
 abbrev pub IfRefused : {R : Type 0} → (R → Type 0) → Failure R → Type 0
 IfRefused is (Refused refusal) = is refusal
 IfRefused is NoMemory = ⊤
 
--- the error is the refusal, or want of memory
+-- the error is the refusal, or out of memory
 abbrev pub IsRefusal : {X R : Type 0} → Result X R → Failure R → Type 0
 IsRefusal read (Refused refusal) = read ≡ Err refusal
 IsRefusal read NoMemory = ⊤

@@ -5,7 +5,7 @@ use std::alloc::{AllocError, AllocFailed};
 use std::fmt::Display;
 use thiserror::Error;
 
-/// Why a call gives no value: what it refuses, or that memory ran out.
+/// Why a call returns no value: what it refuses, or that memory ran out.
 #[derive(Clone, Copy, Debug, PartialEq, Eq, Error)]
 #[error_bound(R: Display)]
 pub enum Failure<R> {

@@ -18,7 +18,7 @@ impl<T> Model for Items<T> {
 }
 
 impl<T: Drop> Items<T> {
-    /// The list of no items; it takes no memory yet.
+    /// The list of no items; it allocates nothing yet.
     pub fn new(alloc: Global) -> Self
         ensures { result ≡ [] }
     {
@@ -36,8 +36,7 @@ impl<T: Drop> Items<T> {
 
     /// Writes an item at the end.
     ///
-    /// # Errors
-    /// Want of memory, and then the list is unchanged.
+    /// # Errors Only out of memory; then the list is unchanged.
     #[inline(always)]
     pub fn push(&mut self, item: T) -> Result<(), AllocError>
         ensures pushed { OnOk result (self.new ≡ self.old ++ item ∷ []) }

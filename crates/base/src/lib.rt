@@ -1,8 +1,8 @@
-//! Why a call gives no value; lists and shared values, as other crates hold them; and sets of small
+//! Why a call returns no value; lists and shared values for the other crates; and sets of small
 //! numbers.
 //!
 //! `Failure` says what a call refuses, by a type of its own with its message, or out of memory;
-//! `?` makes one of a failure of memory. A reader of a text refuses `InRow` of its refusals. A
+//! `?` makes one of a failure of memory. A reader of a text returns `InRow` of its refusals. A
 //! `Items` owns its items; the clones of a `SharedList` share its items, and those of a `Shared`
 //! its value, so that contracts see what is in them and nothing of how it is held. A mask is a set
 //! of numbers below 64, as of switches and of ports, held as the bits of a number.

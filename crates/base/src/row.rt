@@ -8,6 +8,6 @@ use thiserror::Error;
 pub struct InRow<R> {
     /// What it is refused for.
     pub refusal: R,
-    /// In which row, as the reader counts them; 0 for what stands outside of rows.
+    /// In which row, as the reader counts them; 0 for a refusal that belongs to no row.
     pub row: u32,
 }

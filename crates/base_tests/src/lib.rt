@@ -1,5 +1,6 @@
 //! Worked values of the lower crates: headers, words, rules, trees, placements and lookups; files
-//! that are read, refused and printed, and the shelves and sinks that hold them; meters on a board.
+//! that are read, refused and printed, and the shelves and sinks that keep them; meters on a
+//! board.
 //!
 //! Each public call once with ample memory. Only tests, so that none of those crates is proved a
 //! second time together with its tests.

@@ -1,4 +1,4 @@
--- The word of a cache rule, which has to decide as the rules that it stands for: the independent
+-- The word of a cache rule, which has to decide as the rules that it replaces: the independent
 -- rules of Yu, Rexford, Freedman and Wang, "Scalable Flow-Based Networking with DIFANE". The order
 -- of the bits is our own.
 use Rattle.std.specs.Prelude.{ℕ, zero, suc, Bool, false, ◌&&◌, if◌then◌else◌, List, All, take, slice_get, is_none, IsNone, IsTrue, IsSomeAnd}
@@ -26,18 +26,18 @@ is_independent region rules index word =
     (slice_get rules index) false
     && is_apart word (take index rules)
 
--- the word with this bit freed, where that is independent
+-- the word with this bit freed, if that is independent
 abbrev pub with_bit_freed : WordValue → List Rule → ℕ → ℕ → WordValue → WordValue
 with_bit_freed region rules index bit word = if is_independent region rules index (free_of word bit)
     then
     free_of word bit else word
 
--- the word of the header h, its bits below n freed in turn
+-- the word of the header h, its bits below n freed one after another
 unfoldable pub widening_of : ℕ → WordValue → List Rule → ℕ → ℕ → WordValue
 widening_of h region rules index zero = exact_word h
 widening_of h region rules index (suc n) = with_bit_freed region rules index n
     (widening_of h region rules index n)
 
--- all 104 bits in turn
+-- all 104 bits one after another
 unfoldable pub widen : ℕ → WordValue → List Rule → ℕ → WordValue
 widen h region rules index = widening_of h region rules index 104

@@ -39,7 +39,7 @@ pub record IsWidest (h : ℕ) (region : WordValue) (rules : List Rule) (index : 
   pub widest : (bit : ℕ) → bit < 104 → IsTrue (is_fixed_of word bit)
       → ¬ IsIndependent region rules index (free_of word bit)
 
--- what `widen` ensures of its result, for proofs where no call runs
+-- what `widen` ensures of its result, for proofs in which no call runs
 pub record WidenLaws : Type 0 where
   pub widest : (h : ℕ) (region : WordValue) (rules : List Rule) (index : ℕ)
       → IsDecidedWithin h region rules index → IsWidest h region rules index (widen h region rules index)

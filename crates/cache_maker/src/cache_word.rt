@@ -18,9 +18,9 @@ const HALF: u128 = 1 << 64;
 /// The word of a cache rule for a header that the rule at `index` is the first of the partition to
 /// hold.
 ///
-/// From the header's own word each bit is freed in turn, from the lowest, where the freed word is
-/// still covered by the region and by the rule and meets no earlier rule. So a bit stays fixed
-/// where the region or the rule fixes it, or where it is the highest bit by which an earlier rule
+/// From the header's own word each bit is freed one after another, from the lowest, if the freed
+/// word is still covered by the region and by the rule and meets no earlier rule. So a bit stays
+/// fixed if the region or the rule fixes it, or if it is the highest bit by which an earlier rule
 /// differs from the header, and none of the bits below by which it does stays fixed: that rule is
 /// the bit's reason.
 ///
@@ -86,7 +86,7 @@ fn first_met(h: u128, fixed: u128, rules: &[Rule]) -> Option<usize>
     rules.iter().position(|rule| is_met(h, fixed, &rule.word))
 }
 
-// Whether the word of these bits of the header meets another: the upper halves mostly tell.
+// Whether the word of these bits of the header meets another: mostly the upper halves decide.
 fn is_met(h: u128, fixed: u128, word: &Word) -> bool
     ensures { result ≡ is_met h fixed word.now }
 {
@@ -100,8 +100,8 @@ fn is_met(h: u128, fixed: u128, word: &Word) -> bool
         )
 }
 
-// Whether h and the value are the same in the bits of the mask that are fixed. Where this is
-// inlined the compiler looks at both halves at once.
+// Whether h and the value are the same in the bits of the mask that are fixed. If this is inlined,
+// the compiler looks at both halves at once.
 #[inline(never)]
 fn are_same(h: u64, value: u64, mask: u64, fixed: u64) -> bool
     ensures { result ≡ (bit_and (bit_and (bit_xor h value) mask) fixed == 0) }

@@ -2,8 +2,7 @@ ghost use Rattle.cache_maker.specs.Laws.{IndependentLaws, WidenLaws};
 
 use ternary::{covers_laws, exact_laws, free_laws, meet_laws};
 
-/// Of a list of rules, the one at the place of an independent word decides each header that the
-/// word holds.
+/// The rule at the place of an independent word decides each header that the word holds.
 pub fn independent_laws()
     ensures { IndependentLaws }
 {

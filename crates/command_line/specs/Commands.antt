@@ -12,7 +12,7 @@ pub record ReplayCommand : Type 0 where
   pub net : Option (List ℕ)
   pub report : Report
 
--- `load N` has the number alone
+-- `load N` has only the number
 pub data Command : Type 0 where
   Replay : ReplayCommand → Command
   Print : PrintCommand → Command

@@ -20,37 +20,37 @@ joined_net arg =
     then Some (drop 6 arg)
     else None
 
--- the network of an option `--net NET` of these arguments, and the arguments behind it
+-- the network of an option `--net NET` of these arguments, and the arguments after it
 abbrev pub cut_pair : List ℕ → List (List ℕ) → Option (List ℕ × List (List ℕ))
 cut_pair option [] = None
 cut_pair option (net ∷ args) =
     if bytes_eq option (codes "--net") && is_file_name net then Some (net, args) else None
 
--- the network of an option in front of the arguments, in either form, and the arguments behind it
+-- the network of an option in front of the arguments, in either form, and the arguments after it
 abbrev pub cut_net : List (List ℕ) → Option (List ℕ × List (List ℕ))
 cut_net [] = None
 cut_net (option ∷ args) =
     option_map_or (λ net. Some (net, args)) (joined_net option) (cut_pair option args)
 
--- the arguments behind a flag `--quiet` in front of them
+-- the arguments after a flag `--quiet`, if they begin with it
 abbrev pub cut_quiet : List (List ℕ) → Option (List (List ℕ))
 cut_quiet [] = None
 cut_quiet (option ∷ args) = if bytes_eq option (codes "--quiet") then Some args else None
 
--- the options in front of some arguments, each at most once, and the arguments behind them
+-- the options in front of some arguments, each at most once, and the arguments after them
 pub record Cut : Type 0 where
   pub net : Option (List ℕ)
   pub quiet : Bool
   pub args : List (List ℕ)
 
--- a network's option may stand behind the flag
+-- a network's option may follow the flag
 abbrev pub quiet_and_net : List (List ℕ) → Cut
 quiet_and_net args = elim (cut_net args) [
   | None ↦ record { net = None; quiet = true; args = args }
   | Some found ↦ record { net = Some found.0; quiet = true; args = found.1 }
 ]
 
--- a flag may stand behind the network's option
+-- a flag may follow the network's option
 abbrev pub net_and_quiet : List ℕ → List (List ℕ) → Cut
 net_and_quiet net args = elim (cut_quiet args) [
   | None ↦ record { net = Some net; quiet = false; args = args }
@@ -66,15 +66,15 @@ cut_options args = elim (cut_quiet args) [
   ]
 ]
 
--- ---- the arguments behind a command
+-- ---- the arguments after a command
 
--- names, and options in front of them or behind them
+-- names, and options before or after them
 pub record StatedLine : Type 0 where
   pub names : List (List ℕ)
   pub net : Option (List ℕ)
   pub quiet : Bool
 
--- no option stands twice, and nothing stands behind the last ones
+-- no option is given twice, and nothing follows the last ones
 abbrev pub end_together : Cut → Cut → Bool
 end_together front back =
     not (is_some front.net && is_some back.net) && not (front.quiet && back.quiet)
@@ -99,14 +99,14 @@ line_of args =
 
 -- ---- the commands
 
--- a play names at least one policy, and at most so many
+-- a play names at least one policy, and at most this many
 abbrev pub most_policies : ℕ
 most_policies = 64
 
 abbrev pub may_be_policies : ℕ → Bool
 may_be_policies count = nat_le 1 count && nat_le count most_policies
 
--- a play that is to tell this, of these names
+-- a play of these names that prints this
 abbrev pub play_from : Report → StatedLine → List (List ℕ) → Option Command
 play_from told line [] = None
 play_from told line (schedule ∷ policies) =
@@ -137,7 +137,7 @@ print_from line (policy ∷ switch ∷ []) =
     Some (Print (record { policy = policy; switch = Some switch; net = line.net }))
 print_from line _ = None
 
--- a command of so many names, that has no flag
+-- a command of this many names that has no flag
 abbrev pub print_of : ℕ → StatedLine → Option Command
 print_of count line =
     if length line.names == count && not line.quiet then print_from line line.names else None
@@ -171,7 +171,7 @@ audit_from (trace ∷ policies) =
 abbrev pub audit_of : StatedLine → Option Command
 audit_of line = if is_some line.net || line.quiet then None else audit_from line.names
 
--- the command of this name, with these arguments behind it
+-- the command of this name, with these arguments after it
 abbrev pub command_by : List ℕ → StatedLine → Option Command
 command_by name line =
     if bytes_eq name (codes "replay") then replay_of line

@@ -1,4 +1,4 @@
--- What the crate `clap` is told of the arguments behind a command.
+-- What the crate `clap` gets about the arguments after a command.
 use Rattle.std.specs.Prelude.{◌≡◌, ℕ, Bool, true, false, Option, Some, None, List, [], ◌∷◌, codes, fold}
 use Rattle.clap.specs.Walk.{Rule, Text}
 use Rattle.clap.specs.Simple.{App, new_app, new_rule, on_top, with_rule}
@@ -44,23 +44,23 @@ abbrev pub option_args : Options → List Rule
 option_args none = []
 option_args (net_and flag) = net_arg ∷ flag_args flag
 
--- names and these options alone; which of two options of one name counts need not be asked
+-- only names and these options; which of two options of one name counts doesn't matter
 abbrev pub app_with : List ℕ → Options → App
 app_with name options = on_top (λ s. record s { args_override_self = true })
     (fold with_rule (new_app name) (names_arg ∷ option_args options))
 
--- a command has an app of its own
+-- each command has its own app
 abbrev pub line_app : CommandKind → App
 line_app k = app_with (kind_name k) (options_of k)
 
 -- ---- what is read of the matches
 
--- a network, where the command takes one
+-- a network, if the command takes one
 abbrev pub IsNetRead : Options → Option Text → Option Text → Type 0
 IsNetRead none found net = net ≡ None
 IsNetRead (net_and flag) found net = net ≡ found
 
--- the flag, where the command takes it
+-- the flag, if the command takes it
 abbrev pub IsFlagRead : Options → Option Text → Bool → Type 0
 IsFlagRead none found quiet = quiet ≡ false
 IsFlagRead (net_and false) found quiet = quiet ≡ false

@@ -95,10 +95,10 @@ kind_name kind.Show = codes "show"
 kind_name kind.Load = codes "load"
 kind_name kind.Audit = codes "audit"
 
--- the command of this kind that the arguments behind its name are
+-- the command of this kind that the arguments after its name are
 abbrev pub command_in : CommandKind → List (List ℕ) → Option grammar_commands.Command
 command_in kind args = option_and_then (command_by (kind_name kind)) (line_of args)
 
--- the network of an option, and the arguments behind it
+-- the network of an option, and the arguments after it
 abbrev pub pair_seen : Bor (List ℕ) × Bor (List (String Global)) → List ℕ × List (List ℕ)
 pair_seen (net, args) = (net.now, map string_bytes args.now)

@@ -10,7 +10,7 @@ use crate::report::Report;
 use five_tuple::read_number;
 use std::alloc::{AllocError, Global};
 
-/// The files of a play, and what it is to tell.
+/// The files of a play, and what it prints.
 #[derive(Drop)]
 pub struct ReplayArgs<'a> {
     /// The name of the schedule's file.
@@ -19,7 +19,7 @@ pub struct ReplayArgs<'a> {
     pub policies: Vec<&'a str>,
     /// The name of the network's file; without it the network is that of one switch.
     pub net: Option<&'a str>,
-    /// What it is to tell.
+    /// What it prints.
     pub report: Report,
 }
 
@@ -43,13 +43,13 @@ pub struct AuditArgs<'a> {
     pub policies: Vec<&'a str>,
 }
 
-/// A replay names at most so many policies, and so does an audit.
+/// A replay names at most this many policies, and so does an audit.
 pub const MAX_POLICIES: usize = 64;
 
 /// The greatest number of a load case.
 pub const MAX_LOAD: u32 = 1000;
 
-/// What the arguments ask for.
+/// The command that the arguments ask for.
 #[derive(Drop)]
 pub enum Command<'a> {
     Replay(ReplayArgs<'a>),
@@ -59,7 +59,7 @@ pub enum Command<'a> {
     Audit(AuditArgs<'a>),
 }
 
-/// The command that the arguments are, or `None` exactly where they are off the grammar.
+/// The command that the arguments are, or `None` exactly if the grammar doesn't have them.
 ///
 /// # Errors
 /// Only out of memory, and only for arguments of the grammar.
@@ -101,7 +101,7 @@ fn command_from<'a>(kind: CommandKind, line: ArgumentLine<'a>) -> Command<'a>
     }
 }
 
-// The files of a line, of which a play is to tell this.
+// The files of a line, for a play that prints this.
 fn replay_from<'a>(report: Report, line: ArgumentLine<'a>) -> ReplayArgs<'a>
     requires { is_some (play_from report (line_seen line) (names_seen line.names.items)) ≡ true }
     ensures args { Some (grammar.Replay (replay_named result))

@@ -1,4 +1,4 @@
-//! The test of the grammar, before any memory is taken.
+//! The test of the grammar, before any memory is allocated.
 ghost use Rattle.std.specs.Prelude.{◌≡◌, ◌≤◌, ◌⊎◌, true, IfSome, IfNone, None, drop, is_some, length, map, option_map, string_bytes};
 ghost use Rattle.std.specs.List.{prefix_len};
 ghost use Rattle.command_line.specs.Named.{command_in, cut_seen, kind_name, net_named, pair_seen, parts_seen};
@@ -20,7 +20,7 @@ pub(crate) enum CommandKind {
     Audit,
 }
 
-// The options in front of some arguments, and the arguments behind them.
+// The options in front of some arguments, and the arguments after them.
 #[derive(Clone, Copy)]
 struct Cut<'a> {
     net: Option<&'a str>,
@@ -28,7 +28,7 @@ struct Cut<'a> {
     args: &'a [String],
 }
 
-// The arguments behind a command: names, and options in front of them or behind them.
+// The arguments after a command: names, and options before or after them.
 #[derive(Clone, Copy)]
 struct ArgumentParts<'a> {
     names: &'a [String],
@@ -36,7 +36,7 @@ struct ArgumentParts<'a> {
     quiet: bool,
 }
 
-/// The kind of the command that the arguments are, or `None` where they are off the grammar.
+/// The kind of the command that the arguments are, or `None` if the grammar doesn't have them.
 pub(crate) fn kind_of(args: &[String]) -> Option<CommandKind>
     ensures some { IfSome result (λ kind.
         (command_in kind (drop 1 (map string_bytes args.now))
@@ -85,7 +85,7 @@ impl CommandKind {
     }
 }
 
-// Whether the names are those of a play, whatever it is to tell.
+// Whether the names are those of a play, whatever it prints.
 fn takes_replay(parts: &ArgumentParts<'_>) -> bool
     ensures { (report : Report) → result ≡
         is_some (play_from report (parts_seen parts.now) (map string_bytes parts.now.names.now)) }
@@ -130,7 +130,7 @@ fn takes_load(parts: &ArgumentParts<'_>) -> bool
     }
 }
 
-// The names and the options of the arguments behind a command.
+// The names and the options of the arguments after a command.
 fn parts_of(args: &[String]) -> Option<ArgumentParts<'_>>
     ensures { option_map parts_seen result ≡ line_of (map string_bytes args.now) }
 {
@@ -154,7 +154,7 @@ fn joined_parts<'a>(front: Cut<'a>, names: &'a [String], back: Cut<'a>) -> Optio
     })
 }
 
-// Whether no option stands twice, and nothing behind the last ones.
+// Whether no option is given twice, and nothing follows the last ones.
 fn end_together(front: &Cut<'_>, back: &Cut<'_>) -> bool
     ensures { result ≡ end_together (cut_seen front.now) (cut_seen back.now) }
 {
@@ -163,7 +163,7 @@ fn end_together(front: &Cut<'_>, back: &Cut<'_>) -> bool
         && back.args.is_empty()
 }
 
-// How many arguments in front may name a file, up to the first that may not.
+// How many of the first arguments may name a file, up to one that may not.
 fn name_count(args: &[String]) -> usize
     ensures value { result ≡ prefix_len is_file_name (map string_bytes args.now) }
     ensures within { result ≤ length args.now }
@@ -188,7 +188,7 @@ fn cut_options(args: &[String]) -> Cut<'_>
     }
 }
 
-// A network's option may stand behind the flag.
+// A network's option may follow the flag.
 fn quiet_and_net(args: &[String]) -> Cut<'_>
     ensures { cut_seen result ≡ quiet_and_net (map string_bytes args.now) }
 {
@@ -206,7 +206,7 @@ fn quiet_and_net(args: &[String]) -> Cut<'_>
     }
 }
 
-// A flag may stand behind the network's option.
+// A flag may follow the network's option.
 fn net_and_quiet<'a>(net: &'a str, args: &'a [String]) -> Cut<'a>
     ensures { cut_seen result ≡ net_and_quiet net.entry.now (map string_bytes args.now) }
 {
@@ -224,7 +224,7 @@ fn net_and_quiet<'a>(net: &'a str, args: &'a [String]) -> Cut<'a>
     }
 }
 
-// The arguments behind a flag in front of them.
+// The arguments after a flag, if they begin with one.
 fn cut_quiet(args: &[String]) -> Option<&[String]>
     ensures { option_map (λ rest. map string_bytes rest.now) result
         ≡ cut_quiet (map string_bytes args.now) }
@@ -239,7 +239,7 @@ fn cut_quiet(args: &[String]) -> Option<&[String]>
     }
 }
 
-// The network of an option in front of the arguments, and the arguments behind it.
+// The network of an option in front of the arguments, and the arguments after it.
 fn cut_net(args: &[String]) -> Option<(&str, &[String])>
     ensures { option_map pair_seen result ≡ cut_net (map string_bytes args.now) }
 {

@@ -10,7 +10,7 @@ use clap::error::ErrorKind;
 use clap::{Arg, ArgAction, ArgMatches, Command};
 use std::alloc::{AllocError, Global};
 
-/// What the arguments behind a command say: names, and options.
+/// What the arguments after a command say: names, and options.
 #[derive(Drop)]
 pub(crate) struct ArgumentLine<'a> {
     pub(crate) names: Vec<&'a str>,
@@ -18,7 +18,7 @@ pub(crate) struct ArgumentLine<'a> {
     pub(crate) quiet: bool,
 }
 
-/// The line of the arguments behind the first one, which are a command of this kind.
+/// The line of the arguments after the first one, which are a command of this kind.
 ///
 /// # Errors
 /// Only out of memory.
@@ -44,7 +44,7 @@ pub(crate) fn read_line<'a>(
     }
 }
 
-// The command of this kind, as `clap` is told of it: what it takes, and nothing else.
+// The command of this kind, as `clap` gets it: what it takes, and nothing else.
 fn line_command<'a>(alloc: Global, kind: CommandKind) -> Result<Command<'a>, AllocError>
     ensures { IfOk result (λ command. app_of command ≡ line_app kind) }
 {
@@ -139,7 +139,7 @@ fn line_in<'a>(
     })
 }
 
-// The network, where the command takes one.
+// The network, if the command takes one.
 fn net_in<'a>(kind: CommandKind, matches: &ArgMatches<'a>) -> Option<&'a str>
     ensures { IsNetRead (options_of kind)
         (first_value (found_of matches.now) (codes "net")) (net_named result) }
@@ -154,7 +154,7 @@ fn net_in<'a>(kind: CommandKind, matches: &ArgMatches<'a>) -> Option<&'a str>
     }
 }
 
-// Whether the flag stands there, where the command takes it.
+// Whether the flag is given, if the command takes it.
 fn flag_in(kind: CommandKind, matches: &ArgMatches<'_>) -> bool
     requires { (quiet : Bool) ×
         IsFlagRead (options_of kind) (one_text (found_of matches.now) (codes "quiet")) quiet }

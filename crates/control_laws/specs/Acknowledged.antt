@@ -1,5 +1,5 @@
 -- A switch is told to stamp with a version only once it acknowledged its tables; members
--- acknowledged all that is current.
+-- acknowledged every version up to the current one.
 use Rattle.std.specs.Prelude.{⊤, ℕ, ◌≡◌, ◌<◌, ◌≤◌, List, length, IsTrue}
 use Rattle.ctrl_msg.specs.declared.message.Body.{Body}
 use Rattle.ctrl_msg.specs.declared.message.Body.TheVariants.{OpenAt, Stamp}
@@ -12,8 +12,8 @@ use Rattle.update_machine.specs.Marks.{acked_stamp, current_mark, has_acked, is_
 use Rattle.update_machine.specs.Setting.{Setting}
 use Rattle.update_machine.specs.Versions.{stamp_of}
 
--- a switch of the network is let stamp with a version, in its known boot, only where it
--- acknowledged this version in that boot; the version is at most the current one
+-- a switch of the network may stamp with a version, in its known boot, only if it acknowledged
+-- this version in that boot; the version is at most the current one
 pub record IsLetStamp (setting : Setting) (before : List Item) (s boot version : ℕ) : Type 0 where
   pub known : boot ≡ known_boot before s
   pub acked : s < length setting.net.switches → IsTrue (has_acked before s version)
@@ -26,7 +26,7 @@ LetsStamp setting before (receiver.Switch s) (Stamp boot version touched) =
     IsLetStamp setting before s boot version
 LetsStamp setting before to body = ⊤
 
--- the cause of a message by which a switch is let stamp
+-- the cause of a message after which a switch may stamp
 abbrev pub IsAckedFirst : Setting → List Item → Item → Type 0
 IsAckedFirst setting before (item.Sent number message) =
     LetsStamp setting before message.to message.body

@@ -1,6 +1,6 @@
--- What adverts say, whatever was done and in whatever order: they name links of the network alone,
--- and a switch never hears a newer advert of its own, as a router in OSPF may that forgot its
--- sequence number (RFC 2328, section 13.4): boots, which never come again, forbid it.
+-- What adverts say, whatever was done and in whatever order: they name only links of the network,
+-- and a switch never hears a newer advert of its own, as an OSPF router may that forgot its
+-- sequence number (RFC 2328, section 13.4): boots, which never repeat, prevent it.
 use Rattle.std.specs.Prelude.{⊤, ℕ, ◌≡◌, ◌<◌, ◌≤◌, ◌⊎◌, Some, List, [], ◌∷◌, All, IsTrue}
 use Rattle.failover.specs.Adverts.{is_newer}
 use Rattle.base.specs.Masks.{has}
@@ -18,7 +18,7 @@ use Rattle.update_machine.specs.Links.{message_of}
 
 -- ---- all adverts of a journal
 
--- each advert that was sent, or that a switch heard in its boot or holds, and each own one
+-- each advert that was sent, or that a switch heard in its boot or has, and each own one
 pub record AllAdverts (setting : Setting) (journal : List Item) (Holds : Advert → Type 0)
     : Type 0 where
   pub sent : (n s : ℕ) (advert : Advert) → message_of journal n ≡ Some (advert_to s advert) →
@@ -43,8 +43,8 @@ abbrev pub IsOverLinks : Net → List ℕ → Type 0
 IsOverLinks net [] = ⊤
 IsOverLinks net (first ∷ route) = GoesOverLinks net first route
 
--- all adverts name links of the network alone, so links that are known are links of it, and routes
--- go over them
+-- all adverts name only links of the network, so known links are links of it, and routes use only
+-- them
 pub record LinksAreThere (setting : Setting) (journal : List Item) : Type 0 where
   pub adverts : AllAdverts setting journal (NamesLinks setting.net)
   pub usable : (s k : ℕ) → IsTrue (has (near setting journal s) k) → HasLink setting.net s k
@@ -55,8 +55,8 @@ pub record LinksAreThere (setting : Setting) (journal : List Item) : Type 0 wher
 
 -- ---- own adverts
 
--- the advert is of no boot that is to come; and while its origin is up, it is the origin's own
--- advert, or that one is newer
+-- the advert is of no later boot; and while its origin is up, it is the origin's own advert, or
+-- that one is newer
 pub record IsNoNewer (setting : Setting) (journal : List Item) (advert : Advert) : Type 0 where
   pub boot : advert.boot ≤ boot_of journal advert.origin
   pub own : IsTrue (is_up journal advert.origin) →
@@ -69,8 +69,8 @@ OwnAreNewest setting journal = AllAdverts setting journal (IsNoNewer setting jou
 
 -- ---- adverts of the network's switches
 
--- the origin of each advert is a switch of the network, whoever told it; what a switch of the
--- network holds at a place is of the switch of this number
+-- the origin of each advert is a switch of the network, whoever sent it; what a switch of the
+-- network has at a place is of the switch of this number
 pub record AdvertsAreOfSwitches (setting : Setting) (journal : List Item) : Type 0 where
   pub sent : (n s : ℕ) (advert : Advert) → message_of journal n ≡ Some (advert_to s advert) →
       HasSwitch setting.net advert.origin

@@ -1,5 +1,5 @@
--- When a fact holds of each journal, whatever was done and in whatever order: by anyone, or on a
--- network that is asked for steps of its own alone.
+-- When a fact is true of each journal, whatever was done and in whatever order: by anyone, or on a
+-- network that takes only steps that it may take.
 use Rattle.std.specs.Prelude.{ℕ, List, [], ◌++◌, All, length, take}
 use Rattle.journal.specs.declared.item.Item.{Item}
 use Rattle.steps.specs.Steps.{IsEvent}
@@ -9,7 +9,7 @@ use Rattle.update_machine.specs.Causes.{HaveCauses}
 use Rattle.update_machine.specs.Setting.{Setting}
 use Rattle.control_laws.specs.ItemCauses.{HasItemCause}
 
--- it holds behind any steps, of all kinds, so in each answer to a schedule, and in each beginning
+-- it is true after any steps, of all kinds, so in each answer to a schedule, and in each beginning
 -- of one that ends with a step
 pub record HoldsAtEnds (Holds : Setting → List Item → Type 0) : Type 0 where
   pub stepped : (setting : Setting) (steps : List StepOfRow) →
@@ -19,7 +19,7 @@ pub record HoldsAtEnds (Holds : Setting → List Item → Type 0) : Type 0 where
   pub so_far : (setting : Setting) (events : List Event) (journal : List Item) →
       AnswersSoFar setting events journal → Holds setting journal
 
--- it holds behind any items that steps of any kinds wrote, at their end too; so in each beginning
+-- it is true after any items that steps of any kinds wrote, at their end too; so in each beginning
 -- of an answer to a schedule, which may end within a step
 pub record HoldsBehindItems (Holds : Setting → List Item → Type 0) : Type 0 where
   pub items : (setting : Setting) (steps : List StepOfRow) (n : ℕ) →
@@ -28,17 +28,17 @@ pub record HoldsBehindItems (Holds : Setting → List Item → Type 0) : Type 0 
   pub begun : (setting : Setting) (events : List Event) (journal : List Item) →
       BeginsAnswer setting events journal → Holds setting journal
 
--- it holds where each item has its cause, so behind any items of any steps
+-- it is true if each item has its cause, so after any items of any steps
 pub record HoldsAlways (Holds : Setting → List Item → Type 0) : Type 0 where
   pub caused : (setting : Setting) (journal : List Item) →
       HaveCauses (HasItemCause setting) [] journal → Holds setting journal
   pub behind : HoldsBehindItems Holds
 
--- events of a schedule of the network, with the policies that are there
+-- events of a schedule of the network, with the existing policies
 abbrev pub AreEvents : Setting → List Event → Type 0
 AreEvents setting events = All (IsEvent setting.net (length setting.files)) events
 
--- it holds behind any steps of the network, and behind any first items of what they wrote, which
+-- it is true after any steps of the network, and after any first items of what they wrote, which
 -- may end within a step; in each answer to events of it, and in each beginning of one
 pub record HoldsReached (Holds : Setting → List Item → Type 0) : Type 0 where
   pub reached : (setting : Setting) (journal : List Item) → IsReached setting journal

@@ -14,15 +14,15 @@ use Rattle.update_machine.specs.Quiet.{speaker}
 use Rattle.update_machine.specs.Settling.{to_switch}
 use Rattle.update_machine.specs.Links.{serves, message_of}
 
--- a message to a switch carries no boot above the one that is known of it, and one of a switch none
--- above its own
+-- a message to a switch carries no boot above its known one, and one from a switch none above its
+-- own
 abbrev pub HasPastBoot : List Item → Place → Body → Type 0
 HasPastBoot journal (receiver.Switch s) body =
     IfSome (body_boot body) (λ boot. boot ≤ known_boot journal s)
 HasPastBoot journal receiver.Controller body =
     IfSome (speaker body) (λ of. of.1 ≤ boot_of journal of.0)
 
--- the known boot of a switch is at most its own, and no message is of a boot that is to come
+-- the known boot of a switch is at most its own, and no message is of a later boot
 pub record BootsAreKnown (journal : List Item) : Type 0 where
   pub known : (s : ℕ) → known_boot journal s ≤ boot_of journal s
   pub sent : (n : ℕ) (message : Message) → message_of journal n ≡ Some message →

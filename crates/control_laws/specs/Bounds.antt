@@ -19,6 +19,6 @@ pub record MarksAreBounded (setting : Setting) (journal : List Item) : Type 0 wh
   pub collected : (s boot version n : ℕ) → s < length setting.net.switches
       → message_of journal n ≡ Some (to_switch s (Collect boot version))
       → IsTrue (is_member journal s) → version < acked_stamp journal s
-  -- no switch stamps with a version that isn't current yet, nor is known to
+  -- no switch stamps, or is known to stamp, with a version that isn't current yet
   pub stamps : (s : ℕ) → stamp_of journal s ≤ current_mark journal
   pub known : (s : ℕ) → acked_stamp journal s ≤ current_mark journal

@@ -1,4 +1,4 @@
--- The definitions by which the laws of this crate speak, passed on from the files that define them.
+-- The definitions that the laws of this crate use, passed on from the files that define them.
 pub use Rattle.control_laws.specs.Acknowledged.{IsAckedFirst, MembersAcknowledged}
 pub use Rattle.control_laws.specs.Always.{HoldsAlways, HoldsAtEnds, HoldsReached}
 pub use Rattle.control_laws.specs.BootLaws.{BootsAreKnown, OpensAtOneVersion, ServingIsKnown}

@@ -1,4 +1,4 @@
--- What switches heard of versions, and what the controller may rely on while a boot lasts.
+-- What switches heard about versions, and what the controller may rely on while a boot lasts.
 use Rattle.std.specs.Prelude.{ℕ, ◌≡◌, ◌≤◌, ◌⊎◌, Some, List, IsTrue}
 use Rattle.std.specs.List.{list_any}
 use Rattle.ctrl_msg.specs.declared.message.Body.TheVariants.{Install, Installed, Stamped}
@@ -18,8 +18,8 @@ HasTables journal s version =
     ((version ≡ 1) × (boot_of journal s ≡ 1))
     ⊎ IsTrue (list_any (installs_version version) (heard journal s))
 
--- what a switch acknowledged in its boot it heard in that boot, and stamps with, as long as it is
--- up
+-- as long as a switch is up, what it acknowledged in its boot it heard in that boot, and stamps
+-- with
 pub record AcksHold (journal : List Item) (s : ℕ) : Type 0 where
   pub installed : (boot version n : ℕ)
       → message_of journal n ≡ Some (to_controller (Installed s boot version))
@@ -28,11 +28,11 @@ pub record AcksHold (journal : List Item) (s : ℕ) : Type 0 where
   pub stamped : (boot version n : ℕ)
       → message_of journal n ≡ Some (to_controller (Stamped s boot version))
       → IsTrue (is_up journal s) → boot ≡ boot_of journal s → version ≤ stamp_of journal s
-  -- so it has the tables of each version that the controller knows it to have
+  -- so it has the tables of each version that the controller knows that it has
   pub acked : (version : ℕ) → IsTrue (is_up journal s) → known_boot journal s ≡ boot_of journal s
       → IsTrue (has_acked journal s version) → HasTables journal s version
 
--- the tables are those that the plan of some version gives to the switch
+-- the tables are those that some version's plan gives the switch
 pub record ArePlanned (setting : Setting) (journal : List Item) (s : ℕ) (installed : Tables)
     : Type 0 where
   pub version : ℕ

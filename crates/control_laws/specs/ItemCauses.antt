@@ -1,6 +1,6 @@
--- What stands in a journal just before an item of switches and their controller: of messages,
--- boots, openings and marks. Each cause speaks of the journal before the item alone, so it holds in
--- the middle of a step too. The update in two phases is that of Reitblatt, Foster, Rexford,
+-- What the journal just before an item of switches and their controller says of messages, boots,
+-- openings and marks. Each cause is about only the journal before the item, so it is true in the
+-- middle of a step too. The update in two phases is that of Reitblatt, Foster, Rexford,
 -- Schlesinger and Walker, "Abstractions for Network Update"; boots and acknowledgements are our
 -- own.
 use Rattle.std.specs.Prelude.{⊤, ℕ, ◌≡◌, ◌≢◌, ◌+◌, ◌-◌, ◌<◌, ◌≤◌, ◌⊎◌, Some, None, Ok, List, IsOk, IsTrue, IsFalse}
@@ -24,13 +24,13 @@ use Rattle.update_machine.specs.Links.{message_of}
 
 -- ---- what is sent to a switch
 
--- the boot is known of the switch, which isn't over
+-- this is the known boot of the switch, which isn't over
 pub record IsForKnown (before : List Item) (s boot : ℕ) : Type 0 where
   pub known : boot ≡ known_boot before s
   pub not_over : IsFalse (is_over before s)
 
--- the tables that the plan of a version gives to the switch: of the newest version, or of one from
--- the current one on
+-- the tables that a version's plan gives the switch: of the newest version, or of one from the
+-- current one on
 pub record IsRightInstall (setting : Setting) (before : List Item) (s boot : ℕ)
     (installed : Tables) : Type 0 where
   pub to : IsForKnown before s boot
@@ -45,7 +45,7 @@ pub record IsFirstOpening (before : List Item) (s version : ℕ) : Type 0 where
   pub current : version ≡ current_mark before
   pub acked : IsTrue (has_acked before s version)
 
--- a switch is opened once in a boot, and is told so again only at the same version
+-- a switch is opened once in a boot, and is told to again only at the same version
 pub record IsRightOpening (before : List Item) (s boot version : ℕ) : Type 0 where
   pub to : IsForKnown before s boot
   pub opens : IsFirstOpening before s version ⊎ (opened_at before s ≡ Some version)
@@ -87,7 +87,7 @@ pub record IsRightInstalled (before : List Item) (s boot version : ℕ) : Type 0
   pub present : IsPresentIn before s boot
   pub heard : IsTrue (list_any (installs_version version) (heard before s))
 
--- it acknowledges a stamp that isn't above its own
+-- it acknowledges a stamp that is at most its own
 pub record IsRightStamped (before : List Item) (s boot version : ℕ) : Type 0 where
   pub present : IsPresentIn before s boot
   pub stamps : version ≤ stamp_of before s
@@ -109,7 +109,7 @@ pub record BeginsBoot (before : List Item) (s boot : ℕ) : Type 0 where
   pub down : IsFalse (is_up before s)
   pub next : boot ≡ boot_of before s + 1
 
--- a switch that is up opens with its stamp, which is at least the version of a message that was
+-- a switch that is up opens with its stamp, and that is at least the version of a message that was
 -- sent to open it in its boot
 pub record OpensRightly (before : List Item) (s stamp : ℕ) : Type 0 where
   pub up : IsTrue (is_up before s)
@@ -119,8 +119,8 @@ pub record OpensRightly (before : List Item) (s stamp : ℕ) : Type 0 where
   pub stamped : version ≤ stamp_of before s
   pub own : stamp ≡ stamp_of before s
 
--- the version is the next one: its file makes a policy of the newest one, which has a plan, and one
--- more version may be live and be there in all
+-- the version is the next one: its file makes a policy of the newest one, which has a plan, and
+-- one more version may be unretired, and one more may exist in all
 pub record SubmitsRightly (setting : Setting) (before : List Item) (file version : ℕ) : Type 0 where
   pub next : version ≡ version_count before + 1
   pub rows : List Row
@@ -134,7 +134,7 @@ pub record RetiresRightly (setting : Setting) (before : List Item) (version : �
   pub rises : retired_mark before < version
   pub least : version ≡ next_retired setting before
 
--- each item of switches and their controller has its cause in the journal before it
+-- each item of switches and their controller has its cause earlier in the journal
 abbrev pub HasItemCause : Setting → List Item → Item → Type 0
 HasItemCause setting before (item.Sent number message) =
     IsRightMessage setting before message.to message.body

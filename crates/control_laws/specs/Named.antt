@@ -1,4 +1,4 @@
--- What messages name: the switch that they are to or of, and the version of which they speak.
+-- What messages name: the switch that they are to or from, and the version that they are about.
 use Rattle.std.specs.Prelude.{ℕ, ◌≡◌, ◌≤◌, Option, Some, None, List, All, IfSome}
 use Rattle.ctrl_msg.specs.Kinds.{body_version, to_controller}
 use Rattle.ctrl_msg.specs.declared.message.Body.{Body}
@@ -20,20 +20,21 @@ abbrev pub IsOfSwitch : Setting → Option (ℕ × ℕ) → Type 0
 IsOfSwitch setting None = ⊥
 IsOfSwitch setting (Some of) = HasSwitch setting.net of.0
 
--- what is told to a switch is to one of the network, and what the controller is told is of one
+-- what is sent to a switch is to one of the network, and what is sent to the controller is from
+-- one
 abbrev pub IsAddressed : Setting → Place → Body → Type 0
 IsAddressed setting (receiver.Switch s) body =
     HasSwitch setting.net s × (speaker body ≡ None)
 IsAddressed setting receiver.Controller body = IsOfSwitch setting (speaker body)
 
--- and its version is there
+-- and its version exists
 pub record NamesOnlyThere (setting : Setting) (journal : List Item) (message : Message)
     : Type 0 where
   pub addressed : IsAddressed setting message.to message.body
   pub version : IfSome (body_version message.body)
       (λ version. (1 ≤ version) × (version ≤ version_count journal))
 
--- so it is with all that was sent, and all that was heard
+-- this is true of all that was sent, and all that was heard
 pub record BodiesNameThere (setting : Setting) (journal : List Item) : Type 0 where
   pub sent : (n : ℕ) (message : Message) → message_of journal n ≡ Some message
       → NamesOnlyThere setting journal message

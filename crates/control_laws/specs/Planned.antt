@@ -1,4 +1,4 @@
--- Versions and their plans: how many there are, and which tables switches have of them.
+-- Versions and their plans: how many there are, and which of their tables switches have.
 use Rattle.std.specs.Prelude.{⊤, ℕ, ◌≡◌, ◌-◌, ◌≤◌, Some, List, [], All, IsTrue, ◌++◌}
 use Rattle.ctrl_msg.specs.declared.message.Body.{Body}
 use Rattle.ctrl_msg.specs.declared.message.Body.TheVariants.{Install}
@@ -23,8 +23,7 @@ pub record VersionsArePlanned (setting : Setting) (journal : List Item) : Type 0
 
 -- ---- tables
 
--- the tables are those that the plan of their version gives to the switch, and will be so however
--- the journal goes on
+-- the tables are those that their version's plan gives the switch, however the journal continues
 pub record AreTablesOf (setting : Setting) (journal : List Item) (s : ℕ) (installed : Tables)
     : Type 0 where
   pub first : 1 ≤ installed.version
@@ -33,12 +32,12 @@ pub record AreTablesOf (setting : Setting) (journal : List Item) (s : ℕ) (inst
   pub later : (items : List Item)
       → installed ≡ tables_at setting (journal ++ items) installed.version s
 
--- a body that brings tables brings the switch such
+-- a body that brings tables brings the switch such tables
 abbrev pub BringsTables : Setting → List Item → ℕ → Body → Type 0
 BringsTables setting journal s (Install boot installed) = AreTablesOf setting journal s installed
 BringsTables setting journal s body = ⊤
 
--- tables that were sent to a switch, and those that it heard; and a version that it holds is there
+-- tables that were sent to a switch, and those that it heard; and a version that it has exists
 pub record TablesArePlanned (setting : Setting) (journal : List Item) : Type 0 where
   pub sent : (s boot n : ℕ) (installed : Tables)
       → message_of journal n ≡ Some (to_switch s (Install boot installed))

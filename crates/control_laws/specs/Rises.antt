@@ -1,5 +1,5 @@
--- Where the current mark rises: only once all members have the tables, as the first phase of an
--- update asks (Reitblatt, Foster, Rexford, Schlesinger and Walker, "Abstractions for Network
+-- When the current mark rises: only once all members have the tables, as the first phase of an
+-- update requires (Reitblatt, Foster, Rexford, Schlesinger and Walker, "Abstractions for Network
 -- Update").
 use Rattle.std.specs.Prelude.{⊤, List}
 use Rattle.journal.specs.declared.item.Item.{Item}

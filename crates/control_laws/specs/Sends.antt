@@ -1,6 +1,6 @@
 -- How many messages steps send, and how far boots and the sequence numbers of adverts rise with
 -- them: OSPF has a rule for a router that used up its sequence numbers (RFC 2328, section 12.1.6);
--- here none is used up.
+-- here they are never used up.
 use Rattle.std.specs.Prelude.{ℕ, ◌+◌, ◌-◌, ◌*◌, ◌^◌, ◌<◌, ◌≤◌, ◌==◌, if◌then◌else◌, List, length}
 use Rattle.journal.specs.declared.item.Item.{Item}
 use Rattle.steps.specs.declared.step.Step.{Step}
@@ -16,7 +16,7 @@ use Rattle.update_machine.specs.Setting.{Setting}
 abbrev pub sent_count : List Item → ℕ
 sent_count items = count_of is_sending items
 
--- whatever step comes next, it sends at most so many messages
+-- whatever step comes next, it sends at most this many messages
 abbrev pub StepsSendAtMost : ℕ → Setting → List Item → Type 0
 StepsSendAtMost most setting journal =
     (row : ℕ) (step : Step) → sent_count (piece setting journal row step) ≤ most
@@ -25,8 +25,8 @@ StepsSendAtMost most setting journal =
 abbrev pub StepsSendFew : Setting → List Item → Type 0
 StepsSendFew setting journal = StepsSendAtMost 10_000 setting journal
 
--- each boot but the first one begins with a message; and of two changes of a switch's links one at
--- least is told to somebody, as only of its last link that fails nobody hears
+-- each boot but the first one begins with a message; and at least one of two changes of a switch's
+-- links is sent to a neighbour, because only the failure of its last link reaches none
 pub record NumbersAreFew (setting : Setting) (journal : List Item) : Type 0 where
   pub boots : (s : ℕ) → boot_of journal s ≤ sent_count journal + 1
   pub seqs : (s : ℕ) → s < length setting.net.switches → own_seq setting journal s

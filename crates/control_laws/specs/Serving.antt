@@ -1,6 +1,6 @@
--- Switches that serve hold what they stamp packets with. That a packet finds the tables of its
--- version at each switch is the consistency of Reitblatt, Foster, Rexford, Schlesinger and Walker,
--- "Abstractions for Network Update".
+-- Switches that serve have the version that they stamp packets with. That a packet finds the
+-- tables of its version at each switch is the consistency of Reitblatt, Foster, Rexford,
+-- Schlesinger and Walker, "Abstractions for Network Update".
 use Rattle.std.specs.Prelude.{ℕ, ◌<◌, ◌≤◌, ◌⊎◌, List, length, IsTrue}
 use Rattle.journal.specs.declared.item.Item.{Item}
 use Rattle.update_machine.specs.Links.{serves}
@@ -8,8 +8,8 @@ use Rattle.update_machine.specs.Marks.{current_mark, retired_mark}
 use Rattle.update_machine.specs.Setting.{Setting}
 use Rattle.update_machine.specs.Versions.{holds_version, stamp_of}
 
--- the switch holds the version of its stamp, and each one up to the current version that isn't
--- below it; the stamp isn't retired, and isn't above the current version
+-- the switch has the version of its stamp, and each one from there up to the current version; the
+-- stamp isn't retired, and is at most the current version
 pub record HoldsStamp (journal : List Item) (s : ℕ) : Type 0 where
   pub stamp : IsTrue (holds_version journal s (stamp_of journal s))
   pub held : (version : ℕ) → version ≤ current_mark journal →

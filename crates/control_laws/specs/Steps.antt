@@ -1,4 +1,4 @@
--- The steps by which the controller hears something or is told to do something.
+-- The steps in which the controller hears something or is asked to do something.
 use Rattle.std.specs.Prelude.{Bool, true, false, List}
 use Rattle.journal.specs.declared.item.Item.{Item}
 use Rattle.steps.specs.declared.step.Step.{Step}

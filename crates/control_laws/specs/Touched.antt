@@ -1,4 +1,4 @@
--- What switches are told of the changes that made versions.
+-- What is sent to switches about the changes that made versions.
 use Rattle.std.specs.Prelude.{ℕ, ◌≡◌, ◌≤◌, Some, List}
 use Rattle.ctrl_msg.specs.declared.message.Body.TheVariants.{Stamp}
 use Rattle.ctrl_msg.specs.declared.message.Message.{Message}
@@ -10,7 +10,7 @@ use Rattle.update_machine.specs.Settling.{to_switch}
 use Rattle.update_machine.specs.Touched.{touched_by}
 use Rattle.update_machine.specs.Versions.{version_count}
 
--- the version is there, and these words are what its change touches
+-- the version exists, and these words are what its change touches
 pub record IsTouched (setting : Setting) (journal : List Item) (version : ℕ)
     (touched : List WordValue) : Type 0 where
   pub first : 1 ≤ version

@@ -6,19 +6,19 @@ ghost use Rattle.control_laws.specs.Always.{HoldsBehindItems, HoldsAlways, Holds
 ghost use Rattle.control_laws.specs.Adverts.{AdvertsAreOfSwitches, LinksAreThere, OwnAreNewest};
 ghost use Rattle.control_laws.specs.Sends.{NumbersAreFew, NumbersFit, StepsSendFew};
 
-/// Each advert that is sent, heard or held names only links of the network, and so do the links
-/// that a switch knows, and its routes.
+/// Each advert that is sent, heard or kept names only links of the network; the links that a
+/// switch knows, and its routes, are of the network too.
 pub fn adverts_name_links()
     ensures { HoldsBehindItems LinksAreThere }
 {}
 
-/// No advert that is sent, heard or held is newer than the own one of its origin.
+/// No advert that is sent, heard or kept is newer than its origin's own one.
 pub fn own_adverts_are_newest()
     ensures { HoldsBehindItems OwnAreNewest }
 {}
 
-/// In a network each advert that is sent, heard, or held by a switch of it is of one of its
-/// switches.
+/// In a network each advert that is sent, heard, or kept by one of its switches has one of them as
+/// its origin.
 pub fn adverts_are_of_switches()
     ensures { HoldsBehindItems (λ setting journal.
         IsNet setting.net → AdvertsAreOfSwitches setting journal) }
@@ -31,14 +31,14 @@ pub fn steps_send_few()
         → StepsSendFew setting journal) }
 {}
 
-/// Behind each step, boots and the numbers of own adverts are few for the messages that were sent.
+/// After each step the number of messages sent bounds the boots and the numbers of own adverts.
 pub fn numbers_are_few()
     ensures { HoldsAtEnds (λ setting journal. IsNet setting.net
         → NumbersAreFew setting journal) }
 {}
 
-/// Where a step may begin, and where each step began with room in the journal, all these numbers
-/// fit, and the next ones do.
+/// If a step may begin, and each step began with room in the journal, then all these numbers fit,
+/// and the next ones do.
 pub fn numbers_fit()
     ensures before { (setting : Setting) (steps : List StepOfRow) → IsNet setting.net
         → HasRoom (after_steps setting [] steps)

@@ -1,10 +1,10 @@
-//! What the controller and the switches tell each other, whatever steps are taken: boots, versions,
-//! marks and adverts.
+//! What the controller and the switches send each other, whatever steps are taken: boots,
+//! versions, marks and adverts.
 //!
-//! What stands before each item of switches and their controller, what switches acknowledged and
-//! hold, how the marks bound each other and where they rise; what adverts say of the network's
-//! links, how many messages steps send, and how far boots and the numbers of adverts rise. And what
-//! messages name, over journals of steps of a network.
+//! Which earlier item causes each item of switches and their controller; what switches
+//! acknowledged and keep; how the marks bound each other and when they rise; what adverts say of
+//! the network's links; how many messages steps send; how far boots and the numbers of adverts
+//! rise. And, over journals of steps of a network, what messages name.
 //!
 //! Laws over journals of any steps. No code: each function is the law that it ensures.
 #![tactic(auto)]

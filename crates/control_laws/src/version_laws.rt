@@ -9,7 +9,7 @@ pub fn items_have_causes()
     ensures { HoldsAlways (λ setting journal. HaveCauses (HasItemCause setting) [] journal) }
 {}
 
-/// The versions that are there are those from 1 to their count.
+/// The versions that exist are those from 1 to their count.
 pub fn versions_are_numbered()
     ensures { HoldsAlways (λ setting journal. VersionsAreNumbered journal) }
 {}
@@ -20,24 +20,24 @@ pub fn boots_are_known()
     ensures { HoldsAlways (λ setting journal. BootsAreKnown journal) }
 {}
 
-/// A switch is opened at one version in each of its boots, however often it is told so.
+/// A switch is opened at one version in each of its boots, however often it is told to.
 pub fn switches_open_once()
     ensures { HoldsAlways (λ setting journal. OpensAtOneVersion journal) }
 {}
 
-/// A switch that serves is a member, in the boot that is known of it; a switch that is up in the
-/// boot that is known of it isn't over.
+/// A switch that serves is a member, in its known boot; a switch that is up in its known boot
+/// isn't over.
 pub fn serving_is_known()
     ensures { HoldsAlways (λ setting journal. ServingIsKnown journal) }
 {}
 
-/// What a switch acknowledged in its boot it heard in that boot, and stamps with, as long as it is
-/// up.
+/// As long as a switch is up, what it acknowledged in its boot it heard in that boot, and stamps
+/// with.
 pub fn acknowledgements_hold()
     ensures { HoldsAlways (λ setting journal. (s : ℕ) → AcksHold journal s) }
 {}
 
-/// The tables that are sent to a switch are those that the plan of a version gives to it.
+/// The tables that are sent to a switch are those that a version's plan gives it.
 pub fn installs_are_planned()
     ensures { HoldsAlways (λ setting journal. InstallsArePlanned setting journal) }
 {}
@@ -51,19 +51,19 @@ pub fn stamps_are_acked_first()
     ensures members { HoldsAlways (λ setting journal. MembersAcknowledged setting journal) }
 {}
 
-/// Whoever is told to stamp with a version is told what the change of that version touches: the
+/// A switch that is told to stamp with a version also gets what that version's change touches: the
 /// words of the rows that it removes and adds, as the journal has them.
 pub fn stamps_say_what_is_touched()
     ensures { HoldsAlways (λ setting journal. StampsSayTouched setting journal) }
 {}
 
-/// The current version is there; retired versions are below it and below the acknowledged stamp of
-/// each member, and so is what a member is told to drop.
+/// The current version exists; retired versions, and those that a member is told to drop, are
+/// below it and below the acknowledged stamp of each member.
 pub fn marks_are_bounded()
     ensures { HoldsAlways (λ setting journal. MarksAreBounded setting journal) }
 {}
 
-/// A switch that serves holds the version with which it stamps, and each version up to the current
+/// A switch that serves has the version with which it stamps, and each version up to the current
 /// one that isn't below its stamp; its stamp is above all that is retired, and at most current.
 pub fn serving_switches_hold()
     ensures { HoldsAlways (λ setting journal. ServingHold setting journal) }
@@ -74,21 +74,21 @@ pub fn versions_are_planned()
     ensures { HoldsAlways (λ setting journal. VersionsArePlanned setting journal) }
 {}
 
-/// Tables that were sent to a switch, and those that it heard, are those that the plan of their
-/// version gives to it, and stay so however the journal goes on; a version that it holds is there.
+/// Tables that were sent to a switch, and those that it heard, are those that their version's plan
+/// gives it, however the journal continues; a version that it has exists.
 pub fn tables_are_planned()
     ensures { HoldsAlways (λ setting journal. TablesArePlanned setting journal) }
 {}
 
-/// Each message that was sent is to a switch of the network, or of one and to the controller, and
-/// its version is there; so is what switches and the controller heard.
+/// Each message that was sent goes to a switch of the network, or from one to the controller, and
+/// its version exists; the same is true of what switches and the controller heard.
 pub fn bodies_name_what_is_there()
     ensures { HoldsReached (λ setting journal.
         IsNet setting.net → BodiesNameThere setting journal) }
 {}
 
-/// The current mark rises only to a version that is there, and only where each member acknowledged
-/// every version above the old mark up to it.
+/// The current mark rises only to a version that exists, and only when each member has
+/// acknowledged every version above the old mark up to it.
 pub fn current_rises_rightly()
     ensures { HoldsAlways (λ setting journal. HaveCauses (RisesRightly setting) [] journal) }
 {}
@@ -100,8 +100,8 @@ pub fn retired_stays_behind()
         retired_mark journal ≤ next_retired setting journal) }
 {}
 
-/// What the controller knows changes in three kinds of steps alone: what is delivered to it, an
-/// update, and the confirmation that a switch is over.
+/// What the controller knows changes in only three kinds of steps: a delivery to it, an update,
+/// and the confirmation that a switch is over.
 pub fn other_steps_leave_controller()
     ensures { (setting : Setting) (journal : List Item) (row : ℕ) (step : Step)
         → IsFalse (asks_controller journal step)

@@ -1,4 +1,4 @@
--- What the refusal of a part of the way to a plan is of the plan.
+-- The refusal of a plan that follows from the refusal of one of its parts.
 use Rattle.base.specs.declared.error.Failure.{Failure}
 use Rattle.base.specs.declared.error.Failure.TheVariants as failure
 use Rattle.cut_tree.specs.declared.tree.TooManyLeaves.{TooManyLeaves as NoTree}

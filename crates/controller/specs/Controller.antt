@@ -18,17 +18,17 @@ pub record KeptPlan : Type 0 where
   pub plan : PlanValue
   pub touched : List WordValue
 
--- the plans stand by ascending version
+-- the plans are in order of ascending version
 pub record ControllerValue : Type 0 where
   pub marks : MarksValue
   pub plans : List KeptPlan
 
--- the tables of each switch, by the switches' numbers, as far as these are
+-- the tables of each switch, by the switches' numbers, as far as there are switches
 abbrev pub tables_by_switch : KeptPlan → ℕ → List Tables
 tables_by_switch kept switches =
     map (tables_of kept.plan.hosted kept.version) (range_with_len 0 switches)
 
--- the tables that the plan of a version gives to a switch, where it is kept
+-- the tables that the plan of a version gives a switch, if the plan is kept
 abbrev pub kept_tables : ControllerValue → ℕ → ℕ → Option Tables
 kept_tables controller version s =
     option_map (λ (kept : KeptPlan). tables_of kept.plan.hosted kept.version s)
@@ -46,7 +46,7 @@ current_plan controller =
     option_map (λ (kept : KeptPlan). kept.plan)
     (find (λ (kept : KeptPlan). kept.version == controller.marks.current) controller.plans)
 
--- what the change of a version touches, where its plan is kept
+-- what the change of a version touches, if its plan is kept
 abbrev pub kept_touched : List KeptPlan → ℕ → List WordValue
 kept_touched plans version =
     option_map_or (λ (kept : KeptPlan). kept.touched)
@@ -75,12 +75,12 @@ pub record IsController (controller : ControllerValue) : Type 0 where
   pub versions : (map (λ kept. kept.version) controller.plans
       ≡ live_from_current controller.marks)
 
--- a controller still, of the same switches
+-- still a controller, of the same switches
 pub record StaysController (old new : ControllerValue) : Type 0 where
   pub controller : IsController new
   pub switches : length new.marks.switches ≡ length old.marks.switches
 
--- the marks settle, whoever is to be told
+-- the marks settle, whichever switches are sent to
 abbrev pub HasSettled : MarksValue → MarksValue → Type 0
 HasSettled before after = (answer : Settled) × Settles before after answer
 
@@ -88,8 +88,8 @@ HasSettled before after = (answer : Settled) × Settles before after answer
 abbrev pub plans_from : ℕ → List KeptPlan → List KeptPlan
 plans_from version plans = filter (λ kept. nat_le version kept.version) plans
 
--- from these marks and plans on: the marks settle, and the plans of the versions before the current
--- one are let go
+-- from these marks and plans on: the marks settle, and the plans of the versions before the
+-- current one are dropped
 pub record SettlesWith (before : MarksValue) (kept : List KeptPlan)
     (new : ControllerValue) : Type 0 where
   pub marks : HasSettled before new.marks

@@ -1,5 +1,5 @@
--- The definitions by which clauses of this crate and of those above speak of the controller, passed
--- on from the files that define them.
+-- The definitions that clauses of this crate and of those above use for the controller, passed on
+-- from the files that define them.
 pub use Rattle.controller.specs.Controller.{ControllerValue, IsController, SettlesWith, StaysController, current_plan, current_touched, first_controller, kept_tables, kept_touched, newest_policy, plans_from, tables_by_switch}
 pub use Rattle.controller.specs.News.{body_of, switches_named}
 pub use Rattle.controller.specs.Plan.{PlanValue}

@@ -8,7 +8,7 @@ use Rattle.switch_table.specs.Lookup.{LeadsToFirstMatch, table_lookup}
 use Rattle.switch_table.specs.Tables.{tables_of}
 
 -- for any version the tables of each switch decide each header as the first match among the rows
--- does, or send it to targets whose tables all do
+-- does, or send it to targets whose tables all decide it like that
 unfoldable pub LeadEveryHeader : List Row → List Hosted → Type 0
 LeadEveryHeader rows plan = (version switch : ℕ) (header : Header) → IsHeader header
     → LeadsToFirstMatch rows plan version header (table_lookup (tables_of plan version switch) header)

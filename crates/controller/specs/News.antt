@@ -1,4 +1,4 @@
--- What several switches are told at once.
+-- What is sent to several switches at once.
 use Rattle.std.specs.Prelude.{ℕ, ◌==◌, List, filter}
 use Rattle.std.specs.Int.{bit_at}
 use Rattle.std.specs.List.{range_with_len}
@@ -12,6 +12,6 @@ body_of (Stamp touched) version boot = body.Stamp boot version touched
 body_of OpenAt version boot = body.OpenAt boot version
 body_of Collect version boot = body.Collect boot version
 
--- of so many switches those that a mask names: switch s is bit s
+-- of this many switches those that a mask names: switch s is bit s
 abbrev pub switches_named : ℕ → ℕ → List ℕ
 switches_named mask switches = filter (λ s. bit_at mask s == 1) (range_with_len 0 switches)

@@ -1,11 +1,11 @@
--- What a switch replies of a version.
+-- What a switch replies about a version.
 use Rattle.std.specs.Prelude.{ℕ}
 use Rattle.version_update.specs.Record.{after_installed, after_stamped}
 use Rattle.version_update.specs.declared.record.SwitchRecord.{SwitchRecord}
 use Rattle.controller.specs.declared.replying.Reply.{Reply}
 use Rattle.controller.specs.declared.replying.Reply.TheVariants.{Installed, Stamped}
 
--- the record of a switch after its reply, in this boot and of this version
+-- the record of a switch after its reply, in this boot and about this version
 abbrev pub after_reply : Reply → ℕ → ℕ → SwitchRecord → SwitchRecord
 after_reply Installed boot version = after_installed boot version
 after_reply Stamped boot version = after_stamped boot version

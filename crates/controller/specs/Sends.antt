@@ -24,11 +24,11 @@ use Rattle.ternary.specs.Word.{WordValue}
 abbrev pub post_act : ℕ → Body → Act
 post_act s body = Post (record { to = Switch s; body = body })
 
--- the tables that the version's plan gives to the switch
+-- the tables that the version's plan gives the switch
 abbrev pub install_act : ℕ → ℕ → KeptPlan → Act
 install_act s boot kept = post_act s (Install boot (tables_of kept.plan.hosted kept.version s))
 
--- the boot that is known of a switch
+-- the known boot of a switch
 abbrev pub boot_recorded : MarksValue → ℕ → ℕ
 boot_recorded marks s = (record_of marks s).boot
 
@@ -38,13 +38,13 @@ switches_where passes switches =
     filter (λ s. option_map_or passes (slice_get switches s) false)
     (range_with_len 0 (length switches))
 
--- to each of these switches the message for the boot that is known of it
+-- to each of these switches the message for its known boot
 abbrev pub posts_to : MarksValue → (ℕ → Body) → List ℕ → List Act
 posts_to marks body switches = map (λ s. post_act s (body (boot_recorded marks s))) switches
 
 -- ---- settling
 
--- a mark rose: it is the new one, and the members among these switches are told
+-- a mark rose: its act, and then a message to each member among these switches
 abbrev pub rising_acts : ℕ → ℕ → (ℕ → Act) → (ℕ → ℕ → Body) → MarksValue → List SwitchRecord
     → List Act
 rising_acts old new says body marks switches = if nat_lt old new
@@ -64,13 +64,13 @@ abbrev pub open_acts : MarksValue → MarksValue → List Act
 open_acts before after = posts_to after (λ boot. OpenAt boot after.current)
     (switches_where (opens_at after.current) before.switches)
 
--- a newly retired version, and to all members that they drop the tables up to it: no member stamps
--- with it any more
+-- a newly retired version, and to all members the message to drop the tables up to it: no member
+-- stamps with it any more
 abbrev pub collect_acts : MarksValue → MarksValue → List Act
 collect_acts before after =
     rising_acts before.retired after.retired Retired Collect after after.switches
 
--- what is sent as marks settle, where the change of the current version touches this
+-- what is sent when marks settle, if the change of the current version touches this
 abbrev pub settling_acts : List WordValue → MarksValue → MarksValue → List Act
 settling_acts touched before after = stamp_acts touched before after ++ open_acts before after
     ++ collect_acts before after
@@ -105,13 +105,13 @@ abbrev pub hear_acts : Body → MarksValue → ControllerValue → List Act
 hear_acts body old new = settling_acts (current_touched new) (marks_after body old) new.marks
     ++ installs_after body old new
 
--- the switch is there, and so is the version
+-- the switch exists, and so does the version
 pub record NamesBoth (switch version : ℕ) (marks : MarksValue) : Type 0 where
   pub switch_is : switch < length marks.switches
   pub first : 1 ≤ version
   pub last : version ≤ marks.count
 
--- what a body for the controller names is there
+-- what a body for the controller names exists
 abbrev pub NamesThere : Body → MarksValue → Type 0
 NamesThere (Hello switch boot) marks = switch < length marks.switches
 NamesThere (Installed switch boot version) marks = NamesBoth switch version marks
@@ -131,19 +131,19 @@ missing_installs controller s first =
     map (install_act s known.boot)
     (filter (λ kept. is_missing known first kept.version) controller.plans)
 
--- to a member the current stamp with what its change touches, where it acknowledged a lower one
+-- to a member the current stamp with what its change touches, if it acknowledged a lower one
 abbrev pub stamp_again : List WordValue → MarksValue → ℕ → List Act
 stamp_again touched marks s = if nat_lt (record_of marks s).acked_stamp marks.current
     then post_act s (Stamp (boot_recorded marks s) marks.current touched) ∷ []
     else []
 
--- to a member that it drops the tables of the retired versions, where there are any
+-- to a member the message to drop the tables of the retired versions, if there are any
 abbrev pub collect_again : MarksValue → ℕ → List Act
 collect_again marks s = if nat_lt 0 marks.retired
     then post_act s (Collect (boot_recorded marks s) marks.retired) ∷ []
     else []
 
--- what a switch that stands so may lack
+-- what a switch in this phase may lack
 abbrev pub resend_acts_to : Phase → ControllerValue → ℕ → List Act
 resend_acts_to Joining controller s = missing_installs controller s controller.marks.current
 resend_acts_to Member controller s =
@@ -154,6 +154,6 @@ resend_acts_to Member controller s =
     ++ collect_again controller.marks s
 resend_acts_to Over controller s = []
 
--- by how the switch stands
+-- by the switch's phase
 abbrev pub resend_acts : ControllerValue → ℕ → List Act
 resend_acts controller s = resend_acts_to (record_of controller.marks s).phase controller s

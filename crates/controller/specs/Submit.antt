@@ -20,7 +20,7 @@ next_kept old plan touched = record {
 abbrev pub SubmitsPlan : ControllerValue → KeptPlan → ControllerValue → Type 0
 SubmitsPlan old next new = SettlesWith (with_version old.marks) (old.plans ++ next ∷ []) new
 
--- a refusal changes nothing; where memory ran out, either nothing changed, or the version stands
+-- a refusal changes nothing; if memory ran out, either nothing changed, or the version is added
 -- and what it causes is lost
 abbrev pub IsLeft : ControllerValue → KeptPlan → ControllerValue → Failure SubmitError → Type 0
 IsLeft old next new (Refused refusal) = new ≡ old

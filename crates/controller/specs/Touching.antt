@@ -1,4 +1,4 @@
--- What a change touches, as a list has room for it.
+-- What a change touches, as far as a list has room for it.
 use Rattle.std.specs.Prelude.{◌≡◌, ◌<◌, ◌⊎◌, List, ◌++◌, length}
 use Rattle.policy_rules.specs.Touched.{touched_words}
 use Rattle.policy_rules.specs.declared.amendment.Edit.{Edit}
@@ -6,15 +6,15 @@ use Rattle.policy_rules.specs.declared.policy.Row.{Row}
 use Rattle.switch_table.specs.Carried.{few_touched}
 use Rattle.ternary.specs.Word.{WordValue}
 
--- the words of the rows that it removes of the policy, and of those that it adds, if they are few
+-- the words of the policy's rows that it removes, and of those that it adds, if they are few
 abbrev pub touched_few : List Row → List Edit → List WordValue
 touched_few rows change = few_touched (touched_words rows change)
 
--- the words that were listed are all of them, or both are too many to be told
+-- the words that were listed are all of them, or both are too many to send
 abbrev pub AreListed : List WordValue → List WordValue → Type 0
 AreListed listed words = (listed ≡ words) ⊎ ((16 < length listed) × (16 < length words))
 
--- where some words were listed, more are, and these come behind them
+-- after some words were listed, more are, and these follow them
 abbrev pub ListsMore : List WordValue → List WordValue → List WordValue → Type 0
 ListsMore before after more =
     (words : List WordValue) → AreListed before words → AreListed after (words ++ more)

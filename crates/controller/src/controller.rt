@@ -30,8 +30,9 @@ use version_update::{Marks, Phase, Settled, SubmitError, settling_laws};
 /// `begin`.
 ///
 /// Contracts see the marks, and the versions from the current one to the last with their plans.
-/// Each call answers what it causes, in order, and each message carries the boot that is known of
-/// its switch. Where memory runs out in a call, what it causes is lost: the controller is spent.
+/// Each call returns what it causes, in order, and each message carries its switch's known boot.
+/// If memory runs out in a call, what it causes is lost, and the controller must not be used
+/// again.
 #[derive(Drop)]
 pub struct Controller {
     marks: Marks,
@@ -87,8 +88,8 @@ impl Controller {
         self.marks.switches()
     }
 
-    /// The tables that the plan of a version, from the current one to the last, gives to a switch:
-    /// those that each `Install` of the version carries, shared.
+    /// The tables that the plan of a version, from the current one to the last, gives a switch,
+    /// shared: those that each `Install` of the version carries.
     ///
     /// # Errors
     /// Only out of memory.
@@ -111,13 +112,12 @@ impl Controller {
         self.versions[0].plan()
     }
 
-    /// One more version, of which this is the plan: it goes to each switch that isn't over. A clone
-    /// of a plan shares it. Each switch that is told to stamp with the version is told these words,
-    /// which are what its change touches.
+    /// One more version, of which this is the plan: it is sent to each switch that isn't over. A
+    /// clone of a plan shares it. Each switch that is told to stamp with the version gets these
+    /// words, which are what its change touches.
     ///
-    /// # Errors
-    /// `TooManyLive` exactly where 8 versions are not retired; otherwise `TooManyVersions` exactly
-    /// where there are 64. Nothing changed then.
+    /// # Errors `TooManyLive` exactly if 8 versions are not retired; otherwise `TooManyVersions`
+    /// exactly if there are 64. Then nothing changed.
     pub fn submit(&mut self, plan: Plan, touched: Touched) -> Result<Sends, Failure<SubmitError>>
         ensures after { OnOk result
             (SubmitsPlan self.old (next_kept self.old plan touched) self.new) }
@@ -140,12 +140,11 @@ impl Controller {
         Ok(sends)
     }
 
-    /// A message came: what it tells is taken in, and the marks settle. After a hello of a new
-    /// boot the switch is sent each version from the current one on. A body that isn't for the
-    /// controller gives no sends and no change.
+    /// A message came: its content is recorded, and the marks settle. After a hello of a new boot
+    /// each version from the current one on is sent to the switch. A body that isn't for the
+    /// controller causes no sends and no change.
     ///
-    /// # Errors
-    /// Only out of memory; what was told is taken in.
+    /// # Errors Only out of memory; what the message said is recorded.
     pub fn hear(&mut self, body: &Body) -> Result<Sends, AllocError>
         requires { NamesThere body.now self.old.marks }
         ensures after { SettlesWith
@@ -174,7 +173,7 @@ impl Controller {
         }
     }
 
-    /// The switch is confirmed to be gone until it tells a greater boot.
+    /// The switch is confirmed as down until it reports a greater boot.
     ///
     /// # Errors
     /// Only out of memory; the switch is over.
@@ -193,7 +192,7 @@ impl Controller {
         settled_sends(alloc, &mut self.versions, &self.marks, &settled)
     }
 
-    /// What the switch may lack, once more: nothing that it acknowledged.
+    /// What the switch may lack, sent again: nothing that it acknowledged.
     ///
     /// # Errors
     /// Only out of memory.
@@ -259,7 +258,7 @@ impl Controller {
         Ok(Sends::from_items(acts))
     }
 
-    // A body that isn't for the controller causes nothing: settled marks stay as they are.
+    // A body that isn't for the controller causes nothing: settled marks stay unchanged.
     fn unheard(&self, alloc: Global) -> Sends
         ensures none { result ≡ [] }
         ensures idle { settling_acts (current_touched self.now) self.now.marks self.now.marks ≡ [] }
@@ -335,14 +334,14 @@ fn install_each(alloc: Global, marks: &Marks, version: &Version) -> Result<Vec<A
     Ok(acts)
 }
 
-// Whether a switch that stands so isn't over.
+// Whether a switch in this phase isn't over.
 fn is_there(phase: Phase) -> bool
     ensures { result ≡ not (is_over phase) }
 {
     phase != Phase::Over
 }
 
-// The marks settled on a hello: what is then sent, and all versions to a switch in a new boot.
+// What is sent when the marks settled on a hello; to a switch in a new boot, all versions too.
 fn hello_sends(
     alloc: Global,
     versions: &mut Vec<Version>,

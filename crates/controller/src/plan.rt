@@ -76,7 +76,7 @@ impl Plan {
         Ok(Plan { shared })
     }
 
-    /// The plan of the same partitions with these targets, in order. Where each has a target, its
+    /// The plan of the same partitions with these targets, in order. If each has a target, its
     /// tables still lead each header to the policy's first match.
     ///
     /// # Errors

@@ -16,10 +16,9 @@ use std::alloc::{AllocError, Global};
 /// The plan of a policy on a network: the partitions of its tree with the network's leaves, hosted
 /// by the switches. From each switch its tables lead each header to the policy's first match.
 ///
-/// # Errors
-/// `TooManyWords` where its rows have more than 4,096 words; otherwise `TooManyLeaves` where its
-/// tree has more than 512 leaves; otherwise `NoRoom` with the first partition, by falling size and
-/// then by number, that finds too few switches.
+/// # Errors `TooManyWords` if its rows have more than 4,096 words; otherwise `TooManyLeaves` if
+/// its tree has more than 512 leaves; otherwise `NoRoom` with the first partition, by falling size
+/// and then by number, that finds too few switches.
 pub fn compile(alloc: Global, policy: &Policy, net: &Net) -> Result<Plan, PlanError>
     requires { IsNet net.now }
     ensures plan { IfOk result (λ plan. plan_of policy.now net.now ≡ Ok plan.hosted) }
@@ -52,7 +51,7 @@ fn sizes_of(alloc: Global, parts: &[Partition]) -> Result<Vec<u32>, AllocError>
     Ok(sizes)
 }
 
-/// For how many rules each switch has room.
+/// How many rules each switch has room for.
 ///
 /// # Errors
 /// Only out of memory.

@@ -1,11 +1,11 @@
-//! What a switch replies of a version.
+//! What a switch replies about a version.
 ghost use Rattle.version_update.specs.Marks.{StaySettled, at_switch};
 ghost use Rattle.version_update.specs.Settling.{Settles};
 ghost use Rattle.controller.specs.Exports.{NamesBoth, after_reply};
 
 use version_update::{Marks, Settled};
 
-/// What a switch replies that it did with a version.
+/// What a switch replies about a version.
 #[derive(Clone, Copy)]
 pub enum Reply {
     Installed,
@@ -13,7 +13,7 @@ pub enum Reply {
 }
 
 impl Reply {
-    /// The marks take the reply of a switch in.
+    /// The marks record the reply of a switch.
     pub fn take_in(self, marks: &mut Marks, s: u32, boot: u32, version: u32) -> Settled
         requires { NamesBoth s version marks.old }
         ensures settled { Settles

@@ -49,7 +49,7 @@ fn is_missing(marks: &Marks, version: u32, s: u32, first: u32) -> bool
     first <= version && !marks.has_acked(s, version)
 }
 
-/// Adds the current stamp with what its change touches, where the member acknowledged a lower one.
+/// Adds the current stamp with what its change touches, if the member acknowledged a lower one.
 ///
 /// # Errors
 /// Only out of memory.
@@ -80,7 +80,7 @@ pub fn stamp_again(
     Ok(())
 }
 
-/// Adds that the tables of the retired versions are to be dropped, where there are any.
+/// Adds the message to drop the tables of the retired versions, if there are any.
 ///
 /// # Errors
 /// Only out of memory.

@@ -13,7 +13,7 @@ use std::alloc::{AllocError, Global};
 use switch_table::Touched;
 use version_update::{Marks, Settled};
 
-/// What several switches are told at once.
+/// What is sent to several switches at once.
 #[derive(Drop)]
 pub enum News {
     /// With what the change of the version touches.
@@ -39,11 +39,10 @@ impl News {
     }
 }
 
-/// The marks settled, and this is the answer: adds what is then sent, and lets the versions before
-/// the current one go.
+/// The marks settled with this result: adds what is then sent, and drops the versions before the
+/// current one.
 ///
-/// # Errors
-/// Only out of memory; the versions are let go.
+/// # Errors Only out of memory; the versions are dropped.
 pub fn settle(
     acts: &mut Vec<Act>,
     versions: &mut Vec<Version>,
@@ -86,11 +85,10 @@ fn tell_current(
     send_to_each(acts, marks, mask, &news, current)
 }
 
-/// The marks settled, and this is the answer: what is then sent alone. The versions before the
-/// current one are let go.
+/// The marks settled with this result: only what is then sent. The versions before the current one
+/// are dropped.
 ///
-/// # Errors
-/// Only out of memory; the versions are let go.
+/// # Errors Only out of memory; the versions are dropped.
 pub fn settled_sends(
     alloc: Global,
     versions: &mut Vec<Version>,
@@ -107,14 +105,14 @@ pub fn settled_sends(
     Ok(Sends::from_items(acts))
 }
 
-// Lets the versions before the current one go: no later call names them.
+// Drops the versions before the current one: no later call names them.
 fn let_go(versions: &mut Vec<Version>, current: u32)
     ensures { versions.new.items ≡ plans_from current versions.old.items }
 {
     versions.retain(|kept| current <= kept.version());
 }
 
-/// What the change of a version touches: that which is kept with its plan, or everything.
+/// What the change of a version touches: the words kept with its plan, or everything.
 ///
 /// # Errors
 /// Only out of memory.
@@ -137,7 +135,7 @@ fn find_version(versions: &[Version], version: u32) -> Option<&Version>
     versions.iter().find(|kept| kept.version() == version)
 }
 
-// Tells the switches of the mask, each in the boot that is known of it.
+// Sends to the switches of the mask, each in its known boot.
 fn send_to_each(
     acts: &mut Vec<Act>,
     marks: &Marks,

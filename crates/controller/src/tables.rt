@@ -7,9 +7,9 @@ use policy_rules::{Partition, Targets};
 use std::alloc::{AllocError, Global};
 use switch_table::{Partitions, Tables, tables_laws};
 
-/// The tables that a plan gives to a switch for a version: all regions with their targets, and the
-/// partitions of which the switch is a target, in the order of their numbers. Regions and rules are
-/// the plan's, shared.
+/// The tables that a plan gives a switch for a version: all regions with their targets, and the
+/// partitions of which the switch is a target, in the order of their numbers. Regions and rules
+/// are the plan's, shared.
 ///
 /// # Errors
 /// Only out of memory.

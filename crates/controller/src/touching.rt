@@ -1,4 +1,4 @@
-//! What a change of a policy touches, as switches are told.
+//! What a change of a policy touches, as it is sent to switches.
 ghost use Rattle.std.specs.Prelude.{◌≡◌, ◌==◌, [], IfOk, OnOk, All, filter_map, find};
 ghost use Rattle.std.specs.List.{flat_map};
 ghost use Rattle.std.specs.Option.{option_copied, option_map_or};
@@ -12,12 +12,12 @@ use std::alloc::{AllocError, Global};
 use switch_table::Touched;
 use ternary::Word;
 
-/// The most words that switches are told.
+/// The most words that are sent to switches.
 const MAX_TOLD: usize = 16;
 
 /// What a change touches of the policy to which it is applied: the words of the rows that it
-/// removes, in the order of the removals, and then those of the rows that it adds; everything,
-/// where these are more than 16.
+/// removes, in the order of the removals, and then those of the rows that it adds; everything, if
+/// these are more than 16.
 ///
 /// # Errors
 /// Only out of memory.
@@ -30,7 +30,7 @@ pub fn touched(alloc: Global, policy: &Policy, change: &Amendment) -> Result<Tou
     Ok(touched_by_words(words))
 }
 
-// These words, or everything, where they are too many to be told.
+// These words, or everything, if there are too many to send.
 fn touched_by_words(words: Vec<Word>) -> Touched
     ensures { result ≡ few_touched words.items }
 {
@@ -40,7 +40,7 @@ fn touched_by_words(words: Vec<Word>) -> Touched
     }
 }
 
-// Adds the words of the rows of these priorities, as far as they may be told.
+// Adds the words of the rows of these priorities, up to the most that may be sent.
 fn list_removed(words: &mut Vec<Word>, rows: &[Row], removed: &[u32]) -> Result<(), AllocError>
     requires { All IsSoundRow rows.now }
     ensures { OnOk result (ListsMore words.old.items words.new.items (flat_map words_of_row
@@ -52,7 +52,7 @@ fn list_removed(words: &mut Vec<Word>, rows: &[Row], removed: &[u32]) -> Result<
     Ok(())
 }
 
-// Adds the words of the rows, as far as they may be told.
+// Adds the words of the rows, up to the most that may be sent.
 fn list_added(words: &mut Vec<Word>, rows: &[Row]) -> Result<(), AllocError>
     requires { All IsSoundRow rows.now }
     ensures { OnOk result (ListsMore words.old.items words.new.items
@@ -64,8 +64,8 @@ fn list_added(words: &mut Vec<Word>, rows: &[Row]) -> Result<(), AllocError>
     Ok(())
 }
 
-// Adds the words of the row of this priority, unless there are more than may be told: then it isn't
-// sought.
+// Adds the words of the row of this priority, unless there are more than may be sent: then the row
+// isn't looked for.
 fn list_row_of(words: &mut Vec<Word>, rows: &[Row], priority: u32) -> Result<(), AllocError>
     requires { All IsSoundRow rows.now }
     ensures { OnOk result (ListsMore words.old.items words.new.items
@@ -86,7 +86,7 @@ fn find_row(rows: &[Row], priority: u32) -> Option<&Row>
     rows.iter().find(|row| row.priority == priority)
 }
 
-// Adds the words of a row, unless there are more than may be told.
+// Adds the words of a row, unless there are more than may be sent.
 fn list_row(words: &mut Vec<Word>, row: &Row) -> Result<(), AllocError>
     requires { IsSoundRow row.now }
     ensures { OnOk result (ListsMore words.old.items words.new.items (words_of_row row.now)) }

@@ -43,7 +43,8 @@ impl Model for Version {
 }
 
 impl Version {
-    /// This version with this plan, whose change touches this, and the tables of so many switches.
+    /// This version with this plan, whose change touches this, and the tables of this many
+    /// switches.
     ///
     /// # Errors
     /// Only out of memory.
@@ -100,7 +101,7 @@ impl Version {
         Ok(Act::post(s, Body::Install { boot, tables }))
     }
 
-    /// The tables of a switch: those that were made, where they were.
+    /// The tables of a switch: those that were made before, if they were.
     ///
     /// # Errors
     /// Only out of memory.

@@ -1,6 +1,6 @@
--- A network has converged where each switch knows the links that can be used, as far as these
--- reach. Link-state databases that agree are those of OSPF (RFC 2328, section 13); a link counts
--- where both its ends name it (section 16.1).
+-- A network has converged if each switch knows the usable links, as far as they reach. Link-state
+-- databases that agree are those of OSPF (RFC 2328, section 13); a link counts if both its ends
+-- name it (section 16.1).
 use Rattle.std.specs.Prelude.{ℕ, ◌≡◌, ◌≢◌, ◌<◌, ◌↔◌, Some, None, List, [], ◌∷◌, All, IsTrue, IsFalse}
 use Rattle.failover.specs.Links.{has_link, AreJoined}
 use Rattle.base.specs.Masks.{has}
@@ -11,33 +11,33 @@ use Rattle.update_machine.specs.Boots.{is_up}
 use Rattle.update_machine.specs.LinkMasks.{near, links_known}
 use Rattle.update_machine.specs.Setting.{Setting}
 
--- from a switch over these, each by a link that can be used, to the target
+-- from a switch over these, each by a usable link, to the target
 abbrev pub LeadsOver : Setting → List Item → ℕ → ℕ → List ℕ → Type 0
 LeadsOver setting journal target at [] = at ≡ target
 LeadsOver setting journal target at (next ∷ rest) =
     IsTrue (has (near setting journal at) next) × LeadsOver setting journal target next rest
 
--- links that can be used lead from the switch to the target
+-- usable links lead from the switch to the target
 pub record Reaches (setting : Setting) (journal : List Item) (from target : ℕ) : Type 0 where
   pub rest : List ℕ
   pub leads : LeadsOver setting journal target from rest
 
--- none of these links can be used, as those that a packet found down a moment ago
+-- none of these links is usable, as those that a packet found down a moment ago
 abbrev pub AreUnusable : Setting → List Item → List ℕ → Type 0
 AreUnusable setting journal down = (one other : ℕ)
     → IsTrue (has (near setting journal one) other) → IsFalse (has_link down one other)
 
 pub record HasConverged (setting : Setting) (journal : List Item) : Type 0 where
-  -- a switch holds the own advert of each other one that it reaches
+  -- a switch has the own advert of each other one that it reaches
   pub adverts : (s origin : ℕ) → s ≢ origin → Reaches setting journal s origin →
       advert_known setting journal s origin ≡ Some (own_advert setting journal origin)
-  -- of the links that end where it reaches it knows exactly those that can be used
+  -- of the links that end at a switch that it reaches it knows exactly the usable ones
   pub links : (s one other : ℕ) (down : List ℕ) → HasSwitch setting.net s →
       IsTrue (is_up journal s) → Reaches setting journal s one → other < 64 →
       AreUnusable setting journal down →
       AreJoined (links_known setting journal s down) one other
       ↔ IsTrue (has (near setting journal one) other)
-  -- so it finds no route only where it reaches no target, whatever down links were found
+  -- so it finds no route only if it reaches no target, whatever down links were found
   pub stuck : (s : ℕ) (targets down : List ℕ) → HasSwitch setting.net s →
       AreUnusable setting journal down →
       route_from setting journal s targets down ≡ None →

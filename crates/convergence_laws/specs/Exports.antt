@@ -1,4 +1,4 @@
--- The definitions by which the laws of this crate speak, passed on from the files that define them.
+-- The definitions that the laws of this crate use, passed on from the files that define them.
 pub use Rattle.convergence_laws.specs.Converged.{HasConverged}
 pub use Rattle.convergence_laws.specs.Finished.{EndsFinished, IsFinished}
 pub use Rattle.convergence_laws.specs.News.{NeighboursAgree, NewsSpreads}

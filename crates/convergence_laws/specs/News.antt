@@ -1,6 +1,6 @@
--- What switches that can use a link between them tell each other. That adverts reach all switches
--- is the reliable flooding of OSPF (RFC 2328, section 13); acknowledgements are not needed here, as
--- a quiet network lost nothing that matters.
+-- What switches with a usable link between them send each other. That adverts reach all switches
+-- is the reliable flooding of OSPF (RFC 2328, section 13); acknowledgements are not needed here,
+-- because a quiet network lost nothing that matters.
 use Rattle.std.specs.Prelude.{ℕ, ◌≡◌, ◌<◌, ◌⊎◌, Some, List, Contains, IsTrue, IsFalse}
 use Rattle.failover.specs.Adverts.{is_newer}
 use Rattle.failover.specs.declared.advert.Advert.{Advert}
@@ -18,7 +18,7 @@ pub record IsAsNew (advert than : Advert) : Type 0 where
   pub origin : advert.origin ≡ than.origin
   pub new : IsFalse (is_newer than advert)
 
--- the switch holds an advert that is at least as new
+-- the switch has an advert that is at least as new
 pub record HoldsAsNew (setting : Setting) (journal : List Item) (s : ℕ) (than : Advert)
     : Type 0 where
   pub advert : Advert
@@ -33,15 +33,15 @@ pub record IsSentAsNew (journal : List Item) (s : ℕ) (than : Advert) : Type 0 
       (record { number = number; message = advert_to s advert; boot = boot_of journal s })
   pub as_new : IsAsNew advert than
 
--- over a link that can be used each end holds adverts at least as new as those of the other end, or
--- one was sent to it in its present boot
+-- over a usable link each end has adverts at least as new as those of the other end, or one was
+-- sent to it in its present boot
 abbrev pub NewsSpreads : Setting → List Item → Type 0
 NewsSpreads setting journal = (s neighbour origin : ℕ) (advert : Advert)
     → IsTrue (has (near setting journal s) neighbour) → origin < 64
     → advert_known setting journal s origin ≡ Some advert
     → HoldsAsNew setting journal neighbour advert ⊎ IsSentAsNew journal neighbour advert
 
--- over a link that can be used each end holds adverts at least as new as those of the other end
+-- over a usable link each end has adverts at least as new as those of the other end
 abbrev pub NeighboursAgree : Setting → List Item → Type 0
 NeighboursAgree setting journal = (s neighbour origin : ℕ) (advert : Advert)
     → IsTrue (has (near setting journal s) neighbour) → origin < 64

@@ -12,8 +12,8 @@ use Rattle.update_machine.specs.Pieces.{piece}
 use Rattle.update_machine.specs.Setting.{Setting}
 use Rattle.convergence_laws.specs.Converged.{Reaches}
 
--- a step makes a packet that had found no link down stuck only where no target of its leg is
--- reached over links that can be used
+-- a packet that had found no link down gets stuck in a step only if no target of its leg is
+-- reachable over usable links
 abbrev pub GetStuckApart : Setting → List Item → Type 0
 GetStuckApart setting journal = (row : ℕ) (step : Step) (front rest : List Item) (i s : ℕ)
     (cause : Cause) (leg : Leg) (down : List ℕ)

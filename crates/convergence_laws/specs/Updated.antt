@@ -1,4 +1,4 @@
--- What a finished update leaves: all switches that are up stamp with the newest version, and no
+-- The result of a finished update: all switches that are up stamp with the newest version, and no
 -- other version is needed (Reitblatt, Foster, Rexford, Schlesinger and Walker, "Abstractions for
 -- Network Update").
 use Rattle.std.specs.Prelude.{◌≡◌, ◌-◌, List, All, IsTrue}

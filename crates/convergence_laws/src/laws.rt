@@ -5,37 +5,38 @@ ghost use Rattle.update_machine.specs.Exports.{Event, IsQuiet, Item, Setting};
 ghost use Rattle.control_laws.specs.Always.{HoldsAtEnds, HoldsBehindItems};
 ghost use Rattle.convergence_laws.specs.Exports.{EndsFinished, GetStuckApart, HasConverged, IsFinished, IsUpdated, NeighboursAgree, NewsSpreads};
 
-/// Over each link that can be used, each end holds adverts at least as new as those of the other
-/// end, or one was sent to it in its present boot: at the end of each step, quiet or not.
+/// Over each usable link, each end holds adverts at least as new as those of the other end, or
+/// such an advert was sent to it in its present boot. This is true at the end of each step, in a
+/// quiet network or not.
 pub fn news_spreads()
     ensures { HoldsAtEnds (λ setting journal. IsNet setting.net → NewsSpreads setting journal) }
 {}
 
-/// In a quiet network neighbours agree: over each link that can be used, each end holds adverts at
-/// least as new as those of the other end.
+/// In a quiet network neighbours agree: over each usable link, each end has adverts at least as
+/// new as those of the other end.
 pub fn quiet_neighbours_agree()
     ensures { HoldsAtEnds (λ setting journal.
         IsNet setting.net → IsQuiet setting journal → NeighboursAgree setting journal) }
 {}
 
-/// Where neighbours agree the network has converged: each switch holds the own advert of each
-/// switch that it reaches over links that can be used; so of the links that end where it reaches it
-/// knows exactly those that can be used, and it finds no route only where it reaches no target.
+/// If neighbours agree, the network has converged: each switch has the own advert of each switch
+/// that it reaches over usable links. So of the links that end at a reachable switch it knows
+/// exactly the usable ones, and it finds no route only if no target is reachable.
 pub fn agreeing_networks_have_converged()
     ensures { HoldsAtEnds (λ setting journal.
         IsNet setting.net → NeighboursAgree setting journal → HasConverged setting journal) }
 {}
 
-/// In a quiet network each switch holds the own advert of each switch that it reaches over links
-/// that can be used; so of the links that end where it reaches it knows exactly those that can be
-/// used, and it finds no route only where it reaches no target.
+/// In a quiet network each switch has the own advert of each switch that it reaches over usable
+/// links. So of the links that end at a reachable switch it knows exactly the usable ones, and it
+/// finds no route only if no target is reachable.
 pub fn quiet_networks_have_converged()
     ensures { HoldsAtEnds (λ setting journal.
         IsNet setting.net → IsQuiet setting journal → HasConverged setting journal) }
 {}
 
-/// Where neighbours agree, as in a quiet network, a step makes a packet that had found no link down
-/// stuck only where no target of its leg is reached over links that can be used.
+/// If neighbours agree, as in a quiet network, a packet that had found no link down gets stuck in
+/// a step only if no target of its leg is reachable over usable links.
 pub fn packets_get_stuck_apart()
     ensures agreed { HoldsAtEnds (λ setting journal.
         IsNet setting.net → NeighboursAgree setting journal → GetStuckApart setting journal) }
@@ -49,16 +50,16 @@ pub fn quiet_networks_are_updated()
     ensures { HoldsAtEnds (λ setting journal. IsQuiet setting journal → IsUpdated setting journal) }
 {}
 
-/// A network is quiet where no message waits, none was forgotten, and each switch is up, or the
+/// A network is quiet if no message waits, none was forgotten, and each switch is up or the
 /// controller doesn't wait for it.
 pub fn finished_networks_are_quiet()
     ensures { HoldsBehindItems (λ setting journal.
         IsFinished setting journal → IsQuiet setting journal) }
 {}
 
-/// A schedule that ends with a flush leaves no message waiting. So where none was forgotten, and
-/// each switch that went down came up again or was confirmed, its network is quiet: it has
-/// converged, and every switch that is up stamps with the newest version.
+/// A schedule that ends with a flush leaves no message waiting. So if none was forgotten, and each
+/// switch that went down came up again or was confirmed, its network is quiet: it has converged,
+/// and every switch that is up stamps with the newest version.
 pub fn flushed_networks_have_converged()
     ensures quiet { (setting : Setting) (events : List Event) (journal : List Item)
         → EndsFinished setting events journal → IsQuiet setting journal }

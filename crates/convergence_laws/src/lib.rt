@@ -1,4 +1,4 @@
-//! What holds of a quiet network, and of one whose neighbours agree: laws over journals of any
+//! What is true in a quiet network, and in one whose neighbours agree: laws over journals of any
 //! steps.
 //!
 //! No code: each function is the law that it ensures.

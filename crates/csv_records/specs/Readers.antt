@@ -1,4 +1,4 @@
--- A reader of the crate `csv` in the middle of a text: the records that it has yet to give.
+-- A reader of the crate `csv` in the middle of a text: the records that it has yet to read.
 use Rattle.std.specs.Prelude.{ℕ, ◌≡◌, ◌+◌, true, false, List, [], length, Option, Some}
 use Rattle.std.specs.Option.{option_map_or}
 use Rattle.std.specs.Borrow.{Bor}
@@ -10,14 +10,15 @@ use Rattle.csv.specs.declared.reader.Trim.TheVariants as trim
 abbrev pub bytes_left : Reader (Bor (List ℕ)) → Option (List ℕ)
 bytes_left reader = source_of (λ slice. Some slice.now) reader
 
--- the records that it has yet to give: none after a failure
+-- the records that it has yet to read: none after a failure
 abbrev pub records_left : Reader (Bor (List ℕ)) → List (List (List ℕ))
 records_left reader =
     option_map_or (λ bytes. records_from default_config (length bytes + 1) (reader_state reader)
     bytes)
     (bytes_left reader) []
 
--- the reader has the presets of its crate, but for no header treatment and records of any width
+-- the reader has the presets of its crate, except that it treats no record as a header and allows
+-- records of any width
 pub record IsReading (reader : Reader (Bor (List ℕ))) : Type 0 where
   pub config : reader_config reader ≡ default_config
   pub trim : reader_trim reader ≡ trim.None

@@ -8,13 +8,13 @@ use lib.Pointwise.{pointwise}
 abbrev pub records_of : List ℕ → List (List (List ℕ))
 records_of text = records default_config (strip_bom text)
 
--- a read gave these fields, the first of the records that were left; or it found none, and none was
--- left
+-- a read returned these fields, the first of the remaining records; or it found none, and none
+-- remained
 abbrev pub TakesRecord : List (List (List ℕ)) → Bool → List (List ℕ) → List (List (List ℕ)) → Type 0
 TakesRecord before true fields after = before ≡ fields ∷ after
 TakesRecord before false fields after = (before ≡ []) × (after ≡ [])
 
--- the field at this place, or an empty one where the record ends before it
+-- the field at this place, or an empty one if the record ends before it
 abbrev pub field_or_empty : List (List ℕ) → ℕ → List ℕ
 field_or_empty fields place = unwrap_or (field_at fields place) []
 

@@ -4,7 +4,7 @@ ghost use Rattle.csv_records.specs.Texts.{field_or_empty};
 
 use csv::ByteRecord;
 
-/// The field at this place, or an empty one where the record ends before it.
+/// The field at this place, or an empty one if the record ends before it.
 pub fn field(fields: &ByteRecord, place: usize) -> &[u8]
     ensures { result.now ≡ field_or_empty (fields_of fields.now) place }
 {

@@ -5,7 +5,7 @@
 //! blank lines are as it reads them. Records may have any width, none is taken for column names,
 //! and no field is trimmed.
 //!
-//! Contracts see a `Records` as the list of the records that it has yet to give, so a caller
+//! Contracts see a `Records` as the list of the records that remain to be read, so a caller
 //! reasons about a plain list:
 //!
 //! ```text

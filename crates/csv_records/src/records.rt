@@ -10,7 +10,7 @@ use std::marker::Model;
 #[derive(Drop)]
 pub struct Records<'a> {
     reader: Reader<&'a [u8]>,
-    // The text has ended, or a read has failed: no record is left.
+    // The text has ended, or a read has failed: no record remains.
     is_over: bool,
 }
 
@@ -40,10 +40,9 @@ impl<'a> Records<'a> {
         }
     }
 
-    /// Reads the next record into `fields`, and says whether there was one.
+    /// Reads the next record into `fields`, and returns whether there was one.
     ///
-    /// # Errors
-    /// Only out of memory; then no record is left.
+    /// # Errors Only out of memory; then no record remains.
     pub fn read_next(&mut self, fields: &mut ByteRecord) -> Result<bool, AllocError>
         ensures takes { IfOk result (λ found.
             TakesRecord self.old found (fields_of fields.new) self.new) }
@@ -59,7 +58,7 @@ impl<'a> Records<'a> {
                 Ok(found)
             }
             Err(error) => match error.into_kind() {
-                // A slice is read without failing, but `csv` does not say so of `Io`.
+                // Reading a slice can't fail, but `csv` doesn't say so of `Io`.
                 ErrorKind::OutOfMemory | ErrorKind::Io(_) => Err(AllocError),
                 _ => unreachable!(),
             },

@@ -5,7 +5,7 @@ use Rattle.ctrl_msg.specs.declared.message.Body.TheVariants.{Install, OpenAt, St
 use Rattle.ctrl_msg.specs.declared.message.Message.{Message}
 use Rattle.ctrl_msg.specs.declared.message.Place.TheVariants.{Controller}
 
--- the version that a body speaks of
+-- the version that a body names
 abbrev pub body_version : Body → Option ℕ
 body_version (Install boot tables) = Some tables.version
 body_version (OpenAt boot version) = Some version

@@ -31,8 +31,8 @@ pub enum Body {
         boot: u32,
         version: u32,
     },
-    /// In this boot, stamp packets with this version from now on, which came of the one before by
-    /// a change that touches no more than this.
+    /// In this boot, stamp packets with this version from now on, made from the one before by a
+    /// change that touches no more than this.
     Stamp {
         boot: u32,
         version: u32,
@@ -43,7 +43,7 @@ pub enum Body {
         boot: u32,
         version: u32,
     },
-    /// Under this version, the headers of the word are decided in this way.
+    /// Under this version, the headers of the word are decided like this.
     CacheRule {
         version: u32,
         word: Word,
@@ -51,7 +51,7 @@ pub enum Body {
         rule: Option<u32>,
         action: Action,
     },
-    /// A switch tells which links it can use.
+    /// A switch says which links it can use.
     Advertise {
         advert: Advert,
     },
@@ -82,8 +82,7 @@ pub struct Message {
 }
 
 impl Body {
-    /// The boot that the message is for or of; an advertisement and a cache rule carry none of
-    /// their own.
+    /// The boot that the message is for or of; an advertisement and a cache rule carry none.
     pub fn boot(&self) -> Option<u32>
         ensures { result ≡ body_boot self.now }
     {
@@ -99,7 +98,7 @@ impl Body {
         }
     }
 
-    /// The version that the message speaks of, if it speaks of one.
+    /// The version that the message names, if it names one.
     pub fn version(&self) -> Option<u32>
         ensures { result ≡ body_version self.now }
     {

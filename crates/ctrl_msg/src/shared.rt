@@ -7,7 +7,7 @@ use std::rc::Rc;
 use switch_table::Tables;
 use table_tree::{Finder, Trees};
 
-/// No trees are grown for a list of so many entries.
+/// No trees are built for a list of this many entries.
 const MANY: usize = 1 << 32;
 
 /// The tables of a switch for one version, which clones share, and trees for them, which tables of
@@ -46,9 +46,9 @@ impl SharedTables {
         })
     }
 
-    /// The same tables with trees, which are grown unless there are some. Tables of which a list
-    /// has 2^32 entries or more get none. Regions that overlap, as in no sound tables, may get a
-    /// tree far larger than their list.
+    /// The same tables with trees, which are built unless there are some. Tables get none if one
+    /// of their lists has 2^32 entries or more. Regions that overlap, as in no sound tables, may
+    /// get a tree far larger than their list.
     ///
     /// # Errors
     /// Only out of memory.
@@ -90,7 +90,7 @@ impl SharedTables {
         &self.shared
     }
 
-    /// A finder for the tables. It shares their trees; where there are none, it grows some.
+    /// A finder for the tables. It shares their trees; if there are none, it builds some.
     ///
     /// # Errors
     /// Only out of memory.
@@ -116,7 +116,7 @@ impl Clone for SharedTables {
     }
 }
 
-// Whether trees can be grown for the tables: no list has too many entries.
+// Whether trees can be built for the tables: no list has too many entries.
 fn can_grow_trees(tables: &Tables) -> bool
     ensures parts { IsTrue result → length tables.now.parts < 2 ^ 32 }
     ensures auth { IsTrue result → All (λ part. length part.rules < 2 ^ 32) tables.now.auth }

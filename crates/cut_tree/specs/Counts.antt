@@ -9,17 +9,17 @@ use Rattle.cut_tree.specs.Nodes.{LiesIn}
 use Rattle.cut_tree.specs.declared.choice.Cost.{Cost}
 use Rattle.cut_tree.specs.declared.choice.Side.{Side}
 
--- plane k holds the bits of weight 2 ^ k of all counters
+-- plane k has the bits of weight 2 ^ k of all counters
 abbrev pub count_at : List ℕ → ℕ → ℕ
 count_at [] bit = 0
 count_at (plane ∷ planes) bit = bit_at plane bit + 2 * count_at planes bit
 
--- of the 32 planes so many, from the first, hold all the counts
+-- of the 32 planes this many, from the first, contain all the counts
 pub record IsHeight (planes : List ℕ) (height : ℕ) : Type 0 where
   pub bound : height ≤ 32
   pub above : (bit : ℕ) → count_at (drop height planes) bit ≡ 0
 
--- what the second planes hold for a bit of the set, and the first ones for any other
+-- the count in the second planes for a bit of the set, and in the first ones for any other
 abbrev pub count_by : List ℕ → List ℕ → ℕ → ℕ → ℕ
 count_by first second which bit =
     if bit_at which bit == 1 then count_at second bit else count_at first bit
@@ -37,7 +37,7 @@ counted_cost low high bit = cost_from bit (count_at low bit) (count_at high bit)
 abbrev pub count_on_side : Side → ℕ → ℕ
 count_on_side side bit = count_at side.counts.planes bit
 
--- what will be counted for a bit in the end, where these rules are still to come
+-- what will be counted for a bit in the end, if these rules are still to come
 abbrev pub expected_count : Side → WordValue → ℕ → List Rule → ℕ
 expected_count side region bit rules =
     count_on_side side bit + bit_at side.open bit * length (side_of rules region bit side.one)

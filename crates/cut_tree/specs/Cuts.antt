@@ -39,7 +39,7 @@ pub record IsLeastCut (rules : List Rule) (region : WordValue) (bit : ℕ) : Typ
   pub least : (other : ℕ) → IsFreeBit region other →
       CostsAtMost (cost_of rules region bit) (cost_of rules region other)
 
--- a has the smaller larger side, or the smaller sum where these are equal
+-- a has the smaller larger side, or the smaller sum if these are equal
 abbrev pub is_cheaper : Cost → Cost → Bool
 is_cheaper a b = nat_lt a.larger b.larger || ((a.larger == b.larger) && nat_lt a.sum b.sum)
 

@@ -1,4 +1,4 @@
--- The tree that a list of rules has: a test of a given tree, and the tree as a function.
+-- The tree of a list of rules: a test of a given tree, and the tree as a function.
 use Rattle.std.specs.Prelude.{ℕ, zero, suc, ◌≡◌, ◌<◌, ◌≤◌, nat_le, true, false, Option, Some, None, List, length}
 use Rattle.ternary.specs.Word.{WordValue}
 use Rattle.ternary.specs.Meets.{any_word, fix_of, free_bits}
@@ -40,7 +40,7 @@ IsDefinedTree rules most tree = IsTreeOf rules any_word most tree
 abbrev pub free_count : WordValue → ℕ
 free_count region = length (free_bits region)
 
--- both sides of a cut, if there is one, grown in this way
+-- both sides of a cut, if there is one, built by this function
 abbrev pub cut_by : (List Rule → WordValue → Shape) → List Rule → WordValue → Option Cost → Shape
 cut_by grow rules region None = End region rules
 cut_by grow rules region (Some cost) =
@@ -48,7 +48,7 @@ cut_by grow rules region (Some cost) =
     (grow (side_of rules region cost.bit false) (fix_of region cost.bit false))
     (grow (side_of rules region cost.bit true) (fix_of region cost.bit true))
 
--- the tree with at most so many cuts one below another
+-- the tree with at most this many cuts one below another
 unfoldable pub tree_within : ℕ → ℕ → List Rule → WordValue → Shape
 tree_within zero most rules region = End region rules
 tree_within (suc depth) most rules region = elim (nat_le (length rules) most) [

@@ -22,6 +22,6 @@ pub record TreeLaws : Type 0 where
   -- a list of rules has a tree for each cap of one or more
   pub exists : (rules : List Rule) (cap : ℕ) → 0 < cap → AreWords rules →
       IsDefinedTree rules cap (tree_of rules cap)
-  -- and no other
+  -- and only one
   pub only : (rules : List Rule) (cap : ℕ) (a b : Shape) →
       IsDefinedTree rules cap a → IsDefinedTree rules cap b → a ≡ b

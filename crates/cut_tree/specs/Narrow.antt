@@ -16,7 +16,7 @@ meets_region region rule = meets rule.word region
 abbrev pub covers_region : WordValue → Rule → Bool
 covers_region region rule = covers_of rule.word region
 
--- the rule for those of its headers alone that lie in the region
+-- the rule for only those of its headers that are in the region
 unfoldable pub narrowed_rule : WordValue → Rule → Rule
 narrowed_rule region rule = record rule { word = meeting_word rule.word region }
 

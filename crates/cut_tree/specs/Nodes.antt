@@ -1,4 +1,4 @@
--- What holds of the rules at a node of a tree.
+-- What is true of the rules at a node of a tree.
 use Rattle.std.specs.Prelude.{ℕ, ◌<◌, ◌≤◌, List, length, All, IsTrue}
 use Rattle.ternary.specs.Word.{WordValue}
 use Rattle.ternary.specs.WordBits.{IsWord}

@@ -1,4 +1,4 @@
--- A tree as its cuts and leaves, apart from the memory that holds them.
+-- A tree as its cuts and leaves, apart from the memory that they are in.
 use Rattle.std.specs.Prelude.{ℕ, List, [], ◌∷◌, ◌++◌, length}
 use Rattle.ternary.specs.Word.{WordValue}
 use Rattle.policy_rules.specs.declared.rules.Rule.{Rule}

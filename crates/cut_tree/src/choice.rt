@@ -33,7 +33,7 @@ impl Cost {
     }
 }
 
-/// The cost of the least cut of the region; `None` where no bit is free.
+/// The cost of the least cut of the region; `None` if no bit is free.
 pub fn least_cut(rules: &[Rule], region: &Word) -> Option<Cost>
     requires few { length rules.now < 2 ^ 32 }
     requires within { All (LiesIn region.now) rules.now }
@@ -60,7 +60,7 @@ pub fn free_bits(region: &Word) -> u128
     ALL_BITS & !region.mask()
 }
 
-// Of the bits of a set the first whose cut costs least, where so many planes hold all the counts.
+// Of the bits of a set the first whose cut costs least, if this many planes have all the counts.
 fn least_bit(low: &Counters, high: &Counters, bits: u128, height: usize) -> u32
     requires some { bits ≢ 0 }
     requires low { IsHeight low.now.planes height }
@@ -92,8 +92,8 @@ fn count_sides(rules: &[Rule], region: &Word) -> (Side, Side)
     (low, high)
 }
 
-// Counts the next four rules, or where one of them may cover a half, or they are fewer, the next
-// one. The place of the rule after these.
+// Counts the next four rules, or only the next one if one of the four may cover a half or fewer
+// are left. Returns the place of the rule after these.
 fn count_next(low: &mut Side, high: &mut Side, rules: &[Rule], place: usize, region: &Word) -> usize
     requires few { length rules.now < 2 ^ 32 }
     requires within { All (LiesIn region.now) rules.now }
@@ -133,7 +133,7 @@ fn fix_many(one: &Rule, other: &Rule, region: &Word) -> bool
     !fixes_few(&one.word, region) && !fixes_few(&other.word, region)
 }
 
-/// Of each pair of halves of a region the one with this value of the bit which parts them: how
+/// Of each pair of halves of a region the one with this value of the bit that separates them: how
 /// many rules it keeps.
 #[derive(Clone, Copy)]
 pub struct Side {
@@ -193,8 +193,8 @@ impl Side {
     }
 }
 
-// The bits whose half keeps the next rule, of those that are left. Where it covers the half, its
-// bit isn't left any more.
+// The bits whose half keeps the next rule, of those that are left. If it covers the half, its bit
+// is left no longer.
 fn pass(left: &mut u128, one: bool, rule: &Rule, region: &Word) -> u128
     requires { LiesIn region.now rule.now }
     ensures { (bit : ℕ) (rules : List Rule) → IsFreeBit region.now bit →
@@ -222,7 +222,7 @@ fn fixes_few(word: &Word, region: &Word) -> bool
     if fixed == 0 { true } else { is_one_bit(fixed) }
 }
 
-// Whether a set of bits that isn't empty has one alone, its lowest.
+// Whether a set of bits that isn't empty has only one, its lowest.
 #[inline(always)]
 fn is_one_bit(bits: u128) -> bool
     requires { bits ≢ 0 }
@@ -231,7 +231,7 @@ fn is_one_bit(bits: u128) -> bool
     bits == 1 << bits.trailing_zeros()
 }
 
-// The bits whose half the word meets, where it meets the region.
+// The bits whose half the word meets, if it meets the region.
 fn halves_met(word: &Word, one: bool) -> u128
     ensures { (bit : ℕ) → bit < 104 → bit_at result bit ≡ from_bool (admits word.now bit one) }
 {

@@ -5,8 +5,8 @@ ghost use Rattle.cut_tree.specs.Counts.{IsHeight, IsLeastOf, count_at, count_by}
 /// How many bits a counter has.
 const PLANES: usize = 32;
 
-/// A counter for each of 128 bits, all of them kept as binary numbers side by side: plane k holds
-/// of each counter the bit of weight 2^k. So a set of bits is counted in a few operations on
+/// A counter for each of 128 bits, all of them kept as binary numbers side by side: plane k has
+/// the bit of weight 2^k of each counter. So a set of bits is counted in a few operations on
 /// numbers of 128 bits.
 #[derive(Clone, Copy)]
 pub struct Counters {
@@ -63,7 +63,7 @@ impl Counters {
         }
     }
 
-    /// How many planes, from the first, hold all the counts of both: no counter has a bit past
+    /// How many planes, from the first, hold all the counts of both: no counter has a bit beyond
     /// them.
     pub fn height(&self, other: &Counters) -> usize
         ensures here { IsHeight self.now.planes result }
@@ -79,7 +79,7 @@ impl Counters {
         height
     }
 
-    /// How often this bit was counted, where so many planes hold all the counts.
+    /// How often this bit was counted, if this many planes have all the counts.
     pub fn count(&self, bit: u32, height: usize) -> u32
         requires bit { bit < 128 }
         requires here { IsHeight self.now.planes height }
@@ -94,7 +94,7 @@ impl Counters {
         count
     }
 
-    /// The bits that were counted more often here than there, where so many planes hold all the
+    /// The bits that were counted more often here than there, if this many planes have all the
     /// counts.
     pub fn more_than(&self, other: &Counters, height: usize) -> u128
         requires here { IsHeight self.now.planes height }

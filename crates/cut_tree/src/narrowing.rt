@@ -33,8 +33,8 @@ pub fn narrow(alloc: Global, rules: &[Rule], region: &Word) -> Result<Vec<Rule>,
     Ok(kept)
 }
 
-/// The same for a half of a region that the rules lie in: in order those that meet the half, up to
-/// and including the first that covers it, each for its headers there.
+/// The same for a half of a region that contains the rules: in order those that meet the half, up
+/// to and including the first that covers it, each for its headers there.
 pub fn narrow_half(
     alloc: Global,
     rules: &[Rule],
@@ -65,15 +65,15 @@ pub fn narrow_half(
     Ok(kept)
 }
 
-// The word of the headers of a word that have this bit: what it shares with the half of a region
-// that it lies in.
+// The word of the headers of a word that have this bit: its intersection with this half of a
+// region that contains it.
 fn with_bit(word: &Word, bit: u32, one: bool) -> Option<Word>
     requires { bit < 104 }
     ensures { (region : WordValue) → IsWord region → IsFreeBit region bit →
         IsTrue (covers_of region word.now) → result ≡ meet_of word.now (fix_of region bit one) }
 {
     holds_laws();
-    // For the proof: a word that is read is one.
+    // For the proof: a word that is read is sound.
     let _ = word.mask();
     if !word.is_fixed(bit) {
         return Some(word.fix(bit, one));

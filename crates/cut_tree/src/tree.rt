@@ -38,8 +38,8 @@ pub struct TooManyLeaves;
 /// The tree of these rules: its root has them all, each side of a cut those of its half, and no
 /// leaf has more than the cap.
 ///
-/// # Errors
-/// `TooManyLeaves` exactly where that tree has more than 512 leaves; no more of it is built then.
+/// # Errors `TooManyLeaves` exactly if that tree has more than 512 leaves; then no more of it is
+/// built.
 pub fn build(alloc: Global, rules: &[Rule], cap: u32) -> Result<Tree, Failure<TooManyLeaves>>
     requires cap { 0 < cap }
     requires few_rules { length rules.now < 2 ^ 32 }
@@ -57,7 +57,7 @@ pub fn build(alloc: Global, rules: &[Rule], cap: u32) -> Result<Tree, Failure<To
     grow(alloc, root, cap, &mut room)
 }
 
-// The tree of the rules of a node, which takes of the room one for each leaf.
+// The tree of the rules of a node, which takes one of the room for each leaf.
 fn grow(alloc: Global, node: Node, cap: u32, room: &mut u32) -> Result<Tree, Failure<TooManyLeaves>>
     requires cap { 0 < cap }
     ensures tree { IfOk result (λ tree. shape_of tree ≡ tree_at cap node.rules.items node.region) }
@@ -73,7 +73,7 @@ fn grow(alloc: Global, node: Node, cap: u32, room: &mut u32) -> Result<Tree, Fai
     let bit = node.least_cut().bit;
     let low = node.half(alloc, bit, false)?;
     let high = node.half(alloc, bit, true)?;
-    // The way down keeps the lists of the halves alone.
+    // On the way down only the lists of the halves are kept.
     drop(node);
     let low = grow(alloc, low, cap, room)?;
     let high = grow(alloc, high, cap, room)?;

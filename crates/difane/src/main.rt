@@ -20,7 +20,7 @@ fn read_args<R: Env + AllocGlobal>(rt: &R) -> io::Result<Vec<String>> {
     Ok(args)
 }
 
-/// The status of a call whose arguments can't be read. Where one is no text, its line is written.
+/// The status of a call whose arguments can't be read. If one is no text, its line is written.
 fn unread<E: Sink>(kind: ErrorKind, errs: &mut E) -> Status {
     match kind {
         ErrorKind::OutOfMemory => Status::NoMemory,
@@ -46,7 +46,7 @@ fn main(rt: HostRuntime) -> ExitCode {
             mem::forget(ending.journal);
             ExitCode::from(ending.status.number())
         }
-        // There was none for the meters, and nothing is printed.
+        // There was no memory for the meters, and nothing is printed.
         Err(AllocError) => ExitCode::from(Status::NoMemory.number()),
     }
 }

@@ -25,7 +25,7 @@ use Rattle.difane_cli.specs.Writes.{Unplayed, Wrote}
 use Rattle.difane_cli.specs.declared.status.Status.{Status}
 use Rattle.difane_cli.specs.declared.status.Status.TheVariants as status
 
--- what is said of a trace each line of which is good
+-- the verdict on a trace each line of which is good
 abbrev pub yes_line : List ℕ
 yes_line = codes "yes\n"
 
@@ -38,18 +38,18 @@ pub record IsAuditingOf (command : AuditCommand) (auditing : Auditing) : Type 0 
   pub few : All (λ file. file_length file ≤ 2000) auditing.files
   pub short : length auditing.trace ≤ most_trace_bytes
 
--- the verdict is Yes only where each line is good, and else No with the number of the first that
--- isn't; and where it is Yes, the moves that they tell are a run of the machine, and each packet
+-- the verdict is Yes only if each line is good, and otherwise No with the number of the first that
+-- isn't; and if it is Yes, the moves that they state are a run of the machine, and each packet
 -- that they print as dropped or as out by a port got one decision before, the first match for its
--- header under one version that was not retired as it entered
+-- header under one version that was not retired when it entered
 pub record IsJudged (files : List PolicyFile) (lines : List TraceLine) (verdict : Verdict) : Type 0 where
   pub good : verdict ≡ Yes → AreGood files lines
   pub bad : (number : ℕ) → verdict ≡ No number → IsFirstBad files lines number
   pub run : verdict ≡ Yes → AreRun files lines
   pub justified : verdict ≡ Yes → AreJustified files lines
 
--- there are a trace and files as the command asks for them, which are the known ones where these
--- are known; they are judged so; and the output is in this relation to the answer
+-- there are a trace and files as the command asks for them, which are the known ones if these are
+-- known; this is their verdict; and the output is in this relation to its line
 pub record Audited (command : AuditCommand) (files : Option Files) (verdict : Verdict)
     (IsWritten : List ℕ → Type 0) (journal : List Item) : Type 0 where
   pub auditing : Auditing
@@ -60,7 +60,7 @@ pub record Audited (command : AuditCommand) (files : Option Files) (verdict : Ve
   pub nothing_played : journal ≡ []
   pub written : IsWritten yes_line
 
--- the output that a status of an audit comes with: `No` leaves it as it is
+-- the output that a status of an audit comes with: `No` leaves it unchanged
 abbrev pub AuditOutcome : AuditCommand → Option Files → Status → List Item
     → (before now : SinkState) → Type 0
 AuditOutcome command files status.Ok journal before now =
@@ -81,7 +81,7 @@ abbrev pub TellsLines : Report → Type 0
 TellsLines (report.Lines quiet) = ⊤
 TellsLines _ = ⊥
 
--- where the lines of a journal are to be told, the text is a trace each line of which is good with
--- the files of the play: so `audit` answers Yes for it
+-- if the lines of a journal are printed, the text is a trace each line of which is good with the
+-- files of the play: so `audit` returns Yes for it
 abbrev pub IsGoodTrace : Inputs → List ℕ → Type 0
 IsGoodTrace inputs text = TellsLines inputs.report → AreGood inputs.setting.files (lines_of text)

@@ -1,13 +1,13 @@
 -- The codes by which a command refuses a file as a whole or for what another file says, and the
--- most bytes of a file. They are the program's own, and docs/FORMATS.md lists them beside those of
+-- most bytes of a file. They are the program's own, and docs/FORMATS.md lists them with those of
 -- rows.
 use Rattle.std.specs.Prelude.{ℕ}
 
--- a file has at most so many bytes
+-- a file has at most this many bytes
 abbrev pub most_bytes : ℕ
 most_bytes = 16_777_216
 
--- a trace has at most so many
+-- a trace has at most this many
 abbrev pub most_trace_bytes : ℕ
 most_trace_bytes = 268_435_456
 

@@ -46,7 +46,7 @@ pub record AreReadyToPlay (inputs : PlayInputs) : Type 0 where
   pub sound : MayBePlayed (inputs_stated inputs)
   pub few : length inputs.events.items ≤ max_events
 
--- a plan is on a network; of a trace nothing is asked
+-- a plan is on a network; nothing is required of a trace
 abbrev pub IsReadyTask : declared_task.Task → Type 0
 IsReadyTask (asked.Play inputs) = AreReadyToPlay inputs
 IsReadyTask (asked.Print inputs) = IsNet inputs.net

@@ -27,15 +27,15 @@ status_of (stop.Refused refusal) = status.Input refusal.file refusal.code refusa
 status_of stop.ReadFault = status.ReadFault
 status_of stop.NoMemory = status.NoMemory
 
--- the status of a command whose work was written or not, and went to its end or stopped full at a
--- row
+-- the status of a command whose work was written or not, and that ran to its end or stopped full
+-- at a row
 abbrev pub status_after : Result (⊤) SinkError → Option ℕ → Status
 status_after (Ok done) None = status.Ok
 status_after (Ok done) (Some row) = status.Full row
 status_after (Err sink.Failed) full = status.WriteFault
 status_after (Err sink.NoMemory) full = status.NoMemory
 
--- a status that comes behind work that was begun
+-- a status that comes after work was begun
 abbrev pub IsAfterWork : Status → Type 0
 IsAfterWork status.Ok = ⊤
 IsAfterWork (status.No line) = ⊤
@@ -44,7 +44,7 @@ IsAfterWork (status.Full row) = ⊤
 IsAfterWork status.NoMemory = ⊤
 IsAfterWork _ = ⊥
 
--- the status is one of work that was begun, and tells of a fault of the output exactly if there was
+-- the status is one of work that was begun, and reports a fault of the output exactly if there was
 -- one
 pub record EndsWork (ended : Status) (before now : SinkState) : Type 0 where
   pub worked : IsAfterWork ended
@@ -62,23 +62,23 @@ status_number status.WriteFault = 5
 status_number (status.Full row) = 6
 status_number status.NoMemory = 7
 
--- a status that only a fault of the shelf gives: a read fault; and where files are not known, an
+-- a status that only a fault of the shelf causes: a read fault; and if the files are not known, an
 -- absent file or one too long
 abbrev pub NeedsReadFault : Option Files → Status → Type 0
 NeedsReadFault files status.ReadFault = ⊤
 NeedsReadFault None (status.Input file code row) = (code ≡ missing_file) ⊎ (code ≡ too_long)
 NeedsReadFault _ _ = ⊥
 
--- a status behind which the shelf may have counted a fault: one that only a fault gives; and where
--- files are not known, want of memory, which may be found as an absent file is told
+-- a status with which the shelf may have counted a fault: one that only a fault causes; and if the
+-- files are not known, out of memory, which may occur while an absent file is reported
 abbrev pub MayFollowFault : Option Files → Status → Type 0
 MayFollowFault files status.ReadFault = ⊤
 MayFollowFault None (status.Input file code row) = (code ≡ missing_file) ⊎ (code ≡ too_long)
 MayFollowFault None status.NoMemory = ⊤
 MayFollowFault _ _ = ⊥
 
--- what a status says of what was to be read: a refusal is the one that stands there, and work was
--- done only on what is accepted
+-- what a status says of what was to be read: a refusal is the one that is stated there, and work
+-- was done only on what is accepted
 abbrev pub Accounts : {X : Type 0} → Result X Refusal → Status → Type 0
 Accounts read (status.Input file code row) =
     read ≡ Err (record { file = file; code = code; row = row })
@@ -89,9 +89,9 @@ Accounts read status.WriteFault = IsOk read
 Accounts read (status.Full row) = IsOk read
 Accounts read _ = ⊤
 
--- how a reading ends, where this is known of what there is to read: with the value that stands
--- there, as `seen` shows it; or with a stop that what stands there accounts for, and a fault of the
--- shelf where only that gives it
+-- how a reading ends, if this is known of what there is to read: with the value that is there, as
+-- `seen` shows it; or with a stop that what is there accounts for, and a fault of the shelf if
+-- only that causes it
 abbrev pub EndsRead : {K X V : Type 0} → (known : Option K) → (read : K → Result X Refusal)
     → (seen : V → X) → (old new : ShelfState) → Result V Stop → Type 0
 EndsRead known read seen old new (Ok value) =
@@ -109,7 +109,7 @@ IsCalmRead old new (Err stop) =
 -- ---- which names a refusal may name
 
 -- the names that the arguments have: of the network, of files, and of the switch; a load case has
--- one of its own
+-- its own name
 abbrev pub names_in : Option Command → List (List ℕ)
 names_in None = []
 names_in (Some (asked.Replay args)) = option_to_list args.net ++ args.schedule ∷ args.policies
@@ -128,41 +128,41 @@ NamesOneOf names (status.Input file code row) = IsOneOf names file
     × ((code ≡ missing_file) ⊎ (code ≡ too_long) → row ≡ 0)
 NamesOneOf names _ = ⊤
 
--- the same of a reading that stops
+-- the same for a reading that stops
 abbrev pub StopNamesOneOf : {V : Type 0} → List (List ℕ) → Result V Stop → Type 0
 StopNamesOneOf names (Ok value) = ⊤
 StopNamesOneOf names (Err stop) = NamesOneOf names (status_of stop)
 
--- a reading of the files of these names, by at most so many reads of the shelf: it counts no fault,
--- unless it stops as one that met a fault may, and what it refuses is one of them
+-- a reading of the files of these names, by at most this many reads of the shelf: it counts no
+-- fault, unless it stops as one that met a fault may, and what it refuses is one of them
 pub record ReadsFiles {V : Type 0} (names : List (List ℕ)) (most : ℕ) (old new : ShelfState)
     (result : Result V Stop) : Type 0 where
   pub after : IsAfterReads most old new
   pub calm : IsCalmRead old new result
   pub stops : StopNamesOneOf names result
 
--- the same of what a command names
+-- the same for what a command names
 abbrev pub ReadsFor : {V : Type 0} → Command → (old new : ShelfState) → Result V Stop → Type 0
 ReadsFor command old new result =
     ReadsFiles (names_in (Some command)) (most_reads old.files (Some command)) old new result
 
--- ---- what is wanted, and what is given back
+-- ---- what needs memory, and what is given back
 
--- behind its play a command may want memory; to write the lines of a journal it wants none
+-- after its play a command may need memory; to write the lines of a journal it needs none
 abbrev pub MayWantMemory : Option Command → Type 0
 MayWantMemory (Some (asked.Replay args)) = WantsMemory args.report None
 MayWantMemory (Some (asked.Load n)) = ⊤
 MayWantMemory _ = ⊥
 
--- memory ran out in the output's own writes, if they take any. Or the output wasn't touched, and
--- either the journal is empty, or the command is one that may want memory behind its play
+-- memory ran out in the output's own writes, if they allocate. Or the output wasn't touched, and
+-- either the journal is empty, or the command is one that may need memory after its play
 abbrev pub RanOut : Option Command → (takes_memory : Bool) → List Item → (before now : SinkState)
     → Type 0
 RanOut command takes_memory journal before now =
     IsTrue takes_memory ⊎ ((now ≡ before) × ((journal ≡ []) ⊎ MayWantMemory command))
 
--- arguments off the grammar, a command that plays nothing, and one that proposes a placement give
--- the meters back as they came
+-- arguments that the grammar doesn't have, a command that plays nothing, and one that proposes a
+-- placement give the meters back unchanged
 abbrev pub GivesBack : Option Command → Type 0
 GivesBack None = ⊤
 GivesBack (Some (asked.Print args)) = ⊤
@@ -172,19 +172,18 @@ GivesBack _ = ⊥
 
 -- ---- checks of what was read
 
--- this refusal, or want of memory
+-- this refusal, or out of memory
 abbrev pub RefusesInput : Refusal → Stop → Type 0
 RefusesInput given (stop.Refused refusal) = refusal ≡ given
 RefusesInput given stop.NoMemory = ⊤
 RefusesInput given stop.ReadFault = ⊥
 
--- a stop at a check of what was read: this accounts for it, and no fault gives it
+-- a stop at a check of what was read: this accounts for it, and no fault causes it
 abbrev pub StopsCheck : {X : Type 0} → Result X Refusal → Stop → Type 0
 StopsCheck read stop =
     Accounts read (status_of stop) × (NeedsReadFault None (status_of stop) → ⊥)
 
--- a stop at a text that is refused in a row by a refusal of this code, or that there was no memory to
--- read
+-- a stop at a text that is refused in a row by a refusal of this code, or for which memory ran out
 abbrev pub StopsText : {R : Type 0} → (R → ℕ) → List ℕ → Failure (InRow R) → Stop → Type 0
 StopsText code name (failure.Refused why) stop =
     RefusesInput (record { file = name; code = code why.refusal; row = why.row }) stop

@@ -1,5 +1,5 @@
--- The definitions by which clauses on the work of a task speak, from the arguments of its command
--- to its status, passed on from the files that define them.
+-- The definitions that clauses about the work of a task use, from the arguments of its command to
+-- its status, passed on from the files that define them.
 pub use Rattle.difane_cli.specs.Audits.{AuditOutcome, IsAuditingOf}
 pub use Rattle.difane_cli.specs.Commands.{AreReadyToPlay, IsReadyTask, IsTaskOf, auditing_stated, inputs_stated, printing_stated, task_stated}
 pub use Rattle.difane_cli.specs.Ending.{Accounts, EndsRead, EndsWork, GivesBack, MayFollowFault, NamesOneOf, NeedsReadFault, RanOut, ReadsFiles, ReadsFor, RefusesInput, StopNamesOneOf, StopsCheck, names_in, status_after, status_number, status_of}

@@ -17,7 +17,7 @@ use Rattle.replay.specs.Leavings.{left_in}
 abbrev pub gone_by : Net → List Item → List Seen → List FlowRecord
 gone_by net journal meters = gone_records (port_mask net.switches) (left_in journal) meters
 
--- the lines of those, and of the records of the meters that stayed
+-- the lines of those records, and of the records of the meters that stayed
 abbrev pub flow_text : List FlowRecord → List Seen → List ℕ
 flow_text gone meters = flow_lines gone ++ flow_lines (flat_map flow_records_of meters)
 
@@ -29,13 +29,13 @@ flows_text (Some row) gone meters = []
 -- ---- counts
 
 -- each record of a meter that stayed counts all packets that left by its port with its header; and
--- where none of the meters at ports of the network left, each record that there is does
+-- if none of the meters at ports of the network left, each record does
 pub record AreCounted (net : Net) (journal : List Item) (taken given : List Seen) : Type 0 where
   pub stayed : All (IsCounted (left_in journal)) (flat_map flow_records_of given)
   pub all : NoneLeaves (port_mask net.switches) (left_in journal) taken
       → All (IsCounted (left_in journal)) (gone_by net journal taken ++ flat_map flow_records_of given)
 
--- so it is where the meters that were taken are flow meters that held nothing
+-- this is true if the meters that were taken are empty flow meters
 abbrev pub CountFlows : Net → List Item → (taken given : List Seen) → Type 0
 CountFlows net journal taken given =
     (most : ℕ) → All (IsNewMeter most) taken → AreCounted net journal taken given

@@ -1,4 +1,4 @@
--- The task of a command: what its files are read to, or its load case, or the first refusal in the
+-- The task of a command: the contents of its files, or its load case, or the first refusal in the
 -- order of work.
 use Rattle.std.specs.Prelude.{⊤, ℕ, ◌+◌, Bool, true, false, nat_le, if◌then◌else◌, Option, Some, None, option_map, Result, Ok, Err, is_ok, unwrap_or, List, [], ◌∷◌, length, map, slice_index_or, codes}
 use Rattle.std.specs.Option.{option_map_or}
@@ -33,7 +33,7 @@ use Rattle.command_line.specs.declared.report.Report.TheVariants as report
 use Rattle.difane_cli.specs.declared.status.Refusal.{Refusal}
 use Rattle.difane_cli.specs.Tasks.{Auditing, Inputs, Printing, Task, Audit, Play, Print}
 
--- what goes on from a value that was read; a refusal ends the reading
+-- the reading continues from a value that was read; a refusal ends it
 abbrev pub and_then : {X Y : Type 0} → Result X Refusal → (X → Result Y Refusal) → Result Y Refusal
 and_then (Ok x) next = next x
 and_then (Err refusal) next = Err refusal
@@ -49,22 +49,22 @@ content_from most name None = Err (refused_whole name missing_file)
 content_from most name (Some bytes) =
     if nat_le (length bytes) most then Ok bytes else Err (refused_whole name too_long)
 
--- the content of the file of this name, unless there is none or it has more than so many bytes
+-- the content of the file of this name, unless there is none or it has more than this many bytes
 abbrev pub content_within : ℕ → Files → List ℕ → Result (List ℕ) Refusal
 content_within most files name = content_from most name (file_named files name)
 
--- the same of any file but a trace
+-- the same for any file but a trace
 abbrev pub content_of : Files → List ℕ → Result (List ℕ) Refusal
 content_of files name = content_within most_bytes files name
 
--- what the file was read to; a row that is refused is told by the refusal's code
+-- the value that the file was read as; a row that is refused is reported by the refusal's code
 abbrev pub read_from : {X R : Type 0} → (R → ℕ) → List ℕ → Result X (InRow R)
     → Result X Refusal
 read_from code name (Ok value) = Ok value
 read_from code name (Err refused) =
     Err (record { file = name; code = code refused.refusal; row = refused.row })
 
--- the events that the bytes of this file state for the network and so many policy files
+-- the events that the bytes of this file state for the network and this many policy files
 abbrev pub schedule_in : Net → ℕ → List ℕ → List ℕ → Result (List Event) Refusal
 schedule_in net policies name bytes =
     read_from schedule_code name (schedule_of net policies bytes)
@@ -79,14 +79,14 @@ policy_stated ports name bytes =
     and_then (read_from policy_code name (policy_of bytes)) (λ rows.
     with_ports name rows (first_without_port ports rows))
 
--- what the bytes of this file state, a policy or a change, unless a row that it gives names a port
--- outside this mask
+-- what the bytes of this file state, a policy or a change, unless a row that it states names a
+-- port outside this mask
 abbrev pub file_stated : ℕ → List ℕ → List ℕ → Result PolicyFile Refusal
 file_stated ports name bytes =
     and_then (read_from policy_code name (policy_file_of bytes)) (λ file.
     with_ports name file (first_in_file ports file))
 
--- the same of a first file, unless it is a change
+-- the same for a first file, unless it is a change
 abbrev pub first_stated : ℕ → List ℕ → List ℕ → Result PolicyFile Refusal
 first_stated ports name bytes =
     if is_change_text bytes then Err (refused_whole name first_change)
@@ -159,11 +159,11 @@ inputs_of files command =
       report = command.report;
     })))))
 
--- the policies of a load case, each in a file of its own
+-- the policies of a load case, each in its own file
 abbrev pub case_files : LoadCase → List PolicyFile
 case_files load = map Whole load.policies
 
--- a load case, of which the summary is to be told
+-- a load case, whose summary is printed
 abbrev pub case_inputs : LoadCase → Inputs
 case_inputs load = record {
   setting = setting_of load.net (case_files load);
@@ -230,15 +230,15 @@ print_task read = and_then read (λ printing. Ok (Print printing))
 abbrev pub audit_task : Result Auditing Refusal → Result Task Refusal
 audit_task read = and_then read (λ auditing. Ok (Audit auditing))
 
--- the task or the refusal, where it is known: that of a load case always is, since it reads no
--- files, and that of another command where the files are known
+-- the task or the refusal, if it is known: that of a load case always is, because it reads no
+-- files, and that of another command is if the files are known
 abbrev pub task_of : Option Files → Command → Option (Result Task Refusal)
 task_of files (asked.Replay args) = option_map (λ all. play_task (inputs_of all args)) files
 task_of files (asked.Print args) = option_map (λ all. print_task (printing_of all args)) files
 task_of files (asked.Load n) = Some (play_task (load_inputs n))
 task_of files (asked.Audit args) = option_map (λ all. audit_task (auditing_of all args)) files
 
--- the same, where the arguments are a command
+-- the same, if the arguments are a command
 abbrev pub known_task : Option Files → Option Command → Option (Result Task Refusal)
 known_task files None = None
 known_task files (Some command) = task_of files command
@@ -248,14 +248,14 @@ abbrev pub IsAccepted : Option (Result Task Refusal) → Type 0
 IsAccepted (Some (Ok task)) = ⊤
 IsAccepted _ = ⊥
 
--- of files in order, which are accepted or not, how many are read: none behind the first that is
+-- of files in order, which are accepted or not, how many are read: none after the first that is
 -- refused
 abbrev pub up_to_refusal : List Bool → ℕ
 up_to_refusal [] = 0
 up_to_refusal (true ∷ files) = 1 + up_to_refusal files
 up_to_refusal (false ∷ files) = 1
 
--- a network is read from a file, or not at all
+-- reads for a network: of its file, or none
 abbrev pub net_reads : Option (List ℕ) → ℕ
 net_reads None = 0
 net_reads (Some name) = 1
@@ -272,7 +272,7 @@ file_reads is_first ports None names = length names
 file_reads is_first ports (Some files) names =
     up_to_refusal (are_accepted is_first ports files names)
 
--- how many reads a replay makes at most behind that of its network
+-- how many reads a replay makes at most after that of its network
 abbrev pub replay_reads : Files → ReplayCommand → Result Net Refusal → ℕ
 replay_reads files args (Err refusal) = 0
 replay_reads files args (Ok net) =

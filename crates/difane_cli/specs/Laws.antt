@@ -1,4 +1,4 @@
--- What follows behind steps of the network, and at the end of a play.
+-- What follows after steps of the network, and at the end of a play.
 use Rattle.std.specs.Prelude.{ℕ, Option, List}
 use Rattle.packet_laws.specs.Between.{HoldsBetween}
 use Rattle.packet_laws.specs.Entries.{AreEntered, rows_played}
@@ -12,7 +12,7 @@ use Rattle.update_machine.specs.Quiet.{IsQuiet}
 use Rattle.update_machine.specs.Setting.{IsSetting, Setting}
 use Rattle.trace_texts.specs.Texts.{TextsAreGood}
 
--- what follows of a play, and behind steps of the network
+-- what follows from a play, and after steps of the network
 pub record AnswerLaws : Type 0 where
   pub entered : (setting : Setting) (events : List Event) (journal : List Item) (full : Option ℕ)
       → IsPlay setting events journal full → AreEntered (rows_played full events) journal

@@ -1,4 +1,4 @@
--- What becomes of a call that begins with a new meter at each port.
+-- The outcome of a call that begins with a new meter at each port.
 use Rattle.std.specs.Prelude.{ℕ, ◌≡◌, Bool, true, Option, Some, None, List}
 use Rattle.command_line.specs.Commands.{Command}
 use Rattle.command_line.specs.Grammar.{command_of}
@@ -15,7 +15,7 @@ use Rattle.replay.specs.Leavings.{kept_by}
 use Rattle.shelf.specs.Shelf.{Files}
 use Rattle.shelf.specs.Sink.{SinkState}
 
--- what comes of the command that the arguments are, with these meters
+-- the outcome of the command that the arguments are, with these meters
 abbrev pub MeteredOutcome : (texts : List (List ℕ)) → Option Files → (takes_memory : Bool) → Status
     → List Item → (before now : SinkState) → Type 0
 MeteredOutcome texts files takes_memory status journal before now =
@@ -24,7 +24,7 @@ MeteredOutcome texts files takes_memory status journal before now =
 
 -- the output gained the lines of the flow records of the new meters that left while the packets of
 -- this journal left the network, and then of those that stayed. Each record of one that stayed
--- counts all packets that left by its port with its header, and where none left, each record does
+-- counts all packets that left by its port with its header, and if none left, each record does
 pub record WritesCounts (net : Net) (journal : List Item) (before now : SinkState) : Type 0 where
   pub written : Wrote (flow_text (gone_by net journal (new_meters true))
       (kept_by net journal (new_meters true))) before now

@@ -9,12 +9,12 @@ abbrev pub asks_flows : List (List ℕ) → Bool
 asks_flows [] = false
 asks_flows (word ∷ more) = bytes_eq word (codes "flows")
 
--- with so many different headers a flow meter of the program leaves
+-- with this many different headers a flow meter of the program is complete
 abbrev pub most_headers : ℕ
 most_headers = 4096
 
--- a meter of this port that holds nothing: one that counts flows, or one that stays for good and
--- has no flow records
+-- an empty meter of this port: one that counts flows, or one that always stays and has no flow
+-- records
 abbrev pub new_meter : (counts_flows : Bool) → ℕ → Seen
 new_meter true port = record {
   port = port;

@@ -1,4 +1,4 @@
--- What a command that plays nothing is to do, once its files are read.
+-- What a command that plays nothing does, once its files are read.
 use Rattle.std.specs.Prelude.{ℕ, Option, List}
 use Rattle.net_file.specs.declared.net.Net.{Net}
 use Rattle.partition.specs.Plan.{Hosted}
@@ -12,7 +12,7 @@ pub record Printing : Type 0 where
   pub hosted : List Hosted
   pub switch : Option ℕ
 
--- a trace, and the files of policies and changes that it speaks of
+-- a trace, and the files of policies and changes that it uses
 pub record Auditing : Type 0 where
   pub trace : List ℕ
   pub files : List PolicyFile

@@ -1,5 +1,5 @@
--- What became of a command that prints a plan or tables, by its status; and what writing a text
--- leaves of the output.
+-- What became of a command that prints a plan or tables, by its status; and the output after
+-- writing a text.
 use Rattle.std.specs.Prelude.{ℕ, ◌≡◌, ◌⊎◌, All, Option, Some, None, is_some, IsTrue, Ok, List, [], ⊤, ◌≢◌, Bool, Result, Err, IsErrOf, OnErr, OnOk, ◌≤◌, length}
 use Rattle.std.specs.Option.{ForSome}
 use Rattle.net_file.specs.Owners.{port_mask, switch_number}
@@ -31,10 +31,10 @@ IsSwitchOf None net switch = switch ≡ None
 IsSwitchOf (Some name) net switch =
     (switch ≡ switch_number net.switches name) × IsTrue (is_some switch)
 
--- a policy of at most 2,000 rows, its plan on the network that a command names, whose ports alone
--- the rows name, and the switch that it names; the plan's partitions are the leaves of the tree that
--- is defined for the policy's rules, and their targets a placement; and at every switch it leads
--- each header to what a scan of the policy finds, which is the first match
+-- a policy of at most 2,000 rows, its plan on the network that a command names, with rows that
+-- name only its ports, and the switch that the command names; the plan's partitions are the leaves
+-- of the tree that is defined for the policy's rules, and their targets a placement; and at every
+-- switch it leads each header to what a scan of the policy finds, which is the first match
 pub record IsPrintingOf (command : PrintCommand) (printing : Printing) : Type 0 where
   pub policy : IsPolicy printing.policy
   pub few : length printing.policy ≤ 2000
@@ -48,7 +48,7 @@ pub record IsPrintingOf (command : PrintCommand) (printing : Printing) : Type 0 
   pub first_match : (header : Header)
       → IsFirstMatch printing.policy header (scan printing.policy header)
 
--- the plan, or the tables that it gives to the switch for version 1
+-- the plan, or the tables that it gives the switch for version 1
 abbrev pub text_by : Option ℕ → Printing → List ℕ
 text_by None printing = compile_text printing.policy printing.hosted printing.net
 text_by (Some s) printing = table_text s (tables_of printing.hosted 1 s) printing.net
@@ -56,7 +56,7 @@ text_by (Some s) printing = table_text s (tables_of printing.hosted 1 s) printin
 abbrev pub printing_text : Printing → List ℕ
 printing_text printing = text_by printing.switch printing
 
--- there is a plan as the command asks for it, which is the known one where the task is known; what
+-- there is a plan as the command asks for it, which is the known one if the task is known; what
 -- the output gained is in this relation to its text
 pub record Printed (command : PrintCommand) (files : Option Files)
     (IsWritten : List ℕ → Type 0) (journal : List Item) : Type 0 where
@@ -81,9 +81,9 @@ PrintOutcome command files (status.Full row) journal before now = ⊥
 PrintOutcome command files (status.No line) journal before now = ⊥
 PrintOutcome command files _ journal before now = Unplayed journal before now
 
--- what writing a text leaves of the output: all of it where it succeeds, and else a part of it, or
--- the output wasn't touched. No fault is counted unless it failed. Memory ran out only in the
--- output's own writes, if they take any; or before them, where the text is made in memory
+-- the output after writing a text: it gained all of the text if the write succeeded, otherwise a
+-- part of it, or it wasn't touched. No fault is counted unless it failed. Memory ran out only in
+-- the output's own writes, if they allocate; or before them, if the text is made in memory
 pub record IsAfterText (text : List ℕ) (in_memory takes_memory : Bool) (before now : SinkState)
     (result : Result (⊤) SinkError) : Type 0 where
   pub whole : OnOk result (now.bytes ≡ with_gained before.bytes text)

@@ -1,4 +1,5 @@
--- The placement that `rebalance` proposes behind a play: how much each partition was asked decides.
+-- The placement that `rebalance` proposes after a play, computed from how many packets asked each
+-- partition.
 use Rattle.std.specs.Prelude.{ℕ, ◌≡◌, ◌⊎◌, ◌≤◌, Bool, IsErrOf, OnOk, Result, Err, IsTrue, ◌≢◌, ⊤, List, [], ◌∷◌, length, map, codes, decimal}
 use Rattle.std.specs.List.{concat, zip}
 use Rattle.controller.specs.Leads.{LeadEveryHeader}
@@ -19,7 +20,7 @@ use Rattle.update_machine.specs.Versions.{plan_at, policy_at}
 use Rattle.difane_cli.specs.Writes.{Wrote}
 use Rattle.difane_cli.specs.declared.proposing.Proposal.{Proposal}
 
--- ---- a plan by how much its partitions were asked
+-- ---- a plan and how many packets asked its partitions
 
 -- the targets of each partition
 abbrev pub targets_by_partition : List Hosted → List (List ℕ)
@@ -39,9 +40,9 @@ with_targets plan placement = zip (map part_of plan) placement
 
 -- ---- the proposal
 
--- the placement is proposed in place of the plan's own, by how much its partitions were asked; it
--- fits, its peak is at least the bound and not higher than the plan's, and with it the tables still
--- lead each header to the policy's first match
+-- the placement is proposed to replace the plan's own, computed from how many packets asked its
+-- partitions; it fits, its peak is at least the bound and not higher than the plan's, and with it
+-- the tables still lead each header to the policy's first match
 pub record IsProposedFor (rows : List Row) (plan : List Hosted) (net : Net) (journal : List Item)
     (placement : List (List ℕ)) : Type 0 where
   pub proposal : IsProposal (sizes_in plan) (weights_in journal plan) (rooms_of net) net.backups
@@ -61,8 +62,8 @@ placement_text rows plan net journal placement =
     ∷ decimal (peak weights placement) ∷ codes "\nbound " ∷ decimal (bound weights (rooms_of net))
     ∷ codes "\n" ∷ compile_text rows (with_targets plan placement) net ∷ [])
 
--- what was found is the plan with the targets of a placement that is proposed, and what they and the
--- plan's own come to
+-- what was found is the plan with the targets of a placement that is proposed, and the peaks of
+-- these and of the plan's own
 pub record IsFoundFor (rows : List Row) (plan : List Hosted) (net : Net) (journal : List Item)
     (found : Proposal) : Type 0 where
   pub placement : List (List ℕ)
@@ -75,21 +76,21 @@ pub record IsFoundFor (rows : List Row) (plan : List Hosted) (net : Net) (journa
 
 -- ---- what is written
 
--- a proposal, of whose text the output is in this relation
+-- a proposal, to whose text the output is in this relation
 pub record ProposesFor (rows : List Row) (plan : List Hosted) (net : Net) (journal : List Item)
     (IsWritten : List ℕ → Type 0) : Type 0 where
   pub placement : List (List ℕ)
   pub proposed : IsProposedFor rows plan net journal placement
   pub written : IsWritten (placement_text rows plan net journal placement)
 
--- the same for the plan that is in force behind the journal
+-- the same for the plan that is in force after the journal
 abbrev pub Proposes : Setting → List Item → (List ℕ → Type 0) → Type 0
 Proposes setting journal IsWritten =
     ProposesFor (policy_at setting journal (current_mark journal))
     (plan_at setting journal (current_mark journal)) setting.net journal IsWritten
 
--- what writing a proposal leaves of the output: all of its text, or a part of it; or memory ran out
--- before the output was touched
+-- the output after writing a proposal: it gained all of its text, or a part of it; or memory ran
+-- out before the output was touched
 pub record IsAfterProposal (rows : List Row) (plan : List Hosted) (net : Net)
     (journal : List Item) (takes_memory : Bool) (before now : SinkState)
     (result : Result (⊤) SinkError) : Type 0 where

@@ -8,7 +8,7 @@ use Rattle.difane_cli.specs.Writes.{Unplayed, Wrote}
 use Rattle.difane_cli.specs.declared.status.Status.{Status}
 use Rattle.difane_cli.specs.declared.status.Status.TheVariants as status
 
--- a play to its end, behind which a placement is proposed
+-- a play to its end, after which a placement is proposed
 pub record Rebalanced (IsAnswer : Inputs → List Item → Option ℕ → Type 0) (journal : List Item)
     (IsWritten : List ℕ → Type 0) : Type 0 where
   pub inputs : Inputs
@@ -22,8 +22,8 @@ pub record PlayedAlone (IsAnswer : Inputs → List Item → Option ℕ → Type 
   pub played : IsAnswer inputs journal full
   pub untouched : now ≡ before
 
--- the journal and the output that a status comes with, by which inputs and journals answer the
--- command, to their end or to a row at which it is full; the meters are given back as they came
+-- the journal and the output that a status comes with, for which inputs and journals answer the
+-- command, to their end or to a row at which it is full; the meters are given back unchanged
 abbrev pub ProposalOutcome : (IsAnswer : Inputs → List Item → Option ℕ → Type 0)
     → (takes_memory : Bool) → Status → List Item → (before now : SinkState) → Type 0
 ProposalOutcome IsAnswer takes_memory status.Ok journal before now =

@@ -1,4 +1,4 @@
--- First tier. What became of a call of the program, by its status: a replay's, or a load case's.
+-- First tier. The outcome of a call of the program, by its status: a replay's, or a load case's.
 use Rattle.std.specs.Prelude.{⊤, ℕ, ◌≡◌, ◌⊎◌, Bool, Option, Some, None, Result, Ok, IsTrue, List, [], length, All, true, false}
 use Rattle.std.specs.List.{AllZip}
 use Rattle.std.specs.Option.{ForSome}
@@ -57,29 +57,29 @@ abbrev pub States : {V E : Type 0} → Files → (List ℕ → Result V E) → L
 States files read name value =
     (bytes : List ℕ) × (file_named files name ≡ Some bytes) × (read bytes ≡ Ok value)
 
--- the inputs are what the files state that a replay names: the network, where it names one; the
--- events, on this network and with so many files; and the policies and changes, in their order
+-- the inputs are what the files state that a replay names: the network, if it names one; the
+-- events, on this network and with this many files; and the policies and changes, in their order
 pub record AreStated (files : Files) (command : ReplayCommand) (inputs : Inputs) : Type 0 where
   pub net : ForSome command.net (λ name. States files net_of name inputs.setting.net)
   pub events : States files (schedule_of inputs.setting.net (length command.policies))
       command.schedule inputs.events
   pub policies : AllZip (States files policy_file_of) command.policies inputs.setting.files
 
--- those of a replay are what its files state, where these are known
+-- those of a replay are what its files state, if these are known
 abbrev pub AreStatedBy : Option Files → Command → Inputs → Type 0
 AreStatedBy files (asked.Replay args) inputs = ForSome files (λ all. AreStated all args inputs)
 AreStatedBy files _ inputs = ⊤
 
--- the first file has a policy, with a plan on the network, all name its ports alone, and the events
--- name its switches and these files alone
+-- the first file has a policy, with a plan on the network, all name only its ports, and the events
+-- name only its switches and these files
 pub record MayBePlayed (inputs : Inputs) : Type 0 where
   pub setting : IsSetting inputs.setting
   pub events : All (IsEvent inputs.setting.net (length inputs.setting.files)) inputs.events
 
 -- the journal is that of the play of these inputs, which are those of the files and of the task,
--- where these are known, to its end or to a row at which it stopped full; so it is a run of the
--- machine, its ends and items have their causes, and its rows and entries are the schedule's; what
--- is to be kept held on the way; and the network recovers, and drops nothing in a rollout
+-- if these are known, to its end or to a row at which it stopped full; so it is a run of the
+-- machine, its ends and items have their causes, and its rows and entries are the schedule's; the
+-- invariants were true on the way; and the network recovers, and drops nothing in a rollout
 pub record IsAnswer (command : Command) (files : Option Files) (inputs : Inputs)
     (journal : List Item) (full : Option ℕ) : Type 0 where
   pub asked : IsPlayOf command inputs
@@ -96,10 +96,11 @@ pub record IsAnswer (command : Command) (files : Option Files) (inputs : Inputs)
 
 -- there are inputs such that the journal is that of their play, to its end or to a row at which it
 -- stopped full; the meters that were given back are those that stayed of the ones that were taken,
--- and flow meters counted right; and the output gained what is to be told. Of a replay this is the
--- text of the journal, and where it didn't stop full the meters' lines, and with `--quiet` whether
--- the network is quiet: where it is, all have converged, on the newest version; and as a trace
--- `audit` answers Yes for it. Else it is flow records or a summary, unless it did
+-- and flow meters counted right; and the output gained what the play prints. For a replay this is
+-- the text of the journal and, unless it stopped full, the meters' lines, and with `--quiet`
+-- whether the network is quiet: if it is, all have converged, on the newest version; and `audit`
+-- returns Yes for this text as a trace. Otherwise it is flow records or a summary, unless it
+-- stopped full
 pub record Played (command : Command) (files : Option Files) (full : Option ℕ)
     (journal : List Item) (taken given : List Seen) (before now : SinkState) : Type 0 where
   pub inputs : Inputs
@@ -113,7 +114,7 @@ pub record Played (command : Command) (files : Option Files) (full : Option ℕ)
   pub good : IsGoodTrace inputs (play_text inputs.report inputs.setting.net journal full
       (gone_by inputs.setting.net journal taken) given answer)
 
--- the same of either play, but that the output failed and gained a part of the text
+-- the same for either play, except that the output failed and gained a part of the text
 pub record CutShort (command : Command) (files : Option Files) (journal : List Item)
     (taken given : List Seen) (before now : SinkState) : Type 0 where
   pub inputs : Inputs
@@ -125,20 +126,20 @@ pub record CutShort (command : Command) (files : Option Files) (journal : List I
   pub written : GainedPart before.bytes (play_text inputs.report inputs.setting.net journal full
       (gone_by inputs.setting.net journal taken) given answer) now.bytes
 
--- the summary and the flows, which a play that stopped full has none of, are made in memory before
--- they are written; the journal's lines aren't
+-- the summary and the flows, which a play that stopped full doesn't have, are made in memory
+-- before they are written; the journal's lines aren't
 abbrev pub is_made : Report → Option ℕ → Bool
 is_made (report.Lines quiet) full = false
 is_made _ None = true
 is_made _ (Some row) = false
 
--- a play that didn't stop full wants memory behind it: to see whether the network is quiet, where
--- this is asked for, and for what is made in memory
+-- a play that didn't stop full needs memory after it: to see whether the network is quiet, if this
+-- is asked for, and for what is made in memory
 abbrev pub WantsMemory : Report → Option ℕ → Type 0
 WantsMemory asked full = IsTrue (is_asked (asks_quiet asked) full) ⊎ IsTrue (is_made asked full)
 
--- the same of either play, but that memory ran out behind it, where it is wanted or the output's
--- writes take any; a part of the text was written, or none, and no answer that wasn't known
+-- the same for either play, except that memory ran out after it, if it needs any or the output's
+-- writes allocate; a part of the text was written, or none, and no verdict that wasn't known
 pub record Unfinished (command : Command) (files : Option Files) (takes_memory : Bool)
     (journal : List Item) (taken given : List Seen) (before now : SinkState) : Type 0 where
   pub inputs : Inputs
@@ -152,8 +153,8 @@ pub record Unfinished (command : Command) (files : Option Files) (takes_memory :
   pub written : WrotePart (play_text inputs.report inputs.setting.net journal full
       (gone_by inputs.setting.net journal taken) given answer) before now
 
--- the journal, the meters and the output that a status of a play comes with; where nothing was
--- played no meter is left, or, where memory ran out before the command was read, all are
+-- the journal, the meters and the output that a status of a play comes with; if nothing was played
+-- no meter remains or, if memory ran out before the command was read, all do
 abbrev pub PlayOutcome : Command → Option Files → (takes_memory : Bool) → Status → List Item
     → (taken given : List Seen) → (before now : SinkState) → Type 0
 PlayOutcome command files takes_memory status.Ok journal taken given before now =
@@ -171,7 +172,7 @@ PlayOutcome command files takes_memory _ journal taken given before now =
 
 -- ---- all commands
 
--- what comes of a play by what it is to tell: a proposal, or all else
+-- the outcome of a play by what it prints: a proposal, or all else
 abbrev pub ByReport : Report → (proposes plays : Type 0) → Type 0
 ByReport report.Placement proposes plays = proposes
 ByReport _ proposes plays = plays

@@ -1,4 +1,4 @@
--- First tier. What a command is to do, once its files are read.
+-- First tier. What a command does, once its files are read.
 use Rattle.std.specs.Prelude.{ℕ, Option, List, ◌≡◌, Some, None}
 use Rattle.net_file.specs.declared.net.Net.{Net}
 use Rattle.net_file.specs.Net.{IsNet, solo_net}
@@ -10,10 +10,10 @@ pub use Rattle.difane_cli.specs.NotPlayed.{Auditing, Printing}
 pub record Inputs : Type 0 where
   pub setting : Setting
   pub events : List Event
-  -- what the play is to tell
+  -- what the play prints
   pub report : Report
 
--- what a command is to do: to play inputs, to print a plan or the tables of a switch, or to check a
+-- what a command does: to play inputs, to print a plan or the tables of a switch, or to check a
 -- trace
 pub data Task : Type 0 where
   Play : Inputs → Task

@@ -14,12 +14,12 @@ use Rattle.difane_cli.specs.declared.status.Status.{Status}
 use Rattle.command_line.specs.declared.report.Report.TheVariants as report
 use Rattle.difane_cli.specs.declared.status.Status.TheVariants as status
 
--- the line of a meter of this port that has so many notes, with its line feed
+-- the line of a meter of this port that has this many notes, with its line feed
 abbrev pub notes_line : ℕ → ℕ → List ℕ
 notes_line port notes = concat (codes "meter port " ∷ decimal port
     ∷ codes " notes " ∷ decimal notes ∷ codes "\n" ∷ [])
 
--- a meter that holds nothing has none
+-- an empty meter has none
 abbrev pub line_by : ℕ → List Leaving → List ℕ
 line_by port [] = []
 line_by port held = notes_line port (length held)
@@ -30,7 +30,7 @@ meter_line meter = line_by meter.port meter.held
 abbrev pub meter_lines : List Seen → List ℕ
 meter_lines meters = flat_map meter_line meters
 
--- whether the network is quiet, with the line feed; nothing where no answer is given
+-- whether the network is quiet, with the line feed; nothing if there is no verdict
 abbrev pub quiet_line : Option Bool → List ℕ
 quiet_line None = []
 quiet_line (Some true) = codes "quiet yes\n"
@@ -39,13 +39,13 @@ quiet_line (Some false) = codes "quiet no\n"
 abbrev pub last_lines : List Seen → Option Bool → List ℕ
 last_lines meters answer = meter_lines meters ++ quiet_line answer
 
--- the text of the journal, and behind its last line those of the meters and the one of the answer;
--- a play that stopped full has the journal's alone
+-- the text of the journal, and after its last line those of the meters and the one of the verdict;
+-- a play that stopped full has only the journal's
 abbrev pub replay_text : Net → List Item → Option ℕ → List Seen → Option Bool → List ℕ
 replay_text net journal None meters answer = journal_text net journal ++ last_lines meters answer
 replay_text net journal (Some row) meters answer = journal_text net journal
 
--- what a play is to tell
+-- what a play prints
 abbrev pub play_text : Report → Net → List Item → Option ℕ → List FlowRecord → List Seen
     → Option Bool → List ℕ
 play_text (report.Lines quiet) net journal full gone meters answer =

@@ -1,5 +1,5 @@
--- What a replay says of its network where it is asked to: whether it is quiet behind the journal,
--- and what all switches came to where it is.
+-- What a replay says of its network if it is asked to: whether it is quiet after the journal, and
+-- what is true of all switches if it is.
 use Rattle.std.specs.Prelude.{⊤, ℕ, ◌≡◌, ◌↔◌, Bool, true, false, Option, Some, None, is_some, IsTrue, List}
 use Rattle.journal.specs.declared.item.Item.{Item}
 use Rattle.forwarding_laws.specs.ToRest.{HasComeToRest}
@@ -18,18 +18,18 @@ abbrev pub is_asked : Bool → Option ℕ → Bool
 is_asked quiet None = quiet
 is_asked quiet (Some row) = false
 
--- an answer, if one is given, is whether the network is quiet
+-- a verdict, if there is one, is whether the network is quiet
 abbrev pub IsWhetherQuiet : Setting → List Item → Option Bool → Type 0
 IsWhetherQuiet setting journal None = ⊤
 IsWhetherQuiet setting journal (Some answer) = IsTrue answer ↔ IsQuiet setting journal
 
--- what an answer says of the network
+-- what a verdict says of the network
 abbrev pub Says : Setting → List Item → Option Bool → Type 0
 Says setting journal None = ⊤
 Says setting journal (Some true) = HasComeToRest setting journal
 Says setting journal (Some false) = ¬ IsQuiet setting journal
 
--- there is an answer exactly where one is asked for, and what it says holds
+-- there is a verdict exactly if one is asked for, and what it says is true
 pub record IsVerdict (quiet : Bool) (setting : Setting) (journal : List Item) (full : Option ℕ)
     (answer : Option Bool) : Type 0 where
   pub asked : is_some answer ≡ is_asked quiet full

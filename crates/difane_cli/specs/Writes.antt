@@ -1,9 +1,9 @@
--- First tier. What a command left of its journal and of its outputs, whatever it did.
+-- First tier. A command's journal and outputs at its end, whatever it did.
 use Rattle.std.specs.Prelude.{ℕ, ◌≡◌, ◌⊎◌, List, [], ◌≤◌, Bool, IsTrue}
 use Rattle.shelf.specs.Sink.{with_gained, GainedPart, SinkState, Rose}
 use Rattle.journal.specs.declared.item.Item.{Item}
 
--- the output gained this text; where it is empty no write was made, not even of nothing
+-- the output gained this text; if it is empty no write was made, not even an empty one
 pub record Wrote (text : List ℕ) (before now : SinkState) : Type 0 where
   pub whole : now.bytes ≡ with_gained before.bytes text
   pub untouched : text ≡ [] → now ≡ before
@@ -12,13 +12,13 @@ pub record Wrote (text : List ℕ) (before now : SinkState) : Type 0 where
 abbrev pub WrotePart : List ℕ → (before now : SinkState) → Type 0
 WrotePart text before now = (now ≡ before) ⊎ GainedPart before.bytes text now.bytes
 
--- nothing was played, and the output wasn't touched: no write was made, not even of nothing
+-- nothing was played, and the output wasn't touched: no write was made, not even an empty one
 pub record Unplayed (journal : List Item) (before now : SinkState) : Type 0 where
   pub nothing_played : journal ≡ []
   pub untouched : now ≡ before
 
--- a sink gained the line, and counted no fault; or it gained a proper part of it, where it failed
--- or where its writes take memory
+-- a sink gained the line, and counted no fault; or it gained a proper part of it, if it failed or
+-- if its writes allocate
 pub record WritesLine (whole : List ℕ) (takes_memory : Bool) (old new : SinkState) : Type 0 where
   pub faults : old.faults ≤ new.faults
   pub line : ((new.bytes ≡ with_gained old.bytes whole) × (new.faults ≡ old.faults))

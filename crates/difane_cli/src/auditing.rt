@@ -19,7 +19,7 @@ use trace_audit::{Verdict, audit};
 /// The most bytes of a trace.
 pub const MAX_TRACE_BYTES: u64 = 268_435_456;
 
-/// The ports of a network of one switch: all that there may be.
+/// The ports of a network of one switch: all that are possible.
 const SOLO_PORTS: u64 = u64::MAX;
 
 /// A trace, and the files of policies and changes that it speaks of.
@@ -30,7 +30,7 @@ pub struct AuditInputs {
 }
 
 /// The trace is read, then the policies and changes are read and checked in their order. These may
-/// name the ports of a network of one switch, and none is planned.
+/// name the ports of a network of one switch, and no plan is made.
 pub fn read_auditing<F: Shelf>(
     alloc: Global,
     shelf: &mut F,
@@ -51,7 +51,7 @@ pub fn read_auditing<F: Shelf>(
     Ok(AuditInputs { trace, files })
 }
 
-/// Checks the trace, and writes `yes` where each of its lines is good. What comes of it is told for
+/// Checks the trace, and writes `yes` if each of its lines is good. The outcome is stated for
 /// whatever is known of the files.
 #[inline(never)]
 pub fn check_trace<K: Sink>(alloc: Global, inputs: &AuditInputs, out: &mut K) -> Status

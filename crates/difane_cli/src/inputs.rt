@@ -50,7 +50,7 @@ pub fn read_bytes<F: Shelf>(alloc: Global, shelf: &mut F, name: &str) -> Result<
     read_within(alloc, shelf, name, MAX_BYTES)
 }
 
-/// The content of the file of this name, which has at most so many bytes.
+/// The content of the file of this name, which has at most this many bytes.
 pub fn read_within<F: Shelf>(
     alloc: Global,
     shelf: &mut F,
@@ -72,7 +72,7 @@ pub fn read_within<F: Shelf>(
     }
 }
 
-/// The events that the bytes of this file state for the network and so many policy files.
+/// The events that the bytes of this file state for the network and this many policy files.
 fn check_schedule(
     alloc: Global,
     name: &str,
@@ -94,7 +94,7 @@ fn check_schedule(
     }
 }
 
-/// The events of the schedule of this name, on the network and with so many policy files.
+/// The events of the schedule of this name, on the network and with this many policy files.
 fn read_schedule<F: Shelf>(
     alloc: Global,
     shelf: &mut F,
@@ -183,7 +183,7 @@ pub fn read_files<F: Shelf>(
     Ok(read)
 }
 
-/// What is played, and what the play is to tell.
+/// What is played, and what the play prints.
 #[derive(Drop)]
 pub struct PlayInputs {
     pub events: Vec<Event>,

@@ -11,8 +11,7 @@ use cut_tree::tree_laws;
 use policy_rules::rule_list_laws;
 
 /// On the network of one switch a policy that has few enough words has a plan: one partition with
-/// all its rules, for all headers, which stands at this switch. So there codes 14 and 15 don't
-/// come.
+/// all its rules, for all headers, hosted by this switch. So codes 14 and 15 don't occur there.
 pub fn one_switch_laws()
     ensures { (rows : List Row) → IsPolicy rows → word_total rows ≤ 4096
         → plan_of rows solo_net

@@ -1,22 +1,22 @@
-//! The program's top call: it reads the arguments and the files, and does what they ask. It plays a
-//! schedule on a network, and writes the journal, the records of flows or the placement that is
-//! proposed. It plans a policy for a network, and writes the plan or a switch's tables. It checks a
-//! printed trace; or it draws a load case, plays it and writes its summary.
+//! The program's top call: it reads the arguments and the files, and does what they ask. It plays
+//! a schedule on a network, and writes the journal, the records of flows or the placement that is
+//! proposed. It plans a policy for a network, and writes the plan or a switch's tables. It checks
+//! a printed trace. Or it generates a load case, plays it and writes its summary.
 //!
-//! `run` carries the headline. Where a replay answers `Ok` there are inputs that its journal
-//! answers, is a run of the abstract machine for, and whose items have their causes; where files
-//! are known, these are the inputs that the files state. The output gained the journal's text, then
-//! a line for each meter that still is there and has a note, then with `--quiet` the line that says
-//! whether the network is quiet, and nothing else; the meters are those that stay in the journal.
-//! Where it answers `Full`, the same holds up to the row that it names, without the lines behind
-//! the journal's. Of `flows` all this holds too, but that the output gained the lines of the flow
-//! records of the meters that left, and then of those that stayed, and nothing where it answers
-//! `Full`. Of `rebalance` it holds with no meters, which are given back, and the output gained the
-//! placement that is proposed by how much each partition was asked. Of a load case it holds of the
-//! case of its number, and the output gained the counts of the journal in their place. A plan and
-//! tables are the defined ones, and so are their lines. Of an audit the verdict is the defined one,
-//! and it says yes of each text that a replay prints. Each
-//! status but running out of memory has its cause in a clause.
+//! `run` carries the headline. If a replay returns `Ok`, there are inputs that its journal answers
+//! and is a run of the abstract machine for, and its items have their causes; if the files are
+//! known, these are the inputs that the files state. The output gained the journal's text, then a
+//! line for each meter that stayed and has a note, then with `--quiet` the line that says whether
+//! the network is quiet, and nothing else; the meters are those that stay in the journal. If it
+//! returns `Full`, the same is true up to the row that it names, without the lines after the
+//! journal's. All this is true of `flows` too, except that the output gained the lines of the flow
+//! records of the meters that left, and then of those that stayed, and nothing if it returns
+//! `Full`. It is true of `rebalance` without meters, which are given back; there the output gained
+//! the placement that is proposed from how many packets asked each partition. It is true of a load
+//! case, with the case of its number as inputs; there the output gained the counts of the journal
+//! instead. A plan and tables are the defined ones, and so are their lines. The verdict of an
+//! audit is the defined one, and it is yes for each text that a replay prints. Each status but
+//! running out of memory has its cause in a clause.
 #![tactic(auto)]
 
 mod auditing;

@@ -1,4 +1,4 @@
-//! Load cases as a command takes them.
+//! Load cases as a command uses them.
 ghost use Rattle.std.specs.Prelude.{◌≡◌, ◌≤◌, IfOk, IfErr, Ok, [], ◌∷◌};
 ghost use Rattle.difane_cli.specs.Exports.{AreReadyToPlay, StopNamesOneOf, StopsCheck, case_inputs, inputs_stated, load_inputs, load_name};
 ghost use Rattle.schedule.specs.Case.{load_case};

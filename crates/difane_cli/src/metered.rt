@@ -26,7 +26,7 @@ pub struct CommandEnd {
     pub journal: Journal,
 }
 
-/// With so many different headers a meter of `flows` leaves.
+/// With this many different headers a meter of `flows` is complete.
 const MAX_HEADERS: u32 = 4096;
 
 /// Whether the first argument asks for records of flows.
@@ -55,11 +55,10 @@ fn at_each_port<M: Drop, F: Fn(u32) -> Result<M, AllocError>>(
     Ok(all)
 }
 
-/// Does what the arguments ask, as `run` does it, with a new meter at each port from 0 to 63: one
-/// that counts flows where the first argument is `flows`, and else a recorder.
+/// Does what the arguments ask, as `run` does, with a new meter at each port from 0 to 63: one
+/// that counts flows if the first argument is `flows`, and otherwise a recorder.
 ///
-/// # Errors
-/// Where there is no memory for the meters, nothing is read or written.
+/// # Errors Out of memory for the meters; then nothing is read or written.
 pub fn run_metered<F: Shelf, K: Sink, E: Sink>(
     alloc: Global,
     words: &Vec<String>,
@@ -67,14 +66,14 @@ pub fn run_metered<F: Shelf, K: Sink, E: Sink>(
     out: &mut K,
     errs: &mut E,
 ) -> Result<CommandEnd, AllocError>
-    // Where `flows` ends well, it wrote the records of the packets that left in the journal, and
-    // their counts are right: of each meter that stayed, and where none left, all of them.
+    // If `flows` succeeds, it wrote the records of the packets that left in the journal, and their
+    // counts are right: those of each meter that stayed and, if no meter left, all of them.
     ensures flows { IfOk result (λ ending. IsTrue (asks_flows (argument_texts words.now))
         → ending.status ≡ status.Ok
         → TellsFlows (argument_texts words.now) (F.state shelf.old).files ending.journal
         (K.state out.old) (K.state out.new)) }
 
-    // All else is as `run` says it of these meters.
+    // All else is as `run` says for these meters.
     ensures outcome { IfOk result (λ ending.
         MeteredOutcome (argument_texts words.now) (F.state shelf.old).files K.takes_memory
         ending.status ending.journal (K.state out.old) (K.state out.new)) }

@@ -1,4 +1,4 @@
-//! Networks as a command takes them: of a file or of one switch, and the switches on them.
+//! Networks as a command uses them: of a file or of one switch, and the switches on them.
 ghost use Rattle.std.specs.Prelude.{◌≡◌, IfOk, IfErr, Ok, option_to_list};
 ghost use Rattle.net_file.specs.Net.{IsNet};
 ghost use Rattle.command_line.specs.Named.{net_named};
@@ -36,7 +36,7 @@ fn one_switch(alloc: Global) -> Result<Net, Stop>
     }
 }
 
-/// The network of the file, or that of one switch where none is named.
+/// The network of the file, or that of one switch if none is named.
 pub fn take_network<F: Shelf>(alloc: Global, shelf: &mut F, name: Option<&str>) -> Result<Net, Stop>
     ensures read { EndsRead (F.state shelf.old).files (λ files. read_net files (net_named name.entry))
         (λ net. net) (F.state shelf.old) (F.state shelf.new) result }

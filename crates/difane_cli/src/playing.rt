@@ -29,10 +29,10 @@ use shelf::{Sink, SinkError, write_whole};
 use std::alloc::Global;
 use trace_texts::texts_are_good;
 
-/// Plays the inputs, to their end or as far as there is room, while the meters note the packets
-/// that leave; writes the journal, and behind its last line, where it didn't stop full, those of
-/// the meters and the one that says whether the network is quiet. Nothing is written before that is
-/// known. What comes of it is told for whatever is known of the files.
+/// Plays the inputs, to their end or as far as there is room, while the meters record the packets
+/// that leave. Writes the journal and, unless it stopped full, the lines of the meters and the one
+/// that says whether the network is quiet. Nothing is written before that is known. The outcome is
+/// stated for whatever is known of the files.
 pub fn play<M: Meter, K: Sink>(
     alloc: Global,
     inputs: PlayInputs,
@@ -83,7 +83,7 @@ pub fn play<M: Meter, K: Sink>(
     }
 }
 
-/// What follows behind steps of the network, and at the end of a play.
+/// What follows after steps of the network, and at the end of a play.
 pub fn answer_laws()
     ensures { AnswerLaws }
 {
@@ -94,7 +94,7 @@ pub fn answer_laws()
     flow_laws();
 }
 
-/// Writes what a play is to tell.
+/// Writes what a play prints.
 fn write_report<M: Meter, K: Sink>(
     alloc: Global,
     report: Report,
@@ -156,8 +156,8 @@ fn write_summary<M: Meter, K: Sink>(
     }
 }
 
-/// Writes the lines of a play: those of its journal, and then, where it didn't stop full, the last
-/// ones. It takes no memory of its own.
+/// Writes the lines of a play: those of its journal, and then, unless it stopped full, the last
+/// ones. It allocates nothing itself.
 fn write_played<M: Meter, K: Sink>(
     played: &Played<M>,
     answer: Option<bool>,
@@ -180,7 +180,7 @@ fn write_played<M: Meter, K: Sink>(
     }
 }
 
-/// Writes the lines of the meters, and then that of the answer.
+/// Writes the lines of the meters, and then the line of the verdict.
 fn write_last<M: Meter, K: Sink>(
     meters: &[M],
     answer: Option<bool>,

@@ -1,4 +1,4 @@
-//! Policies and changes as a command takes them: read from bytes, and checked against the network.
+//! Policies and changes as a command uses them: read from bytes, and checked against the network.
 ghost use Rattle.std.specs.Prelude.{◌≡◌, ◌≤◌, All, List, IfOk, IfErr, IsOk, IsSome, IsTrue, None, Ok, OnOk, [], ◌∷◌, length, map, true};
 ghost use Rattle.policy_file.specs.Changes.{file_length};
 ghost use Rattle.policy_file.specs.Reading.{policy_code};
@@ -37,7 +37,7 @@ pub const FIRST_CHANGE: u32 = 23;
 /// The code of a switch that the network lacks.
 pub const NO_SWITCH: u32 = 21;
 
-/// The stop at a file whose text is refused, or that there is no memory to read.
+/// The stop at a file whose text is refused or for which memory runs out.
 fn not_read(alloc: Global, name: &str, error: PolicyError) -> Stop
     ensures text { StopsText policy_code name.now error result }
     ensures no_fault { ¬ NeedsReadFault None (status_of result) }
@@ -86,7 +86,7 @@ pub fn check_file(
     Ok(file)
 }
 
-/// Each of these policies as a file that has it.
+/// Each of these policies as a file that contains it.
 pub fn as_files(alloc: Global, policies: Vec<Policy>) -> Result<Vec<PolicyFile>, AllocError>
     ensures { IfOk result (λ files. files.items ≡ map Whole policies.items) }
 {
@@ -107,7 +107,7 @@ fn no_plan(alloc: Global, name: &str, error: PlanError) -> Stop
 }
 
 /// The network with the policy of the first of these files in force as version 1. The first of
-/// these names is its own.
+/// these names is that file's.
 pub fn begin_world(
     alloc: Global,
     names: &[&str],

@@ -64,7 +64,7 @@ fn text_of(alloc: Global, inputs: &PrintInputs) -> Result<Vec<u8>, AllocError>
     }
 }
 
-/// Writes the text. What comes of it is told for whatever is known of the files.
+/// Writes the text. The outcome is stated for whatever is known of the files.
 pub fn print<K: Sink>(alloc: Global, inputs: &PrintInputs, out: &mut K) -> Result<(), SinkError>
     requires { IsNet inputs.now.net }
     ensures outcome { (command : PrintCommand) (files : Option Files)

@@ -1,4 +1,4 @@
-//! A placement of the partitions that a play asked, with a lower peak where one is found.
+//! A placement of the partitions that a play asked, with a lower peak if one is found.
 ghost use Rattle.std.specs.Prelude.{◌≡◌, ◌<◌, ◌≤◌, ◌^◌, ◌⊎◌, All, IfOk, IsTrue, Ok, Option, Some, length, sum};
 ghost use Rattle.std.specs.Option.{ForSome};
 ghost use Rattle.net_file.specs.Net.{IsNet};
@@ -26,7 +26,7 @@ use shelf::{Sink, SinkError};
 use show_text::compile_text;
 use std::alloc::{AllocError, Global};
 
-/// A plan with the targets that are proposed, and what its own and these come to.
+/// A plan with the targets that are proposed, and the peaks of its own and of these.
 #[derive(Drop)]
 pub struct Proposal {
     plan: Plan,
@@ -39,8 +39,8 @@ pub struct Proposal {
 }
 
 /// Plays the inputs, to their end or as far as there is room, and writes the placement that is
-/// proposed, where it didn't stop full. No meter notes anything, and all are given back. What comes
-/// of it is told for whatever is known of the files.
+/// proposed, unless it stopped full. No meter records anything, and all are given back. The
+/// outcome is stated for whatever is known of the files.
 pub fn propose<M: Meter, K: Sink>(
     alloc: Global,
     inputs: PlayInputs,
@@ -97,7 +97,7 @@ pub fn propose<M: Meter, K: Sink>(
     }
 }
 
-/// Writes the proposal for the plan, by how much its partitions were asked in the journal.
+/// Writes the proposal for the plan, by how many packets asked its partitions in the journal.
 fn write_proposal<K: Sink>(
     alloc: Global,
     journal: &Journal,
@@ -128,7 +128,7 @@ fn write_proposal<K: Sink>(
     write_pieces(&pieces, out)
 }
 
-/// The proposal for the plan, by how much its partitions were asked in the journal.
+/// The proposal for the plan, by how many packets asked its partitions in the journal.
 ///
 /// # Errors
 /// Only out of memory.

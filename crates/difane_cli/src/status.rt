@@ -1,4 +1,4 @@
-//! How a command ended, and the line that tells it.
+//! How a command ended, and the line that says so.
 ghost use Rattle.std.specs.Prelude.{◌≡◌, IfOk};
 ghost use Rattle.std.specs.List.{flat_map};
 ghost use Rattle.shelf.specs.SinkWrites.{IsAfterWrite};
@@ -45,8 +45,7 @@ impl FileName {
     }
 }
 
-/// Which file is refused, by which code in which row, counted from 1; 0 stands for the file as a
-/// whole.
+/// Which file is refused, by which code in which row, counted from 1; 0 means the file as a whole.
 #[derive(Drop)]
 pub struct Refusal {
     pub file: FileName,
@@ -88,23 +87,23 @@ pub enum Status {
     Ok,
     /// A trace isn't one of the machine: this line, from 1, is the first bad one.
     No { line: u32 },
-    /// The words of the command line are off the grammar.
+    /// The grammar doesn't have the words of the command line.
     Words,
-    /// This file is refused, by this code in this row; 0 stands for the file as a whole.
+    /// This file is refused, by this code in this row; 0 means the file as a whole.
     Input { file: FileName, code: u32, row: u32 },
     /// A file could not be read.
     ReadFault,
     /// The output could not be written.
     WriteFault,
-    /// The play stopped at this row of the schedule: so many messages were sent before its next
-    /// step that none may begin.
+    /// The play stopped at this row of the schedule: so many messages had been sent that its next
+    /// step may not begin.
     Full { row: u32 },
     /// Memory ran out.
     NoMemory,
 }
 
-/// How a command ended, the journal of its play, and the meters that are still there. The journal is
-/// the empty one where nothing was played, and where memory ran out before the play was done.
+/// How a command ended, the journal of its play, and the meters that stayed. The journal is empty
+/// if nothing was played, or if memory ran out before the play was done.
 #[derive(Drop)]
 pub struct Ended<M> {
     pub status: Status,
@@ -128,8 +127,8 @@ impl From<Stop> for Status {
 }
 
 impl Status {
-    /// The status of a command whose work was written or not, and went to its end or stopped full
-    /// at a row.
+    /// The status of a command whose work was written or not, and that ran to its end or stopped
+    /// full at a row.
     pub fn after(written: Result<(), SinkError>, full: Option<u32>) -> Status
         ensures { result ≡ status_after written full }
     {
@@ -160,8 +159,8 @@ impl Status {
     }
 }
 
-/// Writes the status's line; it takes no memory of its own. Of work that was done it says nothing,
-/// not even by an empty write.
+/// Writes the status's line; it allocates nothing itself. For work that was done it writes
+/// nothing, not even an empty piece.
 ///
 /// A fault of the sink changes nothing but the sink, which then has a part of the line.
 pub fn write_status<E: Sink>(status: &Status, errs: &mut E)

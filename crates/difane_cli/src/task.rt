@@ -1,4 +1,4 @@
-//! What a command is to do, once its files are read, and the doing of it.
+//! What a command is to do, once its files are read, and how it is done.
 ghost use Rattle.std.specs.Prelude.{◌≡◌, Ok, Option, Some, IfOk, Result, [], map};
 ghost use Rattle.std.specs.Option.{ForSome};
 ghost use Rattle.shelf.specs.Shelf.{Files};
@@ -29,8 +29,8 @@ pub enum Task {
     Audit(AuditInputs),
 }
 
-/// The task of a command, whose files are read and checked one after another, or whose load case is
-/// drawn.
+/// The task of a command, whose files are read and checked one after another, or whose load case
+/// is generated.
 pub fn read_task<F: Shelf>(
     alloc: Global,
     shelf: &mut F,
@@ -66,7 +66,7 @@ pub fn read_task<F: Shelf>(
     }
 }
 
-/// Does the task and writes what comes of it, which is told for whatever is known of the files.
+/// Does the task and writes its result. The outcome is stated for whatever is known of the files.
 pub fn work<M: Meter, K: Sink>(alloc: Global, task: Task, meters: Vec<M>, out: &mut K) -> Ended<M>
     requires { IsReadyTask task }
     ensures outcome { (command : grammar.Command) (files : Option Files)
@@ -103,8 +103,8 @@ pub fn work<M: Meter, K: Sink>(alloc: Global, task: Task, meters: Vec<M>, out: &
     }
 }
 
-/// The meters that are left where nothing was played: all of a command that gives them back, and
-/// none of another.
+/// The meters that remain if nothing was played: all for a command that gives them back, none for
+/// another.
 pub fn unplayed<M: Meter>(alloc: Global, command: &Command<'_>, meters: Vec<M>) -> Vec<M>
     ensures none { ¬ GivesBack (Some (command_named command.now)) → result.items ≡ [] }
     ensures all { GivesBack (Some (command_named command.now)) → result ≡ meters }

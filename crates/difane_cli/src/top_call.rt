@@ -20,15 +20,15 @@ use std::alloc::{AllocError, Global};
 /// Does what the arguments ask: `replay SCHEDULE POLICY ..` plays the schedule, whose updates name
 /// the policies by their places, and writes the journal to `out`, and with `--quiet` whether the
 /// network is quiet; `flows SCHEDULE POLICY ..` plays the same, and writes the flow records of the
-/// meters that left, and then of those that stayed; `rebalance SCHEDULE POLICY ..` plays it with no
-/// meters, and writes the placement that is proposed for the partitions of the current version;
-/// `compile POLICY` writes the plan of the policy, and `show POLICY SWITCH` the tables that it gives
-/// to the switch; each of these on the network of `--net NET` or on one switch. `load N` plays the
-/// load case of N, and writes the eleven counts of its journal. `audit TRACE POLICY ..` checks a
-/// printed trace, and writes `yes` where each of its lines is good.
+/// meters that left, and then of those that stayed; `rebalance SCHEDULE POLICY ..` plays it with
+/// no meters, and writes the placement that is proposed for the partitions of the current version;
+/// `compile POLICY` writes the plan of the policy, and `show POLICY SWITCH` the tables that it
+/// gives to the switch; each of these on the network of `--net NET` or on one switch. `load N`
+/// plays the load case of N, and writes the eleven counts of its journal. `audit TRACE POLICY ..`
+/// checks a printed trace, and writes `yes` if each of its lines is good.
 ///
 /// A status other than `Ok` writes its line to `errs`. The words are the arguments of the command
-/// line, without the program's name. The first refusal in the order of work ends the call: the
+/// line, without the program's name. The first refusal ends the call, in the order of work: the
 /// words, the network and the switch on it, the schedule, the policies in the order of the words,
 /// the plan of the first policy, the play, the writing; each file is read and checked before the
 /// next one is read. A load case reads none.
@@ -40,17 +40,17 @@ pub fn run<F: Shelf, K: Sink, E: Sink>(
     errs: &mut E,
     meters: Vec<Box<dyn Meter>>,
 ) -> Finished
-    // By its status: what was played, that it is what the known files state, that the journal
-    // answers it and is a run of the abstract machine whose ends and items have their causes, which
-    // meters stayed, and what the output gained.
+    // For each status: what was played, and that it is what the known files state; that the
+    // journal answers it, and is a run of the abstract machine whose ends and items have their
+    // causes; which meters stayed; and what the output gained.
     ensures outcome { Outcome (command_of (argument_texts words.now)) (F.state shelf.old).files
         K.takes_memory result.status result.journal
         (map ⟦<Box<dyn Meter> as Meter>⟧.seen meters.items)
         (map ⟦<Box<dyn Meter> as Meter>⟧.seen result.meters.items)
         (K.state out.old) (K.state out.new) }
 
-    // A command that plays nothing, and one that proposes a placement, give the meters back as they
-    // took them.
+    // A command that plays nothing, and one that proposes a placement, give the meters back
+    // unchanged.
     ensures meters { GivesBack (command_of (argument_texts words.now)) → result.meters ≡ meters }
 
     // Each status has its cause.
@@ -67,20 +67,20 @@ pub fn run<F: Shelf, K: Sink, E: Sink>(
     // Whether or not files are known, a refusal names what the arguments name.
     ensures names { NamesOneOf (names_in (command_of (argument_texts words.now))) result.status }
 
-    // Only there is a fault counted, or, of files that aren't known, behind status 7 too: what
-    // failed is not tried again with success.
+    // Only with this status is a fault counted or, if the files aren't known, with status 7 too:
+    // no read that failed is repeated with success.
     ensures no_read_fault { ¬ MayFollowFault (F.state shelf.old).files result.status
         → (F.state shelf.new).faults ≡ (F.state shelf.old).faults }
     ensures no_write_fault { result.status ≢ status.WriteFault
         → (K.state out.new).faults ≡ (K.state out.old).faults }
 
-    // Where memory runs out nothing was written, unless the output's own writes take memory. And the
+    // If memory runs out, nothing was written, unless the output's own writes allocate. And the
     // journal is empty, unless the command asks for more than the lines of a play.
     ensures no_memory { result.status ≡ status.NoMemory
         → RanOut (command_of (argument_texts words.now)) K.takes_memory result.journal
         (K.state out.old) (K.state out.new) }
 
-    // Where the inputs are accepted and nothing fails, the work is done, to its end or as far as
+    // If the inputs are accepted and nothing fails, the work is done, to its end or as far as
     // there was room, or memory ran out.
     ensures complete { IsAccepted
         (known_task (F.state shelf.old).files (command_of (argument_texts words.now)))
@@ -90,13 +90,13 @@ pub fn run<F: Shelf, K: Sink, E: Sink>(
         ⊎ ((line : ℕ) × (result.status ≡ status.No line))
         ⊎ (result.status ≡ status.NoMemory) }
 
-    // The line of the status is written, whole unless the sink of errors fails; of work that was
+    // The line of the status is written, whole unless the sink of errors fails; for work that was
     // done nothing is.
     ensures line { WritesLine (status_line result.status) E.takes_memory
         (E.state errs.old) (E.state errs.new) }
     ensures silent { result.status ≡ status.Ok → errs.new ≡ errs.old }
 
-    // Files are read in order, none behind the first that is refused, and stay as they are.
+    // Files are read in order, none after the first that is refused, and stay unchanged.
     ensures shelf { IsAfterReads
         (most_reads (F.state shelf.old).files (command_of (argument_texts words.now)))
         (F.state shelf.old) (F.state shelf.new) }
@@ -118,7 +118,7 @@ pub fn run<F: Shelf, K: Sink, E: Sink>(
     }
 }
 
-/// Tells the status of a command that ended.
+/// Writes the status of a command that ended.
 fn end<M: Meter, E: Sink>(
     status: Status,
     journal: Journal,

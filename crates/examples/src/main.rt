@@ -1,8 +1,9 @@
-//! Runs the examples of the repository, and compares what each writes with the file that says it.
+//! Runs the examples of the repository, and compares what each writes with the file of its
+//! expected output.
 //!
-//! Each line of `index.txt` has the name of that file, or `-` where nothing is to be written, and
-//! then the arguments of a command, with blanks between. The folder of the examples is `data`, and
-//! `examples` at the top of the repository leads there.
+//! Each line of `index.txt` has the name of that file, or `-` if nothing is to be written, and
+//! then the arguments of a command, separated by blanks. The folder of the examples is `data`;
+//! `examples` at the top of the repository is a link to it.
 #![tactic(auto)]
 
 use difane_cli::run_metered;
@@ -13,7 +14,7 @@ use std::process::ExitCode;
 /// The most bytes of an expected output.
 const LIMIT: u64 = 1 << 20;
 
-/// What a command wrote, how it ended, and the line that tells it.
+/// What a command wrote, how it ended, and the line that says so.
 #[derive(Drop)]
 struct Answer {
     status: u8,
@@ -21,7 +22,7 @@ struct Answer {
     errs: MemSink,
 }
 
-/// What the program answers.
+/// What the program writes, and how it ends.
 fn ask<F: Shelf>(alloc: Global, shelf: &mut F, args: &Vec<String>) -> Result<Answer, AllocError> {
     let mut out = MemSink::new(alloc, u64::MAX, Vec::new(alloc));
     let mut errs = MemSink::new(alloc, u64::MAX, Vec::new(alloc));
@@ -33,7 +34,7 @@ fn ask<F: Shelf>(alloc: Global, shelf: &mut F, args: &Vec<String>) -> Result<Ans
     })
 }
 
-/// The content of the file of this name, or nothing where the name is `-`.
+/// The content of the file of this name, or nothing if the name is `-`.
 fn expected<F: Shelf>(alloc: Global, shelf: &mut F, name: &str) -> Result<Vec<u8>, ShelfError> {
     if name == "-" {
         return Ok(Vec::new(alloc));
@@ -49,7 +50,7 @@ fn args_of(alloc: Global, line: &str) -> Result<Vec<String>, AllocError> {
     Ok(args)
 }
 
-/// What is to be told of a line of the index.
+/// The report on a line of the index.
 fn answer_to<F: Shelf>(alloc: Global, shelf: &mut F, line: &str) -> anyhow::Result<String> {
     let Some((name, args)) = line.split_once(' ') else {
         return Ok(String::from_str(alloc, "no command\n")?);

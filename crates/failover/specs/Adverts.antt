@@ -1,5 +1,5 @@
 -- Link-state adverts, and the newest of each origin (OSPF, RFC 2328, section 13.1, with a boot
--- number in the place of its ages).
+-- number instead of its ages).
 use Rattle.std.specs.Prelude.{ℕ, Bool, true, ◌&&◌, ◌||◌, ◌==◌, nat_lt, if◌then◌else◌, Option, Some, None, List, map, fold, replicate, slice_index, slice_index_or, slice_set}
 use Rattle.std.specs.Option.{option_map_or}
 use Rattle.failover.specs.declared.advert.Advert.{Advert}
@@ -10,21 +10,21 @@ abbrev pub is_newer : Advert → Advert → Bool
 is_newer one other = nat_lt other.boot one.boot ||
     ((other.boot == one.boot) && nat_lt other.seq one.seq)
 
--- what is held of an origin, where adverts stand at the places of their origins
+-- the advert of an origin, if adverts are at the places of their origins
 abbrev pub held_advert : List (Option Advert) → ℕ → Option Advert
 held_advert adverts origin = slice_index_or adverts origin None
 
--- none of its origin is held, or this one is newer
+-- there is none of its origin, or this one is newer
 unfoldable pub is_news : List (Option Advert) → Advert → Bool
 is_news adverts advert = nat_lt advert.origin 64 && option_map_or (is_newer advert)
     (held_advert adverts advert.origin) true
 
--- what is held once the advert was heard
+-- the adverts once this one was heard
 unfoldable pub after_hearing : List (Option Advert) → Advert → List (Option Advert)
 after_hearing adverts advert =
     if is_news adverts advert then slice_set adverts advert.origin (Some advert) else adverts
 
--- what is held once these were heard, one after another
+-- the adverts once these were heard, one after another
 abbrev pub after_hearing_all : List (Option Advert) → List Advert → List (Option Advert)
 after_hearing_all adverts heard = fold after_hearing adverts heard
 

@@ -1,5 +1,5 @@
--- The definitions by which clauses of this crate speak of databases of adverts, of the links that
--- they know and of the routes that are found in them, passed on from the files that define them.
+-- The definitions that clauses of this crate use for databases of adverts, the links that they
+-- know and the routes that are found in them, passed on from the files that define them.
 pub use Rattle.failover.specs.Adverts.{after_hearing, first_adverts, first_of, held_advert, is_news, no_adverts}
 pub use Rattle.failover.specs.DownSet.{is_link_of}
 pub use Rattle.failover.specs.Isolated.{is_isolated, links_of_each}

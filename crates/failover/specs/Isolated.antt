@@ -1,4 +1,5 @@
--- What a database of adverts holds, whom adverts name, and at which switches no known link ends.
+-- What is in a database of adverts, which switches adverts name, and at which switches no known
+-- link ends.
 use Rattle.std.specs.Prelude.{ℕ, Bool, not, ◌&&◌, ◌==◌, Option, List, ◌≡◌, map}
 use Rattle.failover.specs.declared.advert.Advert.{Advert}
 use Rattle.failover.specs.Adverts.{held_advert}
@@ -6,7 +7,7 @@ use Rattle.failover.specs.Links.{neighbours_named, named_links, links_at}
 use Rattle.failover.specs.Newest.{AreByOrigin}
 use Rattle.base.specs.Masks.{has, switches}
 
--- the origin is held to name this neighbour
+-- the origin's advert, if there is one, names this neighbour
 unfoldable pub names_neighbour : List (Option Advert) → ℕ → ℕ → Bool
 names_neighbour adverts origin other = has (neighbours_named (held_advert adverts origin)) other
 
@@ -15,8 +16,7 @@ unfoldable pub is_isolated : List (Option Advert) → ℕ → ℕ → ℕ → Li
 is_isolated adverts at target near down =
     not (target == at) && (links_at (named_links adverts at near) down target == 0)
 
--- what a database holds: each advert at the place of its origin, and beside it the neighbours that
--- it names
+-- what is in a database: each advert at the place of its origin, and the neighbours that it names
 pub record IsDatabase (adverts : List (Option Advert)) (named : List ℕ) : Type 0 where
   pub by_origin : AreByOrigin adverts
   pub neighbours : named ≡ map neighbours_named adverts

@@ -15,19 +15,19 @@ use Rattle.failover.specs.Isolated.{names_neighbour, is_isolated}
 pub record AdvertLaws : Type 0 where
   pub none : AreByOrigin no_adverts
   pub first : (near : List ℕ) (count : ℕ) → AreByOrigin (first_adverts near count)
-  -- at first the advert of each switch is held, and no other
+  -- at first the database has the advert of each switch, and no other
   pub begun : (near : List ℕ) (count origin : ℕ) → origin < 64 →
       held_advert (first_adverts near count) origin ≡ first_of near count origin
   pub kept : (adverts : List (Option Advert)) (advert : Advert) → AreByOrigin adverts →
       AreByOrigin (after_hearing adverts advert)
-  -- an advert that is news is held, and those of other origins stay
+  -- an advert that is news is kept, and those of other origins stay
   pub heard : (adverts : List (Option Advert)) (advert : Advert) → AreByOrigin adverts →
       IsTrue (is_news adverts advert) →
       held_advert (after_hearing adverts advert) advert.origin ≡ Some advert
   pub others : (adverts : List (Option Advert)) (advert : Advert) (origin : ℕ) →
       origin ≢ advert.origin → held_advert (after_hearing adverts advert) origin
       ≡ held_advert adverts origin
-  -- after any adverts the newest of each origin is held, where the one that was held at first
+  -- after any adverts the database has the newest of each origin, and the one that it had at first
   -- counts before them
   pub newest : (adverts : List (Option Advert)) (heard : List Advert) (origin : ℕ) →
       AreByOrigin adverts → origin < 64 →
@@ -47,7 +47,7 @@ pub record LinkSetLaws : Type 0 where
       ((x y : ℕ) → has_link a x y ≡ has_link b x y) → a ≡ b
 
 pub record LinksAtLaws : Type 0 where
-  -- a link is known where both ends name each other
+  -- a link is known if both ends name each other
   pub known : (adverts : List (Option Advert)) (at near : ℕ) (down : List ℕ) (one other : ℕ) →
       one < 64 → other < 64 →
       has (slice_index (known_links adverts at near down) one) other ≡
@@ -66,13 +66,13 @@ pub record LinksAtLaws : Type 0 where
   pub either_end : (adverts : List (Option Advert)) (at near : ℕ) (down : List ℕ) (one other : ℕ) →
       has (slice_index (known_links adverts at near down) one) other ≡
       has (slice_index (known_links adverts at near down) other) one
-  -- another switch is isolated where no link that is known ends at it
+  -- another switch is isolated if no known link ends at it
   pub isolated : (adverts : List (Option Advert)) (at target near : ℕ) (down : List ℕ) →
       length adverts ≡ 64 → IsTrue (is_isolated adverts at target near down) ↔
       IsIsolated (known_links adverts at near down) at target
 
 pub record RouteLaws : Type 0 where
-  -- the function gives the defined route
+  -- the function returns the defined route
   pub computed : (adverts : List (Option Advert)) (from : ℕ) (targets : List ℕ) (near : ℕ)
       (down : List ℕ) →
       IsRoute (known_links adverts from near down) from targets
@@ -83,6 +83,6 @@ pub record RouteLaws : Type 0 where
   -- a path has distinct switches, so at most 64
   pub short : (links : List ℕ) (from target : ℕ) (path : List ℕ) → IsPath links from target path →
       IsRouteList path
-  -- a way to the target that meets a switch again shows that a path leads there too
+  -- if a way that meets a switch again leads to the target, a path does too
   pub straightened : (links : List ℕ) (from target : ℕ) (rest : List ℕ) → length links ≡ 64 →
       from < 64 → LinksLead links target from rest → IsReachable links from target

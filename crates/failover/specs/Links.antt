@@ -1,5 +1,5 @@
--- The links that a switch knows: those that both ends name (RFC 2328, section 16.1), where it names
--- its own neighbours by what it sees itself.
+-- The links that a switch knows: those that both ends name (RFC 2328, section 16.1), and its own
+-- neighbours are those that it sees itself.
 use Rattle.std.specs.Prelude.{ℕ, ◌≡◌, Bool, not, ◌&&◌, ◌==◌, Option, Some, None, List, map, slice_index, slice_set, ◌^◌, min, max, bit_or, replicate, ◌<◌, nat_eq, [], ◌∷◌, IsTrue}
 use Rattle.std.specs.List.{IsDistinct}
 use Rattle.failover.specs.declared.advert.Advert.{Advert}

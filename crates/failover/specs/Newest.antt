@@ -3,14 +3,14 @@ use Rattle.std.specs.Prelude.{ℕ, ◌≡◌, ◌≢◌, Option, Some, None, Lis
 use Rattle.failover.specs.declared.advert.Advert.{Advert}
 use Rattle.failover.specs.Adverts.{is_newer, held_advert}
 
--- each advert stands at the place of its origin, of 64
+-- each advert is at the place of its origin, of 64
 pub record AreByOrigin (adverts : List (Option Advert)) : Type 0 where
   pub places : length adverts ≡ 64
   pub origins : (origin : ℕ) (advert : Advert) → held_advert adverts origin ≡ Some advert →
       advert.origin ≡ origin
 
--- of these adverts the newest of an origin, and of equally new ones the first; none where none is
--- of that origin
+-- of these adverts the newest of an origin, and of equally new ones the first; none if none is of
+-- that origin
 abbrev pub IsNewest : ℕ → List Advert → Option Advert → Type 0
 IsNewest origin adverts None = All (λ advert. advert.origin ≢ origin) adverts
 IsNewest origin adverts (Some best) =

@@ -1,4 +1,4 @@
--- One to 64 distinct switches, held in 64 places.
+-- One to 64 distinct switches, in 64 places.
 use Rattle.std.specs.Prelude.{ℕ, ◌≡◌, ◌-◌, ◌<◌, ◌≤◌, nat_eq, List, length, take, drop, replicate, All}
 use Rattle.std.specs.List.{IsDistinct}
 use Rattle.base.specs.Filled.{filled_places, filled-take}
@@ -15,18 +15,18 @@ pub record IsRouteList (route : List ℕ) : Type 0 where
 abbrev pub first_switches : Inside → List ℕ
 first_switches r = take r.len r.switches
 
--- of the 64 places, those past the list are 0
+-- of the 64 places, those beyond the list are 0
 pub record IsFilledRoute (r : Inside) : Type 0 where
   pub places : length r.switches ≡ 64
   pub few : r.len ≤ 64
   pub rest : drop r.len r.switches ≡ replicate (64 - r.len) 0
   pub list : IsRouteList (first_switches r)
 
--- the 64 places that hold this list
+-- the 64 places that contain this list
 abbrev pub filled_route : List ℕ → Inside
 filled_route xs = record { switches = filled_places 64 xs; len = length xs }
 
--- the 64 places are those of the list that they hold
+-- the 64 places are those of the list that they contain
 pub filled-first_switches : (r : Inside) → IsFilledRoute r → filled_route (first_switches r) ≡ r
 filled-first_switches r h =
     let held = filled-take 64 r.len r.switches h.places h.few h.rest in rw (held.1, held.0)

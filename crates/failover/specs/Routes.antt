@@ -26,8 +26,8 @@ path_after links target zero at = []
 path_after links target (suc k) at = let next =
     least_neighbour_in links (ball links target k) at in next ∷ path_after links target k next
 
--- how many links farther than this ball the first is that has the switch; none where balls no
--- longer grow
+-- how many links farther than this ball the first is that has the switch; none if balls no longer
+-- grow
 unfoldable pub links_away : ℕ → List ℕ → ℕ → ℕ → Option ℕ
 links_away zero links from within = None
 links_away (suc most) links from within = elim (has within from) [

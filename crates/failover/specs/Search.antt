@@ -8,15 +8,15 @@ pub record IsAway (links : List ℕ) (target k at : ℕ) : Type 0 where
   pub here : has (ball links target k) at ≡ true
   pub later : (j : ℕ) → j < k → has (ball links target j) at ≡ false
 
--- no 63 links lead from the switch to the target
+-- no path of 63 links or fewer leads from the switch to the target
 unfoldable pub IsOutOfReach : List ℕ → ℕ → ℕ → Type 0
 IsOutOfReach links target at = (k : ℕ) → k < 64 → has (ball links target k) at ≡ false
 
--- at each place below k is the set of those at most so many links away
+-- at each place below k is the set of those at most that many links away
 unfoldable pub AreBalls : List ℕ → ℕ → List ℕ → ℕ → Type 0
 AreBalls links target balls k = (j : ℕ) → j < k → slice_index balls j ≡ ball links target j
 
--- the switches after one that is k links away, where these are the balls
+-- the switches after one that is k links away, if these are the balls
 unfoldable pub path_by_balls : List ℕ → List ℕ → ℕ → ℕ → List ℕ
 path_by_balls links balls zero at = []
 path_by_balls links balls (suc k) at = let next =

@@ -1,16 +1,16 @@
 ghost use Rattle.std.specs.Prelude.{◌≡◌};
 ghost use Rattle.failover.specs.Adverts.{is_newer};
 
-/// What a switch tells of its links, sent to all other switches.
+/// What a switch says about its links, sent to all other switches.
 #[derive(Clone, Copy, Debug, PartialEq, Eq)]
 pub struct Advert {
-    /// The switch that tells it.
+    /// The switch that says it.
     pub origin: u32,
     /// The origin's boot, from 1.
     pub boot: u32,
     /// The number of this advert among those of the boot, from 1.
     pub seq: u32,
-    /// The switches to which the origin has a usable link: bit k stands for switch k.
+    /// The switches to which the origin has a usable link: bit k is for switch k.
     pub up: u64,
 }
 

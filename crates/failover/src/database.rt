@@ -16,7 +16,7 @@ use std::marker::Model;
 #[derive(Debug, Drop)]
 pub struct Database {
     adverts: [Option<Advert>; 64],
-    // The neighbours that each advert names, beside it: so no route has to gather them.
+    // The neighbours that each advert names, kept so that no route has to collect them.
     named: [u64; 64],
 }
 
@@ -65,8 +65,8 @@ impl Database {
         Database { adverts, named }
     }
 
-    /// Holds the advert, and returns true, exactly where it is news: its origin is below 64, and
-    /// none of that origin is held or this one is newer. Otherwise nothing changes.
+    /// Keeps the advert and returns true exactly if it is news: its origin is below 64, and there
+    /// is none of that origin or this one is newer. Otherwise nothing changes.
     pub fn hear(&mut self, advert: &Advert) -> bool
         ensures news { result ≡ is_news self.old advert.now }
         ensures after { self.new ≡ after_hearing self.old advert.now }
@@ -91,7 +91,7 @@ impl Database {
             }
     }
 
-    /// The advert that is held of this origin; `None` exactly where none is.
+    /// The advert of this origin; `None` exactly if there is none.
     pub fn get(&self, origin: u32) -> Option<Advert>
         ensures held { result ≡ held_advert self.now origin }
         ensures origin { IfSome result (λ advert. advert.origin ≡ origin) }
@@ -105,11 +105,11 @@ impl Database {
     }
 
     /// The route of `from` to the first target, in order, that a path of known links reaches: a
-    /// path with the fewest links, and of those the least as a list. `None` exactly where no path
+    /// path with the fewest links, and of those the least as a list. `None` exactly if no path
     /// reaches any target.
     ///
-    /// A link is known where both ends name each other, `from` by the mask `near` and every other
-    /// switch by its advert, and where it isn't in `down` (RFC 2328, section 16.1).
+    /// A link is known if both ends name each other, `from` by the mask `near` and every other
+    /// switch by its advert, and if it isn't in `down` (RFC 2328, section 16.1).
     pub fn route(&self, from: u32, targets: &Targets, near: u64, down: &DownSet) -> Option<Route>
         ensures value { result ≡ route_of self.now from targets.now near down.now }
         ensures route { IsRoute (known_links self.now from near down.now) from targets.now result }

@@ -1,7 +1,7 @@
 ghost use Rattle.failover.specs.Laws.{AdvertLaws, LinksAtLaws, LinkSetLaws, RouteLaws};
 
-/// What is held at first, and what a list of heard adverts leaves: of each origin the newest, of
-/// equally new ones the first.
+/// What a database has at first, and what it has after a list of adverts: of each origin the
+/// newest, of equally new ones the first.
 pub fn advert_laws()
     ensures { AdvertLaws }
 {}
@@ -12,14 +12,14 @@ pub fn link_set_laws()
     ensures { LinkSetLaws }
 {}
 
-/// A link is known exactly where both ends name each other and it isn't down; a target is isolated
-/// exactly where it is another switch and no known link ends at it.
+/// A link is known exactly if both ends name each other and it isn't down; a target is isolated
+/// exactly if it is another switch and no known link ends at it.
 pub fn link_laws()
     ensures { LinksAtLaws }
 {}
 
-/// The function that computes a route gives the defined one, and there is no other; a path has at
-/// most 64 switches.
+/// The function that computes a route returns the defined one, and there is no other; a path has
+/// at most 64 switches.
 pub fn route_laws()
     ensures { RouteLaws }
 {}

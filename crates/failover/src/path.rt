@@ -4,10 +4,10 @@ use std::marker::Model;
 
 /// One to 64 distinct switches below 64, in the order in which a packet passes them.
 ///
-/// They are held in place, without memory. Contracts see the list.
+/// They are stored in place, without an allocation. Contracts see the list.
 #[derive(Clone, Copy, Debug, PartialEq, Eq)]
 pub struct Route {
-    // The switches, and 0 at the places past the route's end.
+    // The switches, and 0 at the places beyond the route's end.
     switches: [u32; 64],
     len: u8,
 }
@@ -32,7 +32,7 @@ impl Model for Route {
 impl Route {
     ghost use Rattle.failover.specs.RouteList.{IsRouteList};
 
-    // The route of the first switches of this array, in which 0 stands at all other places.
+    // The route of the first switches of this array, which has 0 at all other places.
     pub(crate) fn new(switches: [u32; 64], len: u8) -> Route
         requires few { len ≤ 64 }
         requires rest { drop len switches ≡ replicate (64 - len) 0 }

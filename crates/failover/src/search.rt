@@ -7,11 +7,11 @@ use crate::links::links_within;
 use crate::path::Route;
 use base::{has, only_if};
 
-// A switch's links are found where the search comes to it: so those that it doesn't reach cost
+// A switch's links are found when the search comes to it, so switches that it doesn't reach cost
 // nothing.
 
-/// The least path to the first of the targets that a path of links reaches; `None` exactly where
-/// no path reaches any.
+/// The least path to the first of the targets that a path of links reaches; `None` exactly if no
+/// path reaches any.
 pub fn first_route(
     neighbours: &[u64; 64],
     down: &DownSet,
@@ -41,7 +41,7 @@ fn route_to(neighbours: &[u64; 64], down: &DownSet, from: u32, target: u32) -> O
 }
 
 // How many links the switch is away from the target. At each place below that number `balls` gets
-// the switches that are at most so many links away.
+// the switches that are at most that many links away.
 fn distance(
     neighbours: &[u64; 64],
     down: &DownSet,
@@ -62,7 +62,8 @@ fn distance(
             return Some(k);
         }
         balls[k] = ball;
-        // One mask tells this, where the next ball, mostly the widest step, takes one of each edge.
+        // One mask decides this; the next ball, mostly the widest step, would need one for each
+        // edge.
         if links_within(neighbours, down, from, ball) != 0 {
             return Some(k + 1);
         }

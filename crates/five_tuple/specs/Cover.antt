@@ -5,7 +5,7 @@ use Rattle.five_tuple.specs.Header.{PortRangeValue}
 
 -- ---- blocks
 
--- ports that share some of their first bits: a value, and the mask of the bits that count
+-- ports that share some of their first bits: a value, and the mask of the bits that matter
 abbrev pub Block : Type 0
 Block = ℕ × ℕ
 
@@ -41,8 +41,8 @@ largest_up_to zero first high = 0
 largest_up_to (suc exponent) first high =
     if fits_at first high (suc exponent) then suc exponent else largest_up_to exponent first high
 
--- blocks from `low` on, each the largest that begins where the one before it ends, until no port is
--- left or there are this many
+-- blocks from `low` on, each the largest that begins where the one before it ends, until no port
+-- is left, or this many blocks
 abbrev pub blocks_from : ℕ → ℕ → ℕ → List Block
 blocks_from zero low high = []
 blocks_from (suc most) low high =
@@ -65,7 +65,7 @@ pub record IsLargestBlock (first high exponent : ℕ) : Type 0 where
   pub block : IsBlock first high exponent
   pub largest : (other : ℕ) → IsBlock first high other → other ≤ exponent
 
--- from `low` on, each is the largest block, and nothing is left past the last one
+-- from `low` on, each is the largest block, and nothing is left after the last one
 abbrev pub IsCover : ℕ → ℕ → List Block → Type 0
 IsCover low high [] = high < low
 IsCover low high (block ∷ more) =

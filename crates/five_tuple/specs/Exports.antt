@@ -1,5 +1,5 @@
--- The definitions by which clauses of this crate and of those above speak of headers, of the fields
--- that match them and of their texts, passed on from the files that define them.
+-- The definitions that clauses of this crate and of those above use for headers, the fields that
+-- match them and their texts, passed on from the files that define them.
 pub use Rattle.five_tuple.specs.Cover.{IsLargestBlock, IsPortBlock, cover_of}
 pub use Rattle.five_tuple.specs.Header.{AddressBlock, IsHeader, PortRangeValue, fields_of, number_of, prefix_matches, proto_matches, range_matches}
 pub use Rattle.five_tuple.specs.HeaderNumbers.{header_numbered, header_of}

@@ -23,7 +23,7 @@ number_of header =
     let f = fields_of header in
     f.src * 2 ^ 72 + f.dst * 2 ^ 40 + f.sport * 2 ^ 24 + f.dport * 2 ^ 8 + f.proto
 
--- a block of addresses (RFC 4632, section 3.1): an address, and how many of its first bits count
+-- a block of addresses (RFC 4632, section 3.1): an address, and how many of its first bits matter
 pub record AddressBlock : Type 0 where
   pub address : ℕ
   pub len : ℕ
@@ -41,7 +41,7 @@ pub record PortRangeValue : Type 0 where
 abbrev pub range_matches : PortRangeValue → ℕ → Bool
 range_matches r port = nat_le r.low port && nat_le port r.high
 
--- any protocol, or the very number
+-- any protocol, or exactly this number
 abbrev pub proto_matches : Proto → ℕ → Bool
 proto_matches Any number = true
 proto_matches (Is this) number = this == number

@@ -33,14 +33,14 @@ pub record IsCoverOf (range : PortRangeValue) (blocks : List Block) : Type 0 whe
 
 pub record CoverLaws : Type 0 where
   pub cover : (range : PortRangeValue) → IsPortRange range → IsCoverOf range (cover_of range)
-  -- each is the largest block that begins at the first port not yet taken, and no other list is
-  -- such
+  -- each is the largest block that begins at the first port not yet covered, and no other list has
+  -- this property
   pub greedy : (range : PortRangeValue) → IsPortRange range
       → IsCover range.low range.high (cover_of range)
   pub only : (range : PortRangeValue) (blocks : List Block) → IsPortRange range
       → IsCover range.low range.high blocks → blocks ≡ cover_of range
 
--- each printed form has plain characters alone
+-- each printed form has only plain characters
 pub record PlainTextLaws : Type 0 where
   pub number : (n : ℕ) → n < 2 ^ 64 → AllPass is_plain_char (decimal n)
   pub address : (a : ℕ) → a < 2 ^ 32 → AllPass is_plain_char (address_text a)

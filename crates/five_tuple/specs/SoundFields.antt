@@ -1,11 +1,11 @@
--- What holds of the fields that a row of a policy has: its blocks of addresses, ranges of ports and
+-- What is true of the fields of a policy's row: its blocks of addresses, ranges of ports and
 -- protocols.
 use Rattle.std.specs.Prelude.{◌^◌, ◌<◌, ⊤, ◌≡◌, ◌-◌, ◌%◌, ◌≤◌}
 use Rattle.five_tuple.specs.Header.{AddressBlock, PortRangeValue}
 use Rattle.five_tuple.specs.declared.matching.Proto.{Proto}
 use Rattle.five_tuple.specs.declared.matching.Proto.TheVariants.{Any, Is}
 
--- the bits past the first len are 0
+-- the bits beyond the first len are 0
 pub record IsAddressBlock (p : AddressBlock) : Type 0 where
   pub address : p.address < 2 ^ 32
   pub len : p.len ≤ 32

@@ -11,7 +11,7 @@ use Rattle.five_tuple.specs.declared.matching.Proto.{Proto}
 use Rattle.five_tuple.specs.declared.matching.Proto.TheVariants.{Any, Is}
 use Rattle.five_tuple.specs.Header.{AddressBlock, PortRangeValue}
 
--- the first digit is 0 and does not stand alone
+-- the first digit is 0 and isn't the only one
 abbrev pub has_leading_zero : List ℕ → Bool
 has_leading_zero text = nat_lt 1 (length text) && slice_index text 0 == 48
 
@@ -26,7 +26,7 @@ number_up_to most text =
     if is_number text && nat_le (digits_value 10 text) most then Some (digits_value 10 text)
     else None
 
--- the parts of a text that stand round a byte
+-- the parts of a text between occurrences of a byte
 abbrev pub parts_round : ℕ → List ℕ → List (List ℕ)
 parts_round byte text = slice_split (λ b. b == byte) text
 
@@ -35,13 +35,13 @@ abbrev pub address_from : Option ℕ → Option ℕ → Option ℕ → Option �
 address_from (Some a) (Some b) (Some c) (Some d) = Some (a * 2 ^ 24 + b * 2 ^ 16 + c * 2 ^ 8 + d)
 address_from _ _ _ _ = None
 
--- the text begins with this number from 0 to 255 and a dot, and this stands behind the dot
+-- the text begins with this number from 0 to 255 and a dot, and this follows the dot
 pub record IsByteBefore (text : List ℕ) (byte : ℕ) (rest : List ℕ) : Type 0 where
   pub part : List ℕ
   pub parts : parts_round 46 text ≡ part ∷ parts_round 46 rest
   pub number : number_up_to 255 part ≡ Some byte
 
--- no number from 0 to 255 stands before a first dot
+-- no number from 0 to 255 comes before a first dot
 abbrev pub LacksByte : List ℕ → Type 0
 LacksByte text = (part next : List ℕ) (others : List (List ℕ))
     → parts_round 46 text ≡ part ∷ next ∷ others → number_up_to 255 part ≡ None
@@ -56,28 +56,28 @@ address_of_parts _ = None
 unfoldable pub address_of : List ℕ → Option ℕ
 address_of text = address_of_parts (parts_round 46 text)
 
--- the block of this length that the address lies in: the bits past the length are cleared
+-- the block of this length that the address lies in: the bits beyond the length are cleared
 abbrev pub block_round : ℕ → ℕ → AddressBlock
 block_round address len = record { address = address / 2 ^ (32 - len) * 2 ^ (32 - len); len = len }
 
--- a block, where both its address and its length can be read
+-- a block, if both its address and its length can be read
 abbrev pub block_from : Option ℕ → Option ℕ → Option AddressBlock
 block_from (Some address) (Some len) = Some (block_round address len)
 block_from _ _ = None
 
--- an address alone has length 32
+-- an address without a length has length 32
 abbrev pub block_of_parts : List (List ℕ) → Option AddressBlock
 block_of_parts (address ∷ []) = block_from (address_of address) (Some 32)
 block_of_parts (address ∷ len ∷ []) = block_from (address_of address) (number_up_to 32 len)
 block_of_parts _ = None
 
--- `any`; an address, a block of its own; an address, a slash and the block's length
+-- `any`; an address, which is a block by itself; an address, a slash and the block's length
 unfoldable pub prefix_of : List ℕ → Option AddressBlock
 prefix_of text =
     if bytes_eq text (codes "any") then Some (block_round 0 0) else
     block_of_parts (parts_round 47 text)
 
--- a range, where both ends can be read and stand in order
+-- a range, if both ends can be read and are in order
 abbrev pub range_from : Option ℕ → Option ℕ → Option PortRangeValue
 range_from (Some low) (Some high) =
     if nat_le low high then Some (record { low = low; high = high }) else None
@@ -102,7 +102,7 @@ proto_number_of text =
     (if bytes_eq text (codes "tcp") then Some 6 else
     (if bytes_eq text (codes "udp") then Some 17 else number_up_to 255 text))
 
--- the fields of a packet, where each can be read
+-- the fields of a packet, if each can be read
 abbrev pub fields_from : Option ℕ → Option ℕ → Option ℕ → Option ℕ → Option ℕ → Option Fields
 fields_from (Some src) (Some dst) (Some sport) (Some dport) (Some proto) =
     Some (record { src = src; dst = dst; sport = sport; dport = dport; proto = proto })

@@ -2,10 +2,10 @@
 //!
 //! A header is one number of 104 bits that packs source, destination, ports and protocol; each
 //! number is that of one header. Prefixes, port ranges and protocols match as RFC 4632 and the
-//! field's tables say, each text is read exactly where its grammar has it, and each printed form is
-//! read back. The blocks that cover a range of ports hold exactly its ports, each in one block, in
-//! at most 30 blocks. Laws, functions with an empty body, ensure the same for proofs where no call
-//! runs.
+//! field's tables say, each text is read exactly if its grammar has it, and each printed form is
+//! read back. The blocks that cover a range of ports have exactly its ports, each in one block, in
+//! at most 30 blocks. Laws, functions with an empty body, ensure the same for proofs in which no
+//! call runs.
 //!
 //! A caller, which imports `option_map` from std, `prefix_matches` from `specs/Matching.antt` and
 //! `prefix_of` from `specs/Texts.antt`:

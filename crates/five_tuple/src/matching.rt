@@ -5,7 +5,7 @@ use std::marker::Model;
 
 /// The addresses that agree with `address` in the first `len` bits (RFC 4632, section 3.1).
 ///
-/// `len` is at most 32, and the bits of `address` past the first `len` are 0.
+/// `len` is at most 32, and the bits of `address` beyond the first `len` are 0.
 #[derive(Clone, Copy, Debug, PartialEq, Eq)]
 pub struct Prefix {
     pub address: u32,
@@ -26,7 +26,7 @@ impl Model for Prefix {
 }
 
 impl Prefix {
-    /// The block of this length that the address lies in: the bits past the first `len` are
+    /// The block of this length that the address lies in: the bits beyond the first `len` are
     /// cleared.
     pub fn new(address: u32, len: u32) -> Prefix
         requires { len ≤ 32 }
@@ -88,7 +88,7 @@ pub enum Proto {
 }
 
 impl Proto {
-    /// Whether the protocol number is this one, or any goes.
+    /// Whether the protocol number is this one, or any number matches.
     pub fn matches(&self, number: u8) -> bool
         ensures { result ≡ proto_matches self.now number }
     {

@@ -4,7 +4,7 @@ ghost use Rattle.five_tuple.specs.Exports.{CoverLaws, IsCoverOf, IsLargestBlock,
 use crate::matching::PortRange;
 use std::alloc::{AllocError, Global};
 
-/// A block of ports as a value and a mask: it holds the ports that agree with the value in the bits
+/// A block of ports as a value and a mask: it has the ports that agree with the value in the bits
 /// of the mask.
 pub type PortBlock = (u16, u16);
 
@@ -21,7 +21,7 @@ fn largest_block(first: u32, high: u32) -> u32
     aligned.min(fitting)
 }
 
-/// The blocks of a range, ascending: an iterator that takes no memory.
+/// The blocks of a range, ascending: an iterator that allocates nothing.
 #[derive(Clone, Copy, Debug)]
 pub struct Blocks {
     next: u32,
@@ -68,8 +68,8 @@ impl PortRange {
 
 /// The range as aligned blocks: exactly its ports, in at most 30 blocks.
 ///
-/// From the low end on, each block is the largest that begins at the first port not yet taken and
-/// ends at or below the high end. A block of 2^k ports has the mask 65536 - 2^k.
+/// From the low end on, each block is the largest that begins at the first port not yet covered
+/// and ends at or below the high end. A block of 2^k ports has the mask 65536 - 2^k.
 pub fn cover(alloc: Global, range: &PortRange) -> Result<Vec<PortBlock>, AllocError>
     ensures cover { IfOk result (λ v. v.items ≡ cover_of range.now) }
     ensures blocks { IfOk result (λ v. IsCoverOf range.now v.items) }
@@ -84,7 +84,7 @@ fn collect_blocks(alloc: Global, range: &PortRange) -> Result<Vec<PortBlock>, Al
     range.blocks().collect(alloc)
 }
 
-/// The number of blocks that `cover` lists, with no list made.
+/// The number of blocks that `cover` lists, without making a list.
 pub fn count_blocks(range: &PortRange) -> u32
     ensures count { result ≡ length (cover_of range.now) }
     ensures few { result ≤ 30 }
@@ -93,7 +93,7 @@ pub fn count_blocks(range: &PortRange) -> u32
 }
 
 /// The blocks of a range are exactly its ports, and each is the largest that begins at the first
-/// port not yet taken.
+/// port not yet covered.
 pub fn cover_laws()
     ensures { CoverLaws }
 {}

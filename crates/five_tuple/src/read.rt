@@ -7,7 +7,7 @@ use crate::matching::{PortRange, Prefix, Proto};
 /// The number that the text writes in decimal digits; `None` unless it is a number of at most
 /// `most`.
 ///
-/// A number has no sign, and a first digit 0 only where it stands alone.
+/// A number has no sign, and begins with 0 only if 0 is its only digit.
 pub fn read_number(text: &[u8], most: u64) -> Option<u64>
     ensures value { result ≡ number_up_to most text.now }
     ensures bound { IfSome result (λ n. n ≤ most) }
@@ -33,7 +33,7 @@ pub fn read_number(text: &[u8], most: u64) -> Option<u64>
     Some(number)
 }
 
-/// Whether the text begins with a zero that does not stand alone.
+/// Whether the text begins with a zero that isn't its only digit.
 fn has_leading_zero(text: &[u8]) -> bool
     ensures { result ≡ has_leading_zero text.now }
 {
@@ -47,7 +47,7 @@ fn place_of(text: &[u8], byte: u8) -> Option<usize>
     text.iter().position(|b| *b == byte)
 }
 
-/// What stands before and after the first such byte; `None` where there is none.
+/// What is before and after the first such byte; `None` if there is none.
 fn cut(text: &[u8], byte: u8) -> Option<(&[u8], &[u8])>
     ensures { MatchOption result
         (parts_round byte text.now ≡ text.now ∷ [])
@@ -73,15 +73,15 @@ pub fn read_port(text: &[u8]) -> Option<u16>
     Some(number as u16)
 }
 
-/// Whether digits are there and begin with no zero but one that stands alone.
+/// Whether there are digits, and the first one is 0 only if it is the only one.
 fn are_plain(digits: &[u8]) -> bool
     ensures { result ≡ (nat_lt 0 (length digits.now) && not (has_leading_zero digits.now)) }
 {
     !digits.is_empty() && !has_leading_zero(digits)
 }
 
-/// The number from 0 to 255 before the first dot, and what stands behind the dot; `None` where
-/// there is no dot, or no such number before it.
+/// The number from 0 to 255 before the first dot, and what follows the dot; `None` if there is no
+/// dot, or no such number before it.
 fn byte_before_dot(text: &[u8]) -> Option<(u8, &[u8])>
     ensures { MatchOption result (LacksByte text.now) (λ r. IsByteBefore text.now r.0 r.1.now) }
 {
@@ -117,8 +117,9 @@ pub fn read_address(text: &[u8]) -> Option<u32>
 
 /// The block of addresses that the text names; `None` for a text that names none.
 ///
-/// `any` is every address, an address stands for itself alone, and after a slash comes the block's
-/// length, at most 32 (RFC 4632, section 3.1). The address's bits past the length are cleared.
+/// `any` is every address, an address without a length is only itself, and after a slash comes the
+/// block's length, at most 32 (RFC 4632, section 3.1). The address's bits beyond the length are
+/// cleared.
 #[tactic(auto, using(crate::proofs::PartReadings::block_reads), unfolding(crate::specs::Texts::prefix_of))]
 pub fn read_prefix(text: &[u8]) -> Option<Prefix>
     ensures value { result ≡ prefix_of text.now }
@@ -175,8 +176,8 @@ pub fn read_range(text: &[u8]) -> Option<PortRange>
     }
 }
 
-/// The protocol's number: `icmp`, `tcp` and `udp` stand for 1, 6 and 17, and each number from 0 to
-/// 255 for itself.
+/// The protocol's number: `icmp`, `tcp` and `udp` mean 1, 6 and 17, and each number from 0 to 255
+/// itself.
 #[tactic(auto, unfolding(crate::specs::Texts::proto_number_of))]
 pub fn read_proto_number(text: &[u8]) -> Option<u8>
     ensures value { result ≡ proto_number_of text.now }
@@ -207,9 +208,9 @@ pub fn read_proto(text: &[u8]) -> Option<Proto>
     }
 }
 
-/// The fields of a packet, each from its text; `None` where one of them has none.
+/// The fields of a packet, each from its text; `None` if one of the texts states none.
 ///
-/// The addresses stand without a length, and the protocol isn't `any`.
+/// The addresses have no length, and the protocol isn't `any`.
 pub fn read_fields(
     src: &[u8],
     dst: &[u8],

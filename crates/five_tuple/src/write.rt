@@ -13,7 +13,7 @@ use std::fmt;
 #[derive(Clone, Copy, Debug, PartialEq, Eq)]
 pub struct Address(pub u32);
 
-/// A protocol's number, printed by the name of ICMP, TCP or UDP, and else as the number.
+/// A protocol's number, printed by the name of ICMP, TCP or UDP, otherwise as the number.
 #[derive(Clone, Copy, Debug, PartialEq, Eq)]
 pub struct Protocol(pub u8);
 
@@ -41,7 +41,7 @@ impl fmt::Display for Protocol {
     }
 }
 
-/// Printed as `any` where it is every address, else as the address, a slash and the length.
+/// Printed as `any` if it is every address, otherwise as the address, a slash and the length.
 #[tactic(auto, unfolding(crate::specs::RowPrinting::prefix_text))]
 impl fmt::Display for Prefix {
     ghost output = { λ p. Some (prefix_text p) };
@@ -57,7 +57,7 @@ impl fmt::Display for Prefix {
     }
 }
 
-/// Printed as `any` where it is every port, as one number where it is one port, else as both ends
+/// Printed as `any` if it is every port, as one number if it is one port, otherwise as both ends
 /// joined by a dash.
 #[tactic(auto, unfolding(crate::specs::RowPrinting::range_text))]
 impl fmt::Display for PortRange {
@@ -114,7 +114,7 @@ pub fn write_address(alloc: Global, address: u32) -> Result<Vec<u8>, AllocError>
     Ok(Address(address).to_string(alloc)?.into_bytes())
 }
 
-/// The block: `any` where it is every address, else its address, a slash and its length.
+/// The block: `any` if it is every address, otherwise its address, a slash and its length.
 pub fn write_prefix(alloc: Global, prefix: &Prefix) -> Result<Vec<u8>, AllocError>
     ensures text { IfOk result (λ t. t.items ≡ prefix_text prefix.now) }
     ensures read_back { IfOk result (λ t. prefix_of t.items ≡ Some prefix.now) }
@@ -124,7 +124,7 @@ pub fn write_prefix(alloc: Global, prefix: &Prefix) -> Result<Vec<u8>, AllocErro
     Ok(prefix.to_string(alloc)?.into_bytes())
 }
 
-/// The range: `any` where it is every port, one number where it is one port, else both ends joined
+/// The range: `any` if it is every port, one number if it is one port, otherwise both ends joined
 /// by a dash.
 pub fn write_range(alloc: Global, range: &PortRange) -> Result<Vec<u8>, AllocError>
     ensures text { IfOk result (λ t. t.items ≡ range_text range.now) }
@@ -157,7 +157,7 @@ pub fn printed_forms_are_read_back()
     ensures proto { (p : Proto) → IsProtocol p → proto_of (proto_text p) ≡ Some p }
 {}
 
-/// Each printed form has digits, lower-case letters, dots, slashes and dashes alone: a field of a
+/// Each printed form has only digits, lower-case letters, dots, slashes and dashes: a field of a
 /// CSV file that needs no quotes.
 pub fn printed_forms_are_plain()
     ensures { PlainTextLaws }

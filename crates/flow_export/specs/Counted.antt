@@ -1,4 +1,4 @@
--- What the records of flow meters count of the packets that left in a network.
+-- What the records of flow meters count among the packets that left a network.
 use Rattle.std.specs.Prelude.{ℕ, ◌≡◌, ◌==◌, ◌&&◌, All, List, [], ◌++◌, count_by, length}
 use Rattle.std.specs.List.{flat_map}
 use Rattle.five_tuple.specs.HeaderNumbers.{header_eq}
@@ -9,7 +9,7 @@ use Rattle.meters.specs.Seen.{Seen}
 use Rattle.meters.specs.declared.flows.FlowRecord.{FlowRecord}
 use Rattle.flow_export.specs.Flows.{IsFlowMeter}
 
--- a flow meter that holds nothing, and leaves with so many headers
+-- an empty flow meter that is complete with this many headers
 pub record IsNewMeter (most : ℕ) (meter : Seen) : Type 0 where
   pub kind : IsFlowMeter meter.port most meter
   pub empty : meter.held ≡ []
@@ -23,13 +23,12 @@ left_with left port header =
 abbrev pub IsCounted : PortLeavings → FlowRecord → Type 0
 IsCounted left flow = flow.packets ≡ left_with left flow.port flow.header
 
--- of meters in a network with these ports none leaves
+-- none of the meters in a network with these ports leaves
 abbrev pub NoneLeaves : ℕ → PortLeavings → List Seen → Type 0
 NoneLeaves ports left meters =
     length (kept_meters ports left meters) ≡ length (kept_meters ports [] meters)
 
--- each record of a meter that stays counts all such packets; and where none leaves, each record
--- that there is does
+-- each record of a meter that stays counts all such packets; and if none leaves, each record does
 pub record FlowLaws : Type 0 where
   pub stayed : (most ports : ℕ) (left : PortLeavings) (meters : List Seen)
       → All (IsNewMeter most) meters

@@ -1,4 +1,4 @@
--- The counts of a flow meter, as a map holds them.
+-- The counts of a flow meter, as a map has them.
 use Rattle.std.specs.Prelude.{ℕ, List, map}
 use Rattle.std.specs.Map.{lookup}
 use Rattle.std.specs.Option.{unwrap_or}
@@ -11,6 +11,6 @@ use Rattle.flow_export.specs.Flows.{headers_of, packets_of}
 abbrev pub packet_counts : List Leaving → List (Header × ℕ)
 packet_counts held = map (λ header. (header, packets_of held header)) (headers_of held)
 
--- the count of a header, and 0 where it has none
+-- the count of a header, or 0 if it has none
 abbrev pub count_of_header : Header → List (Header × ℕ) → ℕ
 count_of_header header counts = unwrap_or (lookup (header_eq header) counts) 0

@@ -22,14 +22,14 @@ flows port held =
     map (λ header. record { port = port; header = header; packets = packets_of held header })
     (headers_of held)
 
--- what a flow meter holds at its port, and with how many headers it leaves
+-- what a flow meter has recorded at its port, and with how many headers it is complete
 pub record FlowMeterValue : Type 0 where
   pub port : ℕ
   pub held : List Leaving
   pub most : ℕ
 
--- the meter is one of its kind, whatever list it holds: the records of a list are its flows, and a
--- list of so many different headers is ended
+-- the meter is one of its kind, whatever its list is: the records of a list are its flows, and a
+-- list of this many different headers is complete
 pub record IsFlowMeter (port most : ℕ) (meter : Seen) : Type 0 where
   pub at_port : meter.port ≡ port
   pub recorded : (held : List Leaving) → meter.recorded held ≡ flows port held

@@ -10,8 +10,8 @@ use meters::{FlowRecord, Flows, Leaving, Meter, Stay};
 use std::alloc::{AllocError, Global};
 use std::marker::Model;
 
-/// A meter whose records are the flows of its list, and that leaves with the header that makes
-/// `most` different ones.
+/// A meter whose records are the flows of its list; it is complete with its `most`-th different
+/// header.
 #[derive(Drop)]
 pub struct FlowMeter {
     port: u32,
@@ -34,8 +34,7 @@ impl Model for FlowMeter {
 }
 
 impl FlowMeter {
-    /// A meter of this port that holds nothing, and leaves with its `most`-th header. Takes no
-    /// memory.
+    /// An empty meter of this port that is complete with its `most`-th header. Allocates nothing.
     pub fn new(alloc: Global, port: u32, most: u32) -> Self
         requires some { 1 ≤ most }
         requires few { most ≤ 65536 }
@@ -50,7 +49,7 @@ impl FlowMeter {
         }
     }
 
-    // Puts a leaving behind the others, and counts it.
+    // Adds a leaving at the end, and counts it.
     fn append(&mut self, leaving: &Leaving) -> Result<(), AllocError>
         ensures ok { OnOk result
             (self.new ≡ record self.old { held = self.old.held ++ leaving.now ∷ [] }) }
@@ -62,7 +61,7 @@ impl FlowMeter {
         Ok(())
     }
 
-    // Whether its list is ended.
+    // Whether its list is complete.
     fn is_ended(&self) -> bool
         ensures { result ≡ nat_le self.now.most (length (headers_of self.now.held)) }
     {

@@ -1,10 +1,11 @@
 //! A meter that counts flows: how many packets of each header left its port.
 //!
-//! A `FlowMeter` notes each leaving, as any meter does. Its records are the flows of what it noted:
-//! one for each different header, in the order in which they first left, with the number of packets
-//! that had it. It leaves as soon as it has so many headers as its maker says, so that the table of
-//! its counts stays small. Where no meter of a network leaves, the records of all of them count what
-//! left it, for each port and header (`flow_laws`). `push_flows` prints records.
+//! A `FlowMeter` records each leaving, as any meter does. Its flow records count what it recorded:
+//! one for each different header, in the order in which they first left, with the number of
+//! packets that had it. It is complete as soon as it has as many headers as its maker says, so
+//! that the table of its counts stays small. If no meter of a network leaves, the records of all
+//! of them count what left it, for each port and header (`flow_laws`). `push_flows` prints
+//! records.
 //!
 //! ```text
 //! let meter = FlowMeter::new(alloc, 3, 4096); // at port 3

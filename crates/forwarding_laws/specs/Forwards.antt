@@ -1,7 +1,7 @@
 -- A network forwards: a packet that comes in, and is drained, is decided by the newest version and
--- is dropped or leaves by its port, or it is stuck where no links lead on. Packets are those of Yu,
--- Rexford, Freedman and Wang, "Scalable Flow-Based Networking with DIFANE", SIGCOMM 2010; that they
--- fare so is our own notion.
+-- is dropped or leaves by its port, or it is stuck if no links lead on. Packets are those of Yu,
+-- Rexford, Freedman and Wang, "Scalable Flow-Based Networking with DIFANE", SIGCOMM 2010; that
+-- they end like this is our own notion.
 use Rattle.std.specs.Prelude.{ℕ, ◌≡◌, ◌⊎◌, ◌++◌, Option, Some, None, List, All, Contains, IsTrue, find, option_map}
 use Rattle.five_tuple.specs.Header.{IsHeader}
 use Rattle.five_tuple.specs.declared.header.Header.{Header}
@@ -37,8 +37,8 @@ pub record IsDecidedByNewest (setting : Setting) (before after : List Item) (pac
   pub first_match : IsFirstMatch (policy_at setting before (version_count before)) header
       (record { rule = rule; action = act })
 
--- the packet is stuck on this leg, and links that could be used led from where it came in to none
--- of the targets
+-- the packet is stuck on this leg, and usable links led from where it came in to none of the
+-- targets
 pub record IsStuckApart (setting : Setting) (before after : List Item) (packet ingress : ℕ)
     (leg : Leg) : Type 0 where
   pub switch : ℕ
@@ -82,8 +82,8 @@ pub record FindsNoTarget (setting : Setting) (before after : List Item) (packet 
   pub stuck : IsStuckApart setting before after packet ingress
       (Seek (version_count before) partition)
 
--- so it is of each packet that comes in behind the journal at a switch that is up, once all hops
--- that a drain takes then are taken
+-- this is true of each packet that comes in after the journal at a switch that is up, once all
+-- hops that a drain then takes are taken
 abbrev pub QuietForwards : Setting → List Item → Type 0
 QuietForwards setting before = (row later ingress : ℕ) (header : Header) (hops : List StepOfRow)
     → HasSwitch setting.net ingress → IsHeader header → IsTrue (is_up before ingress)

@@ -1,8 +1,8 @@
--- Nothing old is left: behind recovery, and then once more a resend of each switch and a flush, the
--- switches keep the tables of the newest version alone. One round is not enough: a switch that
--- joins in the flush of the first one wasn't told yet what is retired. That versions are collected
--- once no packet needs them is of Reitblatt, Foster, Rexford, Schlesinger and Walker, "Abstractions
--- for Network Update".
+-- Nothing old is left: after recovery, one more resend to each switch and a flush, the switches
+-- keep only the tables of the newest version. One round is not enough: a switch that joins in the
+-- flush of the first one wasn't sent yet what is retired. That versions are collected once no
+-- packet needs them is from Reitblatt, Foster, Rexford, Schlesinger and Walker, "Abstractions for
+-- Network Update".
 use Rattle.std.specs.Prelude.{ℕ, ◌≡◌, ◌==◌, List, [], ◌∷◌, ◌++◌, All, IsTrue}
 use Rattle.journal.specs.declared.item.Item.{Item}
 use Rattle.net_file.specs.declared.net.Net.{Net}
@@ -17,7 +17,7 @@ use Rattle.update_machine.specs.Versions.{holds_version, version_count}
 use Rattle.forwarding_laws.specs.Recovered.{HasRecovered}
 use Rattle.forwarding_laws.specs.Recovery.{AskEach, EndsInRecovery}
 
--- rows that end in recovery, then a resend of each switch, then a flush
+-- rows that end in recovery, then a resend to each switch, then a flush
 pub record EndsInTwoRounds (net : Net) (events : List Event) : Type 0 where
   pub first : List Event
   pub resends : List Event
@@ -25,17 +25,17 @@ pub record EndsInTwoRounds (net : Net) (events : List Event) : Type 0 where
   pub recovered : EndsInRecovery net first
   pub resent : AskEach net Resend resends
 
--- each switch of the network that is up holds the tables of the newest version, and of no other
+-- each switch of the network that is up has the tables of the newest version, and of no other
 abbrev pub HoldNewestAlone : Setting → List Item → Type 0
 HoldNewestAlone setting journal = (s version : ℕ) → HasSwitch setting.net s
     → IsTrue (is_up journal s) → holds_version journal s version ≡ (version == version_count journal)
 
--- each of them caches rules of the newest version alone
+-- each of them caches only rules of the newest version
 abbrev pub CacheNewestAlone : Setting → List Item → Type 0
 CacheNewestAlone setting journal = (s : ℕ) → HasSwitch setting.net s → IsTrue (is_up journal s)
     → All (λ entry. entry.version ≡ version_count journal) (cache_of setting journal s).entries
 
--- nothing old is left of a network that has recovered
+-- nothing old is left in a network that has recovered
 pub record LeavesNothingOld (setting : Setting) (journal : List Item) : Type 0 where
   pub recovered : HasRecovered setting journal
   pub tables : HoldNewestAlone setting journal

@@ -1,4 +1,4 @@
--- What recovery leaves.
+-- The result of recovery.
 use Rattle.std.specs.Prelude.{ℕ, ◌≡◌, ◌⊎◌, Some, List, IsTrue}
 use Rattle.ctrl_msg.specs.declared.message.Message.{Message}
 use Rattle.journal.specs.declared.item.Item.{Item}
@@ -15,10 +15,10 @@ abbrev pub AllDelivered : List Item → Type 0
 AllDelivered journal = (n : ℕ) (message : Message) → message_of journal n ≡ Some message
     → IsTrue (was_delivered journal n) ⊎ IsTrue (is_forgotten journal n)
 
--- the switches know the links that can be used, a step makes a packet that had found no link down
--- stuck only where no target is reached, the switches that are up stamp with the newest version,
--- and a packet that comes in then is forwarded by it. The network need not be quiet: what was lost
--- before may matter still, as an advert for a switch to which no link leads any more
+-- the switches know the usable links, a packet that had found no link down gets stuck in a step
+-- only if no target is reachable, the switches that are up stamp with the newest version, and a
+-- packet that comes in then is forwarded by it. The network need not be quiet: what was lost
+-- before may still matter, as an advert for a switch to which no link leads any more
 pub record HasRecovered (setting : Setting) (journal : List Item) : Type 0 where
   pub converged : HasConverged setting journal
   pub apart : GetStuckApart setting journal

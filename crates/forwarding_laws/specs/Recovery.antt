@@ -1,7 +1,7 @@
--- A schedule that ends in recovery: the controller is told of each switch that is down, each switch
--- that is up is asked to send again, and all that waits is delivered. A row that asks nothing, as
--- the confirmation of a switch that is up, does nothing: so who writes the rows need not know which
--- switches are up. The recipe is our own.
+-- A schedule that ends in recovery: the controller is told of each switch that is down, each
+-- switch that is up is asked to send again, and all that waits is delivered. A row without an
+-- effect, as the confirmation of a switch that is up, does nothing: so an author of rows need not
+-- know which switches are up. The recipe is our own.
 use Rattle.std.specs.Prelude.{ℕ, ◌≡◌, List, [], ◌∷◌, ◌++◌, All, Contains}
 use Rattle.net_file.specs.declared.net.Net.{Net}
 use Rattle.steps.specs.Steps.{HasSwitch}
@@ -15,7 +15,7 @@ pub record AskEach (net : Net) (step : ℕ → Step) (rows : List Event) : Type 
   pub only : All (λ row. (s : ℕ) × (row ≡ One (step s))) rows
   pub each : (s : ℕ) → HasSwitch net s → Contains rows (One (step s))
 
--- any rows, then a confirmation of each switch, then a resend of each switch, then a flush
+-- any rows, then a confirmation of each switch, then a resend to each switch, then a flush
 pub record EndsInRecovery (net : Net) (events : List Event) : Type 0 where
   pub front : List Event
   pub confirms : List Event

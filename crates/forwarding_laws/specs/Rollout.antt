@@ -1,7 +1,7 @@
--- Where no switch crashes and no link fails, however many updates run, and however messages of the
--- controller are lost, repeated or reordered: no packet is dropped by the network. That an update
--- drops none is asked of it by Reitblatt, Foster, Rexford, Schlesinger and Walker, "Abstractions
--- for Network Update".
+-- If no switch crashes and no link fails, then however many updates run, and however messages of
+-- the controller are lost, repeated or reordered: no packet is dropped by the network. That an
+-- update drops none is a requirement of Reitblatt, Foster, Rexford, Schlesinger and Walker,
+-- "Abstractions for Network Update".
 use Rattle.std.specs.Prelude.{⊤, ℕ, ◌≡◌, ◌≢◌, Bool, true, false, Some, List, [], ◌∷◌, ◌++◌, All, Contains, IsFalse}
 use Rattle.five_tuple.specs.declared.header.Header.{Header}
 use Rattle.journal.specs.declared.item.Item.{Item}
@@ -30,7 +30,7 @@ abbrev pub FailsNothing : Event → Type 0
 FailsNothing (One step) = IsFalse (fails step)
 FailsNothing _ = ⊤
 
--- no row of the schedule is such a one
+-- no row of the schedule is one of these
 abbrev pub NothingFails : List Event → Type 0
 NothingFails events = All FailsNothing events
 
@@ -39,8 +39,8 @@ abbrev pub AreCutOff : Net → ℕ → List ℕ → Type 0
 AreCutOff net switch targets = All (λ target. (path : List ℕ)
     → ¬ Leads (are_linked net.links) switch path target) targets
 
--- a packet is stuck where it stands: its leg has targets, and the links of the network lead from
--- there to none of them
+-- a packet is stuck where it is: its leg has targets, and the links of the network lead from there
+-- to none of them
 pub record IsStuckCutOff (setting : Setting) (before : List Item) (packet switch : ℕ) (leg : Leg)
     : Type 0 where
   pub stands : standing before packet ≡ Some switch
@@ -49,8 +49,8 @@ pub record IsStuckCutOff (setting : Setting) (before : List Item) (packet switch
   pub has_targets : targets ≢ []
   pub cut_off : AreCutOff setting.net switch targets
 
--- so it is of each packet that is stuck; one is lost by its own row alone; none finds a link down;
--- and none is refused by a closed switch
+-- this is true of each packet that is stuck; one is lost only by its own row; none finds a link
+-- down; and none is refused by a closed switch
 abbrev pub DropsNothing : Setting → List Item → Item → Type 0
 DropsNothing setting before (item.Stuck packet switch cause leg down) =
     IsStuckCutOff setting before packet switch leg
@@ -73,14 +73,14 @@ NoneIsStuck journal = (packet switch : ℕ) (cause : Cause) (leg : Leg) (down : 
 
 -- ---- the whole account
 
--- the packet was decided, and by that dropped
+-- the packet was decided, and dropped by its decision
 pub record IsDroppedRightly (before : List Item) (packet : ℕ) : Type 0 where
   pub decision : Decision
   pub decided : decision_of before packet ≡ Some decision
   pub drops : decision.action ≡ Drop
 
--- how a packet ends where no switch of its targets is cut off: by its decision it is dropped, or
--- leaves by the port of that; or it is lost by its own row
+-- how a packet ends if none of its targets is cut off: by its decision it is dropped, or leaves by
+-- its decision's port; or it is lost by its own row
 abbrev pub EndsRightly : Setting → ℕ → List Item → Item → Type 0
 EndsRightly setting packet before (item.Dropped i) = (i ≡ packet) × IsDroppedRightly before packet
 EndsRightly setting packet before (item.Left i port leaving) =
@@ -89,13 +89,13 @@ EndsRightly setting packet before (item.Lost i) =
     (i ≡ packet) × (present_step before ≡ Some (Lose packet))
 EndsRightly setting packet before _ = ⊥
 
--- or it is stuck where it is cut off from its targets
+-- or it is stuck, cut off from its targets
 abbrev pub EndsOrIsCutOff : Setting → ℕ → List Item → Item → Type 0
 EndsOrIsCutOff setting packet before (item.Stuck i switch cause leg down) =
     (i ≡ packet) × IsStuckCutOff setting before packet switch leg
 EndsOrIsCutOff setting packet before end = EndsRightly setting packet before end
 
--- the journal has an item that is so behind those before it
+-- the journal has an item of which this is true after those before it
 pub record HasItem (is : List Item → Item → Type 0) (journal : List Item) : Type 0 where
   pub before : List Item
   pub found : Item
@@ -109,7 +109,7 @@ AllAccounted setting journal = (packet switch : ℕ) (header : Header)
     → Contains journal (item.Entered packet switch header)
     → HasItem (EndsRightly setting packet) journal
 
--- or is stuck where it is cut off
+-- or is stuck, cut off
 abbrev pub AllAccountedOrCutOff : Setting → List Item → Type 0
 AllAccountedOrCutOff setting journal = (packet switch : ℕ) (header : Header)
     → Contains journal (item.Entered packet switch header)

@@ -1,4 +1,4 @@
--- What a quiet network has come to.
+-- What is true of a quiet network.
 use Rattle.std.specs.Prelude.{List}
 use Rattle.journal.specs.declared.item.Item.{Item}
 use Rattle.update_machine.specs.Quiet.{IsQuiet}
@@ -8,10 +8,10 @@ use Rattle.convergence_laws.specs.Stuck.{GetStuckApart}
 use Rattle.convergence_laws.specs.Updated.{IsUpdated}
 use Rattle.forwarding_laws.specs.Forwards.{QuietForwards}
 
--- the network is quiet: so the switches know the links that can be used, a step makes a packet that
--- had found no link down stuck only where no target is reached, and the switches that are up stamp
+-- the network is quiet: so the switches know the usable links, a packet that had found no link
+-- down gets stuck in a step only if no target is reachable, and the switches that are up stamp
 -- with the newest version; and a packet that comes in then is decided by that version, and is
--- dropped or leaves, or is stuck where such links lead to no target of its partition or not to its
+-- dropped or leaves, or is stuck if usable links lead to no target of its partition or not to its
 -- port
 pub record HasComeToRest (setting : Setting) (journal : List Item) : Type 0 where
   pub quiet : IsQuiet setting journal

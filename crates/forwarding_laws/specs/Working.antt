@@ -1,6 +1,6 @@
--- What the journal of a play says of its network at work: it recovers where the schedule ends so,
--- nothing old is left behind a second round, and a rollout drops nothing. Of a play that stopped
--- full only the last holds, for it didn't come to its end.
+-- What the journal of a play says of its network at work: it recovers if the schedule ends in
+-- recovery, nothing old is left after a second round, and a rollout drops nothing. For a play that
+-- stopped full only the last is true, because it didn't reach its end.
 use Rattle.std.specs.Prelude.{ℕ, ◌≡◌, Option, None, List, [], ◌∷◌, ◌++◌}
 use Rattle.journal.specs.declared.item.Item.{Item}
 use Rattle.steps.specs.declared.step.Event.{Event}
@@ -29,7 +29,7 @@ pub record KeepsWorking (setting : Setting) (events : List Event) (journal : Lis
   pub accounts_for_all : full ≡ None → EndsInDrain events → NothingFails events
       → IsConnected setting.net → AllAccounted setting journal
 
--- so it is of each play of a setting, whose events name its own switches and ports
+-- this is true of each play of a setting, whose events name its own switches and ports
 abbrev pub PlaysKeepWorking : Type 0
 PlaysKeepWorking = (setting : Setting) (events : List Event) (journal : List Item)
     (full : Option ℕ) → IsSetting setting → AreEvents setting events

@@ -8,16 +8,16 @@ use convergence_laws::{
     packets_get_stuck_apart, quiet_networks_are_updated, quiet_networks_have_converged,
 };
 
-/// A network that has converged and is updated forwards: a packet that comes in at a switch that is
-/// up, and is drained with no other event between, is decided by the newest version, and is dropped
-/// or leaves by its port; unless no target of its partition, or not the switch of its port, is
-/// reached over links that can be used, and then it is stuck.
+/// A network that has converged and is updated forwards. A packet that comes in at a switch that
+/// is up, and is drained with no other event between, is decided by the newest version, and is
+/// dropped or leaves by its port. Only if usable links lead to no target of its partition, or not
+/// to its port's switch, it is stuck.
 pub fn converged_networks_forward()
     ensures { HoldsBetween (λ setting journal. IsSetting setting → HasConverged setting journal
         → IsUpdated setting journal → QuietForwards setting journal) }
 {}
 
-/// So does a quiet network.
+/// A quiet network forwards in the same way.
 pub fn quiet_networks_forward()
     ensures { HoldsBetween (λ setting journal.
         IsSetting setting → IsQuiet setting journal → QuietForwards setting journal) }

@@ -1,5 +1,5 @@
-//! What a network comes to that is quiet or has recovered, and what a rollout drops: laws over
-//! journals, by those of networks that have converged and of packets on their way.
+//! What is true of a network that is quiet or has recovered, and what a rollout drops: laws over
+//! journals, proved from those of networks that have converged and of packets on their way.
 //!
 //! No code: each function is the law that it ensures.
 #![tactic(auto)]

@@ -13,21 +13,21 @@ use crate::laws::converged_networks_forward;
 use convergence_laws::{agreeing_networks_have_converged, packets_get_stuck_apart};
 use packet_laws::cache_rules_are_right;
 
-/// Behind a flush each message that was sent was delivered, or was forgotten.
+/// After a flush each message that was sent was delivered or forgotten.
 pub fn flushes_deliver_all()
     ensures { (setting : Setting) (events : List Event) (journal : List Item)
         → Answers setting (events ++ Flush ∷ []) journal → AllDelivered journal }
 {}
 
-/// Behind recovery neighbours agree: over each link that can be used, each end holds adverts at
-/// least as new as those of the other end.
+/// After recovery neighbours agree: over each usable link, each end has adverts at least as new as
+/// those of the other end.
 pub fn recovered_neighbours_agree()
     ensures { (setting : Setting) (events : List Event) (journal : List Item)
         → IsNet setting.net → EndsInRecovery setting.net events
         → Answers setting events journal → NeighboursAgree setting journal }
 {}
 
-/// So behind recovery the network has converged on the links that can be used.
+/// So after recovery the network has converged on the usable links.
 pub fn recovered_networks_have_converged()
     ensures { (setting : Setting) (events : List Event) (journal : List Item)
         → IsNet setting.net → EndsInRecovery setting.net events
@@ -37,7 +37,7 @@ pub fn recovered_networks_have_converged()
     recovered_neighbours_agree();
 }
 
-/// Behind recovery every switch that is up serves and stamps with the newest version, which is the
+/// After recovery every switch that is up serves and stamps with the newest version, which is the
 /// current one, and each version before it is retired.
 pub fn recovered_networks_are_updated()
     ensures { (setting : Setting) (events : List Event) (journal : List Item)
@@ -45,9 +45,9 @@ pub fn recovered_networks_are_updated()
         → IsUpdated setting journal }
 {}
 
-/// Whatever was lost, repeated or reordered, and whatever failed: where a schedule ends with the
-/// confirmation of each switch, a resend of each switch and a flush, the network has converged on
-/// the links that can be used and on the newest version, and forwards.
+/// Whatever was lost, repeated or reordered, and whatever failed: if a schedule ends with the
+/// confirmation of each switch, a resend to each switch and a flush, the network has converged on
+/// the usable links and on the newest version, and forwards.
 pub fn networks_recover()
     ensures { (setting : Setting) (events : List Event) (journal : List Item)
         → IsSetting setting → AreEvents setting events → EndsInRecovery setting.net events
@@ -58,7 +58,7 @@ pub fn networks_recover()
     converged_networks_forward();
 }
 
-/// Behind recovery the switches that are up cache rules of the newest version alone.
+/// After recovery the switches that are up cache only rules of the newest version.
 pub fn recovered_caches_are_new()
     ensures { (setting : Setting) (events : List Event) (journal : List Item)
         → IsSetting setting → AreEvents setting events → EndsInRecovery setting.net events
@@ -67,9 +67,8 @@ pub fn recovered_caches_are_new()
     cache_rules_are_right();
 }
 
-/// Behind recovery, and then one more resend of each switch and a flush, nothing old is left: the
-/// switches that are up hold the tables of the newest version and of no other, and cache rules of
-/// it alone.
+/// After recovery, one more resend to each switch and a flush, nothing old is left: the switches
+/// that are up have the tables of the newest version and of no other, and cache only its rules.
 pub fn nothing_old_is_left()
     ensures { (setting : Setting) (events : List Event) (journal : List Item)
         → IsSetting setting → AreEvents setting events → EndsInTwoRounds setting.net events

@@ -1,4 +1,4 @@
-//! Laws of rollouts where nothing fails.
+//! Laws of rollouts in which nothing fails.
 ghost use Rattle.std.specs.Prelude.{◌∷◌, ◌++◌, [], List};
 ghost use Rattle.steps.specs.declared.step.Event.TheVariants.{Drain};
 ghost use Rattle.update_machine.specs.Exports.{Answers, BeginsAnswer, Event, HaveCauses, IsSetting, Item, Setting};
@@ -8,10 +8,10 @@ ghost use Rattle.forwarding_laws.specs.Rollout.{AllAccounted, AllAccountedOrCutO
 use packet_laws::{ends_have_causes, packet_items_have_causes};
 use update_machine::answers_are_numbered;
 
-/// Where no switch crashes and no link fails, however many updates run, and however messages are
-/// lost, repeated or reordered, a packet is stuck only where the links of the network lead from
-/// where it stands to no target of its leg; it is lost by its own row alone; none finds a link down;
-/// and none is refused at a closed switch.
+/// If no switch crashes and no link fails, then however many updates run, and however messages are
+/// lost, repeated or reordered: a packet is stuck only if the network's links lead from where it
+/// is to no target of its leg; it is lost only by its own row; none finds a link down; and none is
+/// refused at a closed switch.
 pub fn rollouts_drop_nothing()
     ensures { (setting : Setting) (events : List Event) (journal : List Item)
         → IsSetting setting → AreEvents setting events → NothingFails events
@@ -29,9 +29,9 @@ pub fn connected_rollouts_leave_none_stuck()
     rollouts_drop_nothing();
 }
 
-/// And where the schedule ends with a drain, each packet that came in was dropped by its decision,
-/// left by the port of that, or was lost by its own row; or it is stuck where the links of the
-/// network lead from where it stands to no target of its leg.
+/// And if the schedule ends with a drain, each packet that came in was dropped by its decision,
+/// left by the port of its decision, or was lost by its own row; or it is stuck because the
+/// network's links lead from where it is to no target of its leg.
 pub fn drained_rollouts_account_or_cut_off()
     ensures { (setting : Setting) (events : List Event) (journal : List Item)
         → IsSetting setting → AreEvents setting (events ++ Drain ∷ [])
@@ -44,8 +44,8 @@ pub fn drained_rollouts_account_or_cut_off()
     rollouts_drop_nothing();
 }
 
-/// In a connected network each was dropped by its decision, left by the port of that, or was lost by
-/// its own row.
+/// In a connected network each was dropped by its decision, left by its decision's port, or was
+/// lost by its own row.
 pub fn drained_rollouts_account_for_all()
     ensures { (setting : Setting) (events : List Event) (journal : List Item)
         → IsSetting setting → AreEvents setting (events ++ Drain ∷ [])

@@ -7,9 +7,9 @@ use crate::rollout::{
     drained_rollouts_account_or_cut_off, rollouts_drop_nothing,
 };
 
-/// A play keeps its network working: where its schedule ends in recovery, the network has
-/// recovered; behind a second round nothing old is left; and where nothing fails no packet is
-/// dropped but by its decision, also in a play that stopped full.
+/// A play keeps its network working: if its schedule ends in recovery, the network has recovered;
+/// after a second round nothing old is left; and if nothing fails, each packet that is dropped is
+/// dropped by its decision, also in a play that stopped full.
 pub fn plays_keep_working()
     ensures { PlaysKeepWorking }
 {

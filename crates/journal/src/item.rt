@@ -44,7 +44,7 @@ pub enum Item {
         packet: u32,
         switch: u32,
     },
-    /// The packet stands at `one`, and found its link to `two` down.
+    /// The packet is at `one`, and found its link to `two` down.
     FoundDown {
         packet: u32,
         one: u32,
@@ -74,7 +74,7 @@ pub enum Item {
     Dropped {
         packet: u32,
     },
-    /// The packet was lost, by its own row or with the switch where it stood.
+    /// The packet was lost, by its own row or with the switch where it was.
     Lost {
         packet: u32,
     },
@@ -134,11 +134,11 @@ pub enum Item {
         switch: u32,
         version: u32,
     },
-    /// The switch lost all that it held.
+    /// The switch lost all that it had.
     Down {
         switch: u32,
     },
-    /// The controller waits for the switch no longer.
+    /// The controller no longer waits for the switch.
     OverNow {
         switch: u32,
     },

@@ -14,7 +14,7 @@ pub struct PackedLeaving {
     dst: u32,
     sport: u16,
     dport: u16,
-    // The rule's priority, where it has one.
+    // The rule's priority, if it has one.
     priority: u32,
     proto: u8,
     has_rule: bool,

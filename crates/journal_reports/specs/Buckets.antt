@@ -7,7 +7,7 @@ use Rattle.ctrl_msg.specs.declared.message.Message.{Message}
 use Rattle.journal_reports.specs.Judging.{SaysAsMuch}
 use Rattle.journal_reports.specs.declared.bucket.Bucket.{Bucket}
 
--- the origin of an advert, or the version of tables; what says as much has the same
+-- the origin of an advert, or the version of tables; a message that says as much has the same
 abbrev pub subject : Body → ℕ
 subject (Advertise advert) = advert.origin
 subject (Install boot tables) = tables.version
@@ -34,7 +34,7 @@ HasSaying (kept ∷ messages) message = SaysAsMuch kept message ⊎ HasSaying me
 abbrev pub IsKeptInBucket : List Bucket → Message → Type 0
 IsKeptInBucket buckets message = HasSaying (messages_at buckets (bucket_of message.body)) message
 
--- all buckets, and no message is in them
+-- all buckets, which are empty
 pub record AreEmpty (buckets : List Bucket) : Type 0 where
   pub count : length buckets ≡ 64
   pub each : (c : ℕ) (d : Bucket) → c < 64 → (get_or buckets c d).messages.items ≡ []

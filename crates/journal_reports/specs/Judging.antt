@@ -20,7 +20,7 @@ use Rattle.journal_reports.specs.declared.status.SwitchStatus.{SwitchStatus}
 
 -- ---- marks of delivered messages
 
--- the places up to this one are there, and this one alone has a new mark
+-- there are places up to this one, and only this one has a new mark
 abbrev pub MarksOneMore : ℕ → List Bool → List Bool → Type 0
 MarksOneMore number before after = (n : ℕ)
     → slice_index_or after n false ≡ (number == n || slice_index_or before n false)
@@ -36,7 +36,7 @@ status_with item status = record {
   current = unwrap_or (gives_current item) status.current;
 }
 
--- the item alone, if it tells of statuses
+-- only the item, if it concerns statuses
 abbrev pub status_item : Item → List Item
 status_item (item.Down s) = item.Down s ∷ []
 status_item (item.Booted s boot) = item.Booted s boot ∷ []
@@ -44,7 +44,7 @@ status_item (item.OverNow s) = item.OverNow s ∷ []
 status_item (item.Current version) = item.Current version ∷ []
 status_item item = []
 
--- what the journal says of the switch
+-- what the journal says about the switch
 abbrev pub status_in : List Item → ℕ → SwitchStatus
 status_in journal s = record {
   switch = s;
@@ -56,8 +56,8 @@ status_in journal s = record {
 
 -- ---- which messages matter
 
--- a message to the switch, or of it, that matters in this status, if none of its boots began since
--- it was sent to it; none does where the switch is down
+-- a message to the switch, or from it, that matters in this status, if none of its boots began
+-- since it was sent to it; none matters if the switch is down
 abbrev pub matters_to : SwitchStatus → Bool → Message → Bool
 matters_to status in_boot message = elim message.to [
   | receiver.Controller ↦
@@ -91,14 +91,14 @@ is_same_kind (Installed s boot version) (Installed t of earlier) = true
 is_same_kind (Stamped s boot version) (Stamped t of earlier) = true
 is_same_kind _ _ = false
 
--- what is said of a version holds for those before it too
+-- what is said of a version is true of those before it too
 abbrev pub holds_for_earlier_versions : Body → Bool
 holds_for_earlier_versions (Stamp boot version touched) = true
 holds_for_earlier_versions (Collect boot version) = true
 holds_for_earlier_versions (Stamped s boot version) = true
 holds_for_earlier_versions _ = false
 
--- of one version, if of any; or of a greater one, where that will do
+-- of the same version, if of any; or of a greater one, if that is enough
 abbrev pub is_enough : Bool → Option ℕ → Option ℕ → Bool
 is_enough rises (Some version) (Some old) = version == old || (rises && nat_lt old version)
 is_enough rises _ _ = true
@@ -108,7 +108,7 @@ is_version_enough later earlier =
     is_enough (holds_for_earlier_versions later) (body_version later) (body_version earlier)
 
 -- the body says what the other one does, of the same or a greater version, or of the same or a
--- newer advert; of tables the version alone is compared, and of touched words nothing
+-- newer advert; of tables only the version is compared, and of touched words nothing
 abbrev pub replaces_body : Body → Body → Bool
 replaces_body (Advertise advert) (Advertise earlier) =
     is_same advert earlier || (advert.origin == earlier.origin && is_newer advert earlier)
@@ -143,7 +143,7 @@ has_mark marks number = slice_index_or marks number false
 
 -- ---- which switch an item concerns
 
--- the switch that a message is to, or of
+-- the switch that a message is to, or from
 abbrev pub switch_of_message : Message → Option ℕ
 switch_of_message message = elim message.to [
   | receiver.Switch s ↦ Some s

@@ -50,7 +50,8 @@ is_sent _ = false
 
 -- ---- the summary
 
--- how many items of each kind there are, and the marks at the end; as travelling, all that came in
+-- how many items of each kind there are, and the marks at the end; all that came in count as
+-- travelling
 abbrev pub item_counts : List Item → Summary
 item_counts journal = record {
   packets = count_of is_packet journal;
@@ -93,7 +94,7 @@ counted_with s item = record {
   retired = unwrap_or (gives_retired item) s.retired;
 }
 
--- no count is at its type's end
+-- no count is the greatest of its type
 pub record CountsHaveRoom (s : Summary) : Type 0 where
   pub packets : s.packets + 1 < 2 ^ 64
   pub closed : s.closed + 1 < 2 ^ 64

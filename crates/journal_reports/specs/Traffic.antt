@@ -1,4 +1,4 @@
--- What is read of each switch and of its messages, from the end of a journal on.
+-- What is read about each switch and its messages, from the end of a journal backwards.
 use Rattle.std.specs.Prelude.{⊤, ℕ, ◌≡◌, ◌<◌, ◌⊎◌, ◌↔◌, ◌&&◌, Bool, true, not, List, get_or, length, IsTrue}
 use Rattle.std.specs.List.{list_any}
 use Rattle.ctrl_msg.specs.declared.message.Message.{Message}
@@ -10,8 +10,8 @@ use Rattle.journal_reports.specs.Judging.{SaysAsMuch, concerned_switch, has_mark
 use Rattle.journal_reports.specs.Buckets.{IsKeptInBucket}
 
 -- the switch's status at the end of the journal; whether these last items of it begin none of its
--- boots; and what replaces a message that matters is among the kept ones where they send such a
--- message and deliver it behind that
+-- boots; and if they send a message that replaces one that matters, and deliver it later, such a
+-- message is among the kept ones
 pub record IsTraffic (journal after : List Item) (s : ℕ) (row : Traffic) : Type 0 where
   pub status : row.status ≡ status_in journal s
   pub in_boot : row.is_in_boot ≡ not (list_any (begins_boot s) after)
@@ -43,7 +43,7 @@ IsMet marks row (item.Sent number message) =
     → IsTrue (has_mark marks number) ⊎ IsKeptInBucket row.buckets.items message
 IsMet marks row _ = ⊤
 
--- what one item before them makes of a switch, and the answer to it
+-- a switch after one item before them, and the result for it
 pub record IsAfter (marks : List Bool) (item : Item) (before after : Traffic) (answer : Bool)
     : Type 0 where
   pub status : after.status ≡ before.status

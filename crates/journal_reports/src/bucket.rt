@@ -1,4 +1,5 @@
-//! Messages of a switch that are kept, by buckets: what says as much as a message is in its bucket.
+//! Messages of a switch that are kept, by buckets: a message that says as much as another is in
+//! the same bucket.
 ghost use Rattle.std.specs.Prelude.{◌≡◌, ◌↔◌, ◌⊎◌, length, IfOk, IsTrue, OnOk};
 ghost use Rattle.ctrl_msg.specs.declared.message.Message.{Message};
 ghost use Rattle.journal_reports.specs.Buckets.{AreEmpty, HasSaying, IsKeptInBucket, bucket_of, subject};
@@ -14,8 +15,8 @@ pub struct Bucket {
     pub messages: Vec<SharedMessage>,
 }
 
-/// The 64 buckets, as many as a network has switches at most; the last of the 64 versions that a
-/// play may have is in the first. No message is in them.
+/// The 64 buckets, as many as a network may have switches; the last of the 64 versions that a play
+/// may have is in the first. They are empty.
 ///
 /// # Errors
 /// Only out of memory.
@@ -70,7 +71,7 @@ pub fn keep(buckets: &mut Vec<Bucket>, message: &SharedMessage) -> Result<(), Al
 }
 
 /// The bucket of a message that says this. In a journal of steps each origin and each version has
-/// one of its own, so that few messages are kept in a bucket.
+/// its own bucket, so that few messages are kept in a bucket.
 pub fn bucket_of(body: &Body) -> u32
     ensures { result ≡ bucket_of body.now }
 {

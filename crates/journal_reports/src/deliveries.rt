@@ -1,4 +1,4 @@
-//! Which messages were delivered, by their numbers: those behind the last place were not.
+//! Which messages were delivered, by their numbers: those beyond the last place were not.
 ghost use Rattle.std.specs.Prelude.{ℕ, ◌≡◌, ◌||◌, false, OnOk, slice_index_or};
 ghost use Rattle.update_machine.specs.Messages.{is_delivery};
 ghost use Rattle.journal_reports.specs.Judging.{MarksOneMore};
@@ -6,7 +6,7 @@ ghost use Rattle.journal_reports.specs.Judging.{MarksOneMore};
 use journal::Item;
 use std::alloc::AllocError;
 
-/// What one more item makes of the marks.
+/// Updates the marks by one more item.
 ///
 /// # Errors
 /// Only out of memory.

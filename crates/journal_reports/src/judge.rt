@@ -9,12 +9,12 @@ use journal::Journal;
 use net_file::Net;
 use std::alloc::{AllocError, Global};
 
-/// Whether the network is quiet behind its journal: each switch is up, or the controller doesn't
-/// wait for it, and each message that still matters was delivered, or one that replaces it. Any
-/// journal is judged rightly. It is read from its end on, so that what was sent and delivered behind
-/// a message is known where it is met. Its time is in the order of the journal's length, and of the
-/// number of crashes, boots and risen versions times that of switches; but for a journal that no
-/// play makes, of which many messages may be kept.
+/// Whether the network is quiet after its journal: each switch is up, or the controller doesn't
+/// wait for it, and each message that still matters was delivered, or one that replaces it. The
+/// result is right for any journal. It is read backwards, so that what was sent and delivered
+/// after a message is known when the message is met. For a journal of a play, the time is
+/// proportional to the journal's length, plus the number of crashes, boots and risen versions
+/// times the number of switches. For other journals many messages may be kept, which takes longer.
 ///
 /// # Errors
 /// Only out of memory.

@@ -2,11 +2,11 @@
 //! is quiet.
 //!
 //! `summarize` counts what became of the packets, how many decisions cached rules made, and what
-//! was sent, and takes the marks of the versions at the end; `summary_text` gives the eleven lines
-//! that the load generator prints. `quiet` answers exactly whether the network is quiet, for any
-//! journal: it goes over the items once for all switches, from the last one on, and keeps for each
-//! the messages that were delivered and may replace others. In a quiet network all has converged,
-//! by the laws of `convergence_laws`.
+//! was sent, and takes the versions' marks from the end; `summary_text` returns the eleven lines
+//! that the load generator prints. `quiet` returns exactly whether the network is quiet, for any
+//! journal: it goes over the items once for all switches, backwards, and keeps for each switch the
+//! messages that were delivered and may replace others. In a quiet network all has converged, by
+//! the laws of `convergence_laws`.
 //!
 //! ```text
 //! let is_quiet = quiet(alloc, &played.journal, &net)?; // Err: only out of memory

@@ -8,8 +8,8 @@ use crate::status::SwitchStatus;
 use ctrl_msg::{are_same_tables, are_same_words};
 use journal::{Body, Message, Place};
 
-/// Whether the message is one to the switch or of it that matters: one to it, where the boot that
-/// it is in at the end didn't begin since.
+/// Whether the message, to the switch or from it, matters: one to it matters if the boot that the
+/// switch is in at the end didn't begin after the message.
 pub fn matters(message: &Message, status: &SwitchStatus, is_in_boot: bool) -> bool
     ensures { result ≡ matters_to status.now is_in_boot message.now }
 {
@@ -62,7 +62,7 @@ fn are_old_tables(body: &Body, current: u32) -> bool
     }
 }
 
-// The acknowledgement of such.
+// The acknowledgement of such tables.
 fn is_old_answer(body: &Body, current: u32) -> bool
     ensures { result ≡ is_old_answer current body.now }
 {
@@ -104,7 +104,7 @@ fn have_same_lists(later: &Body, earlier: &Body) -> bool
     }
 }
 
-// Whether it is to the same receiver and says the same or more, but for rows and partitions of
+// Whether it is to the same receiver and says the same or more, except for rows and partitions of
 // tables and for touched words.
 fn replaces_message(later: &Message, earlier: &Message) -> bool
     ensures { result ≡ replaces_message later.now earlier.now }
@@ -112,8 +112,8 @@ fn replaces_message(later: &Message, earlier: &Message) -> bool
     later.to == earlier.to && replaces_body(&later.body, &earlier.body)
 }
 
-// The body says what the other one does, or the same of a greater version or of a newer advert, but
-// for rows and partitions of tables and for touched words.
+// The body says what the other one does, or the same of a greater version or of a newer advert,
+// except for rows and partitions of tables and for touched words.
 fn replaces_body(later: &Body, earlier: &Body) -> bool
     ensures { result ≡ replaces_body later.now earlier.now }
 {
@@ -158,8 +158,8 @@ pub fn speaks(body: &Body) -> Option<u32>
     }
 }
 
-// Whether the later one speaks of the earlier one's version, if that has one; or of a greater one,
-// where it holds for those before it too.
+// Whether the later one names the earlier one's version, if that has one; or a greater one, if
+// what it says is true for the versions before it too.
 fn is_version_enough(later: &Body, earlier: &Body) -> bool
     ensures { result ≡ is_version_enough later.now earlier.now }
 {

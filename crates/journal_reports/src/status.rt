@@ -1,4 +1,4 @@
-//! What a journal says of a switch, at its end.
+//! What a journal says about a switch, at its end.
 ghost use Rattle.std.specs.Prelude.{ℕ, ◌≡◌, ◌++◌, IfOk, OnOk};
 ghost use Rattle.journal_reports.specs.Judging.{is_missed, status_with, status_in, status_item};
 
@@ -41,7 +41,7 @@ impl SwitchStatus {
         !self.is_up && self.is_waited_for
     }
 
-    // What one more item makes of it.
+    // Updates it by one more item.
     fn go_on(&mut self, item: &Item)
         ensures { self.new ≡ status_with item.now self.old }
     {
@@ -69,7 +69,7 @@ impl SwitchStatus {
     }
 }
 
-/// The items that tell of statuses, alone: what they say of each switch is what the journal says.
+/// Only the items that concern statuses: what they say of each switch is what the journal says.
 /// They are few.
 ///
 /// # Errors
@@ -84,7 +84,7 @@ pub fn status_items(alloc: Global, items: &[Item]) -> Result<Vec<Item>, AllocErr
     Ok(told)
 }
 
-// Adds the item, if it tells of statuses.
+// Adds the item, if it concerns statuses.
 fn push_status_item(told: &mut Vec<Item>, item: &Item) -> Result<(), AllocError>
     ensures { OnOk result (told.new.items ≡ told.old.items ++ status_item item.now) }
 {

@@ -15,7 +15,7 @@ pub struct Summary {
     pub dropped: usize,
     pub lost: usize,
     pub stuck: usize,
-    /// Packets that came in, less the four counts above; none where these are more.
+    /// Packets that came in, minus the four counts above; 0 if these are more.
     pub travelling: usize,
     /// Decisions by cached rules.
     pub cached: usize,
@@ -34,7 +34,7 @@ pub fn summarize(journal: &Journal) -> Summary
     count(journal.items()).with_travelling()
 }
 
-// Counts the items in one pass: as travelling, all that came in.
+// Counts the items in one pass: `travelling` gets all that came in.
 fn count(items: &[Item]) -> Summary
     ensures { result ≡ item_counts items.now }
 {
@@ -87,7 +87,7 @@ impl Summary {
         }
     }
 
-    // The counts, with the packets that still travel: less those that came to an end.
+    // The counts, with the packets that still travel: those that came in, minus those that ended.
     fn with_travelling(self) -> Summary
         ensures { result ≡ with_travelling self }
     {

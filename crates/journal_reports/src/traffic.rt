@@ -1,4 +1,4 @@
-//! What is read of each switch and of its messages, from the end of a journal on.
+//! What is read about each switch and its messages, from the end of a journal backwards.
 ghost use Rattle.std.specs.Prelude.{ℕ, ◌≡◌, ◌<◌, ◌⊎◌, ◌↔◌, true, false, not, [], get_or, length, IfOk, IsFalse, IsTrue, OnOk};
 ghost use Rattle.std.specs.List.{list_all};
 ghost use Rattle.ctrl_msg.specs.declared.message.Message.{Message};
@@ -14,9 +14,9 @@ use crate::status::{SwitchStatus, status_items};
 use journal::{Body, Item, Message, Place, SharedMessage};
 use std::alloc::{AllocError, Global};
 
-/// A switch at the end of a journal; and of the items from some place on whether they begin no boot
-/// of it, and the messages to it or of it that matter and that they send and deliver behind that;
-/// but of two that say as much one alone.
+/// A switch at the end of a journal. And, of the items from some place on: whether they begin no
+/// boot of it, and the messages to it or from it that matter and that these items send and later
+/// deliver. Of two messages that say as much, only one is kept.
 #[derive(Drop)]
 pub struct Traffic {
     pub status: SwitchStatus,
@@ -25,8 +25,8 @@ pub struct Traffic {
 }
 
 impl Traffic {
-    // One item before them, which concerns the switch: whether its message, if it sends one that
-    // matters, was received.
+    // Takes the item before them, which concerns the switch. Returns whether its message, if it
+    // sends one that matters, was received.
     fn take_item(&mut self, item: &Item, delivered: &[bool]) -> Result<bool, AllocError>
         ensures { IfOk result (λ answer. IsAfter delivered.now item.now self.old self.new answer) }
     {
@@ -83,7 +83,7 @@ pub fn none_missed(rows: &[Traffic]) -> bool
     rows.iter().all(|row| !row.status.is_missed())
 }
 
-/// So many switches at the end of the journal, before any item is read.
+/// This many switches at the end of the journal, before any item is read.
 ///
 /// # Errors
 /// Only out of memory.
@@ -104,8 +104,8 @@ pub fn at_end(alloc: Global, items: &[Item], count: u32) -> Result<Vec<Traffic>,
     Ok(rows)
 }
 
-/// One item before those that were read goes to the switch that it concerns alone: whether its
-/// message, if it sends one that matters, was received.
+/// Gives the item before those that were read only to the switch that it concerns. Returns whether
+/// its message, if it sends one that matters, was received.
 ///
 /// # Errors
 /// Only out of memory.

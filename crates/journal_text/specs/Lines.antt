@@ -1,4 +1,4 @@
--- First tier. The lines of a journal: one for each item, in which switches stand by their names.
+-- First tier. The lines of a journal: one for each item, in which switches have their names.
 use Rattle.std.specs.Prelude.{ℕ, ◌==◌, Bool, true, false, min, max, if◌then◌else◌, Option, List, [], ◌∷◌, ◌++◌, filter, codes, decimal}
 use Rattle.std.specs.List.{flat_map}
 use Rattle.ctrl_msg.specs.declared.message.Body.{Body}
@@ -24,14 +24,14 @@ use Rattle.steps.specs.declared.step.Step.TheVariants.{Packet, Hop, Lose, Delive
 
 -- ---- what lines are made of
 
--- a number behind a text, and a name behind one
+-- a number after a text, and a name after one
 abbrev pub with_number : List ℕ → ℕ → List ℕ
 with_number text n = text ++ codes " " ++ decimal n
 
 abbrev pub with_name : Net → List ℕ → ℕ → List ℕ
 with_name net text s = text ++ codes " " ++ name_of net s
 
--- two numbers, each behind a text
+-- two numbers, each after a text
 unfoldable pub two_text : List ℕ → ℕ → List ℕ → ℕ → List ℕ
 two_text text n next m = with_number text n ++ next ++ decimal m
 
@@ -40,7 +40,7 @@ abbrev pub mask_text : Net → ℕ → List ℕ
 mask_text net mask =
     if mask == 0 then codes " -" else names_text net (filter (has mask) switches)
 
--- a packet and a switch, as where the packet came in
+-- a packet and a switch, as in an entry
 abbrev pub packet_at : Net → List ℕ → ℕ → ℕ → List ℕ
 packet_at net text packet s = with_number text packet ++ codes " " ++ name_of net s
 
@@ -126,7 +126,7 @@ state_text false = codes "down"
 unfoldable pub via_text : Net → List ℕ → List ℕ
 via_text net route = codes " via" ++ names_text net route
 
--- the item's line without its line feed: a row at the left edge, each other item behind two blanks
+-- the item's line without its line feed: a row at the left edge, each other item after two blanks
 abbrev pub item_line : Net → Item → List ℕ
 item_line net (item.Row row step) =
     with_number (codes "row") row ++ codes ": " ++ step_text net step

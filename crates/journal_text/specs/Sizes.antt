@@ -1,4 +1,4 @@
--- Items as their types hold them, and the law of how long their lines are.
+-- Items as their types have them, and the law of how long their lines are.
 use Rattle.std.specs.Prelude.{⊤, ℕ, ◌≤◌, List, [], ◌∷◌, ◌++◌, length}
 use Rattle.ctrl_msg.specs.declared.message.Body.{Body}
 use Rattle.ctrl_msg.specs.declared.message.Body.TheVariants.{Install, OpenAt, Stamp, Collect, CacheRule, Advertise, Hello, Installed, Stamped}
@@ -14,7 +14,7 @@ use Rattle.lines.specs.Sizes.{IsAction, IsNumber, IsRule}
 use Rattle.steps.specs.declared.step.Step.{Step}
 use Rattle.steps.specs.declared.step.Step.TheVariants.{Packet, Hop, Lose, Deliver, Forget, Expire, Update}
 
--- ---- what an item's type holds: numbers of 32 bits, and routes that visit no switch twice
+-- ---- what an item's type has: numbers of 32 bits, and routes that visit no switch twice
 
 abbrev pub IsShortRoute : List ℕ → Type 0
 IsShortRoute route = length route ≤ 64
@@ -23,7 +23,7 @@ abbrev pub IsHow : How → Type 0
 IsHow (Cached message) = IsNumber message
 IsHow (Authority switch partition) = IsNumber partition
 
--- switches are printed by their names, so nothing is asked of their numbers
+-- switches are printed by their names, so nothing is required of their numbers
 abbrev pub IsStepOfType : Step → Type 0
 IsStepOfType (Packet switch header) = IsHeader header
 IsStepOfType (Hop packet) = IsNumber packet

@@ -32,7 +32,7 @@ pub fn text(alloc: Global, journal: &Journal, net: &Net) -> Result<Vec<u8>, Allo
     Ok(text)
 }
 
-/// Adds the line of the item, with its line feed. Behind 800 bytes there is room for each.
+/// Adds the line of the item, with its line feed. After 800 bytes there is room for any line.
 pub(crate) fn push_line(line: &mut Line, net: &Net, item: &Item)
     requires net { IsNet net.now }
     requires room { length line.old ≤ 800 }
@@ -53,7 +53,7 @@ fn push_row(line: &mut Line, net: &Net, row: u32, step: &Step)
     push_step(line, net, step);
 }
 
-// A packet and a switch behind a text.
+// A packet and a switch after a text.
 #[tactic(auto, using(lines::proofs::CallerLemmas::pushed_append))]
 fn push_at(line: &mut Line, net: &Net, text: &str, packet: u32, s: u32)
     ensures { line.new ≡ line_with line.old (packet_at net.now text.now packet s) }
@@ -90,7 +90,7 @@ fn push_seeking(
     push_via(line, net, route);
 }
 
-// A packet's route behind a text.
+// A packet's route after a text.
 #[tactic(auto, using(lines::proofs::CallerLemmas::pushed_append))]
 fn push_route(line: &mut Line, net: &Net, text: &str, packet: u32, route: &SharedRoute)
     ensures text { line.new ≡ line_with line.old
@@ -142,7 +142,7 @@ fn push_decided(
     push_how(line, net, how);
 }
 
-// Two numbers, each behind a text.
+// Two numbers, each after a text.
 #[tactic(auto, using(lines::proofs::CallerLemmas::pushed_append), unfolding(crate::specs::Lines::two_text))]
 fn push_two(line: &mut Line, text: &str, n: u32, next: &str, m: u32)
     ensures { line.new ≡ line_with line.old (two_text text.now n next.now m) }

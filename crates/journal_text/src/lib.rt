@@ -1,8 +1,8 @@
-//! The text of a journal: one line for each item, in which switches stand by their names.
+//! The text of a journal: one line for each item, in which switches have their names.
 //!
-//! `text` promises exactly the lines that its definition states, each ended by a line feed, and
-//! `write_text` writes that text to a sink. `lines_fit` is the law that no line is longer than 2,048
-//! bytes.
+//! `text` promises exactly the lines that its definition states, each with a line feed at its end,
+//! and `write_text` writes that text to a sink. `lines_fit` is the law that no line is longer than
+//! 2,048 bytes.
 #![tactic(auto)]
 
 mod items;

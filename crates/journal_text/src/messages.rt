@@ -24,7 +24,7 @@ pub(crate) fn push_receiver(line: &mut Line, net: &Net, to: Place)
     }
 }
 
-// Adds a boot, behind what was said before it.
+// Adds a boot, after what was said before it.
 #[tactic(auto, using(lines::proofs::CallerLemmas::pushed_append))]
 fn push_boot(line: &mut Line, text: &str, boot: u32)
     ensures { line.new ≡ line_with line.old (boot_text text.now boot) }

@@ -8,7 +8,7 @@ use base::has;
 use lines::{Line, push_name};
 use net_file::Net;
 
-/// Adds the names of a mask's switches, ascending, each behind a blank, or a dash for none.
+/// Adds the names of a mask's switches, ascending, each after a blank, or a dash for none.
 pub(crate) fn push_mask(line: &mut Line, net: &Net, mask: u64)
     ensures { line.new ≡ line_with line.old (mask_text net.now mask) }
 {
@@ -30,7 +30,7 @@ fn push_switches(line: &mut Line, net: &Net, mask: u64)
     }
 }
 
-// Adds the name of the switch, behind a blank, where the test holds.
+// Adds the name of the switch, after a blank, if the test is true.
 #[tactic(auto, using(lines::proofs::CallerLemmas::pushed_append))]
 fn push_if(line: &mut Line, net: &Net, test: bool, s: u32)
     ensures { line.new

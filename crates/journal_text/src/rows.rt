@@ -9,7 +9,7 @@ use lines::{Line, push_fields, push_name};
 use net_file::Net;
 use steps::Step;
 
-/// Adds a number behind a text.
+/// Adds a number after a text.
 #[tactic(auto, using(lines::proofs::CallerLemmas::pushed_append))]
 pub(crate) fn push_numbered(line: &mut Line, text: &str, n: u32)
     ensures { line.new ≡ line_with line.old (with_number text.now n) }
@@ -19,7 +19,7 @@ pub(crate) fn push_numbered(line: &mut Line, text: &str, n: u32)
     line.push_number(u64::from(n));
 }
 
-/// Adds a switch's name behind a text.
+/// Adds a switch's name after a text.
 #[tactic(auto, using(lines::proofs::CallerLemmas::pushed_append))]
 pub(crate) fn push_named(line: &mut Line, net: &Net, text: &str, s: u32)
     ensures { line.new ≡ line_with line.old (with_name net.now text.now s) }
@@ -29,7 +29,7 @@ pub(crate) fn push_named(line: &mut Line, net: &Net, text: &str, s: u32)
     push_name(line, net, s);
 }
 
-/// Adds a switch's name and a number, each behind a text.
+/// Adds a switch's name and a number, each after a text.
 #[tactic(auto, using(lines::proofs::CallerLemmas::pushed_append))]
 pub(crate) fn push_named_number(line: &mut Line, net: &Net, text: &str, s: u32, next: &str, n: u32)
     ensures { line.new ≡ line_with line.old (with_name net.now text.now s ++ next.now
@@ -40,7 +40,7 @@ pub(crate) fn push_named_number(line: &mut Line, net: &Net, text: &str, s: u32, 
     line.push_number(u64::from(n));
 }
 
-/// Adds the names of two switches behind a text.
+/// Adds the names of two switches after a text.
 #[tactic(auto, using(lines::proofs::CallerLemmas::pushed_append))]
 pub(crate) fn push_pair(line: &mut Line, net: &Net, text: &str, one: u32, two: u32)
     ensures { line.new ≡ line_with line.old (pair_text net.now text.now one two) }

@@ -9,14 +9,14 @@ use lines::Line;
 use net_file::Net;
 use shelf::{Block, Sink, SinkError};
 
-/// Behind so many bytes a line has room for that of an item.
+/// After this many bytes a line has room for that of an item.
 const ROOMY_BYTES: usize = 800;
 
-/// Writes the text of a journal, about 65,536 bytes of whole lines at once, and takes no memory of
-/// its own. An empty text makes no write.
+/// Writes the text of a journal, about 65,536 bytes of whole lines at once, and allocates nothing
+/// itself. An empty text causes no write.
 ///
-/// At an error the sink gained the bytes of the writes before it. A write that takes nothing ends
-/// the call as a failed one does.
+/// On an error the sink has gained the bytes of the writes before it. A write that accepts nothing
+/// ends the call like a failed one.
 pub fn write_text<K: Sink>(journal: &Journal, net: &Net, sink: &mut K) -> Result<(), SinkError>
     requires { IsNet net.now }
     ensures after { IsAfterWrite (journal_text net.now journal.now) K.takes_memory

@@ -1,4 +1,4 @@
--- What a line of at most 2,048 bytes holds of the pieces that are put at its end.
+-- What a line of at most 2,048 bytes has of the pieces that are added at its end.
 use Rattle.std.specs.Prelude.{ℕ, List, ◌++◌, take}
 
 -- the line with a piece at its end, as far as there is room

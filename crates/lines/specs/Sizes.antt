@@ -1,4 +1,4 @@
--- What fields hold by their types: numbers of 32 bits.
+-- What fields have by their types: numbers of 32 bits.
 use Rattle.std.specs.Prelude.{⊤, ℕ, ◌<◌, ◌^◌, Option, Some, None}
 use Rattle.policy_rules.specs.declared.policy.Action.{Action}
 use Rattle.policy_rules.specs.declared.policy.Action.TheVariants.{Drop, Out}

@@ -6,10 +6,10 @@ use crate::pieces::put;
 use itoa::Buffer;
 use std::marker::Model;
 
-/// How many bytes a line holds.
+/// How many bytes a line has at most.
 pub(crate) const LINE_BYTES: usize = 2048;
 
-/// The first 2,048 bytes of a text that is made piece by piece. Contracts see these bytes.
+/// The first 2,048 bytes of a text that is built piece by piece. Contracts see these bytes.
 #[derive(Drop)]
 pub struct Line {
     bytes: [u8; 2048],
@@ -37,7 +37,7 @@ impl Line {
         }
     }
 
-    /// The bytes that the line holds.
+    /// The line's bytes.
     pub fn bytes(&self) -> &[u8]
         ensures held { result.now ≡ self.now }
         ensures within { length result.now ≤ 2048 }

@@ -1,10 +1,11 @@
-// Pieces put behind the first bytes of a line's array.
+// Pieces put after the first bytes of a line's array.
 ghost use Rattle.std.specs.Prelude.{◌≡◌, ◌≤◌, ◌+◌, ◌++◌, ◌<◌, length, take};
 ghost use Rattle.lines.specs.Pushes.{line_with};
 
 use crate::line::LINE_BYTES;
 
-/// Copies the front of a piece, as far as there is room, and says how many bytes there are then.
+/// Copies the front of a piece, as far as there is room, and returns how many bytes there are
+/// then.
 #[inline]
 pub(crate) fn put(bytes: &mut [u8; 2048], len: usize, piece: &[u8]) -> usize
     requires { len ≤ LINE_BYTES }
@@ -51,8 +52,8 @@ fn put_whole(bytes: &mut [u8; 2048], len: usize, piece: &[u8])
     }
 }
 
-// Copies the first N bytes of a piece and its last N, which may overlap. They go through arrays, so
-// that the compiler knows that they aren't bytes of the line, and copies them at once.
+// Copies the first N bytes of a piece and its last N, which may overlap. They pass through arrays,
+// so that the compiler knows that they aren't bytes of the line, and copies them at once.
 #[inline]
 fn put_halves<const N: usize>(bytes: &mut [u8; 2048], len: usize, piece: &[u8])
     requires room { len + length piece.now ≤ 2048 }

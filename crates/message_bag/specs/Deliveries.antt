@@ -1,12 +1,12 @@
--- What becomes of numbered messages in a network that loses, doubles and reorders what it carries:
--- each is delivered any number of times, in any order, until it is forgotten.
+-- What becomes of numbered messages in a network that loses, duplicates and reorders what it
+-- carries: each is delivered any number of times, in any order, until it is forgotten.
 use Rattle.std.specs.Prelude.{ℕ, ◌≡◌, ◌+◌, ◌-◌, ◌^◌, ◌<◌, ◌≤◌, Bool, true, false, not, ◌&&◌, Option, List, length, find}
 use Rattle.std.specs.List.{range_with_len}
 use Rattle.std.specs.Option.{option_map_or}
 use Rattle.message_bag.specs.Numbered.{item_numbered}
 use Rattle.message_bag.specs.declared.deliveries.MessageState.{MessageState}
 
--- of a message that is posted now
+-- the status of a message that is posted now
 abbrev pub waiting_status : MessageState
 waiting_status = record { delivered = false; forgotten = false }
 
@@ -36,8 +36,8 @@ abbrev pub next_waiting : List MessageState → ℕ → Option ℕ
 next_waiting statuses from =
     find (is_waiting statuses) (range_with_len from (length statuses + 1 - from))
 
--- the numbers fit 32 bits, and those up to a number were passed, which is to say that none of them
--- waits and the next one does, where there is one
+-- the numbers fit 32 bits, and those up to a number were passed: none of them waits and the next
+-- one does, if there is one
 pub record ArePassed (passed : ℕ) (statuses : List MessageState) : Type 0 where
   pub few : length statuses < 2 ^ 32
   pub within : passed ≤ length statuses

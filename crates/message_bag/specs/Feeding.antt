@@ -6,12 +6,13 @@ use Rattle.wire.specs.Assembly.{with_frame}
 use Rattle.wire.specs.Frames.{frames}
 use Rattle.wire.specs.Messages.{HasSpelling, message}
 
--- a message that is sent in frames: it has a spelling, of fewer than 2^40 bytes
+-- a message that is sent in frames: it has an encoding, of fewer than 2^40 bytes
 pub record HasFrames (m : Message) : Type 0 where
   pub fits : message.fits m ≡ true
   pub short : length (message.spell m) < 2 ^ 40
 
--- what a message must be so that it has such a spelling, as each number fits the bytes of its type
+-- what is required of a message so that it has such an encoding: each number fits the bytes of its
+-- type
 pub record HasShortSpelling (m : Message) : Type 0 where
   pub spelling : HasSpelling m
   pub short : length (message.spell m) < 2 ^ 40
@@ -24,7 +25,7 @@ AreOf m fed = All (Contains (frames m)) fed
 abbrev pub AreAllAmong : Message → List (List ℕ) → Type 0
 AreAllAmong m fed = All (Contains fed) (frames m)
 
--- what an assembler holds that was fed with these, the newest first, and refused none
+-- the frames of an assembler that was fed with these, the newest first, and refused none
 abbrev pub held_after : List (List ℕ) → List (List ℕ)
 held_after [] = []
 held_after (f ∷ fed) = with_frame (held_after fed) f

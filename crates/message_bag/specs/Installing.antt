@@ -1,5 +1,5 @@
--- The frames of an installation: the first one says the receiver and the boot, and the others the
--- tables alone.
+-- The frames of an installation: the first one encodes the receiver and the boot, and the others
+-- only the tables.
 use Rattle.std.specs.Prelude.{◌≡◌, ℕ, ◌+◌, true, List, ◌∷◌, length, drop}
 use Rattle.std.specs.Int.{div_ceil}
 use Rattle.ctrl_msg.specs.declared.message.Place.{Place}
@@ -8,7 +8,7 @@ use Rattle.wire.specs.Fields as form
 use Rattle.wire.specs.Frames.{frame, frames_from, most_of_chunk, equal_chunks}
 use Rattle.wire.specs.Messages.{spelled_front}
 
--- the spelling of the tables, in as few chunks as can be
+-- the encoding of the tables, in as few chunks as possible
 abbrev pub table_chunks : Tables → List (List ℕ)
 table_chunks t =
     let bytes = form.tables.spell t in
@@ -18,14 +18,14 @@ table_chunks t =
 abbrev pub frame_count : Tables → ℕ
 frame_count t = length (table_chunks t) + 1
 
--- those behind the first one
+-- those after the first one
 abbrev pub table_frames : Tables → List (List ℕ)
 table_frames t = frames_from 1 (frame_count t) (table_chunks t)
 
 abbrev pub install_frames : Place → ℕ → Tables → List (List ℕ)
 install_frames to boot t = frame 0 (frame_count t) (spelled_front to boot) ∷ table_frames t
 
--- behind the first one these frames say the tables
+-- after the first one these frames encode the tables
 pub record AreBehind (t : Tables) (fs : List (List ℕ)) : Type 0 where
   pub fits : form.tables.fits t ≡ true
   pub are : drop 1 fs ≡ table_frames t

@@ -16,12 +16,12 @@ abbrev pub tables_version : Body → Option ℕ
 tables_version (Install boot tables) = Some tables.version
 tables_version _ = None
 
--- the message of this number is this one, and it has a spelling
+-- the message of this number is this one, and it has an encoding
 pub record IsPosted (bag : List (List (List ℕ))) (number : ℕ) (m : Message) : Type 0 where
   pub fits : message.fits m ≡ true
   pub posted : slice_get bag (number - 1) ≡ Some (frames m)
 
--- the message is an installation of these tables, and has a short spelling
+-- the message is an installation of these tables, and has a short encoding
 abbrev pub IsInstallOf : Message → Tables → Type 0
 IsInstallOf m tables = HasShortSpelling m × ((boot : ℕ) × (m.body ≡ Install boot tables))
 
@@ -31,14 +31,14 @@ IsInstallOf m tables = HasShortSpelling m × ((boot : ℕ) × (m.body ≡ Instal
 abbrev pub First : Type 0
 First = List ℕ × Option ℕ
 
--- first frames that lie one after the other
+-- first frames that are one after the other
 abbrev pub first_in : List ℕ → Span → First
 first_in bytes span = (take span.len (drop span.start bytes), span.tables)
 
 abbrev pub IsWithin : List ℕ → Span → Type 0
 IsWithin bytes span = span.start + span.len ≤ length bytes
 
--- all frames of a message; kept frames have a first one of their own
+-- all frames of a message; kept frames have their own first one
 abbrev pub frames_in : List (List (List ℕ)) → First → List (List ℕ)
 frames_in kept (first, None) = first ∷ []
 frames_in kept (first, Some number) = first ∷ drop 1 (get_or kept number [])
@@ -64,7 +64,7 @@ pub record AreOfInstall (fs : List (List ℕ)) : Type 0 where
   pub are : fs ≡ frames message_is
   pub carries : message_is.body ≡ Install boot tables
 
--- these are the frames of an installation of these tables, whatever its receiver and its boot are
+-- these are the frames of an installation of these tables, whatever its receiver and its boot
 pub record CarryTables (t : Tables) (fs : List (List ℕ)) : Type 0 where
   pub behind : AreBehind t fs
   pub count : length fs ≡ frame_count t
@@ -75,6 +75,6 @@ pub record CarryRows (t : Tables) (fs : List (List ℕ)) : Type 0 where
   pub version : ℕ
   pub carry : CarryTables (record t { version = version }) fs
 
--- what was kept is there still, under its number
+-- what was kept is still kept, under its number
 abbrev pub IsGrown : List (List (List ℕ)) → List (List (List ℕ)) → Type 0
 IsGrown before after = take (length before) after ≡ before

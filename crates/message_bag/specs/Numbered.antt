@@ -7,7 +7,7 @@ abbrev pub item_numbered : {X : Type 0} → List X → ℕ → Option X
 item_numbered xs zero = None
 item_numbered xs (suc place) = slice_get xs place
 
--- the one of a number is changed, where there is one
+-- the one of a number is changed, if there is one
 abbrev pub with_changed : {X : Type 0} → (X → X) → List X → ℕ → List X
 with_changed change xs zero = xs
 with_changed change xs (suc place) =

@@ -9,7 +9,7 @@ use Rattle.message_bag.specs.Deliveries as statuses
 use Rattle.message_bag.specs.Numbered.{item_numbered, with_changed}
 use Rattle.message_bag.specs.declared.deliveries.MessageState.{MessageState}
 
--- the frames of a message; one that has no spelling has none
+-- the frames of a message; one that has no encoding has none
 unfoldable pub posted_frames : Message → List (List ℕ)
 posted_frames message = if form.fits message then frames message else []
 
@@ -36,7 +36,7 @@ frames_posted posts number = option_and_then remembered_frames (item_numbered po
 abbrev pub is_post_deliverable : List Post → ℕ → Bool
 is_post_deliverable posts number = is_some (frames_posted posts number)
 
--- the message has a spelling, and its frames are those of this number
+-- the message has an encoding, and its frames are those of this number
 pub record IsMessageOf (posts : List Post) (number : ℕ) (message : Message) : Type 0 where
   pub fits : form.fits message ≡ true
   pub frames_are : frames_posted posts number ≡ Some (posted_frames message)
@@ -45,11 +45,11 @@ pub record IsMessageOf (posts : List Post) (number : ℕ) (message : Message) : 
 abbrev pub next_waiting_post : List Post → ℕ → Option ℕ
 next_waiting_post posts from = statuses.next_waiting (statuses_of posts) from
 
--- another thing became of a message
+-- the status of a message is changed by this
 abbrev pub with_status : (MessageState → MessageState) → Post → Post
 with_status change post = (post.0, change post.1)
 
--- the message of the number was delivered, perhaps once more
+-- the message of the number was delivered, perhaps again
 abbrev pub with_delivered : List Post → ℕ → List Post
 with_delivered posts number = with_changed (with_status statuses.delivered_status) posts number
 

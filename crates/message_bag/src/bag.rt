@@ -34,7 +34,7 @@ impl Model for Bag {
 }
 
 impl Bag {
-    /// A bag in which nothing was posted; it takes no memory yet.
+    /// A bag in which nothing was posted; it allocates nothing yet.
     pub fn new(alloc: Global) -> Bag
         ensures { result ≡ [] }
     {
@@ -54,8 +54,7 @@ impl Bag {
 
     /// Posts a message, and returns its number: one more than there were messages.
     ///
-    /// # Errors
-    /// Only out of memory; nothing changes then.
+    /// # Errors Only out of memory; then nothing changes.
     pub fn post(&mut self, message: &Message) -> Result<u32, AllocError>
         requires spelling { HasSpelling message.now }
         requires short { length (form.spell message.now) < 2 ^ 40 }
@@ -114,7 +113,7 @@ impl Bag {
         self.firsts.push(&self.scratch, Some(number))
     }
 
-    /// The message of this number, out of its frames; `None` exactly where none of this number was
+    /// The message of this number, out of its frames; `None` exactly if none of this number was
     /// posted.
     ///
     /// # Errors

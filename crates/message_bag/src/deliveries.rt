@@ -18,7 +18,7 @@ pub struct MessageState {
 }
 
 impl MessageState {
-    // Of a message that is posted now.
+    // The state of a message that is posted now.
     fn waiting() -> MessageState
         ensures { result ≡ waiting_status }
     {
@@ -36,15 +36,15 @@ impl MessageState {
     }
 }
 
-/// What became of messages that are numbered from 1, wherever they are kept: at most 2^32 - 1 of
-/// them. Contracts see the list.
+/// What became of messages that are numbered from 1, wherever their frames are kept: at most 2^32
+/// - 1 of them. Contracts see the list.
 #[derive(Drop)]
 pub struct Deliveries {
     statuses: Vec<MessageState>,
-    // No message up to this number waits, and the next one does, where there is one. So it rises
-    // past each message once, and a search from 1 begins where it ends; so does one from behind the
-    // message that such a search gave and that was delivered since. Flushes look at each message
-    // once in all.
+    // No message up to this number waits, and the next one does, if there is one. So it passes
+    // each message once, and a search from 1 begins where it ends. A search that begins after the
+    // message that such a search returned, and that was delivered since, begins there too. Flushes
+    // look at each message once in all.
     passed: u32,
 }
 
@@ -61,7 +61,7 @@ impl Model for Deliveries {
 }
 
 impl Deliveries {
-    /// Of no message; it takes no memory yet.
+    /// For no message; it allocates nothing yet.
     pub fn new(alloc: Global) -> Deliveries
         ensures { result ≡ [] }
     {
@@ -73,8 +73,7 @@ impl Deliveries {
 
     /// One more message waits.
     ///
-    /// # Errors
-    /// Only out of memory; nothing changes then.
+    /// # Errors Only out of memory; then nothing changes.
     pub fn add(&mut self) -> Result<(), AllocError>
         requires { length self.old < 2 ^ 32 - 1 }
         ensures added { OnOk result (self.new ≡ self.old ++ waiting_status ∷ []) }
@@ -84,7 +83,7 @@ impl Deliveries {
         Ok(())
     }
 
-    /// The last message, which waits, isn't there after all.
+    /// Removes the last message, which waits.
     pub(crate) fn take_back(&mut self)
         requires { (before : List MessageState) × (self.old ≡ before ++ waiting_status ∷ []) }
         ensures { (before : List MessageState) → self.old ≡ before ++ waiting_status ∷ []
@@ -132,7 +131,7 @@ impl Deliveries {
     }
 
     /// The least number at or above `from` of a message that was never delivered and isn't
-    /// forgotten; `None` exactly where there is none.
+    /// forgotten; `None` exactly if there is none.
     pub fn next_waiting(&self, from: u32) -> Option<u32>
         ensures { result ≡ next_waiting self.now from }
     {
@@ -146,8 +145,8 @@ impl Deliveries {
     }
 }
 
-// The least place at or above this one of a message that waits; where there is none, the number of
-// messages, or this place if it lies above.
+// The least place at or above this one of a message that waits; if there is none, the number of
+// messages, or this place if it is greater.
 fn first_waiting(statuses: &[MessageState], from: u32) -> u32
     requires { length statuses.now < 2 ^ 32 }
     ensures { IsFirstWaiting statuses.now from result }

@@ -4,8 +4,8 @@ use switch_table::Tables;
 /// An odd number that spreads small ones.
 const FACTOR: usize = 2_654_435_769;
 
-/// A number that all tables of the same rows and partitions have, and few others: of how many rows
-/// there are, and of the number of each partition and how many rules it has.
+/// A number that all tables of the same rows and partitions have, and few others: made of how many
+/// rows there are, and of each partition's number and count of rules.
 pub fn digest_of(tables: &Tables) -> usize {
     let mut digest = tables.parts.items().len();
     for part in tables.auth.items() {

@@ -3,14 +3,14 @@ ghost use Rattle.std.specs.Prelude.{◌≡◌, ◌≤◌, ◌++◌, ◌∷◌, �
 use std::alloc::{AllocError, Global};
 use std::marker::Model;
 
-/// For how many bytes there is room from the first frame on, so that they are seldom moved: what
-/// was moved away would lie empty. The system gives such memory where it is written.
+/// How many bytes have room from the first frame on, so that they are seldom moved: memory that
+/// they are moved out of would lie empty. The system provides such memory only when it is written.
 const FIRST_BYTES: usize = 4_194_304;
 
-/// For how many frames.
+/// How many frames have room.
 const FIRST_SPANS: usize = 131_072;
 
-/// Where the bytes of a first frame lie, and under which number the frames behind it are kept, if
+/// Where the bytes of a first frame lie, and under which number the frames after it are kept, if
 /// there are any.
 #[derive(Clone, Copy, Debug, Drop)]
 pub struct Span {
@@ -19,7 +19,7 @@ pub struct Span {
     tables: Option<usize>,
 }
 
-/// The first frames of messages, one after the other, each with the number of the frames behind it.
+/// The first frames of messages, one after the other, each with the number of the frames after it.
 /// Contracts see the list.
 #[derive(Drop)]
 pub struct Firsts {
@@ -39,7 +39,7 @@ impl Model for Firsts {
 }
 
 impl Firsts {
-    /// Of no message; it takes no memory yet.
+    /// For no message; it allocates nothing yet.
     pub fn new(alloc: Global) -> Firsts
         ensures { result ≡ [] }
     {
@@ -58,8 +58,7 @@ impl Firsts {
 
     /// One more, at the end.
     ///
-    /// # Errors
-    /// Only out of memory; nothing changes then.
+    /// # Errors Only out of memory; then nothing changes.
     pub fn push(&mut self, frame: &[u8], tables: Option<usize>) -> Result<(), AllocError>
         ensures pushed { OnOk result (self.new ≡ self.old ++ (frame.now, tables) ∷ []) }
         ensures unchanged { OnErr result (self.new ≡ self.old) }
@@ -91,7 +90,7 @@ impl Firsts {
     }
 }
 
-// Before the first frame there is room for many.
+// Makes room for many before the first frame.
 fn make_room(bytes: &mut Vec<u8>, spans: &mut Vec<Span>) -> Result<(), AllocError>
     ensures bytes { bytes.new.items ≡ bytes.old.items }
     ensures spans { spans.new.items ≡ spans.old.items }

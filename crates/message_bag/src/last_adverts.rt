@@ -1,4 +1,4 @@
-//! Adverts that were told before: a repeat of one is shared with it, so that it takes few bytes.
+//! Adverts that were sent before: a repeat of one is shared with it, so that it takes few bytes.
 ghost use Rattle.std.specs.Prelude.{◌≡◌, ◌<◌, length, IfOk, IfSome, IsTrue, OnOk};
 
 use base::Shared;
@@ -8,21 +8,21 @@ use std::alloc::{AllocError, Global};
 /// How many switches there are at most.
 const SWITCHES: u32 = 64;
 
-/// Of each receiver and each switch the last advert of the switch that the receiver was told.
+/// For each receiver and each switch, the switch's last advert that was sent to the receiver.
 #[derive(Drop)]
 pub struct LastAdverts {
     adverts: Vec<Option<Shared<Message>>>,
 }
 
 impl LastAdverts {
-    /// Nothing was told; it takes no memory yet.
+    /// Nothing was sent; it allocates nothing yet.
     pub fn new(alloc: Global) -> LastAdverts {
         LastAdverts {
             adverts: Vec::new(alloc),
         }
     }
 
-    /// The message, to be shared: an advert with the last one, where that says the same.
+    /// The message, to be shared: an advert shared with the last one, if that says the same.
     ///
     /// # Errors
     /// Only out of memory.
@@ -57,7 +57,7 @@ fn place_of(message: &Message) -> Option<usize>
     }
 }
 
-// There is this place. Each new one is pushed.
+// Makes sure that there is this place. Each new one is pushed.
 fn make_place(adverts: &mut Vec<Option<Shared<Message>>>, place: usize) -> Result<(), AllocError>
     requires { place < 4096 }
     ensures { OnOk result (place < length adverts.new.items) }

@@ -9,11 +9,11 @@ ghost use Rattle.wire.specs.Frames.{AreFrames, count_in_frame, frames, frames_of
 ghost use Rattle.message_bag.specs.Feeding.{AreAllAmong, AreOf, HasFrames, held_after};
 ghost use Rattle.message_bag.specs.Installing.{install_frames};
 
-/// In whatever order the frames of a message come, and with whatever repeats: an assembler that was
-/// fed with them refuses none; all places are held exactly where each frame of the message has
-/// come; and then what is held is the message's frames.
+/// In whatever order and with whatever repeats the frames of a message come: an assembler that was
+/// fed with them refuses none; all its places are filled exactly if each frame of the message has
+/// come; and then it has the message's frames.
 ///
-/// So, as `Assembler::feed` ensures, it answers `None` until the last of them has come, and the
+/// So, as `Assembler::feed` ensures, it returns `None` until the last of them has come, and the
 /// message then and at each repeat.
 pub fn frames_come_in_any_order()
     ensures taken { (m : Message) (f : List ℕ) (fed : List (List ℕ)) → HasFrames m
@@ -31,8 +31,8 @@ pub fn frames_are_of_one_message()
         → other ≡ m }
 {}
 
-/// The frames of an installation behind its first one are spelled of the tables alone: they are the
-/// same whatever switch it is for, and in whatever boot. The first one says how many there are, the
+/// The frames of an installation after its first one encode only the tables: they are the same
+/// whatever switch it is for, and in whatever boot. The first one says how many there are, the
 /// switch and the boot.
 pub fn frames_behind_the_first_carry_the_tables()
     ensures { (to : Place) (boot : ℕ) (tables : Tables)
@@ -40,8 +40,8 @@ pub fn frames_behind_the_first_carry_the_tables()
         ≡ install_frames to boot tables }
 {}
 
-/// An installation of the same tables under another version has the same frames, but for the four
-/// bytes of the version where the second one begins.
+/// An installation of the same tables under another version has the same frames, except for the
+/// four bytes of the version where the second one begins.
 pub fn frames_of_another_version()
     ensures { (to : Place) (boot version : ℕ) (tables : Tables)
         → frames (record { to = to; body = Install boot (record tables { version = version }) })

@@ -11,7 +11,7 @@ use std::alloc::{AllocError, Global};
 use std::marker::Model;
 
 /// The messages that were posted, numbered from 1 in their order: at most 2^32 - 1. Contracts see
-/// the list of their frames, each message with whether it was delivered and whether it is
+/// the list of their frames, and, for each message, whether it was delivered and whether it is
 /// forgotten.
 #[derive(Drop)]
 pub struct PostBag {
@@ -34,7 +34,7 @@ impl Model for PostBag {
 }
 
 impl PostBag {
-    /// A bag in which nothing was posted; it takes no memory yet.
+    /// A bag in which nothing was posted; it allocates nothing yet.
     pub fn new(alloc: Global) -> PostBag
         ensures { result ≡ [] }
     {
@@ -47,8 +47,7 @@ impl PostBag {
 
     /// Posts a message, and returns its number: one more than there were messages.
     ///
-    /// # Errors
-    /// Only out of memory; nothing changes then.
+    /// # Errors Only out of memory; then nothing changes.
     pub fn post(&mut self, message: &Message) -> Result<u32, AllocError>
         requires spelling { HasShortSpelling message.now }
         requires few { length self.old < 2 ^ 32 - 1 }
@@ -66,11 +65,10 @@ impl PostBag {
         }
     }
 
-    /// Posts a message as `post` does, and answers the message too, to be shared. An advert that says
-    /// what the last one of its switch to its receiver said is shared with that one.
+    /// Posts a message as `post` does, and returns the message too, to be shared. An advert that
+    /// says the same as its switch's last one to its receiver is shared with that one.
     ///
-    /// # Errors
-    /// Only out of memory; nothing changes then.
+    /// # Errors Only out of memory; then nothing changes.
     pub fn post_shared(
         &mut self,
         alloc: Global,
@@ -95,7 +93,7 @@ impl PostBag {
         self.deliveries.count()
     }
 
-    /// The message of this number, out of its frames; `None` exactly where none of this number was
+    /// The message of this number, out of its frames; `None` exactly if none of this number was
     /// posted, or it is forgotten.
     ///
     /// # Errors
@@ -138,7 +136,7 @@ impl PostBag {
     }
 
     /// The least number at or above `from` of a message that was never delivered and isn't
-    /// forgotten; `None` exactly where there is none.
+    /// forgotten; `None` exactly if there is none.
     pub fn next_waiting(&self, from: u32) -> Option<u32>
         ensures { result ≡ next_waiting_post self.now from }
     {

@@ -1,4 +1,4 @@
-//! Messages that are made of their frames again.
+//! Messages that are made out of their frames again.
 ghost use Rattle.std.specs.Prelude.{◌≡◌, ◌∷◌, ◌↔◌, ℕ, [], true, None, drop, IfOk, IfSome, IsNone, IsSome, OnOk};
 ghost use Rattle.ctrl_msg.specs.declared.message.Body.TheVariants.{Install};
 ghost use Rattle.ctrl_msg.specs.declared.message.Place.{Place};
@@ -13,7 +13,7 @@ use ctrl_msg::{Body, Message, Place, SharedTables};
 use std::alloc::{AllocError, Global};
 use wire::{Assembler, Frames, HEADER_LEN, WireError, decode, decode_front};
 
-/// The message of one frame, whose chunk is the whole spelling.
+/// The message of one frame, whose chunk is the whole encoding.
 ///
 /// # Errors
 /// Only out of memory.
@@ -43,7 +43,7 @@ fn feed(assembler: &mut Assembler, frame: &[u8]) -> Result<Option<Message>, Allo
     }
 }
 
-// The message of this first frame and the other frames behind their first one.
+// The message of this first frame and the other frames after their first one.
 fn assembled(alloc: Global, first: &[u8], frames: &Frames) -> Result<Message, AllocError>
     requires { AreOfMessage (first.now ∷ drop 1 frames.now) }
     ensures { IfOk result (λ message. AreFrames message (first.now ∷ drop 1 frames.now)) }

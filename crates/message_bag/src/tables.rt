@@ -17,14 +17,14 @@ use wire::{Frames, HEADER_LEN, append_front, split};
 /// How many bits the number of a packet's header has.
 const HEADER_BITS: u32 = 104;
 
-/// The frames of an installation of some tables: those behind its first one say the tables, and
+/// The frames of an installation of some tables: those after its first one encode the tables, and
 /// each installation of the same tables that is posted shares them. Contracts see the frames.
 #[derive(Drop)]
 pub struct TableFrames {
     // The tables as they come out of the frames: those of each message that is taken.
     said: SharedTables,
     frames: Frames,
-    // Their version and digest: a search passes over most others by these, which lie in the list.
+    // Their version and digest: by these, which are in the list, a search skips most others.
     version: u32,
     digest: usize,
 }
@@ -41,7 +41,7 @@ impl Model for TableFrames {
 }
 
 impl TableFrames {
-    // Of an installation of these tables, which are spelled and read.
+    // For an installation of these tables, which are encoded and decoded.
     fn new(alloc: Global, message: &Message, tables: &Tables) -> Result<TableFrames, AllocError>
         requires { IsInstallOf message.now tables.now }
         ensures { IfOk result (CarryTables tables.now) }
@@ -56,7 +56,7 @@ impl TableFrames {
         })
     }
 
-    // Of the same tables under another version, which are neither spelled nor read anew.
+    // For the same tables under another version, which are neither encoded nor decoded again.
     fn with_version(&self, alloc: Global, version: u32) -> Result<TableFrames, AllocError>
         ensures { IfOk result (λ kept. (t : Tables) → CarryTables t self.now
             → CarryTables (record t { version = version }) kept) }
@@ -71,7 +71,7 @@ impl TableFrames {
         })
     }
 
-    // Whether they say these tables, which have this digest.
+    // Whether they encode these tables, which have this digest.
     fn carry(&self, tables: &Tables, digest: usize) -> bool
         ensures { IsTrue result → CarryTables tables.now self.now }
     {
@@ -80,7 +80,7 @@ impl TableFrames {
             && are_same_tables(self.said.tables(), tables)
     }
 
-    // Whether they say these tables, which have this digest, under some version.
+    // Whether they encode these tables, which have this digest, under some version.
     fn carry_rows(&self, tables: &Tables, digest: usize) -> bool
         ensures { IsTrue result → CarryRows tables.now self.now }
     {
@@ -102,7 +102,7 @@ impl TableFrames {
         append_front(out, to, boot)
     }
 
-    /// The message of this first frame and those behind it. All such messages share the tables.
+    /// The message of this first frame and those after it. All such messages share the tables.
     ///
     /// # Errors
     /// Only out of memory.
@@ -115,8 +115,8 @@ impl TableFrames {
     }
 }
 
-// The same tables. They get trees where their regions may part all headers, as those of plans do:
-// trees over others might be far larger than the tables.
+// The same tables. They get trees if their regions may partition all headers, as those of plans
+// do: trees over others might be far larger than the tables.
 fn with_trees(alloc: Global, tables: SharedTables) -> Result<SharedTables, AllocError>
     ensures { IfOk result (λ grown. grown ≡ tables) }
 {
@@ -137,7 +137,7 @@ fn are_whole(rows: &[PartRow]) -> bool {
     headers == 1 << HEADER_BITS
 }
 
-// The number of the frames that say these tables. Most often they are among the last.
+// The number of the frames that encode these tables. Most often they are among the last.
 fn find(kept: &[TableFrames], tables: &Tables) -> Option<usize>
     ensures there { IfSome result (λ number. number < length kept.now) }
     ensures carry { IfSome result (λ number. CarryTables tables.now (get_or kept.now number [])) }
@@ -146,7 +146,7 @@ fn find(kept: &[TableFrames], tables: &Tables) -> Option<usize>
     kept.iter().rposition(|frames| frames.carry(tables, digest))
 }
 
-// The number of the frames that say these tables under some version.
+// The number of the frames that encode these tables under some version.
 fn find_rows(kept: &[TableFrames], tables: &Tables) -> Option<usize>
     ensures there { IfSome result (λ number. number < length kept.now) }
     ensures carry { IfSome result (λ number. CarryRows tables.now (get_or kept.now number [])) }
@@ -156,8 +156,8 @@ fn find_rows(kept: &[TableFrames], tables: &Tables) -> Option<usize>
         .rposition(|frames| frames.carry_rows(tables, digest))
 }
 
-// The frames of an installation of these tables: those that are there under another version, but
-// for the version, or its own.
+// The frames of an installation of these tables: those of the same tables under another version,
+// with this version written into them, or new ones.
 fn made(
     kept: &[TableFrames],
     alloc: Global,
@@ -173,8 +173,8 @@ fn made(
     }
 }
 
-// The number of the kept frames that say the tables of this installation: of those that are there,
-// or of those that are made for it and kept from now on.
+// The number of the kept frames that encode the tables of this installation: those that exist, or
+// those that are made for it and kept from now on.
 fn keep(
     kept: &mut Vec<TableFrames>,
     alloc: Global,
@@ -215,8 +215,8 @@ fn put_first_of(
     kept[number].put_first(out, to, boot)
 }
 
-/// Spells an installation: its first frame, in place of what was in the buffer, and the number of
-/// the kept frames that has the others. These are spelled only where none of the same rows and
+/// Encodes an installation: its first frame, which replaces what was in the buffer, and the number
+/// of the kept frames for the others. These are encoded only if none of the same rows and
 /// partitions are kept.
 ///
 /// # Errors

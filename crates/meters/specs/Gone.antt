@@ -6,11 +6,11 @@ use Rattle.meters.specs.Meters.{PortLeavings, has_ended, kept_meters, meter_with
 use Rattle.meters.specs.Seen.{Seen}
 use Rattle.meters.specs.declared.flows.FlowRecord.{FlowRecord}
 
--- the meter leaves with this leaving: it is one of its port, and ends its list
+-- the meter leaves with this leaving: it is one of its port, and completes its list
 abbrev pub leaves_with : ℕ × Leaving → Seen → Bool
 leaves_with one meter = (one.0 == meter.port) && has_ended (meter_with (one.1 ∷ []) meter)
 
--- the records of a meter that leaves with this leaving, for the list that it then holds
+-- the records of a meter that leaves with this leaving, for the list that it then has
 abbrev pub leaving_records : ℕ × Leaving → Seen → List FlowRecord
 leaving_records one meter =
     if leaves_with one meter then flow_records_of (meter_with (one.1 ∷ []) meter) else []
@@ -33,14 +33,14 @@ pub record BoardValue (M : Type 0) : Type 0 where
 abbrev pub seen_board : {M : Type 0} → (M → Seen) → BoardValue M → BoardValue Seen
 seen_board seen board = record { meters = map seen board.meters; gone = board.gone }
 
--- the board of a network with these ports, behind these leavings
+-- the board of a network with these ports, after these leavings
 abbrev pub board_after : ℕ → PortLeavings → List Seen → BoardValue Seen
 board_after ports left meters = record {
   meters = kept_meters ports left meters;
   gone = gone_records ports left meters;
 }
 
--- where the old board is the one behind some leavings, the new one is the one behind one more
+-- if the old board is the one after some leavings, the new one is the one after one more
 abbrev pub GainsLeaving : ℕ × Leaving → BoardValue Seen → BoardValue Seen → Type 0
 GainsLeaving one old new =
     (ports : ℕ) (left : PortLeavings) (meters : List Seen) → old ≡ board_after ports left meters

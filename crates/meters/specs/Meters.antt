@@ -8,21 +8,21 @@ use Rattle.meters.specs.declared.meter.Stay.{Stay}
 use Rattle.meters.specs.Seen.{Seen}
 use Rattle.meters.specs.declared.meter.Stay.TheVariants as stay
 
--- a port, and leavings that were noted there
+-- a port, and leavings that were recorded there
 pub record Recorded : Type 0 where
   pub port : ℕ
   pub held : List Leaving
 
--- a recorder that leaves when it holds so many leavings
+-- a recorder that is complete when it has recorded this many leavings
 pub record Limited : Type 0 where
   pub recorder : Recorded
   pub most : ℕ
 
--- the meter holds these leavings too
+-- the meter with these leavings added
 abbrev pub meter_with : List Leaving → Seen → Seen
 meter_with more meter = record meter { held = meter.held ++ more }
 
--- its list is ended
+-- its list is complete
 abbrev pub has_ended : Seen → Bool
 has_ended meter = meter.is_ended meter.held
 
@@ -30,7 +30,7 @@ has_ended meter = meter.is_ended meter.held
 abbrev pub flow_records_of : Seen → List FlowRecord
 flow_records_of meter = meter.recorded meter.held
 
--- what a note of a leaving makes of a meter, by its answer
+-- a meter after it recorded a leaving, by its result
 abbrev pub IsNoted : Leaving → Seen → Seen → Stay → Type 0
 IsNoted leaving old new stay.Stay = (new ≡ meter_with (leaving ∷ []) old) × (has_ended new ≡ false)
 IsNoted leaving old new stay.Leave = (new ≡ meter_with (leaving ∷ []) old) × (has_ended new ≡ true)
@@ -44,7 +44,7 @@ PortLeavings = List (ℕ × Leaving)
 abbrev pub leavings_of : ℕ → PortLeavings → List Leaving
 leavings_of port left = map (λ one. one.1) (filter (λ one. one.0 == port) left)
 
--- its list, followed by the first k of these leavings, is ended for some k from 1
+-- its list, followed by the first k of these leavings, is complete for some k from 1
 abbrev pub is_ended_within : List Leaving → Seen → Bool
 is_ended_within more meter =
     list_any (λ k. has_ended (meter_with (take k more) meter)) (range_with_len 1 (length more))

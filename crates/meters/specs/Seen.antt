@@ -1,4 +1,5 @@
--- First tier. A meter: its port, its leavings, and of every list whether it ends, and its records.
+-- First tier. A meter: its port, its leavings, and for every list whether it is complete, and its
+-- records.
 use Rattle.std.specs.Prelude.{ℕ, Bool, List}
 use Rattle.policy_rules.specs.declared.packet.Leaving.{Leaving}
 use Rattle.meters.specs.declared.flows.FlowRecord.{FlowRecord}

@@ -26,7 +26,8 @@ impl<M> Model for Board<M> {
 }
 
 impl<M: Meter> Board<M> {
-    /// Keeps the meters whose port is in the mask, in order, and drops the others. Takes no memory.
+    /// Keeps the meters whose port is in the mask, in order, and drops the others. Allocates
+    /// nothing.
     pub fn new(mut meters: Vec<M>, ports: u64) -> Self
         ensures chosen { result.meters ≡ filter (λ m. has ports (M.seen m).port) meters.items }
         ensures kept { map M.seen result.meters
@@ -38,10 +39,11 @@ impl<M: Meter> Board<M> {
         Board { meters, gone }
     }
 
-    /// Lets each meter of this port note the leaving, in order. Each that then leaves is dropped;
-    /// before that, its records are put behind those of the meters that left earlier.
+    /// Lets each meter of this port record the leaving, in order. Each that is then complete
+    /// leaves and is dropped; before that, its records are added after those of the meters that
+    /// left earlier.
     ///
-    /// An error is that memory ran out; the meters and the records are then unknown.
+    /// An error means that memory ran out; then nothing is known of the meters and the records.
     #[inline(never)]
     pub fn note(&mut self, port: u32, leaving: &Leaving) -> Result<(), AllocError>
         ensures noted { OnOk result (map M.seen self.new.meters
@@ -65,15 +67,14 @@ impl<M: Meter> Board<M> {
         Ok(())
     }
 
-    /// The meters that are still there, in order. Takes no memory.
+    /// The meters that stayed, in order. Allocates nothing.
     pub fn into_meters(self) -> Vec<M>
         ensures { result.items ≡ self.meters }
     {
         self.meters
     }
 
-    /// The meters that are still there, in order, and the records of those that left. Takes no
-    /// memory.
+    /// The meters that stayed, in order, and the records of those that left. Allocates nothing.
     pub fn finish(self) -> (Vec<M>, Flows)
         ensures meters { result.0.items ≡ self.meters }
         ensures gone { result.1 ≡ self.gone }
@@ -89,7 +90,7 @@ fn has_port(ports: u64, port: u32) -> bool
     port < 64 && base::has(ports, port)
 }
 
-/// Lets a meter of this port note the leaving, and leaves a meter of another port as it is.
+/// Lets a meter of this port record the leaving; a meter of another port stays unchanged.
 fn offer<M: Meter>(meter: &mut M, port: u32, leaving: &Leaving) -> Stay
     ensures stay { result ≡ Stay.Stay
         → meters_after ((port, leaving.now) ∷ []) (M.seen meter.old ∷ []) ≡ M.seen meter.new ∷ [] }

@@ -29,7 +29,7 @@ impl Model for Flows {
 }
 
 impl Flows {
-    /// These records. Takes no memory.
+    /// These records. Allocates nothing.
     pub fn new(records: Vec<FlowRecord>) -> Flows
         ensures { result ≡ records.items }
     {
@@ -43,7 +43,7 @@ impl Flows {
         &self.records
     }
 
-    /// Puts more records behind these.
+    /// Adds more records after these.
     ///
     /// # Errors
     /// Only out of memory.

@@ -7,7 +7,7 @@ use policy_rules::Leaving;
 use std::alloc::{AllocError, Global};
 use std::marker::Model;
 
-/// A meter that stays for good, and has no flow records.
+/// A meter that always stays, and has no flow records.
 #[derive(Drop)]
 pub struct Recorder {
     port: u32,
@@ -23,7 +23,7 @@ impl Model for Recorder {
 }
 
 impl Recorder {
-    /// A meter of this port that holds nothing. Takes no memory.
+    /// An empty meter of this port. Allocates nothing.
     pub fn new(alloc: Global, port: u32) -> Self
         ensures { result ≡ record { port = port; held = [] } }
     {
@@ -62,7 +62,8 @@ impl Meter for Recorder {
     }
 }
 
-/// A meter that leaves when it holds `most` leavings, and has no flow records.
+/// A meter that is complete, and leaves, when it has recorded `most` leavings, and has no flow
+/// records.
 #[derive(Drop)]
 pub struct FirstN {
     recorder: Recorder,
@@ -78,8 +79,7 @@ impl Model for FirstN {
 }
 
 impl FirstN {
-    /// A meter of this port that holds nothing, and leaves with its `n`-th leaving. Takes no
-    /// memory.
+    /// An empty meter of this port that is complete with its `n`-th leaving. Allocates nothing.
     pub fn new(alloc: Global, port: u32, n: u64) -> Self
         requires { 0 < n }
         ensures { result ≡ record { recorder = record { port = port; held = [] }; most = n } }

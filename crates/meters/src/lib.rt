@@ -1,11 +1,12 @@
-//! Boxed recorders at the ports of a network: what each notes, which of them stay, and the flow
+//! Boxed recorders at the ports of a network: what each records, which of them stay, and the flow
 //! records of those that leave.
 //!
-//! A `Meter` stands at a port and holds the leavings that it noted, in order. Contracts know it by
-//! its port, by that list, and by what its kind says of every list: where it is ended, the meter
-//! leaves; and which flow records it has. A `Board` holds meters of one type, as boxes of whatever
-//! kinds its maker has. After any notes its meters are the kept meters of the definition, each with
-//! all leavings of its port, and it has the records of those that left, in order.
+//! A `Meter` is at a port and keeps the leavings that it recorded, in order. Contracts know its
+//! port, that list, and what its kind says of every list: whether it is complete, so that the
+//! meter leaves, and which flow records it has. A `Board` has meters of one type, as boxes of
+//! whatever kinds its maker has. After any leavings its meters are the kept meters of the
+//! definition, each with all leavings of its port, and it has the records of those that left, in
+//! order.
 //!
 //! ```text
 //! let mut board = Board::new(meters, 0b1000); // keeps the meters of port 3

@@ -7,35 +7,35 @@ use crate::flows::Flows;
 use policy_rules::Leaving;
 use std::alloc::AllocError;
 
-/// What a meter answers to a leaving.
+/// What a meter returns for a leaving.
 #[derive(Clone, Copy, Debug, PartialEq, Eq)]
 pub enum Stay {
-    /// It noted the leaving, and stays.
+    /// It recorded the leaving, and stays.
     Stay,
-    /// It noted the leaving, and its list is ended: it is to be taken out.
+    /// It recorded the leaving, and its list is complete: the board takes it out.
     Leave,
-    /// It found no memory, and is unchanged.
+    /// It ran out of memory, and is unchanged.
     NoMemory,
 }
 
-/// A recorder at a port, whose meaning is the list of the leavings that it holds.
+/// A recorder at a port, whose meaning is the list of the leavings that it recorded.
 pub trait Meter: Drop {
-    /// What contracts know of it.
+    /// What contracts know about it.
     ghost seen: { Self → Seen };
 
     /// Its port.
     fn port(&self) -> u32
         ensures { result ≡ (seen self.now).port };
 
-    /// Appends the leaving to its list, and says whether the list is then ended.
+    /// Appends the leaving to its list, and says whether the list is then complete.
     fn note(&mut self, leaving: &Leaving) -> Stay
         ensures { IsNoted leaving.now (seen self.old) (seen self.new) result };
 
-    /// How many leavings it holds.
+    /// How many leavings it has recorded.
     fn notes(&self) -> u64
         ensures { result ≡ length (seen self.now).held };
 
-    /// The flow records of the list that it holds, by its kind.
+    /// The flow records of its list, by its kind.
     ///
     /// # Errors
     /// Only out of memory.

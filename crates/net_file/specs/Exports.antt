@@ -1,5 +1,5 @@
--- The definitions by which clauses of this crate speak of networks and of the files that state
--- them, passed on from the files that define them.
+-- The definitions that clauses of this crate use for networks and the files that state them,
+-- passed on from the files that define them.
 pub use Rattle.net_file.specs.Joins.{are_linked, joins, owner_of}
 pub use Rattle.net_file.specs.Keys.{of_type, integer_within}
 pub use Rattle.net_file.specs.Laws.{IsMask, NameLaws, NetLinkLaws, PortLaws}

@@ -1,5 +1,5 @@
--- The values of a TOML table: what stands at a key, and the refusal of what is absent, of another
--- type or out of range.
+-- The values of a TOML table: what is at a key, and the refusal of what is absent, of another type
+-- or out of range.
 use Rattle.std.specs.Prelude.{ℕ, ℤ, pos, negsuc, ◌&&◌, nat_le, if◌then◌else◌, Option, Some, None, Result, Ok, Err, List, [], ◌∷◌}
 use Rattle.std.specs.Option.{option_map_or}
 use Rattle.toml.specs.Data.{Data, Items, no_items, item, Members, get_member}
@@ -16,7 +16,7 @@ abbrev pub of_type : {X : Type 0} → Option X → Result X NetRefusal
 of_type (Some value) = Ok value
 of_type None = Err refusal.WrongType
 
--- what a key's value is read as, or what stands for it where the key is absent
+-- what a key's value is read as, or its default if the key is absent
 abbrev pub at_key : {X : Type 0} → (Data → Result X NetRefusal) → Result X NetRefusal → Members
     → List ℕ
     → Result X NetRefusal

@@ -42,7 +42,7 @@ pub record PortLaws : Type 0 where
   pub mask : (net : Net) (port : ℕ) → IsNet net
       → (bit_at (port_mask net.switches) port == 1) ≡ is_some (owner_of net.switches port)
 
--- the mask has exactly the bits for which the test holds
+-- the mask has exactly the bits for which the test is true
 abbrev pub IsMask : ℕ → (ℕ → Bool) → Type 0
 IsMask mask test = (k : ℕ) → (bit_at mask k == 1) ≡ test k
 

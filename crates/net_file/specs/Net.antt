@@ -28,7 +28,7 @@ is_name name = is_label name && not (bytes_eq name (codes "controller"))
 
 -- ---- networks
 
--- a switch that can stand in a network
+-- a switch that a network can have
 pub record IsSwitchRow (row : SwitchRow) : Type 0 where
   pub name : IsTrue (is_name row.name)
   pub ports : row.ports < 2 ^ 64
@@ -39,7 +39,7 @@ pub record AreApart (a b : SwitchRow) : Type 0 where
   pub names : IsFalse (bytes_eq a.name b.name)
   pub ports : (port : ℕ) → IsTrue (has_port port a) → IsFalse (has_port port b)
 
--- a link between two different switches of so many
+-- a link between two different switches of this many
 pub record IsLink (count : ℕ) (link : LinkRow) : Type 0 where
   pub one : link.one < count
   pub two : link.two < count
@@ -73,10 +73,10 @@ solo_net = record {
   cache = 256;
 }
 
--- the name of the switch of this number; one that the network lacks has none
+-- the name of the switch of this number; a number that the network lacks has none
 abbrev pub name_of : Net → ℕ → List ℕ
 name_of net s = option_map_or (λ row. row.name) (slice_get net.switches s) []
 
--- the names of switches, each behind a blank
+-- the names of switches, each after a blank
 abbrev pub names_text : Net → List ℕ → List ℕ
 names_text net list = flat_map (λ s. codes " " ++ name_of net s) list

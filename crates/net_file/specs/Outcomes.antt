@@ -1,4 +1,4 @@
--- What a reader of a part of the text answers.
+-- What a reader of a part of the text returns.
 use Rattle.std.specs.Prelude.{◌≡◌, List, map, Result, Ok, Err}
 use Rattle.std.specs.Borrow.{Bor}
 use Rattle.toml.specs.Data.{Data}
@@ -6,7 +6,7 @@ use Rattle.toml.specs.View.{view}
 use Rattle.toml.specs.declared.value.Value.{Value}
 use Rattle.net_file.specs.declared.error.NetRefusal.{NetRefusal}
 
--- the part is read to what contracts see of the value, or has this refusal
+-- the part is read as what contracts see of the value, or has this refusal
 abbrev pub IsRead : {X Y : Type 0} → (Y → X) → Result X NetRefusal → Result Y NetRefusal → Type 0
 IsRead seen read (Ok value) = read ≡ Ok (seen value)
 IsRead seen read (Err refusal) = read ≡ Err refusal

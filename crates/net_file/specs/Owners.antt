@@ -7,7 +7,7 @@ use Rattle.net_file.specs.Joins.{owner_of, has_port, are_linked}
 use Rattle.net_file.specs.declared.net.LinkRow.{LinkRow}
 use Rattle.base.specs.ComputedMasks.{mask_of}
 
--- what the table says of a port
+-- what the table says about a port
 abbrev pub port_owner : Ports → ℕ → Option ℕ
 port_owner ports port = slice_index_or ports.owners port None
 

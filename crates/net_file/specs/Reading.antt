@@ -36,7 +36,7 @@ port_read d = option_and_then (integer_within 0 63) (as_integer d)
 abbrev pub ports_of : List Data → List ℕ
 ports_of ds = filter_map port_read ds
 
--- the ports of an array; each is looked at for its type before any for its range
+-- the ports of an array; the type of each is checked before the range of any
 abbrev pub ports_in : Data → Result (List ℕ) NetRefusal
 ports_in d =
     with_value (array_in d) (λ ports.
@@ -55,7 +55,7 @@ ends_in d = with_value (array_in d) (λ ends. of_type (texts_of ends))
 
 -- ---- settings
 
--- a number of the document, or its default where the key is absent
+-- a number of the document, or its default if the key is absent
 abbrev pub number_or_default : Members → List ℕ → ℕ → ℕ → ℕ → Result ℕ NetRefusal
 number_or_default table key low high default = at_key (number_stated low high) (Ok default) table
     key
@@ -70,12 +70,12 @@ switch_array table =
     require (nat_lt 0 (length switches)) refusal.Range (
     Ok switches)))
 
--- no number stands twice
+-- no number occurs twice
 abbrev pub are_distinct : List ℕ → Bool
 are_distinct [] = true
 are_distinct (x ∷ xs) = not (list_any (nat_eq x) xs) && are_distinct xs
 
--- the ports stand neither twice nor in an earlier switch
+-- the ports occur neither twice nor in an earlier switch
 abbrev pub are_new : List SwitchRow → List ℕ → Bool
 are_new earlier ports = are_distinct ports && not (list_any (have_port earlier) ports)
 
@@ -129,8 +129,8 @@ link_of switches earlier d = with_value (of_type (as_table d)) (link_with switch
 
 -- ---- documents
 
--- the rows that values state, one after another behind the earlier ones; or the first refusal,
--- whose row is base and the number of the value, counted from 1
+-- the rows that values state, one after another after the earlier ones; or the first refusal,
+-- whose row is base plus the number of the value, counted from 1
 abbrev pub rows_read : {X : Type 0} → ℕ → (List X → Data → Result X NetRefusal) → List X → List Data
     → Result (List X) (InRow NetRefusal)
 rows_read base read earlier [] = Ok earlier

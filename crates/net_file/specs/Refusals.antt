@@ -21,6 +21,6 @@ abbrev pub with_value : {X Y E : Type 0} → Result X E → (X → Result Y E) �
 with_value (Ok value) next = next value
 with_value (Err refusal) next = Err refusal
 
--- what follows, where the condition holds; or else the refusal
+-- what follows, if the condition is true; otherwise the refusal
 abbrev pub require : {Y E : Type 0} → Bool → E → Result Y E → Result Y E
 require holds refusal next = if holds then next else Err refusal

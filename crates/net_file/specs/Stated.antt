@@ -1,4 +1,4 @@
--- What is read of a switch before its name is copied.
+-- What is read about a switch before its name is copied.
 use Rattle.net_file.specs.declared.net.SwitchRow.{SwitchRow}
 use Rattle.net_file.specs.declared.switches.Stated.{Stated}
 

@@ -11,13 +11,13 @@ pub enum NetRefusal {
     /// The bytes are no TOML document.
     #[error("the bytes are no TOML document")]
     Toml = 1,
-    /// A key that must stand is absent: `switch`, `name` or `ends`.
+    /// A required key is absent: `switch`, `name` or `ends`.
     #[error("a key is missing")]
     MissingKey = 2,
-    /// A value is not of the type that its key wants.
+    /// A value doesn't have the type that its key needs.
     #[error("a value has the wrong type")]
     WrongType = 3,
-    /// A number or a name is outside what its key takes, or there is no switch.
+    /// A number or a name is outside what its key allows, or there is no switch.
     #[error("a value is out of range")]
     Range = 4,
     /// An end of a link is no switch's name.
@@ -26,7 +26,7 @@ pub enum NetRefusal {
     /// An earlier switch has the name.
     #[error("an earlier switch has the name")]
     DuplicateName = 6,
-    /// A port stands earlier in this or in another switch.
+    /// A port is named before in this switch or in an earlier one.
     #[error("the port stands twice")]
     DuplicatePort = 7,
     /// Both ends of a link are one switch.

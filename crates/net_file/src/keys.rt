@@ -32,7 +32,7 @@ pub fn number_in(low: u32, high: u32, value: &Value) -> Result<u32, NetRefusal>
     within(low, high, number).ok_or(NetRefusal::Range)
 }
 
-/// The number at a key, from low to high, or the default where the key is absent.
+/// The number at a key, from low to high, or the default if the key is absent.
 pub fn setting_of(
     table: &Table,
     key: &str,

@@ -2,8 +2,8 @@ ghost use Rattle.std.specs.Prelude.{◌≡◌, ℕ, List, Ok};
 ghost use Rattle.net_file.specs.Exports.{IsNet, NameLaws, NetLinkLaws, PortLaws, net_of, solo_net};
 ghost use Rattle.net_file.specs.declared.net.Net.{Net};
 
-/// Names and numbers of switches stand for each other, and no byte of a name is a comma, a blank or
-/// a line feed.
+/// Names and numbers of switches correspond one to one, and no byte of a name is a comma, a blank
+/// or a line feed.
 pub fn name_laws()
     ensures { NameLaws }
 {}

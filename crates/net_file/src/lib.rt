@@ -1,7 +1,8 @@
 //! Networks as TOML text: switches with their ports and rooms, links, and three settings.
 //!
 //! `read_net` promises the network that a text states, or the text's first refusal and its row.
-//! `Net` answers which switch has a name or a port and which switches links join, without memory.
+//! `Net` returns which switch has a name or a port and which switches links join, without
+//! allocating.
 //!
 //! ```text
 //! let net = read_net(alloc, b"switch = [{ name = \"a\", ports = [1] }]")?;

@@ -60,7 +60,7 @@ fn are_linked(links: &[LinkRow], one: u32, two: u32) -> bool
     links.iter().any(|link| link.joins(one, two))
 }
 
-// The link that a value states, behind the earlier links.
+// The link that a value states, after the earlier links.
 fn read_link(
     switches: &[SwitchRow],
     earlier: &[LinkRow],

@@ -8,7 +8,7 @@ use std::fmt::Write;
 use std::str;
 
 impl Net {
-    /// The name of the switch of this number, or none where the network lacks it.
+    /// The name of the switch of this number, or an empty text if the network lacks it.
     pub fn name(&self, s: u32) -> &str
         requires { IsNet self.now }
         ensures { result.now ≡ name_of self.now s }
@@ -19,7 +19,7 @@ impl Net {
         }
     }
 
-    /// Adds the names of switches to a text, each behind a blank.
+    /// Adds the names of switches to a text, each after a blank.
     ///
     /// # Errors
     /// Only out of memory.

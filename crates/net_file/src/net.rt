@@ -24,9 +24,9 @@ impl Model for Name {
 #[derive(Drop)]
 pub struct SwitchRow {
     pub name: Name,
-    /// The switch's ports: bit p is 1 exactly where it has the port p.
+    /// The switch's ports: bit p is 1 exactly if it has the port p.
     pub ports: u64,
-    /// How many rules the switch has room for as an authority: 0 where it is none.
+    /// How many rules the switch has room for as an authority: 0 if it is none.
     pub room: u32,
 }
 
@@ -50,7 +50,7 @@ pub struct Net {
     pub links: Links,
     /// The most rules of a leaf of a cut tree.
     pub leaf_rules: u32,
-    /// How many more switches than one hold each region.
+    /// How many switches beside the first one host each region.
     pub backups: u32,
     /// The most entries of a switch's cache.
     pub cache: u32,
@@ -166,7 +166,7 @@ pub fn solo(alloc: Global) -> Result<Net, AllocError>
 }
 
 impl Net {
-    /// The number of the switch with this name, or `None` where no switch has it.
+    /// The number of the switch with this name, or `None` if no switch has it.
     pub fn number(&self, name: &[u8]) -> Option<u32>
         requires { IsNet self.now }
         ensures { result ≡ switch_number self.now.switches name.now }

@@ -6,7 +6,7 @@ use crate::net::{SwitchRow, owner_in};
 /// How many ports a network can have.
 pub(crate) const PORTS: usize = 64;
 
-/// Which switch has each port of a network. It is held in place, and takes no memory.
+/// Which switch has each port of a network. It is stored in place, and allocates nothing.
 #[derive(Clone, Copy, Debug)]
 pub struct Ports {
     owners: [Option<u8>; PORTS],

@@ -19,7 +19,7 @@ const MAX_SWITCHES: usize = 64;
 /// The most rules that a switch has room for.
 const MAX_ROOM: u32 = 8192;
 
-/// The most bytes of a name behind its first.
+/// The most bytes of a name after its first.
 const MAX_MORE: usize = 15;
 
 /// The values of the array `switch`.
@@ -40,14 +40,14 @@ pub fn switch_array(table: &Table) -> Result<&[Value], NetRefusal>
     Ok(values)
 }
 
-// Whether the byte may stand in a name.
+// Whether the byte may occur in a name.
 fn is_name_byte(byte: u8) -> bool
     ensures { result ≡ is_name_byte byte }
 {
     byte.is_ascii_alphanumeric() || byte == b'_' || byte == b'-'
 }
 
-// Whether each byte may stand in a name.
+// Whether each byte may occur in a name.
 fn are_name_bytes(bytes: &[u8]) -> bool
     ensures { result ≡ are_name_bytes bytes.now }
 {
@@ -67,7 +67,7 @@ fn is_label(name: &[u8]) -> bool
 }
 
 /// Whether the bytes can be a switch's name: a letter and then up to 15 letters, digits, `_` or
-/// `-`, but not `controller`, which a journal calls the controller.
+/// `-`, but not `controller`, which is the controller's name in a journal.
 pub fn is_name(name: &[u8]) -> bool
     ensures { result ≡ is_name name.now }
 {
@@ -135,7 +135,7 @@ fn have_name(rows: &[SwitchRow], name: &[u8]) -> bool
     rows.iter().any(|row| row.name.bytes() == name)
 }
 
-// The mask of new ports: none stands twice, or in the mask of the earlier switches' ports.
+// The mask of new ports: none occurs twice, or in the mask of the earlier switches' ports.
 fn new_ports(values: &[Value], earlier: &[SwitchRow], taken: u64) -> Option<u64>
     requires { IsMask taken (have_port earlier.now) }
     ensures new { is_some result ≡ are_new earlier.now (ports_of (map view values.now)) }
@@ -155,7 +155,7 @@ fn new_ports(values: &[Value], earlier: &[SwitchRow], taken: u64) -> Option<u64>
     Some(ports)
 }
 
-// What the keys of a switch state, behind the earlier switches.
+// What the keys of a switch state, after the earlier switches.
 struct Stated<'a> {
     name: &'a str,
     ports: u64,

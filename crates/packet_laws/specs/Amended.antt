@@ -1,6 +1,6 @@
--- An amendment changes only what it touches: a header that none of its rows matches keeps its first
--- match, and each packet with that header is decided by it, under the version before or the new one.
--- It takes from a cache no rule that it doesn't touch.
+-- An amendment changes only what it touches: a header that none of its rows matches keeps its
+-- first match, and each packet with that header is decided by it, under the version before or the
+-- new one. It removes from a cache no rule that it doesn't touch.
 use Rattle.std.specs.Prelude.{ℕ, ◌≡◌, ◌+◌, ◌⊎◌, Some, Ok, List, All, IsFalse, ◌<◌, [], ◌∷◌, ◌++◌, Any, Contains}
 use Rattle.ctrl_msg.specs.declared.message.Body.TheVariants.{Stamp}
 use Rattle.five_tuple.specs.Header.{fields_of}
@@ -27,8 +27,8 @@ use Rattle.packet_laws.specs.Rules.{IsRightEntry}
 
 -- ---- headers
 
--- the policy of the version behind this one is what a change makes of this one's; and none of the
--- rows that the change removes, and none that it adds, matches the header
+-- the policy of the version after this one is what a change makes of this one's; and no row that
+-- the change removes or adds matches the header
 pub record LeavesHeader (setting : Setting) (journal : List Item) (version : ℕ) (header : Header)
     : Type 0 where
   pub rows : List Row
@@ -46,7 +46,7 @@ pub record IsMatchUnder (setting : Setting) (journal : List Item) (version : ℕ
   pub policy : policy_in setting journal version ≡ Some rows
   pub first_match : scan rows header ≡ hit
 
--- what a decision gives a packet
+-- the rule and the action of a decision
 abbrev pub hit_in : Decision → Hit
 hit_in decision = record { rule = decision.rule; action = decision.action }
 
@@ -62,7 +62,7 @@ pub record AreDecidedAlike (setting : Setting) (journal : List Item) (version : 
       → (decision.version ≡ version) ⊎ (decision.version ≡ version + 1)
       → hit_in decision ≡ hit
 
--- so it is of each change and each header, whatever else stands in the journal
+-- this is true of each change and each header, whatever else is in the journal
 abbrev pub ChangesLeaveOthers : Setting → List Item → Type 0
 ChangesLeaveOthers setting journal = (version : ℕ) (header : Header)
     → LeavesHeader setting journal version header
@@ -77,13 +77,14 @@ HasUnder setting journal s version entry =
     Any (λ kept. (kept.version ≡ version) × ((kept.word ≡ entry.word)
     × IsRightEntry setting journal kept)) (cache_of setting journal s).entries
 
--- the delivery of this message tells the switch, in this boot, to stamp with a version
+-- this message, when it is delivered, tells the switch, in this boot, to stamp with a version
 abbrev pub IsToldStamp : List Item → ℕ → ℕ → ℕ → ℕ → List WordValue → Type 0
 IsToldStamp before s number boot version touched =
     body_to_switch before s number ≡ Some (Stamp boot version touched)
 
--- as the stamp of a switch rises to a version, because it is told so, each rule of the version
--- before whose word meets nothing that the version's change touches is there under that version
+-- when the stamp of a switch rises to a version, because it is told to, it keeps, under that
+-- version, each rule of the version before whose word meets no word that the version's change
+-- touches
 abbrev pub UntouchedStay : Setting → List Item → Type 0
 UntouchedStay setting before =
     (s number boot version : ℕ) (touched : List WordValue) (entry : CacheEntry)

@@ -9,8 +9,8 @@ use Rattle.update_machine.specs.Travels.{leg_of, travels}
 use Rattle.control_laws.specs.Authorities.{EndsAt}
 use Rattle.packet_laws.specs.PacketCauses.{Arrives}
 
--- the packet with this header is on its way by this leg, and its route ends at the switch, also
--- where it just took that route in the midst of a hop
+-- the packet with this header is on its way by this leg, and its route ends at the switch, also if
+-- it just took that route in the middle of a hop
 pub record IsAtEnd (journal : List Item) (packet s : ℕ) (header : Header) (leg : Leg) : Type 0
   where
     pub travelling : IsTrue (travels journal packet)

@@ -1,4 +1,4 @@
--- When a fact holds between steps of a network that is asked for steps of its own.
+-- When a fact is true between steps of a network that takes only steps that it may take.
 use Rattle.std.specs.Prelude.{ℕ, Option, Some, None, List, [], take}
 use Rattle.journal.specs.declared.item.Item.{Item}
 use Rattle.steps.specs.declared.step.Event.{Event}
@@ -13,8 +13,8 @@ abbrev pub steps_played : (setting : Setting) (events : List Event) (journal : L
 steps_played setting events journal None play = play.answers.steps
 steps_played setting events journal (Some row) play = play.steps
 
--- it holds behind any steps of the network, in each answer to events of it, and in what an answer
--- writes until some step ends; and behind each step of a play
+-- it is true after any steps of the network, in each answer to events of it, and in what an answer
+-- writes until some step ends; and after each step of a play
 pub record HoldsBetween (Holds : Setting → List Item → Type 0) : Type 0 where
   pub reached : (setting : Setting) (journal : List Item) → IsReached setting journal
       → Holds setting journal

@@ -4,7 +4,7 @@ use Rattle.journal.specs.declared.item.Item.{Item}
 use Rattle.update_machine.specs.Travels.{packets_in}
 use Rattle.packet_laws.specs.Hops.{hops_taken, most_hops}
 
--- the most hops that the packet may take yet
+-- the most hops that the packet may still take
 abbrev pub hops_left : List Item → ℕ → ℕ
 hops_left journal i = most_hops - hops_taken journal i
 

@@ -1,7 +1,7 @@
--- First tier. The steps that a journal was asked for are the rows of its schedule that were played,
--- one by one, but for the hops and deliveries that rows of a drain or a flush ask for as well. Each
--- packet that came in or was refused is that of a packet row: a journal without packets is that of
--- a play without packet rows. The notion is our own.
+-- First tier. The steps of a journal are the rows of its schedule that were played, one by one,
+-- except for the hops and deliveries that rows of a drain or a flush cause too. Each packet that
+-- came in or was refused is that of a packet row: a journal without packets is that of a play
+-- without packet rows. The notion is our own.
 use Rattle.std.specs.Prelude.{⊤, ℕ, Bool, IsTrue, IsFalse, ◌≡◌, ◌+◌, ◌-◌, Option, Some, None, List, [], ◌∷◌, ◌++◌, take}
 use Rattle.five_tuple.specs.declared.header.Header.{Header}
 use Rattle.journal.specs.declared.item.Item.{Item}
@@ -19,7 +19,7 @@ pub record StepRow : Type 0 where
   pub row : ℕ
   pub step : Step
 
--- hops and deliveries aside, which are the steps of a drain or a flush too
+-- except for hops and deliveries, which are the steps of a drain or a flush too
 abbrev pub step_row : ℕ → Step → List StepRow
 step_row row (Hop packet) = []
 step_row row (Deliver message) = []
@@ -34,7 +34,7 @@ abbrev pub step_rows : ℕ → List Event → List StepRow
 step_rows row [] = []
 step_rows row (event ∷ events) = event_row row event ++ step_rows (row + 1) events
 
--- those that were played: all, or those in front of the row at which the play stopped full
+-- those that were played: all, or those before the row at which the play stopped full
 abbrev pub rows_played : Option ℕ → List Event → List StepRow
 rows_played None events = step_rows 1 events
 rows_played (Some row) events = step_rows 1 (take (row - 1) events)
@@ -58,7 +58,7 @@ IsEntryOf serving i s header (item.Closed packet switch) =
     (packet ≡ i) × (switch ≡ s) × IsFalse serving
 IsEntryOf serving i s header _ = ⊥
 
--- behind this journal each packet row among the items has its entry right behind it, under the next
+-- after this journal each packet row among the items has its entry right after it, under the next
 -- number, and nothing else comes in or is refused
 abbrev pub EachEnters : List Item → List Item → Type 0
 EachEnters before [] = ⊤

@@ -1,4 +1,4 @@
--- The definitions by which the laws of this crate speak, passed on from the files that define them.
+-- The definitions that the laws of this crate use, passed on from the files that define them.
 pub use Rattle.packet_laws.specs.Amended.{ChangesLeaveOthers, UntouchedStay}
 pub use Rattle.packet_laws.specs.Arriving.{PacketsArrive}
 pub use Rattle.packet_laws.specs.Between.{HoldsBetween}

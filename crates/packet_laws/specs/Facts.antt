@@ -1,4 +1,4 @@
--- All that a journal says of one packet, as one value, and what each item makes of it.
+-- All that a journal says of one packet, as one value, and how each item changes it.
 use Rattle.std.specs.Prelude.{ℕ, ◌+◌, Bool, true, false, ◌==◌, if◌then◌else◌, Option, Some, option_and_then, unwrap_or, List}
 use Rattle.failover.specs.Links.{with_link}
 use Rattle.five_tuple.specs.declared.header.Header.{Header}
@@ -19,7 +19,7 @@ changes_mark i before mark (item.Entered packet switch header) =
     if packet == i then retired_mark before else mark
 changes_mark i before mark _ = mark
 
--- the mark up to which versions were retired as the packet came in
+-- the mark up to which versions were retired when the packet came in
 unfoldable pub entry_mark : List Item → ℕ → ℕ
 entry_mark journal i = folded_value (changes_mark i) 0 journal
 
@@ -51,12 +51,11 @@ what_is_known journal i = record {
   mark = entry_mark journal i;
 }
 
--- the port by which a packet of this decision is to leave; 0 where it has none
+-- the port by which a packet of this decision is to leave; 0 if it has none
 abbrev pub port_decided : Option Decision → ℕ
 port_decided decision = unwrap_or (option_and_then (λ d. port_in d.action) decision) 0
 
--- what an item of the packet makes of what is known of it, where versions up to this mark
--- are retired
+-- what is known of the packet after an item of it, if versions up to this mark are retired
 abbrev pub facts_after : ℕ → Item → PacketFacts → PacketFacts
 facts_after mark (item.Entered packet switch header) facts = record facts {
   header = Some header;

@@ -13,7 +13,7 @@ changes_taken i before taken (item.Row row (Hop packet)) =
     if packet == i && travels before i then taken + 1 else taken
 changes_taken i before taken _ = taken
 
--- the steps that asked the packet to hop while it travelled: each moved it on, or it arrived
+-- the hop steps of the packet while it travelled: each moved it on, or it arrived
 unfoldable pub hops_taken : List Item → ℕ → ℕ
 hops_taken journal i = folded_value (changes_taken i) 0 journal
 
@@ -23,7 +23,7 @@ abbrev pub is_search : ℕ → Item → Bool
 is_search i (item.Seeking packet version partition route) = packet == i
 is_search i _ = false
 
--- its routes to an authority switch, one for each lookup that found none of its own
+-- its routes to an authority switch, one for each lookup that found no own rule
 unfoldable pub search_count : List Item → ℕ → ℕ
 search_count journal i = count_of (is_search i) journal
 

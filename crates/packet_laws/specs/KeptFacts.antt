@@ -24,8 +24,8 @@ abbrev pub Avoids : List ℕ → List ℕ → Type 0
 Avoids down route = (k one two : ℕ) → slice_get route k ≡ Some one
     → slice_get route (k + 1) ≡ Some two → IsFalse (has_link down one two)
 
--- it was decided by the first match of a version that wasn't retired as it came in and is at most
--- the current one
+-- it was decided by the first match of a version that wasn't retired when it came in and is at
+-- most the current one
 pub record IsRightlyDecided (setting : Setting) (journal : List Item) (facts : PacketFacts)
     (header : Header) : Type 0 where
   pub decision : Decision
@@ -38,8 +38,8 @@ pub record IsRightlyDecided (setting : Setting) (journal : List Item) (facts : P
   pub sought : (version partition : ℕ) → facts.leg ≡ Some (Seek version partition)
       → IsSought setting journal facts.mark header version partition
 
--- what is kept of a packet of which this is known, in this stage: it is undecided as it comes in;
--- it stands at its place of a route that leads to a target of its leg, also where it found the next
+-- the invariants of a packet of which this is known, in this stage: it is undecided when it comes
+-- in; it is at its place of a route that leads to a target of its leg, also if it found the next
 -- link down; and while it moves on, its route uses no link that it found down
 pub record HasKeptFacts (setting : Setting) (journal : List Item) (facts : PacketFacts)
     (stage : Option Stage) : Type 0 where

@@ -1,4 +1,4 @@
--- What held on the way: at each moment, within a step too; and behind each step.
+-- What is true on the way: at each moment, within a step too; and after each step.
 use Rattle.std.specs.Prelude.{⊤, ℕ, ◌≤◌, List, [], ◌∷◌, drop, take}
 use Rattle.journal.specs.declared.item.Item.{Item}
 use Rattle.journal.specs.declared.item.Item.TheVariants as item
@@ -13,8 +13,8 @@ use Rattle.packet_laws.specs.StrongCauses.{StrongCause}
 use Rattle.packet_laws.specs.Travelling.{PacketsTravel}
 use Rattle.packet_laws.specs.Whole.{KeepVersionsWhole}
 
--- the packet took few routes: to authority switches one for each of 64 versions, to its port one,
--- and one around each of 256 links; and while it travelled few hops, on its route and in all
+-- the packet took few routes: one to authority switches for each of 64 versions, one to its port,
+-- and one around each of 256 links; and, while it travelled, few hops, on its route and in all
 pub record TakesFew (journal : List Item) (i : ℕ) : Type 0 where
   pub searches : search_count journal i ≤ 64
   pub exits : exit_count journal i ≤ 1
@@ -24,8 +24,8 @@ pub record TakesFew (journal : List Item) (i : ℕ) : Type 0 where
   pub hops : hops_taken journal i ≤ most_hops
 
 -- the journal, which may end within a step, is a run of the machine; its ends have their causes,
--- and its items the strong ones; the versions are whole; the current mark rose only where each
--- member had acknowledged all up to there; and each packet took few routes and hops
+-- and its items the strong ones; the versions are whole; the current mark rose only when each
+-- member had acknowledged all versions up to it; and each packet took few routes and hops
 pub record HoldsSoFar (setting : Setting) (journal : List Item) : Type 0 where
   pub run : IsRun setting journal
   pub causes : HaveCauses (HasCause setting) [] journal
@@ -34,8 +34,8 @@ pub record HoldsSoFar (setting : Setting) (journal : List Item) : Type 0 where
   pub rises : HaveCauses (RisesRightly setting) [] journal
   pub few : (i : ℕ) → TakesFew journal i
 
--- behind a step each packet that travels is on its way to a target of its own version, or to its
--- port, and the marks stand where they are to stand
+-- after a step each packet that travels is on its way to a target of its own version, or to its
+-- port, and the marks are settled
 pub record IsKeptBehind (setting : Setting) (journal : List Item) : Type 0 where
   pub packets : PacketsTravel setting journal
   pub settled : AreSettled setting journal
@@ -46,11 +46,11 @@ BeginStep [] = ⊤
 BeginStep (item.Row row step ∷ items) = ⊤
 BeginStep _ = ⊥
 
--- behind the first n items of the journal a step begins, or nothing is left: the last one has ended
+-- after the first n items of the journal a step begins, or nothing is left: the last one has ended
 abbrev pub EndsStep : List Item → ℕ → Type 0
 EndsStep journal n = BeginStep (drop n journal)
 
--- so it was on the way to this journal: at each moment, and behind each step
+-- this was true on the way to this journal: at each moment, and after each step
 pub record HeldOnTheWay (setting : Setting) (journal : List Item) : Type 0 where
   pub so_far : (n : ℕ) → HoldsSoFar setting (take n journal)
   pub kept : (n : ℕ) → EndsStep journal n → IsKeptBehind setting (take n journal)

@@ -1,4 +1,4 @@
--- A packet on its way: it stands at a place of a route that ends at a target of its leg.
+-- A packet on its way: it is at a place of a route that ends at a target of its leg.
 use Rattle.std.specs.Prelude.{ℕ, ◌≡◌, ◌+◌, ◌-◌, ◌<◌, ◌≤◌, false, nat_eq, Option, Some, None, find, List, [], ◌∷◌, length, slice_get, IsTrue}
 use Rattle.std.specs.List.{list_any}
 use Rattle.failover.specs.Links.{no_links}
@@ -55,8 +55,8 @@ pub record IsPartitionOf (setting : Setting) (journal : List Item) (header : Hea
       ≡ Some hosted
   pub holds : IsTrue (is_in header (part_of hosted))
 
--- a packet of this mark seeks the partition whose region holds its header, by a version that wasn't
--- retired as it came in and is at most the current one
+-- a packet of this mark seeks the partition whose region holds its header, by a version that
+-- wasn't retired when it came in and is at most the current one
 pub record IsSought (setting : Setting) (journal : List Item) (mark : ℕ) (header : Header)
     (version partition : ℕ) : Type 0 where
   pub not_retired : mark < version
@@ -72,7 +72,7 @@ pub record IsSeeking (setting : Setting) (journal : List Item) (held : Option De
   pub open sought use *
   pub leads : LeadsTo setting hosted.1 route
 
--- on its way out it was decided, by its port, whose switch its route leads to
+-- on its way out it was decided, with its port, and its route leads to that port's switch
 pub record IsExiting (setting : Setting) (held : Option Decision) (route : List ℕ) (port : ℕ)
     : Type 0 where
   pub decision : Decision
@@ -82,7 +82,7 @@ pub record IsExiting (setting : Setting) (held : Option Decision) (route : List 
   pub has_port : owner_of setting.net.switches port ≡ Some owner
   pub leads : LeadsTo setting (owner ∷ []) route
 
--- what binds a packet of this decision, mark and route on its leg
+-- the invariants of a packet of this decision, mark and route on its leg
 abbrev pub IsBound : Setting → List Item → Option Decision → ℕ → List ℕ → Header → Leg → Type 0
 IsBound setting journal held mark route header (Seek version partition) =
     IsSeeking setting journal held mark route header version partition
@@ -103,13 +103,13 @@ pub record HasComeIn (setting : Setting) (told : Option Header) (first : Option 
   pub came : first ≡ Some ingress
   pub at_first : ingress < length setting.net.switches
 
--- it stands at a switch
+-- it is at a switch
 pub record StandsThere (setting : Setting) (place : Option ℕ) : Type 0 where
   pub switch : ℕ
   pub stands : place ≡ Some switch
   pub now : switch < length setting.net.switches
 
--- a travelling packet has a header, came in at a switch, and stands at one
+-- a travelling packet has a header, came in at a switch, and is at one
 pub record IsUnderWay (setting : Setting) (journal : List Item) (facts : PacketFacts) : Type 0 where
   pub entry : HasComeIn setting facts.header facts.ingress
   pub open entry use *
@@ -117,7 +117,7 @@ pub record IsUnderWay (setting : Setting) (journal : List Item) (facts : PacketF
   pub open place use *
   pub mark : facts.mark ≤ retired_mark journal
 
--- and, once its switch is done with it, it stands at its place of the route of its leg
+-- and, once its switch is done with it, it is at its place of the route of its leg
 pub record IsOnWay (setting : Setting) (journal : List Item) (facts : PacketFacts) : Type 0 where
   pub under_way : IsUnderWay setting journal facts
   pub leg : Leg
@@ -125,7 +125,7 @@ pub record IsOnWay (setting : Setting) (journal : List Item) (facts : PacketFact
   pub on_leg : IsOnLeg setting journal facts under_way.header leg
   pub stands : slice_get facts.route facts.hops ≡ Some under_way.switch
 
--- of a packet that didn't come in nothing is known
+-- nothing is known of a packet that didn't come in
 pub record IsUnknown (facts : PacketFacts) : Type 0 where
   pub header : facts.header ≡ None
   pub travels : facts.travels ≡ false

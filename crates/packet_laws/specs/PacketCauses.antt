@@ -1,6 +1,6 @@
--- The causes of packets' items: what stands in the journal just before each, as the switch that
--- writes it finds it. The causes are read off the items alone, for steps of all kinds; packets are
--- those of Yu, Rexford, Freedman and Wang, "Scalable Flow-Based Networking with DIFANE".
+-- The causes of packets' items: what the journal says just before each, as the switch that writes
+-- it finds it. The causes are read off only the items, for steps of all kinds; packets are those
+-- of Yu, Rexford, Freedman and Wang, "Scalable Flow-Based Networking with DIFANE".
 use Rattle.std.specs.Prelude.{⊤, ℕ, Bool, ◌≡◌, ◌==◌, ◌⊎◌, true, false, Option, Some, None, unwrap_or, List, IsTrue, IsFalse}
 use Rattle.ctrl_msg.specs.declared.message.Body.{Body}
 use Rattle.ctrl_msg.specs.declared.message.Body.TheVariants.{CacheRule}
@@ -36,7 +36,7 @@ use Rattle.packet_laws.specs.Stages.{Blocked, CameIn, Judged, OnWay, stage_of}
 
 -- ---- where it is
 
--- the packet travels, and stands at the switch, which serves
+-- the packet travels, and is at the switch, which serves
 pub record IsAt (before : List Item) (packet switch : ℕ) : Type 0 where
   pub travelling : IsTrue (travels before packet)
   pub stands : unwrap_or (standing before packet) 0 ≡ switch
@@ -50,7 +50,7 @@ gives_row_test _ = Some false
 unfoldable pub ends_with_row : List Item → Bool
 ends_with_row journal = unwrap_or (last_given gives_row_test journal) false
 
--- it comes in, or is refused, right behind its row, under the next number
+-- it comes in, or is refused, right after its row, under the next number
 pub record IsOfRow (before : List Item) (packet switch : ℕ) (header : Header) : Type 0 where
   pub number : packet ≡ next_packet before
   pub row : present_step before ≡ Some (Packet switch header)
@@ -61,7 +61,7 @@ pub record Arrives (before : List Item) (packet : ℕ) : Type 0 where
   pub moving : stage_of before packet ≡ Some OnWay
   pub last : next_switch before packet ≡ None
 
--- it arrives where it seeks an authority, at a switch that doesn't hold the version
+-- it arrives on its way to an authority, at a switch that doesn't have the version
 pub record Misses (before : List Item) (packet switch : ℕ) : Type 0 where
   pub arrives : Arrives before packet
   pub version : ℕ
@@ -69,12 +69,12 @@ pub record Misses (before : List Item) (packet switch : ℕ) : Type 0 where
   pub seeks : leg_of before packet ≡ Some (Seek version partition)
   pub missing : IsFalse (holds_version before switch version)
 
--- the switch looks it up: it just came in, or arrived by a version that isn't held
+-- the switch looks it up: it just came in, or arrived with a version that the switch doesn't have
 abbrev pub IsLookedUp : List Item → ℕ → ℕ → Type 0
 IsLookedUp before packet switch =
     (stage_of before packet ≡ Some CameIn) ⊎ Misses before packet switch
 
--- under this version, with which the switch stamps
+-- under this version, the switch's stamp
 abbrev pub IsLookedUpBy : List Item → ℕ → ℕ → ℕ → Type 0
 IsLookedUpBy before packet switch version =
     IsLookedUp before packet switch × (version ≡ stamp_of before switch)
@@ -109,7 +109,7 @@ pub record IsBlockedOn (before : List Item) (packet : ℕ) (leg : Leg) : Type 0 
   pub blocked : stage_of before packet ≡ Some Blocked
   pub takes : leg_of before packet ≡ Some leg
 
--- it takes the leg from its switch, by the route that this one knows
+-- it takes the leg from its switch, on the route that the switch knows
 pub record TakesRoute (setting : Setting) (before : List Item) (packet : ℕ) (leg : Leg)
     (route : List ℕ) : Type 0 where
   pub switch : ℕ
@@ -140,7 +140,7 @@ pub record FindsNoRoute (setting : Setting) (before : List Item) (packet switch 
   pub why : cause ≡ cause_at setting before switch (found_down before packet) leg
   pub found : down ≡ found_down before packet
 
--- it moves on to the next switch of its route, over a link that can be used
+-- it moves on to the next switch of its route, over a usable link
 pub record MovesOver (setting : Setting) (before : List Item) (packet next : ℕ) : Type 0 where
   pub switch : ℕ
   pub at : IsAt before packet switch
@@ -148,7 +148,7 @@ pub record MovesOver (setting : Setting) (before : List Item) (packet next : ℕ
   pub goes_on : next_switch before packet ≡ Some next
   pub usable : IsTrue (has (near setting before switch) next)
 
--- or can't use that link
+-- or that link isn't usable
 pub record MeetsDown (setting : Setting) (before : List Item) (packet one two : ℕ) : Type 0 where
   pub at : IsAt before packet one
   pub moving : stage_of before packet ≡ Some OnWay
@@ -157,14 +157,14 @@ pub record MeetsDown (setting : Setting) (before : List Item) (packet one two : 
 
 -- ---- decisions
 
--- the switch's lookup gives the place of a rule of its own
+-- the switch's lookup returns the place of its own rule
 pub record AnswersHere (setting : Setting) (before : List Item)
     (packet switch version partition place : ℕ) : Type 0 where
   pub answer : lookup_at setting before switch (header_at before packet)
       ≡ found.Authority partition place
   pub stamp : version ≡ stamp_of before switch
 
--- the packet seeks the partition, where this is the first rule that holds its header
+-- the packet seeks the partition, in which this is the first rule that holds its header
 pub record IsSoughtHere (setting : Setting) (before : List Item)
     (packet version partition place : ℕ) : Type 0 where
   pub seeks : leg_of before packet ≡ Some (Seek version partition)
@@ -190,14 +190,14 @@ pub record CacheDecides (setting : Setting) (before : List Item) (packet switch 
   pub says : action ≡ entry.action
   pub brought : message ≡ entry.message
 
--- it arrives at an authority that holds the version
+-- it arrives at an authority that has the version
 pub record ReachesAuthority (before : List Item) (packet switch version : ℕ) : Type 0 where
   pub arrives : Arrives before packet
   pub partition : ℕ
   pub seeks : leg_of before packet ≡ Some (Seek version partition)
   pub held : IsTrue (holds_version before switch version)
 
--- an authority rule decides it, where it is looked up or arrives
+-- an authority rule decides it, when it is looked up or arrives
 pub record AuthorityDecides (setting : Setting) (before : List Item) (packet switch version : ℕ)
     (rule : Option ℕ) (action : Action) (partition : ℕ) : Type 0 where
   pub found : AuthorityRule
@@ -221,7 +221,7 @@ pub record IsDecided (setting : Setting) (before : List Item) (packet version : 
   pub at : IsAt before packet switch
   pub by : DecidesBy setting before packet switch version rule action how
 
--- the authority rule that decided the packet is told to its ingress, another switch
+-- the authority rule that decided the packet is sent to its ingress, another switch
 pub record SendsRule (setting : Setting) (before : List Item) (message : Message) : Type 0 where
   pub packet : ℕ
   pub switch : ℕ
@@ -273,7 +273,7 @@ gives_fall _ = None
 unfoldable pub fallen_switch : List Item → Option ℕ
 fallen_switch journal = unwrap_or (last_given gives_fall journal) None
 
--- it stands at a switch that went down in its crash, and not before
+-- it is at a switch that went down in this crash, and not before
 pub record IsLostInCrash (before : List Item) (packet : ℕ) : Type 0 where
   pub switch : ℕ
   pub crashes : present_step before ≡ Some (Crash switch)
@@ -293,7 +293,7 @@ SendsRightRule setting before message (CacheRule version word rule action) =
 SendsRightRule setting before message _ = ⊤
 
 -- each item of packets and of cache rules, and each that changes a switch or a link or submits a
--- version, has its cause in the journal before it
+-- version, has its cause earlier in the journal
 abbrev pub PacketCause : Setting → List Item → Item → Type 0
 PacketCause setting before (item.Entered packet switch header) =
     IsOfRow before packet switch header × IsTrue (serves before switch)

@@ -6,13 +6,13 @@ use Rattle.update_machine.specs.Packets.{standing}
 use Rattle.update_machine.specs.Travels.{travels}
 use Rattle.packet_laws.specs.Stages.{OnWay, stage_of}
 
--- the packet stands at a switch that serves
+-- the packet is at a switch that serves
 pub record IsServed (journal : List Item) (packet : ℕ) : Type 0 where
   pub switch : ℕ
   pub stands : standing journal packet ≡ Some switch
   pub serving : IsTrue (serves journal switch)
 
--- each travelling packet does so
+-- each travelling packet is
 abbrev pub AreServed : List Item → Type 0
 AreServed journal = (packet : ℕ) → IsTrue (travels journal packet) → IsServed journal packet
 

@@ -22,7 +22,7 @@ changes_on_route i before hops (item.Exiting packet route) = if packet == i then
 changes_on_route i before hops (item.Rerouted packet route) = if packet == i then 0 else hops
 changes_on_route i before hops _ = hops
 
--- the hops that the packet was asked for, while it travelled, since it took its last route
+-- the hop steps of the packet, while it travelled, since it took its last route
 unfoldable pub hops_on_route : List Item → ℕ → ℕ
 hops_on_route journal i = folded_value (changes_on_route i) 0 journal
 

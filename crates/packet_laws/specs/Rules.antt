@@ -11,7 +11,7 @@ use Rattle.update_machine.specs.Marks.{current_mark}
 use Rattle.update_machine.specs.Setting.{Setting}
 use Rattle.update_machine.specs.Versions.{policy_at}
 
--- the version is at most the current one, and its policy decides each header of the word so
+-- the version is at most the current one, and its policy decides each header of the word like this
 pub record IsRightRule (setting : Setting) (journal : List Item) (version : ℕ) (word : WordValue)
     (rule : Option ℕ) (action : Action) : Type 0 where
   pub known : 1 ≤ version

@@ -1,11 +1,11 @@
--- What a switch is about with a packet, in the midst of a step: our own notion.
+-- What a switch is doing with a packet, in the middle of a step: our own notion.
 use Rattle.std.specs.Prelude.{ℕ, ◌==◌, if◌then◌else◌, Option, Some, None, List}
 use Rattle.journal.specs.declared.item.Item.{Item}
 use Rattle.journal.specs.declared.item.Item.TheVariants as item
 use Rattle.update_machine.specs.Folds.{last_given}
 
--- a packet came in, was decided, or found a link down, and what its switch makes of it stands in
--- the next items; or it is on its way by a route
+-- a packet came in, was decided, or found a link down, and what its switch does with it follows in
+-- the next items; or it is on its way on a route
 pub data Stage : Type 0 where
   CameIn : Stage
   Judged : Stage

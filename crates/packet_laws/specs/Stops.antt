@@ -1,5 +1,5 @@
--- A loop of steps in a play goes on to its end, or stops in front of a step that would begin behind
--- a full journal. The notion is our own.
+-- A loop of steps in a play runs to its end, or stops before a step that would begin with a full
+-- journal. The notion is our own.
 use Rattle.std.specs.Prelude.{ℕ, ◌⊎◌, Option, List, [], ◌∷◌, ◌++◌}
 use Rattle.journal.specs.declared.item.Item.{Item}
 use Rattle.steps.specs.declared.step.Step.{Step}
@@ -7,7 +7,7 @@ use Rattle.update_machine.specs.Answers.{AreAll, AreSome, StepOfRow, after_steps
 use Rattle.update_machine.specs.Full.{HaveRoom, IsFull}
 use Rattle.update_machine.specs.Setting.{Setting}
 
--- behind these steps the journal is full, and there is a next one
+-- after these steps the journal is full, and there is a next one
 pub record StopsAt (setting : Setting) (next : List Item → Option Step) (row : ℕ)
     (before : List Item) (steps : List StepOfRow) : Type 0 where
   pub more : StepOfRow

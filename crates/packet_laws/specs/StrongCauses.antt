@@ -1,6 +1,6 @@
--- Causes as strong as a reader may ask. With them a run whose rows are the schedule's keeps the
--- promise: each packet is decided by one whole version that wasn't retired as it came in, or was
--- lost by a row, or was stuck where no route was known.
+-- Causes as strong as a reader may require. With them a run whose rows are the schedule's keeps
+-- the promise: each packet is decided by one whole version that wasn't retired when it came in, or
+-- was lost by a row, or was stuck because no route was known.
 use Rattle.std.specs.Prelude.{⊤, ℕ, ◌≡◌, ◌≢◌, ◌<◌, ◌≤◌, Some, None, List, IsFalse}
 use Rattle.failover.specs.Paths.{IsRoute}
 use Rattle.policy_rules.specs.declared.packet.Cause.{Cause}
@@ -26,15 +26,15 @@ use Rattle.packet_laws.specs.KeptFacts.{Avoids}
 use Rattle.packet_laws.specs.Stages.{Blocked, stage_of}
 use Rattle.packet_laws.specs.PacketCauses.{PacketCause}
 
--- a link of the network, from where the packet stands to the next switch of its route, which its
+-- a link of the network, from where the packet is to the next switch of its route, which its
 -- switch can't use
 pub record FindsLinkDown (setting : Setting) (before : List Item) (packet one two : ℕ) : Type 0
   where
     pub finds : FindsNextDown setting before packet one two
     pub linked : HasLink setting.net one two
 
--- on its way to an authority, and as it is decided, the packet is undecided, and its version wasn't
--- retired as it came in and is at most the current one
+-- on its way to an authority, and until it is decided, the packet is undecided, and its version
+-- wasn't retired when it came in and is at most the current one
 pub record SeeksRightly (before : List Item) (packet version : ℕ) : Type 0 where
   pub undecided : decision_of before packet ≡ None
   pub not_retired : entry_mark before packet < version
@@ -49,21 +49,21 @@ abbrev pub RaisesVersion : List Item → ℕ → ℕ → Type 0
 RaisesVersion before packet version = (earlier partition : ℕ)
     → leg_of before packet ≡ Some (Seek earlier partition) → earlier < version
 
--- so too where the switch by which it is decided doesn't hold the version that it seeks
+-- this is also true if the switch that decides it doesn't have the version that it seeks
 abbrev pub RaisesUnheld : List Item → ℕ → ℕ → Type 0
 RaisesUnheld before packet version = (earlier partition switch : ℕ)
     → leg_of before packet ≡ Some (Seek earlier partition)
     → standing before packet ≡ Some switch → IsFalse (holds_version before switch earlier)
     → earlier < version
 
--- and where it is stuck on a leg that it was about to take, since no link was found down on it
+-- and if it is stuck on a leg that it was about to take, because no link was found down on it
 abbrev pub RaisesOnLeg : List Item → ℕ → Leg → Type 0
 RaisesOnLeg before packet (Seek version partition) =
     (stage_of before packet ≢ Some Blocked) → RaisesVersion before packet version
 RaisesOnLeg before packet (Exit port) = ⊤
 
--- the packet is stuck with the links that it found down, and by the one cause: its switch finds no
--- route
+-- the packet is stuck with the links that it found down, and for only one cause: its switch finds
+-- no route
 pub record IsStuckOnLeg (setting : Setting) (before : List Item) (packet switch : ℕ)
     (cause : Cause) (leg : Leg) (down : List ℕ) : Type 0 where
   pub stuck : FindsNoPath setting before packet switch leg
@@ -77,8 +77,8 @@ pub record IsStuckOnLeg (setting : Setting) (before : List Item) (packet switch 
 abbrev pub AvoidsFound : List Item → ℕ → List ℕ → Type 0
 AvoidsFound before packet route = Avoids (found_down before packet) route
 
--- from where the packet stands, over the links that its switch knows less those that the packet
--- found down, the route is a shortest one to the first target of the leg that is reached, and of
+-- from where the packet is, over the links that its switch knows except those that the packet
+-- found down, the route is a shortest one to the first target of the leg that is reachable, and of
 -- these the least; so it uses no link that the packet found down
 pub record IsLeastRoute (setting : Setting) (before : List Item) (packet : ℕ) (leg : Leg)
     (route : List ℕ) : Type 0 where
@@ -95,14 +95,14 @@ pub record ExitsByLeast (setting : Setting) (before : List Item) (packet : ℕ) 
   pub own_leg : SeeksOwn setting before packet (Exit port)
   pub by : IsLeastRoute setting before packet (Exit port) route
 
--- it goes on with the leg that it is on
+-- it continues on its leg
 pub record TurnsToLeast (setting : Setting) (before : List Item) (packet : ℕ) (route : List ℕ)
     : Type 0 where
   pub leg : Leg
   pub own_leg : leg_of before packet ≡ Some leg
   pub by : IsLeastRoute setting before packet leg route
 
--- what is asked of an item beyond its cause
+-- what is required of an item beyond its cause
 abbrev pub FurtherCause : Setting → List Item → Item → Type 0
 FurtherCause setting before (item.Submitted file version) =
     SubmitsRightly setting before file version
@@ -124,7 +124,7 @@ FurtherCause setting before (item.Stuck packet switch cause leg down) =
     IsStuckOnLeg setting before packet switch cause leg down
 FurtherCause setting before _ = ⊤
 
--- the cause of an item, and what is asked beyond it
+-- the cause of an item, and what is required beyond it
 abbrev pub StrongCause : Setting → List Item → Item → Type 0
 StrongCause setting before next =
     PacketCause setting before next × FurtherCause setting before next

@@ -1,4 +1,4 @@
--- What holds of a travelling packet between steps, and of cache rules at any time.
+-- What is true of a travelling packet between steps, and of cache rules at any time.
 use Rattle.std.specs.Prelude.{ℕ, ◌≡◌, ◌<◌, ◌⊎◌, Some, List, All, IsTrue, length}
 use Rattle.ctrl_msg.specs.declared.message.Message.{Message}
 use Rattle.policy_rules.specs.declared.packet.Leg.TheVariants.{Seek}
@@ -15,9 +15,9 @@ use Rattle.packet_laws.specs.Facts.{what_is_known}
 use Rattle.packet_laws.specs.KeptFacts.{Avoids, BringsRight}
 use Rattle.packet_laws.specs.Rest.{IsServed}
 
--- the packet stands at its place of a route that leads over links of the network to a target of its
--- leg, and uses none that it found down; its switch serves; and the version by which it seeks an
--- authority is held by each switch that serves, or below the stamp of that switch
+-- the packet is at its place of a route that leads over links of the network to a target of its
+-- leg, and uses none that it found down; its switch serves; and each switch that serves has the
+-- version by which it seeks an authority, or stamps with a greater one
 pub record IsTravelling (setting : Setting) (journal : List Item) (packet : ℕ) : Type 0 where
   pub on_way : IsOnWay setting journal (what_is_known journal packet)
   pub served : IsServed journal packet
@@ -30,8 +30,8 @@ abbrev pub PacketsTravel : Setting → List Item → Type 0
 PacketsTravel setting journal = (packet : ℕ) → IsTrue (travels journal packet)
     → IsTravelling setting journal packet
 
--- each cache rule that was sent, and each that a switch caches, is of a version that is at most the
--- current one, and this version's policy decides each header of its word so
+-- each cache rule that was sent, and each that a switch caches, is of a version that is at most
+-- the current one, and decides each header of its word as this version's policy does
 pub record RulesAreRight (setting : Setting) (journal : List Item) : Type 0 where
   pub sent : (n : ℕ) (message : Message) → message_of journal n ≡ Some message
       → BringsRight setting journal message.body

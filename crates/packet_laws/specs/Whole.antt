@@ -1,4 +1,4 @@
--- What is kept at each moment, within a step too, so that no packet is decided by half of an old
+-- What is true at each moment, within a step too, so that no packet is decided by half of an old
 -- version and half of a new one.
 use Rattle.std.specs.Prelude.{ℕ, List, []}
 use Rattle.journal.specs.declared.item.Item.{Item}
@@ -16,7 +16,7 @@ use Rattle.packet_laws.specs.Amended.{ChangesLeaveOthers, UntouchedStay}
 use Rattle.packet_laws.specs.Travelling.{RulesAreRight}
 
 pub record KeepVersionsWhole (setting : Setting) (journal : List Item) : Type 0 where
-  -- each item of switches and of the controller was written for its cause: what is sent to a boot
+  -- each item of switches and of the controller was written for its cause: what is sent for a boot
   -- was sent while that boot was known and the switch wasn't over
   pub causes : HaveCauses (HasItemCause setting) [] journal
   -- the known boot of a switch is at most its own, and no message carries a greater one
@@ -25,24 +25,26 @@ pub record KeepVersionsWhole (setting : Setting) (journal : List Item) : Type 0 
   pub serving : ServingIsKnown journal
   -- what a switch acknowledged it heard in that boot, and stamps with
   pub heard : (s : ℕ) → AcksHold journal s
-  -- it is told to open or to stamp only with what it acknowledged, at one version in each boot
+  -- it is told to open or to stamp only at a version that it acknowledged, at one version in each
+  -- boot
   pub acknowledged : HaveCauses (IsAckedFirst setting) [] journal
   pub opened : OpensAtOneVersion journal
-  -- the tables that are sent are those that the plan of their version gives to the switch
+  -- the tables that are sent are those that their version's plan gives the switch
   pub sent : InstallsArePlanned setting journal
-  -- and stay so as the journal goes on; so are those that it heard
+  -- and stay so however the journal continues; so are those that it heard
   pub tables : TablesArePlanned setting journal
   -- members acknowledged each version from the one at which they were opened to the current one
   pub members : MembersAcknowledged setting journal
   -- the marks bound each other, and what is dropped is below what members stamp with
   pub marks : MarksAreBounded setting journal
-  -- a switch that serves holds what it stamps with, and each later version up to the current one
+  -- a switch that serves has the version that it stamps with, and each later version up to the
+  -- current one
   pub holding : ServingHold setting journal
-  -- whoever is told to stamp with a version is told what its change touches
+  -- a switch that is told to stamp with a version also gets what its change touches
   pub touched : StampsSayTouched setting journal
   -- each cache rule says what its own version says of each header of its word
   pub rules : RulesAreRight setting journal
-  -- and an amendment takes from a cache none that it doesn't touch
+  -- and an amendment removes from a cache none that it doesn't touch
   pub untouched : UntouchedStay setting journal
-  -- a header that an amendment doesn't touch is decided alike by the versions before and behind it
+  -- a header that an amendment doesn't touch is decided alike by the versions before and after it
   pub alike : ChangesLeaveOthers setting journal

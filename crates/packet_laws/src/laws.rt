@@ -13,54 +13,54 @@ use control_laws::{
 };
 use policy_rules::amendment_laws;
 
-/// Each item of packets, and each cache rule that is sent, has its cause in the journal before it,
+/// Each item of packets, and each cache rule that is sent, has its cause earlier in the journal,
 /// for steps of all kinds.
 pub fn packet_items_have_causes()
     ensures { HoldsReached (λ setting journal.
         IsSetting setting → HaveCauses (PacketCause setting) [] journal) }
 {}
 
-/// Between steps each travelling packet is on its way, at a switch that serves: those that stood at
+/// Between steps each travelling packet is on its way, at a switch that serves: those that were at
 /// a switch that crashed are lost with it.
 pub fn packets_rest()
     ensures { HoldsBetween (λ setting journal. IsSetting setting → AreResting journal) }
 {}
 
-/// Each item keeps each packet on its way, in whatever stage the packet is, and each cache rule
-/// right.
+/// Each item keeps the invariants of each packet on its way, in whatever stage the packet is, and
+/// keeps each cache rule right.
 pub fn items_keep_packets()
     ensures { HoldsReached (λ setting journal. IsSetting setting → AllKept setting journal) }
 {}
 
-/// Between steps a travelling packet is at a serving switch; its version wasn't retired as it came
-/// in, is at most the current one, and held or below the stamp where a switch serves; and its route
-/// leads to a target of its leg, over no link that it found down.
+/// Between steps a travelling packet is at a serving switch; its version wasn't retired when it
+/// came in, is at most the current one, and each switch that serves has it or stamps with a
+/// greater one; and its route leads to a target of its leg, over no link that it found down.
 pub fn packets_travel()
     ensures { HoldsBetween (λ setting journal. IsSetting setting → PacketsTravel setting journal) }
 {}
 
-/// A packet at the end of its route, also of one that it took in the midst of a step, is where its
-/// leg leads: at a target of its partition, or at the switch of its port.
+/// A packet at the end of its route, also of one that it took in the middle of a step, is where
+/// its leg leads: at a target of its partition, or at the switch of its port.
 pub fn packets_arrive()
     ensures { HoldsReached (λ setting journal. IsSetting setting → PacketsArrive setting journal) }
 {}
 
 /// Each cache rule that was sent, and each that a switch caches, is of a version that is at most
-/// the current one, and this version's policy decides each header of its word so.
+/// the current one, and decides each header of its word as this version's policy does.
 pub fn cache_rules_are_right()
     ensures { HoldsReached (λ setting journal. IsSetting setting → RulesAreRight setting journal) }
 {}
 
-/// An amendment takes from a cache no rule that it doesn't touch: as the stamp of a switch rises to
-/// the version that the amendment made, each rule of the version before whose word meets nothing
-/// that it touches is there under that version, and decides as its policy does.
+/// An amendment removes from a cache no rule that it doesn't touch: when a switch's stamp rises to
+/// the version that the amendment made, each rule of the version before whose word meets no
+/// touched word is kept under the new version, and decides as its policy does.
 pub fn untouched_rules_stay()
     ensures { HoldsReached (λ setting journal. IsSetting setting → UntouchedStay setting journal) }
 {}
 
-/// An amendment changes only what it touches: a header that no row which it removes, and none which
-/// it adds, matches has one and the same first match under the version before and the new one; and
-/// each packet with this header that either of them decided got that.
+/// An amendment changes only what it touches: a header that no removed and no added row matches
+/// has the same first match under both versions, and each packet with this header that either of
+/// them decided got that match.
 pub fn changes_leave_other_headers()
     ensures { HoldsReached (λ setting journal.
         IsSetting setting → ChangesLeaveOthers setting journal) }
@@ -69,22 +69,23 @@ pub fn changes_leave_other_headers()
 }
 
 /// The ends of packets, the links that they found down, the changes of switches and links, and the
-/// versions that are submitted have their causes.
+/// versions that are submitted, have their causes.
 pub fn ends_have_causes()
     ensures { HoldsReached (λ setting journal.
         IsSetting setting → HaveCauses (HasCause setting) [] journal) }
 {}
 
 /// The journal is a run of the machine: each packet is decided once, by the first match of one
-/// whole version that wasn't retired as it came in, and ends as it was decided.
+/// whole version that wasn't retired when it came in, and ends as it was decided.
 pub fn answers_are_runs()
     ensures { HoldsReached (λ setting journal. IsSetting setting → IsRun setting journal) }
 {}
 
-/// And they have causes so strong that a run with them whose rows are the schedule's keeps the
-/// promise: who is stuck on its way to an authority is undecided, by a version that wasn't retired
-/// as it came in and is at most the current one; and so is each decision; links found down are ones
-/// of the network; packets come in, and are lost, by the row of the step that is taken.
+/// And their causes are so strong that a run with them whose rows are the schedule's keeps the
+/// promise. A packet that is stuck on its way to an authority is undecided, and its version wasn't
+/// retired when it came in and is at most the current one; the same is true of the version of each
+/// decision. Links found down are links of the network; packets come in, and are lost, by the row
+/// of the step that is taken.
 pub fn causes_are_strong()
     ensures { HoldsReached (λ setting journal.
         IsSetting setting → HaveCauses (StrongCause setting) [] journal) }
@@ -118,9 +119,9 @@ pub fn packets_take_few_hops()
         → (i : ℕ) → hops_taken journal i ≤ most_hops) }
 {}
 
-/// A drain ends, behind any steps of the network: each hop of the least packet that travels leaves
-/// fewer to be taken. So there are all of its hops, and they are at most 20,544 for each packet
-/// that came in.
+/// A drain ends, after any steps of the network: each hop of the packet with the least number that
+/// travels leaves fewer hops to take. So the drain has all its hops, at most 20,544 for each
+/// packet that came in.
 pub fn drains_end()
     ensures fewer { (setting : Setting) (journal : List Item) (row i : ℕ)
         → IsSetting setting → IsReached setting journal → next_travelling journal ≡ Some i
@@ -142,22 +143,22 @@ pub fn deliveries_rise()
         → next_waiting (journal ++ piece setting journal row (Deliver n)) ≡ Some m → n < m }
 {}
 
-/// In a play a flush has all its deliveries, or stops in front of one that would begin full.
+/// In a play a flush has all its deliveries, or stops before one that would begin full.
 pub fn flushes_end()
     ensures { (setting : Setting) (journal : List Item) (row : ℕ)
         → GoesOrStops setting next_delivery row journal }
 {}
 
 /// Each list of events of a network has a play: its answer, or the steps before the first one that
-/// would begin behind a full journal.
+/// would begin with a full journal.
 pub fn plays_exist()
     ensures { (setting : Setting) (events : List Event) → IsSetting setting
         → All (IsEvent setting.net (length setting.files)) events → HasPlay setting events }
 {}
 
-/// The rows of a play's journal are those of its events that were played, in order, but for hops
-/// and deliveries, which drains and flushes ask for as well. Right behind each packet row stands
-/// what became of it: the packet with the next number came in with that header at that switch,
+/// The rows of a play's journal are those of its events that were played, in order, except for
+/// hops and deliveries, which drains and flushes cause too. Right after each packet row is what
+/// became of the packet: the packet with the next number came in with that header at that switch,
 /// which serves, or the switch was closed to it, which doesn't. No other packet comes in or is
 /// refused.
 pub fn packet_rows_are_entered()
@@ -166,15 +167,16 @@ pub fn packet_rows_are_entered()
         → AreEntered (rows_played full events) journal }
 {}
 
-/// The same of each journal that answers the events, however many messages were sent.
+/// The same is true of each journal that answers the events, however many messages were sent.
 pub fn answered_rows_are_entered()
     ensures { (setting : Setting) (events : List Event) (journal : List Item)
         → Answers setting events journal → AreEntered (step_rows 1 events) journal }
 {}
 
-/// At each moment, within a step too, what is known of boots, versions and marks is right, each
-/// switch holds what it stamps with, each cache rule says what its version says, and an amendment
-/// takes none from a cache that it doesn't touch, and changes no decision of another header.
+/// At each moment, within a step too, what is known of boots, versions and marks is right; each
+/// switch has the version that it stamps with; each cache rule says what its version says; and an
+/// amendment removes from a cache no rule that it doesn't touch, and changes no decision of
+/// another header.
 pub fn items_keep_versions_whole()
     ensures { HoldsReached (λ setting journal.
         IsSetting setting → KeepVersionsWhole setting journal) }

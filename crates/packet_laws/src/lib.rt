@@ -1,12 +1,11 @@
-//! Packets on their way, and the cache rules that they bring: each journal is a run of the machine,
-//! what ends packets has its cause, and what came in are the packet rows of the schedule. A packet
-//! takes few routes and few hops, drains and flushes end, and each list of events has a play. And
-//! what every item keeps of an update, all of it in one law (Reitblatt, Foster, Rexford,
-//! Schlesinger and Walker, "Abstractions for Network Update"): so no packet is decided by half of
-//! an old version and half of a new one, whatever fails.
+//! Packets on their way, and the cache rules that they bring: each journal is a run of the
+//! machine, what ends packets has its cause, and the packets that came in are those of the
+//! schedule's packet rows. A packet takes few routes and few hops, drains and flushes end, and
+//! each list of events has a play. And what every item keeps during an update, all of it in one
+//! law (Reitblatt, Foster, Rexford, Schlesinger and Walker, "Abstractions for Network Update"): so
+//! no packet is decided by half of an old version and half of a new one, whatever fails.
 //!
-//! Laws over journals of steps of all kinds. No code: each function stands for the law that it
-//! ensures.
+//! Laws over journals of steps of all kinds. No code: each function is the law that it ensures.
 #![tactic(auto)]
 
 mod laws;

@@ -1,4 +1,4 @@
-//! The laws of what held on the way.
+//! The laws of what is true on the way.
 ghost use Rattle.std.specs.Prelude.{List, Option, ℕ};
 ghost use Rattle.update_machine.specs.Exports.{Event, IsPlay, IsSetting, Item, Setting};
 ghost use Rattle.control_laws.specs.Always.{AreEvents, HoldsReached};
@@ -10,9 +10,9 @@ use crate::laws::{
 };
 use control_laws::{current_rises_rightly, marks_settle};
 
-/// At each moment, within a step too, the journal is a run of the machine whose ends and items have
-/// their causes, the versions are whole, the current mark rose as it may, and each packet took few
-/// routes and hops.
+/// At each moment, within a step too, the journal is a run of the machine whose ends and items
+/// have their causes, the versions are whole, the current mark rose only as allowed, and each
+/// packet took few routes and hops.
 pub fn journals_hold_so_far()
     ensures { HoldsReached (λ setting journal. IsSetting setting → HoldsSoFar setting journal) }
 {
@@ -25,7 +25,7 @@ pub fn journals_hold_so_far()
     packets_take_few_hops();
 }
 
-/// Behind each step packets are on their way, and the marks stand where they are to stand.
+/// After each step packets are on their way, and the marks are settled.
 pub fn steps_are_kept()
     ensures { HoldsBetween (λ setting journal. IsSetting setting → IsKeptBehind setting journal) }
 {
@@ -33,8 +33,8 @@ pub fn steps_are_kept()
     marks_settle();
 }
 
-/// So it was on the way of each play of events of a network: at each moment, and behind each of its
-/// steps.
+/// The same was true on the way of each play of events of a network: at each moment, and after
+/// each of its steps.
 pub fn plays_held_on_the_way()
     ensures { (setting : Setting) (events : List Event) (journal : List Item) (full : Option ℕ)
         → IsSetting setting → AreEvents setting events → IsPlay setting events journal full

@@ -19,7 +19,7 @@ use Rattle.policy_rules.specs.declared.rules.Rule.{Rule}
 use Rattle.policy_rules.specs.Hosted.{NoPlan, TooManyWords, TooManyLeaves, NoRoom}
 use Rattle.partition.specs.Parts.{parts_of}
 
--- how many rules each partition has, and for how many each switch has room
+-- how many rules each partition has, and how many each switch has room for
 abbrev pub sizes_of : List Partition → List ℕ
 sizes_of parts = map (λ part. length part.rules) parts
 
@@ -48,7 +48,7 @@ pub record AreLeaves (rules : List Rule) (cap : ℕ) (parts : List Partition) : 
   pub defined : IsDefinedTree rules cap tree
   pub leaves : parts ≡ parts_of tree
 
--- what holds of each plan
+-- what is true of each plan
 pub record IsPlan (rows : List Row) (net : Net) (plan : List Hosted) : Type 0 where
   pub parts : AreLeaves (rules_of rows) net.leaf_rules (map (λ hosted. hosted.0) plan)
   pub sound : AreSoundPartitions rows (map (λ hosted. hosted.0) plan)
@@ -60,7 +60,7 @@ pub record IsPlan (rows : List Row) (net : Net) (plan : List Hosted) : Type 0 wh
   pub targets : All (λ hosted. All (λ s. s < length net.switches) hosted.1) plan
 
 pub record PlanLaws : Type 0 where
-  -- its partitions are the leaves of the defined tree; they are sound for the policy and small, the
-  -- last rule of each covers its region, and each is hosted where there is room
+  -- its partitions are the leaves of the defined tree; they are sound for the policy and small,
+  -- the last rule of each covers its region, and each is hosted by switches with room
   pub holds : (rows : List Row) (net : Net) (plan : List Hosted)
       → IsPolicy rows → IsNet net → plan_of rows net ≡ Ok plan → IsPlan rows net plan

@@ -3,8 +3,8 @@
 //!
 //! The crate promises that the partitions of the rules of a policy are sound for it: each header
 //! lies in exactly one region, and the first rule there that holds it has the rule and the action
-//! of the policy's first match. `list` ensures it of what it answers, and `partition_laws` of the
-//! definitions alone, so that no crate above reasons about trees.
+//! of the policy's first match. `list` ensures it of what it returns, and `partition_laws` of the
+//! definitions only, so that no crate above reasons about trees.
 //!
 //! ```text
 //! let tree = build(alloc, &rules, 32)?;

@@ -1,4 +1,4 @@
--- Numbers in an order of their own: by a test that says which of two stands first.
+-- Numbers in a given order: by a test that says which of two comes first.
 use Rattle.std.specs.Prelude.{ℕ, Bool, if◌then◌else◌, List, [], ◌∷◌}
 
 -- the number at its place among numbers in order

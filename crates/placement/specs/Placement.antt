@@ -18,9 +18,9 @@ pub record MayTakeTurns (keys rooms : List ℕ) (backups : ℕ) : Type 0 where
   pub few : backups ≤ 3
   pub small : sum keys < 2 ^ 64
 
--- ---- which partition comes first, and what the switches hold then
+-- ---- which partition comes first, and what the switches have then
 
--- partitions stand by falling size, then by number
+-- partitions come by falling size, then by number
 unfoldable pub is_earlier : List ℕ → ℕ → ℕ → Bool
 is_earlier sizes a b =
     nat_lt (slice_index sizes b) (slice_index sizes a)
@@ -40,9 +40,9 @@ sum_before loaded keys numbers placement partition switch =
     is_earlier keys other partition && list_any (nat_eq switch) (loaded (targets_at placement other)) in
     sum_by (slice_index numbers) (filter loads (range_with_len 0 (length keys)))
 
--- ---- which switches a partition goes to
+-- ---- which switches a partition is put on
 
--- the switch has room for so many rules above those that it holds
+-- the switch has room for this many rules beside those that it has
 unfoldable pub has_room : (ℕ → ℕ) → List ℕ → ℕ → ℕ → Bool
 has_room held rooms size switch =
     nat_lt switch (length rooms) && nat_le (held switch + size) (slice_index rooms switch)
@@ -50,12 +50,12 @@ has_room held rooms size switch =
 abbrev pub with_room : (ℕ → ℕ) → List ℕ → ℕ → List ℕ
 with_room held rooms size = filter (has_room held rooms size) (range_with_len 0 (length rooms))
 
--- switches stand by load, then by number
+-- switches come by load, then by number
 unfoldable pub is_lighter : (ℕ → ℕ) → ℕ → ℕ → Bool
 is_lighter load a b = nat_lt (load a) (load b) || ((load a == load b) && nat_lt a b)
 
--- of the switches that have room above what they hold, these are the first by load: every other one
--- comes after all of them
+-- of the switches that have room beside what they have, these are the first by load: every other
+-- one comes after all of them
 pub record AreFirst (held load : ℕ → ℕ) (rooms : List ℕ) (size count : ℕ) (targets : List ℕ)
     : Type 0 where
   pub number : length targets ≡ count
@@ -65,7 +65,7 @@ pub record AreFirst (held load : ℕ → ℕ) (rooms : List ℕ) (size count : �
       → IsFalse (list_any (nat_eq other) targets)
       → All (λ s. IsTrue (is_lighter load s other)) targets
 
--- ---- partitions in turn
+-- ---- partitions one after another
 
 -- how partitions take their turns: by falling keys, then by number. Each puts its size on all of its
 -- targets, and its key on those that it loads
@@ -90,8 +90,8 @@ turn_rule load keys sizes rooms backups = record {
   backups = backups;
 }
 
--- the partition has the targets that its turn gives it: one and the backups, by what they hold and
--- carry then
+-- the partition has the targets that its turn gives it: one and the backups, by what switches hold
+-- and carry then
 abbrev pub HasDueTargets : TurnRule → List (List ℕ) → ℕ → Type 0
 HasDueTargets t placement partition =
     AreFirst (sum_before (λ targets. targets) t.keys t.sizes placement partition)
@@ -103,7 +103,7 @@ pub record AreHosted (t : TurnRule) (placement : List (List ℕ)) : Type 0 where
   pub number : length placement ≡ length t.keys
   pub hosted : (partition : ℕ) → partition < length t.keys → HasDueTargets t placement partition
 
--- the earlier partitions have their targets, and for this one too few switches have room
+-- the earlier partitions have their targets, and too few switches have room for this one
 pub record IsRefused (t : TurnRule) (partition : ℕ) : Type 0 where
   pub there : partition < length t.keys
   pub placement : List (List ℕ)
@@ -150,7 +150,7 @@ placement_of sizes rooms backups =
     let turns = in_order (is_earlier sizes) (range_with_len 0 (length sizes)) in
     placement_from sizes rooms backups (replicate (length sizes) []) turns
 
--- the definition by turns meets the one by loads
+-- the definition by turns satisfies the one by loads
 abbrev pub MeetsPlacement : List ℕ → List ℕ → ℕ → Result (List (List ℕ)) ℕ → Type 0
 MeetsPlacement sizes rooms backups answer =
     MatchResult answer (IsPlacement sizes rooms backups) (LacksRoom sizes rooms backups)

@@ -1,12 +1,12 @@
-//! Placement of partitions on authority switches: each goes to the switches of least load that have
-//! room for it.
+//! Placement of partitions on authority switches: each is put on the switches of least load that
+//! have room for it.
 //!
-//! `place` promises the defined placement, by a relation on loads that knows no order of
-//! work, and refuses exactly at the first partition that finds too few switches. `placement_laws`
-//! says that there is one such placement at most, and that the function which definitions of plans
-//! use gives it.
+//! `place` promises the defined placement, by a relation on loads that knows no order of work, and
+//! refuses exactly at the first partition that finds too few switches. `placement_laws` says that
+//! there is at most one such placement, and that the function that definitions of plans use
+//! returns it.
 //!
-//! `Load::take_turns` gives the targets for whatever loads are weighed.
+//! `Load::take_turns` returns the targets for whatever loads are weighed.
 #![tactic(auto)]
 
 mod turns;
@@ -30,11 +30,10 @@ pub struct NoRoom {
 }
 
 /// The targets of partitions of these sizes, in rules, on switches of these rooms, in rules: for
-/// each partition an authority switch and so many backups.
+/// each partition an authority switch and this many backups.
 ///
-/// Partitions come by falling size, then by number. Each goes to the switches of least load, and
-/// then of least number, among those whose room holds it beside the partitions that they
-/// have.
+/// Partitions come by falling size, then by number. Each is put on the switches of least load, and
+/// then of least number, among those that have room for it beside the partitions that they have.
 ///
 /// # Errors
 /// `NoRoom` with the first partition, by falling size and then by number, that finds fewer switches

@@ -19,10 +19,11 @@ pub enum Load {
 
 impl Load {
     /// The targets of partitions of these keys and of these sizes, in rules, on switches of these
-    /// rooms, in rules: for each partition an authority switch and so many backups.
+    /// rooms, in rules: for each partition an authority switch and this many backups.
     ///
-    /// Partitions come by falling key, then by number. Each goes to the switches of least load, and
-    /// then of least number, among those whose room holds it beside the partitions that they have.
+    /// Partitions come by falling key, then by number. Each is put on the switches of least load,
+    /// and then of least number, among those that have room for it beside the partitions that they
+    /// have.
     ///
     /// # Errors
     /// `NoRoom` with the first partition, by falling key and then by number, that finds fewer
@@ -84,7 +85,7 @@ fn by_falling(alloc: Global, numbers: &[u64]) -> Result<Vec<u32>, AllocError>
     Ok(order)
 }
 
-// The switches that have room for so many rules above those that they hold, by load and then by
+// The switches that have room for this many rules beside those that they have, by load and then by
 // number.
 fn by_load(
     alloc: Global,
@@ -104,7 +105,7 @@ fn by_load(
     Ok(switches)
 }
 
-// The first of these switches, one and so many backups; `None` exactly where they are fewer.
+// The first of these switches, one and this many backups; `None` exactly if there are fewer.
 fn front(switches: &[u32], backups: u32) -> Option<Targets>
     requires { backups ≤ 3 }
     ensures targets { IfSome result (λ targets. targets ≡ take (1 + backups) switches.now) }
@@ -118,7 +119,7 @@ fn front(switches: &[u32], backups: u32) -> Option<Targets>
     Targets::new(&switches[..count])
 }
 
-// Adds so much to the loads of these switches.
+// Adds this much to the loads of these switches.
 fn add_load(loads: &mut [u64], targets: &[u32], more: u64)
     requires there { All (λ s. s < length loads.old) targets.now }
     requires fits { All (λ s. slice_index loads.old s + more < 2 ^ 64) targets.now }
@@ -131,7 +132,7 @@ fn add_load(loads: &mut [u64], targets: &[u32], more: u64)
     }
 }
 
-// The number at this place, or 0 past the end.
+// The number at this place, or 0 beyond the end.
 fn number_at(numbers: &[u64], place: u32) -> u64
     ensures { result ≡ slice_index numbers.now place }
 {

@@ -21,7 +21,7 @@ on_ok make read = result_map_both make (λ refusal. refusal) read
 abbrev pub change_heading : List (List ℕ)
 change_heading = codes "op" ∷ policy_heading
 
--- the edit that removes the row of the one priority that the fields have
+-- the edit that removes the row of the only priority in the fields
 abbrev pub removal_read : List (List ℕ) → Result Edit PolicyRefusal
 removal_read (priority ∷ []) =
     with_field (number_up_to 4294967295 priority) why.Priority (λ priority. Ok (Remove priority))
@@ -52,7 +52,7 @@ has_change_heading (first ∷ records) = is_heading change_heading first
 unfoldable pub is_change_text : List ℕ → Bool
 is_change_text bytes = has_change_heading (records_of bytes)
 
--- what a text states: a change, by its heading, or else a policy
+-- what a text states: a change, by its heading, otherwise a policy
 unfoldable pub policy_file_of : List ℕ → Result PolicyFile (InRow PolicyRefusal)
 policy_file_of bytes =
     if is_change_text bytes then on_ok Change (change_of bytes) else on_ok Whole (policy_of bytes)

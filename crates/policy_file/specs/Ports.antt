@@ -1,4 +1,4 @@
--- Policies against the ports of a network: bit p of a mask stands for the port p.
+-- Policies against the ports of a network: bit p of a mask is for the port p.
 use Rattle.std.specs.Prelude.{ℕ, ◌+◌, ◌==◌, Bool, true, not, Option, option_map, List, position}
 use Rattle.std.specs.Int.{bit_at}
 use Rattle.policy_rules.specs.declared.policy.Action.{Action}
@@ -32,7 +32,7 @@ first_in_change ports edits =
     option_map (λ place. record { row = place + 1 })
     (position (λ edit. not (adds_port_of ports edit)) edits)
 
--- the first row of the file of which this is so
+-- the first row of the file of which this is true
 abbrev pub first_in_file : ℕ → PolicyFile → Option NoPort
 first_in_file ports (Whole rows) = first_without_port ports rows
 first_in_file ports (Change edits) = first_in_change ports edits

@@ -31,7 +31,7 @@ policy_heading =
     codes "priority" ∷ codes "src" ∷ codes "dst" ∷ codes "sport" ∷ codes "dport" ∷ codes "proto"
     ∷ codes "action" ∷ []
 
--- what follows from a field's value; or why there is none, where the text has none
+-- what follows from a field's value; or why there is none, if the text has none
 abbrev pub with_field : {X Y : Type 0} → Option X → PolicyRefusal → (X → Result Y PolicyRefusal)
     → Result Y PolicyRefusal
 with_field (Some value) refusal next = next value
@@ -86,7 +86,7 @@ refusal_at format records place =
     else refusal_after format (rows_stated format (take place records))
     (format.read (slice_index_or records place []))
 
--- what the least of the numbers below n has that has something
+-- the value of the least of the numbers below n that has one
 abbrev pub first_some : {X : Type 0} → (ℕ → Option X) → ℕ → Option X
 first_some at zero = None
 first_some at (suc n) = option_or (first_some at n) (at n)
@@ -138,7 +138,7 @@ policy_rows = record {
 unfoldable pub policy_of : List ℕ → Result (List Row) (InRow PolicyRefusal)
 policy_of bytes = rows_in policy_rows bytes
 
--- ---- rows that were read of records
+-- ---- rows that were read from records
 
 -- the records state these rows, one each
 abbrev pub StateEach : {X : Type 0} → RowFormat X → List (List (List ℕ)) → List X → Type 0
@@ -154,7 +154,7 @@ pub record IsReadUpTo {X : Type 0} (format : RowFormat X) (records : List (List 
       (λ refusal. (length rows < length records)
       × (refusal_at format records (length rows) ≡ Some refusal))
 
--- under the text's heading stand records that state these rows and end so
+-- under the text's heading there are records that state these rows and end like this
 pub record IsReadFrom {X : Type 0} (format : RowFormat X) (bytes : List ℕ) (rows : List X)
     (end : Option PolicyRefusal) : Type 0 where
   pub records : List (List (List ℕ))

@@ -24,12 +24,11 @@ pub fn is_change_heading(fields: &ByteRecord) -> bool
     has_text(fields, 0, OP) && is_heading(fields, 1)
 }
 
-/// The edit that the record states: behind `remove` the priority of a row, and behind `add` the
+/// The edit that the record states: after `remove` the priority of a row, and after `add` the
 /// fields of one.
 ///
-/// # Errors
-/// `Op` where the first field is another one, `Width` where another number of fields stands behind
-/// it; else the first field that is none of its kind.
+/// # Errors `Op` if the first field is another one, `Width` if another number of fields follows
+/// it; otherwise the first field that is none of its kind.
 #[tactic(auto, using(crate::proofs::EditFields::edits))]
 pub fn read_edit(fields: &ByteRecord) -> Result<Edit, PolicyRefusal>
     ensures edit { result ≡ edit_read (fields_of fields.now) }

@@ -10,8 +10,8 @@ pub enum PolicyRefusal {
     /// There is no first record, or it is not the heading.
     #[error("the heading is missing or another one")]
     Header = 1,
-    /// The row of a policy has other than seven fields. That of a change has as many behind `add`,
-    /// and one behind `remove`.
+    /// The row of a policy hasn't seven fields, or that of a change hasn't seven after `add` or
+    /// one after `remove`.
     #[error("the row has another number of fields")]
     Width = 2,
     /// The priority is no number from 0 to 4294967295.

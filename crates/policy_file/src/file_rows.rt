@@ -19,7 +19,7 @@ pub trait FileRow: Drop {
     /// How a file states such rows.
     ghost format: { RowFormat Self };
 
-    /// Of a row that names a port below 64, or none.
+    /// True of a row that names a port below 64, or none.
     ghost has_small_port: { Self → Type 0 };
 
     /// Whether the record is the heading of such rows.

@@ -5,7 +5,7 @@
 //! `read_policy` and `read_change` promise the policy or the change that the text states, or the
 //! first refusal in the text and its row; `read_file` reads either, by its heading. `check_ports`
 //! and `check_file_ports` find the first row that names a port outside a set. `write_policy` and
-//! `write_change` promise the text, which is read back to what was written where that has at most
+//! `write_change` promise the text, which is read back to what was written if that has at most
 //! 2,000 rows and ports below 64. Which bytes make a record is what the crate `csv` defines.
 //!
 //! ```text

@@ -7,7 +7,7 @@ use base::has;
 use policy_rules::{Action, Amendment, Edit, Policy, PolicyFile, Row};
 use thiserror::Error;
 
-/// A row, counted from 1, whose action names a port that is not there.
+/// A row, counted from 1, whose action names a port that doesn't exist.
 #[derive(Clone, Copy, Debug, PartialEq, Eq, Error)]
 #[error("row {row} names a port that is not there")]
 pub struct NoPort {
@@ -33,7 +33,7 @@ fn place_without_port(ports: u64, rows: &[Row]) -> Option<usize>
     rows.iter().position(|row| !has_port(ports, row.action))
 }
 
-/// Checks that each action names a port of the mask, in which bit p stands for the port p, or none.
+/// Checks that each action names a port of the mask, in which bit p is for the port p, or no port.
 ///
 /// # Errors
 /// The first row whose action names another port; a port of 64 or more is in no mask.
@@ -68,7 +68,7 @@ fn place_of_edit(ports: u64, edits: &[Edit]) -> Option<usize>
     edits.iter().position(|edit| !adds_port(ports, edit))
 }
 
-/// Checks of each row that the file gives that its action names a port of the mask, or none: the
+/// Checks that the action of each row that the file states names a port of the mask, or none: the
 /// rows of a policy, or those that a change adds.
 ///
 /// # Errors

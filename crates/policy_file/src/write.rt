@@ -17,8 +17,8 @@ use std::alloc::{AllocError, Global};
 use std::fmt;
 use std::fmt::Write;
 
-/// The policy's text: the heading, and then a record for each row, each of them ended by a line
-/// feed.
+/// The policy's text: the heading, and then a record for each row, each with a line feed at its
+/// end.
 ///
 /// # Errors
 /// Only out of memory.
@@ -31,8 +31,8 @@ pub fn write_policy(alloc: Global, policy: &Policy) -> Result<Vec<u8>, AllocErro
     Ok(text_of(alloc, policy.rows())?)
 }
 
-/// The change's text: the heading, and then a record for each edit, each of them ended by a line
-/// feed.
+/// The change's text: the heading, and then a record for each edit, each with a line feed at its
+/// end.
 ///
 /// # Errors
 /// Only out of memory.

@@ -41,7 +41,7 @@ abbrev pub IsSoundEdit : Edit → Type 0
 IsSoundEdit (Remove priority) = priority < 2 ^ 32
 IsSoundEdit (Add row) = IsSoundRow row
 
--- what holds of the edits of each amendment
+-- what is true of the edits of each amendment
 pub record IsAmendment (edits : List Edit) : Type 0 where
   pub sound : All IsSoundEdit edits
   pub distinct : AreDistinctEdits edits
@@ -59,7 +59,7 @@ staying_rows rows change = filter (λ row. not (removes change row.priority)) ro
 abbrev pub amended_rows : List Row → List Edit → List Row
 amended_rows rows change = staying_rows rows change ++ additions change
 
--- the change removes a row that isn't there
+-- the change removes a row that the policy hasn't
 abbrev pub removes_absent : List Row → List Edit → Bool
 removes_absent rows change = not (list_all (has_priority rows) (removals change))
 
@@ -68,7 +68,7 @@ abbrev pub adds_taken : List Row → List Edit → Bool
 adds_taken rows change =
     list_any (λ row. has_priority (staying_rows rows change) row.priority) (additions change)
 
--- the rows of a policy with the change applied to it, or the first cause for which there are none
+-- the rows of a policy with the change applied to it, or the first reason why there are none
 unfoldable pub applied : List Row → List Edit → Result (List Row) Inapplicable
 applied rows change =
     if removes_absent rows change then Err Absent

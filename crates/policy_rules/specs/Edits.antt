@@ -25,8 +25,8 @@ pub record AreHeld (edits : List Edit) (removed : List ℕ) (added : List Row) :
   pub is_removed : removed ≡ removals edits
   pub is_added : added ≡ additions edits
 
--- the tests hold of exactly the priorities of the rows that these edits remove, and of those that
--- they add
+-- the tests are true of exactly the priorities of the rows that these edits remove, and of those
+-- that they add
 pub record AreSeen (removed added : ℕ → Bool) (edits : List Edit) : Type 0 where
   pub of_removed : (priority : ℕ) → removed priority ≡ removes edits priority
   pub of_added : (priority : ℕ) → added priority ≡ adds edits priority

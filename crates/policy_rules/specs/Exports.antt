@@ -1,5 +1,5 @@
--- The definitions by which clauses of this crate and of those above speak of policies and their
--- rules, passed on from the files that define them.
+-- The definitions that clauses of this crate and of those above use for policies and their rules,
+-- passed on from the files that define them.
 pub use Rattle.policy_rules.specs.Applied.{IsAmendment, IsSoundEdit, addition, additions, applied, removal, removals}
 pub use Rattle.policy_rules.specs.Edits.{AreSeen, RefusesEdits, edits_of, repeats}
 pub use Rattle.policy_rules.specs.Partitions.{AreSoundPartitions, LastCovers}

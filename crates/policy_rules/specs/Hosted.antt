@@ -1,4 +1,4 @@
--- First tier. A plan is of partitions with their targets, as in Yu, Rexford, Freedman and Wang,
+-- First tier. A plan has partitions with their targets, as in Yu, Rexford, Freedman and Wang,
 -- "Scalable Flow-Based Networking with DIFANE", SIGCOMM 2010.
 use Rattle.std.specs.Prelude.{ℕ, Bool, List}
 use Rattle.five_tuple.specs.Header.{number_of}

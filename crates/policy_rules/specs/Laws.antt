@@ -53,7 +53,7 @@ pub record RuleListLaws : Type 0 where
   pub first_match : (rows : List Row) (header : Header) → IsPolicy rows → IsHeader header
       → option_map hit_of_rule (first_rule (rules_of rows) header) ≡ Some (scan rows header)
 
--- what a change leaves of a policy ..
+-- the result of a change to a policy ..
 pub record AmendmentLaws : Type 0 where
   -- .. is a policy ..
   pub policy : (rows after : List Row) (change : List Edit) → IsPolicy rows → IsAmendment change
@@ -64,11 +64,11 @@ pub record AmendmentLaws : Type 0 where
   -- .. each of which is a row of the policy or one that the change adds; ..
   pub rows : (rows after : List Row) (change : List Edit) → applied rows change ≡ Ok after
       → All (λ row. Contains rows row ⊎ Contains (additions change) row) after
-  -- .. the rows that stay and those that it adds decide each header alone; ..
+  -- .. only the rows that stay and those that it adds decide each header; ..
   pub decides : (rows after : List Row) (change : List Edit) (header : Header)
       → applied rows change ≡ Ok after
       → IsFirstMatch (staying_rows rows change ++ additions change) header (scan after header)
-  -- .. a header that no row which it removes or adds matches has the first match that it had, ..
+  -- .. a header that no removed and no added row matches has the first match that it had, ..
   pub same : (rows after : List Row) (change : List Edit) (header : Header) → IsPolicy rows
       → applied rows change ≡ Ok after
       → All (λ row. IsFalse (row_matches row (fields_of header))) (touched_rows rows change)

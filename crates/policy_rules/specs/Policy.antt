@@ -9,7 +9,7 @@ use Rattle.policy_rules.specs.declared.policy.Action.TheVariants.{Drop, Out}
 use Rattle.policy_rules.specs.declared.policy.Action.{Action}
 pub use Rattle.policy_rules.specs.SoundPolicies.{HaveDistinctPriorities, IsPolicy, IsSoundRow}
 
--- a row matches where each of its five fields does
+-- a row matches if each of its five fields does
 abbrev pub row_matches : Row → Fields → Bool
 row_matches row f =
     prefix_matches row.src f.src && prefix_matches row.dst f.dst
@@ -22,7 +22,7 @@ pub record IsHighestIn (rows : List Row) (row : Row) : Type 0 where
   pub highest : All (λ other. other.priority ≤ row.priority) rows
 
 -- the first match: of all matching rows the one that no matching row exceeds in priority; a drop
--- where none matches
+-- if none matches
 abbrev pub IsFirstMatch : List Row → Header → Hit → Type 0
 IsFirstMatch rows header hit =
     let matching = filter (λ row. row_matches row (fields_of header)) rows in

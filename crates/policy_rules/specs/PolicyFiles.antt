@@ -8,17 +8,17 @@ use Rattle.policy_rules.specs.declared.amendment.Edit.TheVariants.{Remove, Add}
 use Rattle.policy_rules.specs.declared.file.PolicyFile.{PolicyFile}
 use Rattle.policy_rules.specs.declared.file.PolicyFile.TheVariants.{Whole, Change}
 
--- what holds of each file
+-- what is true of each file
 abbrev pub IsPolicyFile : PolicyFile → Type 0
 IsPolicyFile (Whole rows) = IsPolicy rows
 IsPolicyFile (Change edits) = IsAmendment edits
 
--- the row that the edit adds, if it adds one, is such a row
+-- the row that the edit adds, if it adds one, has this property
 abbrev pub AddsOnly : (Row → Type 0) → Edit → Type 0
 AddsOnly P (Remove priority) = ⊤
 AddsOnly P (Add row) = P row
 
--- each row that the file gives, as one of a policy or one that a change adds, is such a row
+-- each row that the file states, of a policy or added by a change, has this property
 abbrev pub GivesOnly : (Row → Type 0) → PolicyFile → Type 0
 GivesOnly P (Whole rows) = All P rows
 GivesOnly P (Change edits) = All (AddsOnly P) edits

@@ -11,7 +11,7 @@ action_of text =
     else if bytes_eq (take 4 text) (codes "out:")
     then option_map Out (number_up_to 63 (drop 4 text)) else None
 
--- a port that an action may name has a number below 64
+-- if the action names a port, its number is below 64
 abbrev pub HasSmallPort : Action → Type 0
 HasSmallPort Drop = ⊤
 HasSmallPort (Out port) = port < 64

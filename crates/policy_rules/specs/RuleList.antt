@@ -24,7 +24,7 @@ falling_below (suc priority) rows =
 unfoldable pub by_falling_priority : List Row → List Row
 by_falling_priority rows = falling_below (2 ^ 32) rows
 
--- words, with what the row says of their headers
+-- words, with what the row does with their headers
 abbrev pub with_hit : Row → List WordValue → List (WordValue × Hit)
 with_hit row words = map (λ word. (word, hit_of (Some row))) words
 
@@ -65,7 +65,7 @@ word_total rows = sum_by word_count rows
 abbrev pub RefusesRules : List Row → TooManyWords → Type 0
 RefusesRules rows many = (many.words ≡ word_total rows) × (4096 < many.words)
 
--- the rule of what no row matches
+-- the rule for what no row matches
 abbrev pub default_rule : ℕ → Rule
 default_rule rank = record { word = any_word; rank = rank; rule = None; action = Drop }
 

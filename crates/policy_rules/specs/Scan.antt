@@ -10,7 +10,7 @@ use Rattle.policy_rules.specs.declared.policy.Hit.{Hit}
 use Rattle.policy_rules.specs.declared.policy.Action.TheVariants.{Drop}
 use Rattle.policy_rules.specs.Policy.{row_matches, IsHighestIn}
 
--- a reference to the highest of the rows that match, or to none where none matches
+-- a reference to the highest of the rows that match, or to none if none matches
 abbrev pub IsHighestMatch : List Row → Fields → Option (Bor Row) → Type 0
 IsHighestMatch rows f best =
     let matching = filter (λ row. row_matches row f) rows in

@@ -1,4 +1,4 @@
--- What holds of the rows of each policy.
+-- What is true of the rows of each policy.
 use Rattle.std.specs.Prelude.{◌≢◌, ◌^◌, ◌<◌, List, length, All, AllPairs}
 use Rattle.five_tuple.specs.SoundFields.{IsAddressBlock, IsPortRange, IsProtocol}
 use Rattle.policy_rules.specs.declared.policy.Row.{Row}
@@ -16,7 +16,7 @@ pub record IsSoundRow (row : Row) : Type 0 where
   pub dport : IsPortRange row.dport
   pub proto : IsProtocol row.proto
 
--- what holds of the rows of each policy
+-- what is true of the rows of each policy
 pub record IsPolicy (rows : List Row) : Type 0 where
   pub sound : All IsSoundRow rows
   pub distinct : HaveDistinctPriorities rows

@@ -1,20 +1,20 @@
--- One to four switches, held in four places.
+-- One to four switches, in four places.
 use Rattle.std.specs.Prelude.{ℕ, ◌≡◌, ◌-◌, ◌<◌, ◌≤◌, List, length, take, drop, replicate}
 use Rattle.base.specs.Filled.{filled_places, filled-take}
 use Rattle.policy_rules.specs.declared.targets.Targets.TheInside.{Inside}
 
--- of the four places, one or more are in the list; those past it are 0
+-- of the four places, one or more are in the list; those beyond it are 0
 pub record AreFilledTargets (t : Inside) : Type 0 where
   pub places : length t.places ≡ 4
   pub some : 0 < t.len
   pub few : t.len ≤ 4
   pub rest : drop t.len t.places ≡ replicate (4 - t.len) 0
 
--- the four places that hold this list
+-- the four places that contain this list
 abbrev pub filled_targets : List ℕ → Inside
 filled_targets xs = record { places = filled_places 4 xs; len = length xs }
 
--- the four places are those of the list that they hold
+-- the four places are those of the list that they contain
 pub filled_targets-take : (t : Inside) → AreFilledTargets t
     → filled_targets (take t.len t.places) ≡ t
 filled_targets-take t h =

@@ -21,7 +21,7 @@ pub enum Edit {
 }
 
 /// Why edits are no amendment: this one, counted from 1, is the first that repeats an earlier one.
-/// Both remove the row of one priority, or both add a row of it.
+/// Both remove the row of one priority, or both add a row of one priority.
 #[derive(Clone, Copy, Debug, PartialEq, Eq, Error)]
 #[error("edit {edit} repeats an earlier one")]
 pub struct Repeated {
@@ -29,8 +29,8 @@ pub struct Repeated {
 }
 
 /// A change of a policy, as an operator gives it: edits of distinct priorities among those that
-/// remove, and among those that add. Contracts see the list of the edits, of which `IsAmendment`
-/// holds.
+/// remove, and among those that add. Contracts see the list of the edits, for which `IsAmendment`
+/// is true.
 ///
 /// A priority may be removed and added again, which replaces its row.
 #[derive(Drop)]
@@ -56,10 +56,9 @@ impl Model for Amendment {
 impl Amendment {
     /// The amendment that removes the rows of these priorities and then adds these rows.
     ///
-    /// # Errors
-    /// `Repeated` exactly where a priority stands twice in one of the lists. The edits are counted
-    /// over the removed priorities and, behind these, the added rows: a number above that of the
-    /// removed priorities is one of the added rows.
+    /// # Errors `Repeated` exactly if a priority occurs twice in one of the lists. The count of
+    /// edits runs over the removed priorities and then over the added rows: a number greater than
+    /// the count of removed priorities names an added row.
     pub fn new(
         alloc: Global,
         removed: Vec<u32>,
@@ -84,8 +83,7 @@ impl Amendment {
 
     /// The amendment of these edits.
     ///
-    /// # Errors
-    /// `Repeated` exactly where an edit repeats an earlier one.
+    /// # Errors `Repeated` exactly if an edit repeats an earlier one.
     pub fn of_edits(alloc: Global, edits: Vec<Edit>) -> Result<Amendment, Failure<Repeated>>
         requires { vec_len edits < 2 ^ 32 }
         ensures edits { IfOk result (λ change. change ≡ edits.items) }
@@ -185,8 +183,8 @@ fn check_edits(alloc: Global, edits: &[Edit]) -> Result<(), Failure<Repeated>>
     Ok(())
 }
 
-// Whether no earlier edit did the same to the row of this one's priority, where the sets have the
-// priorities of the rows that earlier ones removed and added. They then have this one's too.
+// Whether no earlier edit did the same to the row of this one's priority, if the sets have the
+// priorities of the rows that earlier ones removed and added. Then they have this one's too.
 fn is_new(
     removed: &mut HashSet<u32>,
     added: &mut HashSet<u32>,

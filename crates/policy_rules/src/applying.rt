@@ -15,13 +15,13 @@ use thiserror::Error;
 /// The most rows of a policy or a change, as a file has them, and of a policy that a change makes.
 pub const MAX_ROWS: usize = 2000;
 
-/// With at most so many edits, priorities are sought in a list.
+/// With at most this many edits, priorities are looked up in a list.
 const FEW_EDITS: usize = 16;
 
-/// Priorities among which others are sought.
+/// Priorities among which others are looked up.
 #[derive(Drop)]
 pub enum Priorities {
-    /// For few that are sought, or of few.
+    /// For few to look up, or among few.
     Listed(Vec<u32>),
     Hashed(HashSet<u32>),
 }
@@ -46,10 +46,9 @@ pub type ApplyError = Failure<Inapplicable>;
 /// The policy with the change applied to it: its rows whose priorities aren't removed, in order,
 /// and then the added ones.
 ///
-/// # Errors
-/// The first of these: `Absent` exactly where a removed priority is that of no row, `Taken` exactly
-/// where an added row has the priority of one that stays, `TooManyRows` exactly where there would
-/// be more than 2,000 rows.
+/// # Errors The first of these: `Absent` exactly if a removed priority is that of no row, `Taken`
+/// exactly if an added row has the priority of one that stays, `TooManyRows` exactly if there
+/// would be more than 2,000 rows.
 pub fn apply(alloc: Global, policy: &Policy, change: &Amendment) -> Result<Policy, ApplyError>
     ensures applied { IfOk result (λ amended. applied policy.now change.now ≡ Ok amended) }
     ensures policy { IfOk result IsPolicy }
@@ -88,7 +87,7 @@ impl Priorities {
     }
 }
 
-// The priorities of the rows, to seek others among them.
+// The priorities of the rows, to look up others among them.
 fn priorities_of(alloc: Global, rows: &[Row], few: bool) -> Result<Priorities, AllocError>
     ensures { IfOk result (λ held. (q : ℕ) → is_among held q
         ≡ list_any (λ priority. priority == q) (map (λ row. row.priority) rows.now)) }
@@ -109,7 +108,7 @@ fn hash_rows(alloc: Global, rows: &[Row]) -> Result<HashSet<u32>, AllocError>
     rows.iter().map(|row| row.priority).collect(alloc)
 }
 
-// These priorities, to seek others among them.
+// These priorities, to look up others among them.
 fn set_of(alloc: Global, priorities: &[u32], few: bool) -> Result<Priorities, AllocError>
     ensures { IfOk result (λ set. (q : ℕ)
         → is_among set q ≡ list_any (λ priority. priority == q) priorities.now) }
@@ -130,14 +129,14 @@ fn hash_all(alloc: Global, priorities: &[u32]) -> Result<HashSet<u32>, AllocErro
     priorities.iter().copied().collect(alloc)
 }
 
-// Whether all of these priorities are held.
+// Whether the set has all of these priorities.
 fn has_all(held: &Priorities, priorities: &[u32]) -> bool
     ensures { result ≡ list_all (is_among held.now) priorities.now }
 {
     priorities.iter().all(|priority| held.contains(*priority))
 }
 
-// Whether one of the rows has a priority that is held, and not gone.
+// Whether one of the rows has a priority of the set that isn't removed.
 fn has_some(held: &Priorities, gone: &Priorities, rows: &[Row]) -> bool
     ensures { result ≡ list_any (λ row. not (is_among gone.now row.priority)
         && is_among held.now row.priority) rows.now }
@@ -145,7 +144,7 @@ fn has_some(held: &Priorities, gone: &Priorities, rows: &[Row]) -> bool
     rows.iter().any(|row| !gone.contains(row.priority) && held.contains(row.priority))
 }
 
-// The rows whose priorities aren't gone, and then the added ones.
+// The rows whose priorities aren't removed, and then the added ones.
 fn amended_rows(
     alloc: Global,
     rows: &[Row],

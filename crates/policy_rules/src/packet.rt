@@ -1,6 +1,6 @@
 use five_tuple::Header;
 
-/// A packet as it leaves the network: what a meter at its port may note.
+/// A packet as it leaves the network: what a meter at its port may record.
 #[derive(Clone, Copy, Debug, PartialEq, Eq)]
 pub struct Leaving {
     /// The packet's number, from 1 in the order of the packet rows.
@@ -33,8 +33,8 @@ pub enum Leg {
 /// Why a packet is stuck.
 #[derive(Clone, Copy, Debug, PartialEq, Eq)]
 pub enum Cause {
-    /// No known link ends at any of its authority switches.
+    /// No known link leads to any of its authority switches.
     NoAuthority,
-    /// No path of known links leads on.
+    /// No path of known links leads to a target.
     NoRoute,
 }

@@ -49,7 +49,7 @@ pub struct SamePriority {
 }
 
 /// Rows of distinct priorities, in the order in which they were given. Contracts see the list of
-/// the rows, of which `IsPolicy` holds. A clone equals its policy.
+/// the rows, for which `IsPolicy` is true. A clone equals its policy.
 #[derive(Drop)]
 pub struct Policy {
     rows: Vec<Row>,
@@ -87,7 +87,7 @@ impl Hit {
         action: Action::Drop,
     };
 
-    /// What this row says of a header that it decides.
+    /// The first match of a header that this row decides.
     pub fn of(row: &Row) -> Hit
         ensures { result ≡ hit_of (Some row.now) }
     {
@@ -101,8 +101,7 @@ impl Hit {
 impl Policy {
     /// The policy of these rows.
     ///
-    /// # Errors
-    /// `SamePriority` exactly where two rows have one priority.
+    /// # Errors `SamePriority` exactly if two rows have the same priority.
     pub fn new(alloc: Global, rows: Vec<Row>) -> Result<Policy, Failure<SamePriority>>
         requires { vec_len rows < 2 ^ 32 }
         ensures rows { IfOk result (λ policy. policy ≡ rows.items) }
@@ -182,7 +181,7 @@ fn check_rows(alloc: Global, rows: &[Row]) -> Result<(), Failure<SamePriority>>
     ensures policy { OnOk result (IsPolicy rows.now) }
     ensures refused { IfErr result (IfRefused (RefusesRows rows.now)) }
 {
-    // No priority needs to be remembered where each row has a lower one than the row before.
+    // No priority needs to be remembered if each row has a lower one than the row before.
     let falling = are_falling(rows);
     if falling {
         return Ok(());
@@ -218,8 +217,8 @@ fn are_falling(rows: &[Row]) -> bool
     true
 }
 
-/// Each field of a row is as its type has it, which is known where the field is read: here, once
-/// for all rows of a policy, and once for those that a change adds.
+/// Each field of a row is as its type has it, which the proof knows once the field is read: here,
+/// once for all rows of a policy, and once for those that a change adds.
 pub fn row_is_sound(row: &Row)
     ensures { IsSoundRow row.now }
 {

@@ -16,7 +16,7 @@ impl fmt::Display for Action {
     }
 }
 
-/// A rule's name: the priority of its row, or `default` where no row stands behind it.
+/// A rule's name: the priority of its row, or `default` if no row is behind it.
 #[derive(Clone, Copy, Debug, PartialEq, Eq)]
 pub struct RuleName(pub Option<u32>);
 

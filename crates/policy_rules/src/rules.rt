@@ -8,7 +8,7 @@ use base::SharedList;
 use five_tuple::Header;
 use ternary::Word;
 
-/// A rule as a switch holds it: a row of a policy, or its default, for the headers of one word.
+/// A rule as a switch has it: a row of a policy, or its default, for the headers of one word.
 ///
 /// Of the rules that hold a header, the one of the least rank decides.
 #[derive(Clone, Copy, Debug, PartialEq, Eq)]
@@ -34,7 +34,7 @@ pub struct Partition {
     pub rules: Rules,
 }
 
-/// The place of the first rule whose word holds the header; `None` where no word does.
+/// The place of the first rule whose word holds the header; `None` if no word does.
 pub fn first_hit(rules: &[Rule], header: &Header) -> Option<usize>
     ensures place { result ≡ position (is_held (number_of header.now)) rules.now }
     ensures bound { IfSome result (λ place. place < length rules.now) }

@@ -2,16 +2,16 @@ ghost use Rattle.std.specs.Prelude.{◌≡◌, ◌≤◌, ◌<◌, ◌⊎◌, �
 
 use std::marker::Model;
 
-/// The most switches that one partition names.
+/// The most switches that one partition may have.
 const MAX_TARGETS: usize = 4;
 
 /// One to four numbers of switches, in order: a partition's authority switch and after it the
 /// backups.
 ///
-/// They are held in place, without memory. Contracts see the list.
+/// They are stored in place, without an allocation. Contracts see the list.
 #[derive(Clone, Copy, Debug, PartialEq, Eq)]
 pub struct Targets {
-    // The list, and 0 at the places past its end.
+    // The list, and 0 at the places beyond its end.
     places: [u32; MAX_TARGETS],
     len: u8,
 }
@@ -32,7 +32,7 @@ impl Model for Targets {
 }
 
 impl Targets {
-    /// The list of these switches; `None` where there is none, or more than four.
+    /// The list of these switches; `None` if there is none, or more than four.
     pub fn new(switches: &[u32]) -> Option<Targets>
         ensures list { IfSome result (λ targets. targets ≡ switches.now) }
         ensures none { IsNone result ↔ ((length switches.now ≡ 0) ⊎ (4 < length switches.now)) }

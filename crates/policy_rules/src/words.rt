@@ -12,8 +12,7 @@ use ternary::Word;
 /// Adds the words of a row at the end: one for each pair of a block of its source ports and one of
 /// its destination ports, the source block outermost, as in the list of rules.
 ///
-/// # Errors
-/// Only out of memory; a part of the words is added then.
+/// # Errors Only out of memory; then a part of the words is added.
 pub fn push_row_words(words: &mut Vec<Word>, row: &Row) -> Result<(), AllocError>
     requires { IsSoundRow row.now }
     ensures { OnOk result (words.new.items ≡ words.old.items ++ words_of_row row.now) }
@@ -24,7 +23,7 @@ pub fn push_row_words(words: &mut Vec<Word>, row: &Row) -> Result<(), AllocError
     Ok(())
 }
 
-// Those for one block of its source ports.
+// The words for one block of its source ports.
 fn push_source_words(words: &mut Vec<Word>, row: &Row, source: PortBlock) -> Result<(), AllocError>
     requires row { IsSoundRow row.now }
     requires source { IsPortBlock source }
@@ -50,7 +49,7 @@ pub fn word_of_row(row: &Row, source: PortBlock, destination: PortBlock) -> Word
     Word::new(value, mask).unwrap()
 }
 
-// The fixed bits that are 1, where these are those of the ports.
+// The fixed bits that are 1, with these for the ports.
 fn value_of_row(row: &Row, sport: u16, dport: u16) -> u128
     ensures { result ≡
         packed_number row.now.src.address row.now.dst.address sport dport
@@ -66,7 +65,7 @@ fn value_of_row(row: &Row, sport: u16, dport: u16) -> u128
     Header::pack(&fields).number()
 }
 
-// The fixed bits, where these are those of the ports.
+// The fixed bits, with these for the ports.
 fn mask_of_row(row: &Row, sport: u16, dport: u16) -> u128
     ensures { result ≡
         packed_number (prefix_mask row.now.src) (prefix_mask row.now.dst) sport dport

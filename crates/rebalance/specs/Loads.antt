@@ -1,6 +1,6 @@
--- How much each partition was asked in a play, and what a placement makes of that: of the targets of
--- a partition the first one answers what is asked, and each holds its rules. A placement gives each
--- partition, by its number, the list of its targets.
+-- How many packets asked each partition in a play, and the load of a placement: of the targets of
+-- a partition the first one is asked, and each has its rules. A placement gives each partition, by
+-- its number, the list of its targets.
 use Rattle.std.specs.Prelude.{ℕ, ◌≡◌, ◌+◌, ◌<◌, ◌≤◌, Bool, not, ◌==◌, nat_eq, max, if◌then◌else◌, Option, Some, None, List, length, map, fold, filter, filter_map, take, sum, sum_by, count_by, slice_index, All, AllPairs}
 use Rattle.std.specs.Int.{div_ceil}
 use Rattle.std.specs.List.{list_any, range_with_len}
@@ -11,13 +11,13 @@ use Rattle.policy_rules.specs.declared.packet.How.{How}
 use Rattle.policy_rules.specs.declared.packet.How.TheVariants as how
 use Rattle.update_machine.specs.Marks.{current_mark}
 
--- ---- how much a partition was asked
+-- ---- how often a partition was asked
 
 abbrev pub partition_asked : How → Option ℕ
 partition_asked (how.Authority switch partition) = Some partition
 partition_asked (how.Cached message) = None
 
--- the partition whose authority decided a packet by this version, if the item tells of that
+-- the partition whose authority decided a packet by this version, if the item says so
 abbrev pub asked_in : ℕ → Item → Option ℕ
 asked_in version (item.Decided packet used rule action how) =
     if used == version then partition_asked how else None
@@ -31,11 +31,11 @@ all_asked version journal = filter_map (asked_in version) journal
 unfoldable pub weight : List Item → ℕ → ℕ
 weight journal partition = count_by (nat_eq partition) (all_asked (current_mark journal) journal)
 
--- of so many partitions, by their numbers
+-- of this many partitions, by their numbers
 abbrev pub weights_of : List Item → ℕ → List ℕ
 weights_of journal parts = map (weight journal) (range_with_len 0 parts)
 
--- ---- what a placement makes of it
+-- ---- the load of a placement
 
 -- the switch is the first target of the partition
 abbrev pub is_primary : List (List ℕ) → ℕ → ℕ → Bool
@@ -55,11 +55,11 @@ rules_at sizes placement switch =
     sum_by (slice_index sizes)
     (filter (λ partition. is_target placement partition switch) (range_with_len 0 (length sizes)))
 
--- the greatest of numbers; 0 of none
+-- the greatest of numbers; 0 for none
 abbrev pub greatest : List ℕ → ℕ
 greatest numbers = fold max 0 numbers
 
--- the greatest traffic of so many switches
+-- the greatest traffic of this many switches
 unfoldable pub greatest_traffic : ℕ → List ℕ → List (List ℕ) → ℕ
 greatest_traffic switches weights placement =
     greatest (map (traffic weights placement) (range_with_len 0 switches))
@@ -68,11 +68,11 @@ greatest_traffic switches weights placement =
 abbrev pub peak : List ℕ → List (List ℕ) → ℕ
 peak weights placement = greatest_traffic 64 weights placement
 
--- how many of these rooms hold any rule
+-- how many of these rooms have space for a rule
 abbrev pub usable_rooms : List ℕ → ℕ
 usable_rooms rooms = count_by (λ room. not (room == 0)) rooms
 
--- the greatest weight, and an even share of the weights, where any switch has room
+-- the greatest weight, and an even share of the weights, if any switch has room
 unfoldable pub bound : List ℕ → List ℕ → ℕ
 bound weights rooms = if usable_rooms rooms == 0
     then 0
@@ -80,7 +80,8 @@ bound weights rooms = if usable_rooms rooms == 0
 
 -- ---- where there is room
 
--- each partition has so many different targets that are there, and no switch has more rules than room
+-- each partition has this many different targets that exist, and no switch has more rules than
+-- room
 pub record Fits (sizes rooms : List ℕ) (backups : ℕ) (placement : List (List ℕ)) : Type 0 where
   pub number : length placement ≡ length sizes
   pub targets : (partition : ℕ) → partition < length sizes

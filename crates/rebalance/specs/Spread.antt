@@ -1,4 +1,4 @@
--- The spread of partitions over switches by how much each was asked, and the placement that is
+-- The spread of partitions over switches by how often each was asked, and the placement that is
 -- proposed. Partitions take their turns by falling weight, and then by number.
 use Rattle.std.specs.Prelude.{ℕ, ◌≡◌, ◌<◌, ◌≤◌, ◌⊎◌, List, length, All}
 use Rattle.placement.specs.Placement.{AreHosted, IsPlacement, IsRefused, TurnRule, turn_rule}
@@ -38,7 +38,7 @@ abbrev pub IsProposal : List ℕ → List ℕ → List ℕ → ℕ → List (Lis
 IsProposal sizes weights rooms backups old new =
     IsLower sizes weights rooms backups old new ⊎ KeepsPlacement sizes weights rooms backups old new
 
--- ---- what is so of each
+-- ---- what is true of each
 
 -- the partitions have rules, and each has a weight; the switches have numbers below 64
 pub record AreWeighed (sizes weights rooms : List ℕ) : Type 0 where
@@ -47,7 +47,7 @@ pub record AreWeighed (sizes weights rooms : List ℕ) : Type 0 where
   pub few : length rooms ≤ 64
 
 pub record SpreadLaws (sizes weights rooms : List ℕ) (backups : ℕ) : Type 0 where
-  -- a spread fits, and so does a placement by size alone
+  -- a spread fits, and so does a placement only by size
   pub fits : (placement : List (List ℕ)) → IsSpread sizes weights rooms backups placement
       → Fits sizes rooms backups placement
   pub placed : (placement : List (List ℕ)) → IsPlacement sizes rooms backups placement
@@ -63,7 +63,7 @@ pub record SpreadLaws (sizes weights rooms : List ℕ) (backups : ℕ) : Type 0 
   -- no placement that fits has a lower peak than the bound
   pub bounded : (placement : List (List ℕ)) → Fits sizes rooms backups placement
       → bound weights rooms ≤ peak weights placement
-  -- the proposal fits where the old placement does, and its peak isn't higher
+  -- the proposal fits if the old placement does, and its peak isn't higher
   pub proposed : (old new : List (List ℕ)) → Fits sizes rooms backups old
       → IsProposal sizes weights rooms backups old new → Fits sizes rooms backups new
   pub never_higher : (old new : List (List ℕ)) → IsProposal sizes weights rooms backups old new

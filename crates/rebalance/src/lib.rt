@@ -1,12 +1,13 @@
-//! A better placement of partitions: it is found by how much each partition was asked in a play.
+//! A better placement of partitions: it is computed from how many packets asked each partition in
+//! a play.
 //!
 //! A partition's weight is how often its authorities decided a packet by the version that is
-//! current at the end. Of its targets the first one is asked, so the traffic of a switch is the sum
+//! current at the end. Packets ask the first of its targets, so the traffic of a switch is the sum
 //! of the weights of the partitions whose first target it is, and the peak of a placement is the
-//! greatest traffic. `spread` promises the defined spread: partitions by falling weight, each on the
-//! switches of least traffic that have room. `spread_laws` says that it fits, that there is at most
-//! one, that no placement that fits has a peak below `bound`, and that what is proposed is never
-//! higher than what is there.
+//! greatest traffic. `spread` promises the defined spread: partitions by falling weight, each on
+//! the switches of least traffic that have room. `spread_laws` says that it fits, that there is at
+//! most one, that no placement that fits has a peak below `bound`, and that a proposal is never
+//! higher than the old placement.
 //!
 //! ```text
 //! let weights = weights(alloc, &journal, 3)?;          // 1, 0, 2

@@ -4,11 +4,11 @@ ghost use Rattle.rebalance.specs.Loads.{bound, greatest, peak, traffic, usable_r
 
 use policy_rules::Targets;
 
-/// There are at most so many switches.
+/// There are at most this many switches.
 const SWITCHES: usize = 64;
 
-/// The greatest traffic of a switch, where partitions of these weights have these targets. It takes
-/// no memory.
+/// The greatest traffic of a switch, if partitions of these weights have these targets. It
+/// allocates nothing.
 pub fn peak(weights: &[u64], targets: &[Targets]) -> u64
     requires each { length targets.now ≡ length weights.now }
     requires small { sum weights.now < 2 ^ 64 }
@@ -19,8 +19,9 @@ pub fn peak(weights: &[u64], targets: &[Targets]) -> u64
     greatest(&carried)
 }
 
-/// The peak that no placement goes below which fits these rooms: the greatest weight, or an even
-/// share of all weights for each switch that has any room; 0 where none has. It takes no memory.
+/// The peak that each placement that fits these rooms has at least: the greatest weight, or an
+/// even share of all weights for each switch that has any room; 0 if none has. It allocates
+/// nothing.
 #[tactic(auto, unfolding(crate::specs::Loads::bound))]
 pub fn bound(weights: &[u64], rooms: &[u32]) -> u64
     requires { sum weights.now < 2 ^ 64 }
@@ -46,7 +47,7 @@ fn carry(carried: &mut [u64], weights: &[u64], targets: &[Targets])
     }
 }
 
-// Adds the weight to what the first of the targets carries, if it is there.
+// Adds the weight to what the first of the targets carries, if there is one.
 fn add_first(carried: &mut [u64], targets: &Targets, weight: u64)
     requires { All (λ load. load + weight < 2 ^ 64) carried.old }
     ensures { (s : ℕ) → s < length carried.old → slice_index carried.new s
@@ -60,7 +61,7 @@ fn add_first(carried: &mut [u64], targets: &Targets, weight: u64)
     carried[first] += weight;
 }
 
-// The greatest of numbers; 0 of none.
+// The greatest of numbers; 0 for none.
 fn greatest(numbers: &[u64]) -> u64
     ensures { result ≡ greatest numbers.now }
 {
@@ -74,7 +75,7 @@ fn sum(numbers: &[u64]) -> u64
     numbers.iter().sum()
 }
 
-// How many of these rooms hold any rule.
+// How many of these rooms have space for a rule.
 fn usable_rooms(rooms: &[u32]) -> usize
     ensures { result ≡ usable_rooms rooms.now }
 {

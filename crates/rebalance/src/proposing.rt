@@ -4,8 +4,8 @@ ghost use Rattle.rebalance.specs.Spread.{FindsFewer, IsProposal, IsSpread};
 use crate::peaks::peak;
 use policy_rules::Targets;
 
-/// The placement that is proposed in place of the old one: the spread of these weights, where there
-/// is one and its peak is lower, and otherwise the old one. It takes no memory.
+/// The placement that is proposed to replace the old one: the spread of these weights if there is
+/// one and its peak is lower, otherwise the old one. It allocates nothing.
 pub fn proposed(weights: &[u64], spread: Option<Vec<Targets>>, old: Vec<Targets>) -> Vec<Targets>
     requires old { length old.items ≡ length weights.now }
     requires new { IfSome spread (λ new. length new.items ≡ length weights.now) }

@@ -8,11 +8,11 @@ use policy_rules::Targets;
 use std::alloc::Global;
 
 /// The targets of partitions of these sizes, in rules, and of these weights, on switches of these
-/// rooms, in rules: for each partition an authority switch and so many backups.
+/// rooms, in rules: for each partition an authority switch and this many backups.
 ///
-/// Partitions come by falling weight, then by number. Each goes to the switches of least traffic,
-/// and then of least number, among those whose room holds it beside the partitions that they have.
-/// The traffic of the first rises by its weight.
+/// Partitions come by falling weight, then by number. Each is put on the switches of least
+/// traffic, and then of least number, among those that have room for it beside the partitions that
+/// they have. The traffic of the first rises by its weight.
 ///
 /// # Errors
 /// `NoRoom` with the first partition, by falling weight and then by number, that finds fewer

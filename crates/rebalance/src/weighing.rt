@@ -5,9 +5,9 @@ ghost use Rattle.update_machine.specs.Marks.{current_mark, gives_current};
 use journal::{How, Item, Journal};
 use std::alloc::{AllocError, Global};
 
-/// How often each of so many partitions was asked, by their numbers: the decisions of its
+/// How often each of this many partitions was asked, by their numbers: the decisions of its
 /// authorities by the version that is current at the end of the journal. Decisions by cached rules
-/// and those by other versions count nowhere.
+/// and those by other versions don't count.
 ///
 /// # Errors
 /// Only out of memory.
@@ -24,7 +24,7 @@ pub fn weights(alloc: Global, journal: &Journal, parts: u32) -> Result<Vec<u64>,
     Ok(weights)
 }
 
-// The version that is current behind the items.
+// The version that is current after the items.
 fn current_at_end(items: &[Item]) -> u32
     ensures { result ≡ current_mark items.now }
 {
@@ -35,7 +35,7 @@ fn current_at_end(items: &[Item]) -> u32
     current
 }
 
-// The version that is current behind the item.
+// The version that is current after the item.
 fn current_behind(item: &Item, current: u32) -> u32
     ensures { result ≡ unwrap_or (gives_current item.now) current }
 {
@@ -45,7 +45,7 @@ fn current_behind(item: &Item, current: u32) -> u32
     }
 }
 
-// The partition whose authority decided a packet by this version, if the item tells of that.
+// The partition whose authority decided a packet by this version, if the item says so.
 fn asked_in(item: &Item, version: u32) -> Option<u32>
     ensures { result ≡ asked_in version item.now }
 {
@@ -74,7 +74,7 @@ fn partition_asked(how: &How) -> Option<u32>
     }
 }
 
-// Adds one to the number at this place, if a place is given and there.
+// Adds one to the number at this place, if a place is given and exists.
 fn add_one(numbers: &mut [u64], place: Option<u32>)
     requires { All (λ number. number + 1 < 2 ^ 64) numbers.old }
     ensures { (k : ℕ) → k < length numbers.old → slice_index numbers.new k

@@ -1,5 +1,5 @@
--- What the calls of a switch ask, as laws of journals give it: of versions, tables, boots and
--- adverts, whatever steps were taken.
+-- What the calls of a switch require, as laws of journals establish it: of versions, tables, boots
+-- and adverts, whatever steps were taken.
 use Rattle.std.specs.Prelude.{ℕ, ◌≡◌, ◌-◌, ◌^◌, ◌<◌, Some, List, length, IsFalse, IsTrue}
 use Rattle.ctrl_msg.specs.declared.message.Body.{Body}
 use Rattle.five_tuple.specs.declared.header.Header.{Header}
@@ -19,7 +19,7 @@ use Rattle.control_laws.specs.Serving.{ServingHold}
 use Rattle.refinement.specs.Knowing.{TablesAreKnown}
 use Rattle.refinement.specs.SwitchOf.{switch_of}
 
--- what `arrive` asks of the switch
+-- what `arrive` requires of the switch
 pub record CanReceive (switch : SwitchValue) (header : Header) (leg : Leg) : Type 0 where
   pub serving : IsTrue (serves switch)
   pub stamped : CanLookUp switch
@@ -30,7 +30,7 @@ pub record HasNextSeq (switch : SwitchValue) : Type 0 where
   pub now : switch.seq < 2 ^ 32 - 1
   pub then : (n : ℕ) (body : Body) → (with_message switch n body).seq < 2 ^ 32 - 1
 
--- what `restart` asks of it
+-- what `restart` requires of it
 pub record CanRestart (switch : SwitchValue) : Type 0 where
   pub down : IsFalse switch.is_up
   pub boot : switch.boot < 2 ^ 32 - 1

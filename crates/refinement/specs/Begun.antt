@@ -1,4 +1,4 @@
--- What a world holds as it begins.
+-- What a world has at its beginning.
 use Rattle.std.specs.Prelude.{ℕ, ◌≡◌, map, List, length}
 use Rattle.std.specs.List.{range_with_len}
 use Rattle.controller.specs.Controller.{ControllerValue, first_controller}
@@ -9,13 +9,13 @@ use Rattle.net_file.specs.declared.net.Net.{Net}
 use Rattle.switch_core.specs.State.{SwitchValue, new_switch}
 use Rattle.switch_table.specs.Tables.{Hosted, tables_of}
 
--- a switch as it begins its first boot with the tables of this plan
+-- a switch at the beginning of its first boot, with the tables of this plan
 abbrev pub switch_begun : Net → List Hosted → ℕ → SwitchValue
 switch_begun net plan s = new_switch s net.cache (tables_of plan 1 s)
     (first_adverts (map (links_of net.links) (range_with_len 0 (length net.switches)))
     (length net.switches))
 
--- the network's controller as it begins, with some plan
+-- the network's controller at its beginning, with some plan
 abbrev pub IsFirstController : Net → ControllerValue → Type 0
 IsFirstController net controller =
     (plan : PlanValue) × (controller ≡ first_controller (length net.switches) plan)

@@ -20,7 +20,7 @@ abbrev pub NoRows : List Item → Type 0
 NoRows [] = ⊤
 NoRows (first ∷ items) = NoRow first × NoRows items
 
--- nor brings in or refuses a packet
+-- and neither brings in nor refuses a packet
 abbrev pub IsInStep : Item → Type 0
 IsInStep (item.Row row step) = ⊥
 IsInStep (item.Entered packet switch header) = ⊥
@@ -31,9 +31,8 @@ abbrev pub AreInStep : List Item → Type 0
 AreInStep [] = ⊤
 AreInStep (first ∷ items) = IsInStep first × AreInStep items
 
--- what a step of packets makes of a switch, which hears nothing of other things: it is called once
--- where a packet comes in there, and once or twice for a packet that stands there and goes on, by
--- whether that arrives
+-- what a step of packets does to a switch, which hears nothing then: it is called once if a packet
+-- comes in there, and once for a packet that is there and moves on, or twice if that arrives
 pub record CallsRefine : Type 0 where
   pub entered : (setting : Setting) (before : List Item) (row i s t : ℕ) (header : Header)
       (items : List Item) → AreInStep items →

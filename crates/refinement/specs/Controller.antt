@@ -30,8 +30,8 @@ pub record IsControllerOf (setting : Setting) (journal : List Item)
   pub marks : AreMarksOf setting journal controller.marks
   pub plans : controller.plans ≡ map (plan_to_keep setting journal) (versions_from_current journal)
 
--- the plan is that of the next version, if it is submitted with this file, and the file touches
--- this
+-- the plan is that of the next version, if this file is submitted, and this is what the file
+-- touches
 pub record IsPlanOfNext (setting : Setting) (journal : List Item) (file : ℕ) (plan : PlanValue)
     (touched : List WordValue) : Type 0 where
   pub policy : next_policy setting journal file ≡ Ok plan.policy

@@ -11,7 +11,7 @@ use Rattle.update_machine.specs.Setting.{Setting}
 use Rattle.update_machine.specs.Travels.{ingress_of, leg_of, travels}
 use Rattle.update_machine.specs.PacketRoutes.{found_down, route_in, route_place, targets_of}
 
--- its leg; any where it has none
+-- its leg; any if it has none
 abbrev pub own_leg : List Item → ℕ → Leg
 own_leg journal i = unwrap_or (leg_of journal i) (Exit 0)
 

@@ -1,4 +1,4 @@
--- What a delivered message makes of a switch, and what the switch does upon it.
+-- What a delivered message does to a switch, and what the switch does in reply.
 use Rattle.std.specs.Prelude.{ℕ, ◌≡◌, Some, None, List, [], ◌∷◌, ◌++◌, IsFalse, IsTrue}
 use Rattle.ctrl_msg.specs.declared.message.Body.{Body}
 use Rattle.net_file.specs.Net.{IsNet}
@@ -59,7 +59,7 @@ pub record HearsOpening (setting : Setting) (before : List Item) (n s : ℕ) (bo
       (within_delivery before row n [])
 
 pub record HearingRefines : Type 0 where
-  -- behind the delivery itself, which doesn't tell yet that the switch opens
+  -- after the delivery itself, which doesn't say yet that the switch opens
   pub heard_but_open : (setting : Setting) (before : List Item) (n s : ℕ) (body : Body) →
       IsSentTo setting before n s body →
       switch_of setting (before ++ item.Delivered n ∷ []) s
@@ -74,7 +74,7 @@ pub record HearingRefines : Type 0 where
       IsSentTo setting before n s body →
       opening_stamp (switch_of setting before s) body ≡ Some stamp →
       HearsOpening setting before n s body stamp
-  -- what isn't to the switch leaves it
+  -- a message that isn't to the switch doesn't change it
   pub other : (setting : Setting) (before : List Item) (n s : ℕ) →
       IsFalse (is_message_to before s n) →
       switch_of setting (before ++ item.Delivered n ∷ []) s ≡ switch_of setting before s

@@ -30,13 +30,13 @@ pub record KnowledgeRefines : Type 0 where
   pub tables : (setting : Setting) (journal : List Item) (s v : ℕ) →
       TablesAreKnown setting journal → held_tables (switch_of setting journal s) v
       ≡ (if holds_in journal s v then Some (tables_at setting journal v s) else None)
-  -- what its cache and the tables of its stamp, which it has, say of a header
+  -- what its cache and the tables of its stamp, which it has, say about a header
   pub lookup : (setting : Setting) (journal : List Item) (s : ℕ) (header : Header) →
       TablesAreKnown setting journal → IsTrue (holds_in journal s (stamp_of journal s)) →
       lookup_of (switch_of setting journal s).cache.entries
       (stamp_tables (switch_of setting journal s)) header
       ≡ lookup_at setting journal s header
-  -- its routes by its usable links and the adverts that it holds, and what these cut off
+  -- its routes by its usable links and the adverts that it has, and what these cut off
   pub route : (setting : Setting) (journal : List Item) (s : ℕ) (targets down : List ℕ) →
       route_of (switch_of setting journal s).database s targets (near setting journal s) down
       ≡ route_from setting journal s targets down

@@ -1,4 +1,4 @@
--- What a crash, a boot and a timeout make of a switch.
+-- What a crash, a boot and a timeout do to a switch.
 use Rattle.std.specs.Prelude.{ℕ, ◌≡◌, ◌+◌, Option, Some, None, option_map, List, [], ◌∷◌, ◌++◌, slice_get}
 use Rattle.journal.specs.declared.item.Item.{Item}
 use Rattle.journal.specs.declared.item.Item.TheVariants as item
@@ -10,7 +10,7 @@ use Rattle.update_machine.specs.Setting.{Setting}
 use Rattle.control_laws.specs.ItemCauses.{HasItemCause}
 use Rattle.refinement.specs.SwitchOf.{switch_of}
 
--- the number of the message that brought the cache entry at a place, if one is there
+-- the number of the message that brought the cache entry at a place, if there is one
 abbrev pub message_at : Setting → List Item → ℕ → ℕ → Option ℕ
 message_at setting journal s place =
     option_map (λ entry. entry.message)

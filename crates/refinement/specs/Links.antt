@@ -1,5 +1,5 @@
--- What a change of its links makes of a switch: its next advert, which it holds and tells, as a
--- router in OSPF makes a new advert of its own where its links changed (RFC 2328, section 12.4).
+-- What a change of its links does to a switch: it makes its next advert, which it keeps and sends,
+-- as a router in OSPF makes a new own advert when its links changed (RFC 2328, section 12.4).
 use Rattle.std.specs.Prelude.{ℕ, ◌≡◌, Bool, true, false, if◌then◌else◌, List, [], ◌∷◌, ◌++◌, map, IsTrue}
 use Rattle.std.specs.List.{flat_map}
 use Rattle.ctrl_msg.specs.declared.message.Message.{Message}
@@ -38,8 +38,8 @@ abbrev pub relinked_switch : Setting → List Item → List Item → ℕ → Swi
 relinked_switch setting before now s switch =
     if has_changed setting before now s then near_changed switch (near setting now s) else switch
 
--- what it tells of these links, once it had those: its own advert, and over a link that became
--- usable all that it holds
+-- what it sends about these links, if it had those before: its own advert, and over a link that
+-- became usable all that it has
 abbrev pub link_messages : Setting → ℕ → ℕ → Advert → SwitchValue → List Message
 link_messages setting had has_now own switch =
     flat_map (λ neighbour. elim (has had neighbour) [
@@ -48,7 +48,7 @@ link_messages setting had has_now own switch =
     ]) (switches_in setting has_now)
 
 pub record LinksRefine : Type 0 where
-  -- items that concern neither the switch, nor links, nor calls of it leave it
+  -- items that concern neither the switch, nor links, nor calls of it don't change it
   pub kept : (setting : Setting) (s : ℕ) (before items : List Item) →
       NoneConcern (concerns_known s) before items → NoneConcern (concerns_calls s) before items →
       switch_of setting (before ++ items) s ≡ switch_of setting before s
@@ -57,7 +57,7 @@ pub record LinksRefine : Type 0 where
       (items : List Item) → LeavesSwitch s before row step items →
       let now = before ++ item.Row row step ∷ items in
       switch_of setting now s ≡ relinked_switch setting before now s (switch_of setting before s)
-  -- the advert that it tells, and all that it holds
+  -- the advert that it sends, and all that it has
   pub advert : (setting : Setting) (s : ℕ) (before : List Item) (row : ℕ) (step : Step)
       (items : List Item) → LeavesSwitch s before row step items →
       let now = before ++ item.Row row step ∷ items in
@@ -70,6 +70,6 @@ pub record LinksRefine : Type 0 where
       ≡ link_messages setting (near setting before s) (near setting now s)
       (own_advert setting now s)
       (switch_of setting now s)
-  -- messages that are sent leave it
+  -- messages that are sent don't change it
   pub sent : (setting : Setting) (before : List Item) (messages : List Message) (s : ℕ) →
       switch_of setting (before ++ send_items before messages) s ≡ switch_of setting before s

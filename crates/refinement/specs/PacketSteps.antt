@@ -1,4 +1,4 @@
--- What a switch answers to a packet, and what the step of the same packet is in the definitions
+-- What a switch returns for a packet, and what the step of the same packet is in the definitions
 -- over journals.
 use Rattle.std.specs.Prelude.{ℕ, ◌≡◌, ◌+◌, ◌<◌, ◌≤◌, ◌==◌, false, Some, List, [], ◌∷◌, ◌++◌, length, IsTrue, Option}
 use Rattle.message_bag.specs.Posts.{Post, new_post, with_delivered, with_forgotten}
@@ -38,13 +38,13 @@ pub record IsOfNet (setting : Setting) (journal : List Item) (ports : Ports) : T
 
 -- ---- a packet comes in
 
--- the answer of the switch that the journal says to the next packet
+-- what the switch that the journal describes returns for the next packet
 abbrev pub entry_at : Setting → List Item → Ports → ℕ → Header → Option Answer
 entry_at setting journal ports s header =
     entry (switch_of setting journal s) (near setting journal s) ports (next_packet journal) header
 
--- the switch may be asked, its answer is what the step writes, and the packet is then where the
--- answer leaves it, as all others are where they were
+-- the switch's call may be made, its result is what the step writes, and the packet is then where
+-- the result leaves it, while all others are where they were
 pub record Comes (setting : Setting) (journal : List Item) (row s : ℕ) (header : Header)
     (ports : Ports) : Type 0 where
   pub may : CanLookUp (switch_of setting journal s)
@@ -64,7 +64,7 @@ EntriesRefine = (setting : Setting) (journal : List Item) (row s : ℕ) (header 
 
 -- ---- a packet moves on
 
--- what a hop asks of the switch where the packet stands
+-- what a hop requires of the switch where the packet is
 pub record MayHop (setting : Setting) (journal : List Item) (t : Flight) : Type 0 where
   pub there : here t.tunnel < length setting.net.switches
   pub stands : StandsAt (switch_of setting journal (here t.tunnel)) t.tunnel.route t.tunnel.place
@@ -74,7 +74,7 @@ pub record MayHop (setting : Setting) (journal : List Item) (t : Flight) : Type 
       (near setting journal (here t.tunnel)) t.tunnel).end ≡ hop.Arrive
       → IsAtAuthority (switch_of setting journal (here t.tunnel)) t.tunnel.header t.tunnel.leg
 
--- so too for a packet on its way, at the switch where it stands
+-- this is also true for a packet on its way, at the switch where it is
 pub record GoesOn (setting : Setting) (journal : List Item) (row i : ℕ) (t : Flight)
     (ports : Ports) : Type 0 where
   pub may : MayHop setting journal t

@@ -1,4 +1,4 @@
--- How all that a world holds is tied to its journal.
+-- How all that a world has is tied to its journal.
 use Rattle.std.specs.Prelude.{ℕ, ◌≡◌, ◌+◌, ◌<◌, Bool, filter, slice_index, List, length, slice_index_or}
 use Rattle.message_bag.specs.Posts.{Post}
 use Rattle.controller.specs.Controller.{ControllerValue}
@@ -17,9 +17,9 @@ use Rattle.update_machine.specs.Setting.{Setting, IsSetting}
 use Rattle.update_machine.specs.LinkMasks.{near as near_of}
 use Rattle.travelling.specs.Travelling.{Flights, flight}
 
--- all that a world holds: the switches, the packets on their way, how many came in or were
--- refused, the controller, the messages that were sent, and the switches to which each switch has a
--- link that is up, and to which it has a usable one, as masks
+-- all that a world has: the switches, the packets on their way, how many came in or were refused,
+-- the controller, the messages that were sent, and the switches to which each switch has a link
+-- that is up, and to which it has a usable one, as masks
 pub record NetworkState : Type 0 where
   pub switches : List SwitchValue
   pub travelling : Flights
@@ -41,7 +41,7 @@ abbrev pub AreUp : Setting → List Item → List ℕ → Type 0
 AreUp setting journal links = (s : ℕ) → s < 64
     → slice_index links s ≡ links_of (up_links setting journal) s
 
--- the masks are those of the links that can be used
+-- the masks are those of the usable links
 abbrev pub AreUsable : Setting → List Item → List ℕ → Type 0
 AreUsable setting journal near = (s : ℕ) → s < 64 → slice_index near s ≡ near_of setting journal s
 

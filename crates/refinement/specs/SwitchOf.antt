@@ -14,7 +14,8 @@ use Rattle.update_machine.specs.Setting.{Setting}
 use Rattle.update_machine.specs.Versions.{greatest_number, holds_version, stamp_of, tables_at}
 use Rattle.update_machine.specs.Links.{serves}
 
--- the version up to which a body tells the switch to drop tables: the greatest of its boot is kept
+-- the version up to which a body tells the switch to drop tables: the greatest of the switch's
+-- boot is kept
 abbrev pub collect_in : Body → Option ℕ
 collect_in (Collect boot version) = Some version
 collect_in _ = None
@@ -29,12 +30,12 @@ abbrev pub tables_begun : Setting → List Item → ℕ → List Tables
 tables_begun setting journal s =
     if is_in_first_boot journal s then tables_at setting journal 1 s ∷ [] else []
 
--- one more, where there is none of its version
+-- one more, if there is none of its version
 abbrev pub with_tables : List Tables → Tables → List Tables
 with_tables all tables =
     if list_any (λ other. other.version == tables.version) all then all else all ++ tables ∷ []
 
--- the tables of the versions that the switch holds, in the order in which they came
+-- the tables of the versions that the switch has, in the order in which they came
 abbrev pub tables_kept : Setting → List Item → ℕ → List Tables
 tables_kept setting journal s =
     filter (λ tables. holds_version journal s tables.version)

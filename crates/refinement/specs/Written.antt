@@ -17,7 +17,7 @@ item_of journal (Current version) = item.Current version
 item_of journal (Retired version) = item.Retired version
 item_of journal (Post message) = item.Sent (next_message journal) message
 
--- what the acts write behind the journal, one after another
+-- what the acts write after the journal, one after another
 abbrev pub written_items : List Item → List Act → List Item
 written_items journal [] = []
 written_items journal (act ∷ acts) =
@@ -28,8 +28,8 @@ abbrev pub acts_of_resend : Setting → List Item → ℕ → ControllerValue �
 acts_of_resend setting journal s controller =
     map Post (resent_by_switch setting journal s) ++ resend_acts controller s
 
--- the items that stand behind the journal are these first ones and then what the acts write, and
--- the controller is afterwards as the longer journal says
+-- the items after the journal are these first ones and then what the acts write, and the
+-- controller is then as the longer journal says
 pub record AreWritten (setting : Setting) (journal first : List Item) (acts : List Act)
     (new : ControllerValue) (items : List Item) : Type 0 where
   pub same : items ≡ first ++ written_items (journal ++ first) acts

@@ -1,11 +1,11 @@
-//! What ties the code to the definitions: what each kind of step makes of all that a world holds.
+//! What ties the code to the definitions: what each kind of step does to all that a world has.
 //!
 //! Its switches, the packets on their way, the messages, the controller and the links are what the
-//! journal says (`RefineJournal`), and so they are behind the items of the step. What each call of
-//! a switch makes of the journal, and that it may be made; the acts of the controller as items one
-//! after another; what a switch answers to a packet as those of its step; that each message that is
-//! sent has a short spelling, and that so many messages have room. No code: each function stands
-//! for the law that it ensures.
+//! journal says (`RefineJournal`); after the items of the step they are so again. The laws say
+//! what each call of a switch adds to the journal, and that it may be made; they give the acts of
+//! the controller as items one after another, and what a switch returns for a packet as the items
+//! of its step; they say that each message that is sent has a short encoding, and that there is
+//! room for this many messages. No code: each function is the law that it ensures.
 #![tactic(auto)]
 
 mod switch_laws;

@@ -1,9 +1,9 @@
 //! The laws.
 ghost use Rattle.refinement.specs.Exports.{RequirementsHold, CallsRefine, HearingRefines, KnowledgeRefines, LivesRefine, LinksRefine};
 
-/// Items that don't concern a switch leave its record. In a step that does nothing to the switch
-/// itself, whatever happens to links and to other switches, its record changes by its next advert
-/// where its usable links changed, and not at all otherwise.
+/// Items that don't concern a switch don't change its record. In a step that does nothing to the
+/// switch itself, whatever happens to links and to other switches, its record changes by its next
+/// advert if its usable links changed, and not at all otherwise.
 pub fn links_change_switches()
     ensures { LinksRefine }
 {}
@@ -14,14 +14,14 @@ pub fn messages_are_heard()
     ensures { HearingRefines }
 {}
 
-/// A switch that goes down and one that boots have forgotten what they learnt; a timeout takes one
-/// entry out of the cache.
+/// A switch that goes down and one that boots have forgotten what they learnt; a timeout removes
+/// one entry from the cache.
 pub fn switches_forget()
     ensures { LivesRefine }
 {}
 
 /// The calls of a switch are counted: one for a packet that comes in, and one or two for a packet
-/// that stands there and goes on.
+/// that is there and moves on.
 pub fn calls_are_counted()
     ensures { CallsRefine }
 {}
@@ -32,7 +32,8 @@ pub fn switches_know()
     ensures { KnowledgeRefines }
 {}
 
-/// What each call asks of its switch, the laws of versions, tables, boots and adverts give.
+/// What each call requires of its switch follows from the laws of versions, tables, boots and
+/// adverts.
 pub fn calls_may_be_made()
     ensures { RequirementsHold }
 {}

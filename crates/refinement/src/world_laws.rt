@@ -15,14 +15,14 @@ ghost use Rattle.update_machine.specs.Exports.{HaveCauses, IsReached, IsSetting,
 ghost use Rattle.control_laws.specs.Exports.{BodiesNameThere, HasItemCause, asks_controller};
 ghost use Rattle.refinement.specs.Exports.{AreMarksOf, AreSpelled, AreWritten, BagsRefine, EntriesRefine, HopsRefine, IsControllerOf, IsPlanOfNext, plan_to_keep, acts_of_resend, written_items};
 
-/// A controller begins as a journal without items says, where its plan is the first version's.
+/// A controller begins as a journal without items says, if its plan is the first version's.
 pub fn controllers_begin()
     ensures { (setting : Setting) (plan : PlanValue) → plan ≡ (plan_to_keep setting [] 1).plan
         → IsControllerOf setting [] (first_controller (length setting.net.switches) plan) }
 {}
 
-/// The submission of the next version's plan writes what an update writes; where the marks refuse
-/// it, the code that the journal has of that refusal. The newest policy, to which a change is
+/// The submission of the next version's plan writes what an update writes; if the marks refuse it,
+/// the code that the journal has for that refusal. The newest policy, to which a change is
 /// applied, is that of the journal's newest version.
 pub fn controllers_submit()
     ensures taken { (setting : Setting) (before : List Item) (row file : ℕ)
@@ -53,8 +53,8 @@ pub fn controllers_submit()
         → newest_policy controller ≡ policy_in setting before (version_count before) }
 {}
 
-/// A message that is delivered to the controller writes what its delivery writes, whatever it says.
-/// What it names is known, on a network that is asked for steps of its own alone.
+/// A message that is delivered to the controller writes what its delivery writes, whatever it
+/// says. What it names is known, on a network that takes only steps that it may take.
 pub fn controllers_hear()
     ensures items { (setting : Setting) (before : List Item) (row number : ℕ) (body : Body)
         (old new : ControllerValue)
@@ -81,8 +81,8 @@ pub fn controllers_confirm()
         (piece setting before row (Confirm s)) }
 {}
 
-/// What a controller sends again is what the journal says that it sends again. A resend writes that
-/// behind what the switch itself sends again, or that nothing happens where both send nothing.
+/// What a controller sends again is what the journal says that it sends again. A resend writes
+/// that after what the switch itself sends again, or that nothing happens if both send nothing.
 pub fn controllers_resend()
     ensures messages { (setting : Setting) (journal : List Item) (s : ℕ)
         (controller : ControllerValue) → HaveCauses (HasItemCause setting) [] journal
@@ -103,8 +103,8 @@ pub fn controllers_resend()
         (piece setting before row (Resend s)) }
 {}
 
-/// Items that don't concern the controller leave its marks and its plans, and so do the steps by
-/// which it hears nothing and is told to do nothing.
+/// Items that don't concern the controller don't change its marks and its plans, nor do the steps
+/// by which it hears nothing and is asked to do nothing.
 pub fn others_leave_controllers()
     ensures items { (setting : Setting) (before items : List Item) (controller : ControllerValue)
         → HaveCauses (HasItemCause setting) [] before
@@ -117,7 +117,7 @@ pub fn others_leave_controllers()
         → IsControllerOf setting (before ++ piece setting before row step) controller }
 {}
 
-/// Acts of several parts write one part behind another, and messages write that they are sent.
+/// Acts of several parts write one part after another, and messages write that they are sent.
 pub fn acts_write_in_turn()
     ensures parts { (journal : List Item) (first later : List Act)
         → written_items journal (first ++ later)
@@ -127,16 +127,16 @@ pub fn acts_write_in_turn()
         → written_items journal (map Post messages) ≡ send_items journal messages }
 {}
 
-/// A packet comes in at a switch that is as the journal says: the switch may be asked, and its
-/// answer is what the step writes. The packet is then where the answer leaves it, and no other
-/// packet moves.
+/// A packet comes in at a switch that is as the journal says: the call may be made, and its result
+/// is what the step writes. The packet is then where the result leaves it, and no other packet
+/// moves.
 pub fn packets_come_in()
     ensures { EntriesRefine }
 {}
 
-/// A packet on its way goes on from where it stands, or is at the end of its route: the switch may
-/// be asked there, and its answers are what the step writes. The packet is then where they leave
-/// it, and no other packet moves.
+/// A packet on its way moves on from where it is, or is at the end of its route: the calls of its
+/// switch may be made, and their results are what the step writes. The packet is then where they
+/// leave it, and no other packet moves.
 pub fn packets_move_on()
     ensures { HopsRefine }
 {}
@@ -147,8 +147,8 @@ pub fn messages_are_kept()
     ensures { BagsRefine }
 {}
 
-/// Each message that was sent in a network names switches below 64 and carries short lists, and its
-/// receiver suits its body: so it has a spelling, which is short enough for frames.
+/// Each message that was sent in a network names switches below 64 and carries short lists, and
+/// its receiver suits its body: so it has an encoding, which is short enough for frames.
 pub fn messages_have_spellings()
     ensures { (setting : Setting) (journal : List Item) → IsSetting setting
         → IsReached setting journal → AreSpelled journal }

@@ -1,4 +1,4 @@
--- The plan that is in force behind a journal: that of the version that is current.
+-- The plan that is in force after a journal: that of the version that is current.
 use Rattle.std.specs.Prelude.{◌≡◌, List}
 use Rattle.controller.specs.Plan.{PlanValue}
 use Rattle.journal.specs.declared.item.Item.{Item}

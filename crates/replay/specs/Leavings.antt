@@ -18,20 +18,20 @@ left_by _ = []
 abbrev pub left_in : List Item → PortLeavings
 left_in items = flat_map left_by items
 
--- where the old board is the one behind some leavings, the new one is the one behind these and more
+-- if the old board is the one after some leavings, the new one is the one after these and more
 abbrev pub StayOn : PortLeavings → BoardValue Seen → BoardValue Seen → Type 0
 StayOn more old new =
     (ports : ℕ) (left : PortLeavings) (meters : List Seen) → old ≡ board_after ports left meters
     → new ≡ board_after ports (left ++ more) meters
 
--- the new board is the one behind what left between the one journal and the other, whatever the
--- meters of the old one noted before
+-- the new board is the one after what left between the one journal and the other, whatever the
+-- meters of the old one recorded before
 pub record KeepUp (before after : List Item) (old new : BoardValue Seen) : Type 0 where
   pub more : PortLeavings
   pub left : left_in after ≡ left_in before ++ more
   pub stay : StayOn more old new
 
--- the new board keeps up with the longer journal, but for a part at its end
+-- the new board keeps up with the longer journal, except for a part at its end
 pub record KeepUpWithin (before after : List Item) (old new : BoardValue Seen) : Type 0 where
   pub whole : List Item
   pub written : List Item

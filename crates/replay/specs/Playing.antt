@@ -1,4 +1,4 @@
--- What a play makes of a journal, event by event.
+-- What a play adds to a journal, event by event.
 use Rattle.std.specs.Prelude.{⊤, ℕ, ◌≡◌, Bool, true, false, Option, Some, None, Result, Err, List, [], ◌∷◌, ◌++◌}
 use Rattle.controller.specs.declared.plan_error.PlanError.{PlanError}
 use Rattle.controller.specs.declared.plan_error.PlanError.TheVariants as why
@@ -16,7 +16,7 @@ use Rattle.replay.specs.declared.error.ReplayError.{ReplayError}
 use Rattle.policy_rules.specs.Hosted.{NoPlan}
 use Rattle.replay.specs.declared.error.ReplayError.TheVariants as replayed
 
--- the step that the event asks for next behind this journal, where it began or has yet to
+-- the step that the event asks for next after this journal, whether it has begun or not
 abbrev pub next_step : Event → Bool → List Item → Option Step
 next_step (One step) false journal = Some step
 next_step (One step) true journal = None
@@ -28,7 +28,7 @@ abbrev pub brought_in : Event → ℕ
 brought_in (One step) = comes_in step
 brought_in _ = 0
 
--- behind this journal, the event of the row took all its steps, each of which began with room
+-- after this journal, the event of the row took all its steps, each of which began with room
 pub record Happens (setting : Setting) (row : ℕ) (event : Event) (before after : List Item)
     : Type 0 where
   pub steps : List StepOfRow
@@ -36,8 +36,8 @@ pub record Happens (setting : Setting) (row : ℕ) (event : Event) (before after
   pub room : HaveRoom setting before steps
   pub written : after ≡ after_steps setting before steps
 
--- behind this journal, the event of the row took the steps that began with room; there is a next
--- one, which isn't taken, since the journal is full
+-- after this journal, the event of the row took the steps that began with room; there is a next
+-- one, which isn't taken, because the journal is full
 pub record StopsWithin (setting : Setting) (row : ℕ) (event : Event) (before after : List Item)
     : Type 0 where
   pub steps : List StepOfRow
@@ -48,7 +48,8 @@ pub record StopsWithin (setting : Setting) (row : ℕ) (event : Event) (before a
   pub written : after ≡ after_steps setting before steps
   pub full : IsFull after
 
--- behind this journal, the event of the row took first steps, and items of the last one may lack
+-- after this journal, the event of the row took its first steps, and items of the last one may be
+-- missing
 pub record BeginsEvent (setting : Setting) (row : ℕ) (event : Event) (before after : List Item)
     : Type 0 where
   pub steps : List StepOfRow
@@ -60,7 +61,7 @@ pub record BeginsEvent (setting : Setting) (row : ℕ) (event : Event) (before a
 
 -- ---- refusals
 
--- want of memory is no refusal
+-- out of memory is no refusal
 abbrev pub error_of : PlanError → ReplayError
 error_of why.NoMemory = replayed.NoMemory
 error_of error = replayed.Plan error

@@ -13,15 +13,14 @@ use packet_laws::{deliveries_rise, drains_end};
 use steps::{Event, Step};
 use world::{StepError, World};
 
-/// Takes all steps of an event of this row: the one that it names; for a drain a hop of the least
-/// packet that travels, until none travels; for a flush a delivery of the least message that waits,
-/// until none waits, those that are sent meanwhile among them. Behind each step the meters note the
-/// packets that left in it.
+/// Takes all steps of an event of this row: the one that it names; for a drain, hops of the packet
+/// with the least number that travels, until none travels; for a flush, deliveries of the message
+/// with the least number that waits, until none waits, those that are sent meanwhile included.
+/// After each step the meters record the packets that left in it.
 ///
-/// # Errors
-/// `Full` where a step would begin behind a full journal, which has the steps before it, and the
-/// world can go on; otherwise only out of memory, and the journal has first steps of the event and
-/// a part of the next one.
+/// # Errors `Full` if a step would begin with a full journal; then the journal has the steps
+/// before it, and the world can go on. Otherwise only out of memory; then the journal has the
+/// first steps of the event and a part of the next one.
 pub fn take_steps<M: Meter>(
     world: &mut World,
     board: &mut Board<M>,
@@ -63,7 +62,7 @@ pub fn take_steps<M: Meter>(
     Ok(())
 }
 
-// The step that the event asks for next, where it began or has yet to.
+// The step that the event asks for next, whether it has begun or not.
 fn next_of(world: &World, event: &Event, is_begun: bool) -> Option<Step>
     requires { world.now.is_spent ≡ false }
     ensures { result ≡ next_step event.now is_begun world.now.journal }

@@ -1,4 +1,4 @@
-//! The plan that is in force behind a play.
+//! The plan that is in force after a play.
 ghost use Rattle.std.specs.Prelude.{◌≡◌, false, IfOk};
 ghost use Rattle.replay.specs.InForce.{IsPlanInForce};
 ghost use Rattle.world.specs.State.{setting_at};

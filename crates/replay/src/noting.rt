@@ -1,4 +1,4 @@
-//! Packets that left are noted by the meters of their ports.
+//! Packets that left are recorded by the meters of their ports.
 ghost use Rattle.std.specs.Prelude.{OnOk};
 ghost use Rattle.meters.specs.Gone.{seen_board};
 ghost use Rattle.replay.specs.Leavings.{StayOn, left_in};
@@ -7,10 +7,9 @@ use journal::Item;
 use meters::{Board, Meter};
 use std::alloc::AllocError;
 
-/// Lets the meters note each packet that left in these items, in their order.
+/// Lets the meters record each packet that left in these items, in their order.
 ///
-/// # Errors
-/// Want of memory of the board.
+/// # Errors Only out of memory, of the board.
 pub fn note_left<M: Meter>(board: &mut Board<M>, items: &[Item]) -> Result<(), AllocError>
     ensures { OnOk result
         (StayOn (left_in items.now) (seen_board M.seen board.old) (seen_board M.seen board.new)) }

@@ -28,7 +28,7 @@ use std::alloc::{AllocError, Global};
 use steps::Event;
 use world::{Full, World};
 
-/// What a play leaves.
+/// The result of a play.
 #[derive(Drop)]
 pub struct Played<M> {
     pub journal: Journal,
@@ -36,21 +36,21 @@ pub struct Played<M> {
     pub meters: Vec<M>,
     /// The flow records of the meters that left, as each left.
     pub gone: Flows,
-    /// The plan of the version that is current behind the journal.
+    /// The plan of the version that is current after the journal.
     pub plan: Plan,
-    /// The row of the step that would have begun behind a full journal, where the play ended so.
+    /// The row of the step that would have begun with a full journal, if the play stopped full.
     pub full: Option<u32>,
 }
 
-/// Plays the events on the network, on which the policy of the first file is in force as version 1;
-/// a file behind it has a policy too, or a change of the newest one. Event k, from 1, is row k of
-/// the schedule. A drain is a hop of the least packet that travels, until none
-/// does; a flush is a delivery of the least message that waits, until none does. Where a step would
-/// begin behind a full journal, the play ends before it. Behind each step the meters note the
-/// packets that left; those of no port of the network are dropped, and those that leave.
+/// Plays the events on the network, on which the policy of the first file is in force as version
+/// 1; each later file has a policy too, or a change of the newest one. Event k, from 1, is row k
+/// of the schedule. A drain is hops of the packet with the least number that travels, until none
+/// does; a flush is deliveries of the message with the least number that waits, until none does.
+/// If a step would begin with a full journal, the play ends before it. After each step the meters
+/// record the packets that left; meters of no port of the network are dropped, and so are those
+/// that leave.
 ///
-/// # Errors
-/// `Plan` exactly where the first policy has no plan on the network, unless memory runs out.
+/// # Errors `Plan` exactly if the first policy has no plan on the network, unless memory runs out.
 pub fn replay<M: Meter>(
     alloc: Global,
     net: &Net,
@@ -132,7 +132,7 @@ pub fn play<M: Meter>(
     Ok(ended(world, board, plan, None))
 }
 
-/// What the play leaves that ended so.
+/// The result of a play that ended like this.
 fn ended<M: Meter>(world: World, board: Board<M>, plan: Plan, full: Option<u32>) -> Played<M>
     ensures journal { result.journal ≡ world.journal }
     ensures meters { result.meters.items ≡ board.meters }

@@ -16,7 +16,7 @@ pub fn owned(alloc: Global, args: &[&str]) -> Result<Vec<String>, AllocError> {
     Ok(all)
 }
 
-/// A run, the journal of what it played, and how many of its meters are still there.
+/// A run, the journal of what it played, and how many of its meters stayed.
 pub type Metered = (Ran, Journal, usize);
 
 /// A run with these arguments over this shelf and these sinks, with these meters.
@@ -74,7 +74,7 @@ pub fn recorded_over(
     Ok((ran, journal.items().len()))
 }
 
-/// A shelf of files with these names and texts; where a number isn't 0, the read of that number
+/// A shelf of files with these names and texts; if a number isn't 0, the read of that number
 /// fails.
 pub fn shelf_with_fault(
     alloc: Global,
@@ -103,18 +103,18 @@ pub fn calls(alloc: Global, number: u64) -> Result<Vec<u64>, AllocError> {
     Ok(all)
 }
 
-/// A sink that takes all.
+/// A sink that accepts everything.
 pub fn sink(alloc: Global) -> MemSink {
     MemSink::new(alloc, u64::MAX, Vec::new(alloc))
 }
 
-/// Whether the run ended so: with this status, this output and this line of errors.
+/// Whether the run ended with this status, this output and this line of errors.
 pub fn ended(ran: &Ran, status: u8, out: &str, line: &str) -> bool {
     let (number, written, told) = ran;
     *number == status && written.bytes() == out.as_bytes() && told.bytes() == line.as_bytes()
 }
 
-/// Whether there was memory for the files of a run, and it ended so.
+/// Whether there was memory for the files of a run, and it ended like this.
 pub fn ends(told: Result<Ran, AllocError>, status: u8, out: &str, line: &str) -> bool {
     match told {
         Ok(ran) => ended(&ran, status, out, line),

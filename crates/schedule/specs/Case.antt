@@ -25,16 +25,16 @@ use Rattle.steps.specs.declared.step.Step.TheVariants as step
 
 -- ---- draws
 
--- the state of the generator behind one draw
+-- the state of the generator after one draw
 unfoldable pub next_drawn : ℕ → ℕ
 next_drawn x = (x * 1103515245 + 12345) % 2147483648
 
--- the state behind so many draws
+-- the state after this many draws
 abbrev pub state_after : ℕ → ℕ → ℕ
 state_after zero x = x
 state_after (suc n) x = state_after n (next_drawn x)
 
--- the number below m that the draw gave which left this state
+-- the number below m of the draw that led to this state
 abbrev pub draw_below : ℕ → ℕ → ℕ
 draw_below m x = x / 65536 % m
 
@@ -71,7 +71,7 @@ load_net = record {
 abbrev pub address_of_bytes : ℕ → ℕ → ℕ → ℕ → ℕ
 address_of_bytes a b c d = a * 2 ^ 24 + b * 2 ^ 16 + c * 2 ^ 8 + d
 
--- one draw says whether a row drops, and if it doesn't a second one its port
+-- one draw says whether a row drops and, if it doesn't, a second one its port
 abbrev pub drop_draw : ℕ → ℕ
 drop_draw x = draw_below 4 (next_drawn x)
 
@@ -101,7 +101,7 @@ row_at priority x = record {
 abbrev pub row_ends : ℕ → ℕ
 row_ends x = action_ends (state_after 4 x)
 
--- so many rows, whose priorities are their places from 1, and the state behind them
+-- this many rows, whose priorities are their places from 1, and the state after them
 abbrev pub rows_drawn : ℕ → ℕ → List Row × ℕ
 rows_drawn zero x = ([], x)
 rows_drawn (suc k) x =
@@ -128,11 +128,11 @@ header_drawn x = header_of (record {
 abbrev pub packet_drawn : ℕ → Step
 packet_drawn x = step.Packet (draw_below 8 (next_drawn x)) (header_drawn (next_drawn x))
 
--- a packet at a switch, which then goes its way, and what was sent is delivered
+-- a packet at a switch, which is then drained, and what was sent is delivered
 abbrev pub group_at : ℕ → List Event
 group_at x = One (packet_drawn x) ∷ Drain ∷ Flush ∷ []
 
--- so many groups, and the state behind them
+-- this many groups, and the state after them
 abbrev pub groups_from : ℕ → ℕ → List Event × ℕ
 groups_from zero x = ([], x)
 groups_from (suc k) x =
@@ -150,7 +150,7 @@ pub record LoadCase : Type 0 where
   pub policies : List (List Row)
   pub events : List Event
 
--- two policies of n rows, and 4 n packets, with the changes behind the first half of them
+-- two policies of n rows, and 4 n packets, with the changes after the first half of them
 abbrev pub load_case : ℕ → LoadCase
 load_case n =
     let first = rows_drawn n n in
@@ -173,7 +173,7 @@ abbrev pub NamesPort : Net → Action → Type 0
 NamesPort net Drop = ⊤
 NamesPort net (Out port) = IsTrue (is_some (owner_of net.switches port))
 
--- the network is one, the policies name ports of it alone, and the events may happen on it
+-- the network is sound, the policies name only its ports, and the events may happen on it
 pub record IsPlayable (load : LoadCase) : Type 0 where
   pub net : IsNet load.net
   pub ports : All (All (λ row. NamesPort load.net row.action)) load.policies

@@ -30,7 +30,7 @@ kinds = kind.Packet ∷ kind.Hop ∷ kind.Lose ∷ kind.Deliver ∷ kind.Forget 
 unfoldable pub kind_of : List ℕ → Option Kind
 kind_of keyword = find (λ kind. bytes_eq (keyword_of kind) keyword) kinds
 
--- kinds and their keywords stand for each other
+-- kinds and their keywords correspond one to one
 pub record KindLaws : Type 0 where
   pub kind : (kind : Kind) → kind_of (keyword_of kind) ≡ Some kind
   pub keyword : (keyword : List ℕ) (kind : Kind) → kind_of keyword ≡ Some kind

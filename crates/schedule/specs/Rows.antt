@@ -1,5 +1,5 @@
--- The event that a row states, for a network and so many policy files: a keyword for its kind, and
--- the fields of that kind.
+-- The event that a row states, for a network and this many policy files: a keyword for its kind,
+-- and the fields of that kind.
 use Rattle.std.specs.Prelude.{ℕ, nat_le, option_map, ok_or, Result, Ok, Err, List, [], ◌∷◌, codes}
 use Rattle.five_tuple.specs.HeaderNumbers.{header_of}
 use Rattle.five_tuple.specs.Texts.{number_up_to, packet_fields_of}
@@ -53,7 +53,7 @@ header_read src dst sport dport proto =
 
 -- ---- rows
 
--- the event of a kind and of the fields behind it
+-- the event of a kind and of the fields after it
 abbrev pub event_with : Net → ℕ → Kind → List (List ℕ) → Result Event ScheduleRefusal
 event_with net files kind.Packet (switch ∷ src ∷ dst ∷ sport ∷ dport ∷ proto ∷ []) =
     with_value (switch_in net switch) (λ switch.

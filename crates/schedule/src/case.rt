@@ -20,8 +20,8 @@ pub struct Case {
     pub events: Vec<Event>,
 }
 
-/// The load case of this number, from 1 to 1,000. Its network is sound, its policies name ports of
-/// that network alone, and its events may happen on it.
+/// The load case of this number, from 1 to 1,000. Its network is sound, its policies name only
+/// ports of that network, and its events may happen on it.
 ///
 /// # Errors
 /// Only out of memory.

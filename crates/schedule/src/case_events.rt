@@ -6,7 +6,7 @@ use five_tuple::{Fields, Header};
 use std::alloc::{AllocError, Global};
 use steps::{Event, Step};
 
-/// The events of a case: so many packets, the changes, and so many packets again.
+/// The events of a case: this many packets, the changes, and as many packets again.
 ///
 /// # Errors
 /// Only out of memory.
@@ -25,7 +25,7 @@ pub fn events(alloc: Global, draws: &mut Draws, half: u32) -> Result<Vec<Event>,
     Ok(events)
 }
 
-// Adds so many packets, each of which goes its way before the next one comes in.
+// Adds this many packets, each of which ends before the next one comes in.
 #[tactic(auto, using(crate::proofs::LoadCases::groups_more))]
 fn push_groups(events: &mut Vec<Event>, draws: &mut Draws, count: u32) -> Result<(), AllocError>
     ensures { OnOk result (

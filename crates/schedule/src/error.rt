@@ -10,7 +10,7 @@ pub enum ScheduleRefusal {
     /// There is no first record, or it is not the heading.
     #[error("the heading is missing or another one")]
     Header = 1,
-    /// The row has another number of fields than its kind.
+    /// The row has another number of fields than its kind needs.
     #[error("the row has not as many fields as its kind")]
     Width = 2,
     /// The first field is no kind.

@@ -1,7 +1,7 @@
 ghost use Rattle.std.specs.Prelude.{◌≡◌, find, bytes_eq, IfSome, IsTrue};
 ghost use Rattle.schedule.specs.Kinds.{kind_of, keyword_of};
 
-/// The kinds of a schedule's rows, each named as the step or the event that it stands for.
+/// The kinds of a schedule's rows, each named as its step or event.
 #[derive(Clone, Copy, Debug, PartialEq, Eq)]
 pub enum Kind {
     Packet,

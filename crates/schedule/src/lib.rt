@@ -1,14 +1,14 @@
 //! Schedules as CSV text: a heading, and a record for each event. And the load cases.
 //!
-//! `read_schedule` promises the events that the text states for a network and so many policy files,
-//! or the text's first refusal and its row. In a row the kind is looked at first, then the number
-//! of fields, and then the fields from left to right. Which bytes make a record is what the crate
-//! `csv` defines.
+//! `read_schedule` promises the events that the text states for a network and this many policy
+//! files, or the text's first refusal and its row. In a row the kind is looked at first, then the
+//! number of fields, and then the fields from left to right. Which bytes make a record is what the
+//! crate `csv` defines.
 //!
-//! `load_case` gives exactly the network, the two policies and the events that the definition
+//! `load_case` returns exactly the network, the two policies and the events that the definition
 //! states for a number. The network is the same for each number; the policies and the packets are
-//! drawn from a linear congruential generator that starts at the number, so that a case is the same
-//! at each run.
+//! drawn from a linear congruential generator that starts at the number, so that a case is the
+//! same at each run.
 //!
 //! ```text
 //! let net = read_net(alloc, network)?;

@@ -14,7 +14,7 @@ use net_file::Net;
 use std::alloc::Global;
 use steps::{Event, MAX_EVENTS};
 
-/// The events that the text states for the network and so many policy files.
+/// The events that the text states for the network and this many policy files.
 ///
 /// The text's records are those of the crate `csv` with its presets, of any width: the heading
 /// `event,arguments`, and then one for each of at most 100,000 events. So a byte-order mark,

@@ -88,7 +88,7 @@ fn read_header(
     }
 }
 
-// The event of a kind alone.
+// The event of a kind without fields.
 fn read_keyword(net: &Net, files: u32, kind: Kind) -> Result<Event, ScheduleRefusal>
     ensures { result ≡ event_with net.now files kind [] }
 {
@@ -99,7 +99,7 @@ fn read_keyword(net: &Net, files: u32, kind: Kind) -> Result<Event, ScheduleRefu
     }
 }
 
-// The step of a kind and one field behind it.
+// The step of a kind and one field after it.
 fn read_one(net: &Net, files: u32, kind: Kind, text: &[u8]) -> Result<Event, ScheduleRefusal>
     requires { IsNet net.now }
     ensures { result ≡ event_with net.now files kind (text.now ∷ []) }
@@ -137,7 +137,7 @@ fn read_one(net: &Net, files: u32, kind: Kind, text: &[u8]) -> Result<Event, Sch
     Ok(Event::One(step))
 }
 
-// The step of a kind and two fields behind it.
+// The step of a kind and two fields after it.
 fn read_two(
     net: &Net,
     files: u32,
@@ -167,7 +167,7 @@ fn read_two(
     Ok(Event::One(step))
 }
 
-// The step of a kind and the six fields behind it.
+// The step of a kind and the six fields after it.
 #[tactic(auto, using(crate::proofs::EventFields::six_behind))]
 fn read_six(
     net: &Net,
@@ -193,7 +193,7 @@ fn read_six(
     Ok(Event::One(Step::Packet { switch, header }))
 }
 
-/// The event that the record states for the network and so many policy files.
+/// The event that the record states for the network and this many policy files.
 ///
 /// # Errors
 /// The first thing wrong: the kind, then the number of fields, then the fields from left to right.

@@ -1,10 +1,10 @@
--- Faults that are ordered beforehand, and counts of many calls.
+-- Faults that are planned beforehand, and counts of many calls.
 use Rattle.std.specs.Prelude.{ℕ, Bool, if◌then◌else◌, List, Contains, zero, suc}
 use Rattle.shelf.specs.Sink.{next_count}
 
--- Faults that were ordered beforehand: the numbers of the calls that are to fail, counted from 1,
--- how many calls there were, and how often a fault was counted. Both counts stand still at their
--- last value.
+-- Faults that were planned beforehand: the numbers of the calls that are to fail, counted from 1,
+-- how many calls there were, and how often a fault was counted. Both counts stop at their greatest
+-- value.
 pub record CallScript : Type 0 where
   pub failing : List ℕ
   pub calls : ℕ
@@ -26,7 +26,7 @@ after_call script fault = record {
   faults = if fault then next_count script.faults else script.faults;
 }
 
--- so many more, or the last value
+-- this many more, or the greatest value
 abbrev pub counted_up : ℕ → ℕ → ℕ
 counted_up zero n = n
 counted_up (suc many) n = next_count (counted_up many n)

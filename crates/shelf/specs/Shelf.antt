@@ -1,4 +1,4 @@
--- What a source of whole files holds, and what a read of it may answer.
+-- What is in a source of whole files, and what a read of it may return.
 use Rattle.std.specs.Prelude.{⊤, ◌≡◌, ◌<◌, ◌≤◌, ℕ, Bool, true, false, List, length, map, find, Option, Some, None, IsSomeAnd, Result, Ok, Err, string_bytes, String, Vec}
 use Rattle.std.specs.Global.{Global}
 use Rattle.std.specs.Option.{option_map}
@@ -11,24 +11,24 @@ use Rattle.shelf.specs.Scripts.{CallScript, counted_up}
 abbrev pub Files : Type 0
 Files = List (List ℕ × List ℕ)
 
--- what contracts see of each shelf: its files, where they are known; how often it failed; and how
--- often it was read. Both counts stand still at their last value.
+-- what contracts see of each shelf: its files, if they are known; how often it failed; and how
+-- often it was read. Both counts stop at their greatest value.
 pub record ShelfState : Type 0 where
   pub files : Option Files
   pub faults : ℕ
   pub reads : ℕ
 
--- there were at most so many reads
+-- there were at most this many reads
 abbrev pub ReadsAtMost : ℕ → ℕ → ℕ → Type 0
 ReadsAtMost most before now = (n : ℕ) × (n ≤ most) × (now ≡ counted_up n before)
 
--- what at most so many reads leave of a shelf: the same files, and no lower count of faults
+-- a shelf after at most this many reads: the same files, and no lower count of faults
 pub record IsAfterReads (most : ℕ) (old new : ShelfState) : Type 0 where
   pub same_files : new.files ≡ old.files
   pub faults : old.faults ≤ new.faults
   pub reads : ReadsAtMost most old.reads new.reads
 
--- the files that are held in memory
+-- the files in memory
 abbrev pub files_of : List (String Global × Vec ℕ Global) → Files
 files_of files = map (λ file. (string_bytes file.0, file.1.items)) files
 
@@ -36,7 +36,7 @@ files_of files = map (λ file. (string_bytes file.0, file.1.items)) files
 abbrev pub file_named : Files → List ℕ → Option (List ℕ)
 file_named files name = option_map (λ file. file.1) (find (λ file. bytes_eq file.0 name) files)
 
--- the file of this name has this content, of at most so many bytes
+-- the file of this name has this content, of at most this many bytes
 abbrev pub HasFile : Files → List ℕ → ℕ → List ℕ → Type 0
 HasFile files name limit content =
     (file_named files name ≡ Some content) × (length content ≤ limit)
@@ -50,18 +50,18 @@ abbrev pub HasLongerFile : Files → List ℕ → ℕ → Type 0
 HasLongerFile files name limit =
     IsSomeAnd (file_named files name) (λ content. limit < length content)
 
--- the answer is neither a fault nor want of memory
+-- the result is neither a fault nor out of memory
 abbrev pub IsNoFault : {T : Type 0} → Result T ShelfError → Type 0
 IsNoFault (Err Failed) = ⊥
 IsNoFault (Err NoMemory) = ⊥
 IsNoFault _ = ⊤
 
--- the answer is a fault
+-- the result is a fault
 abbrev pub is_read_fault : {T : Type 0} → Result T ShelfError → Bool
 is_read_fault (Err Failed) = true
 is_read_fault _ = false
 
--- the answer is an error, and not want of memory
+-- the result is an error other than out of memory
 abbrev pub is_refusal : {T : Type 0} → Result T ShelfError → Bool
 is_refusal (Ok content) = false
 is_refusal (Err NoMemory) = false

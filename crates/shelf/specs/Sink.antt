@@ -1,21 +1,21 @@
 -- First tier. What contracts see of a sink of bytes, and counts of faults: numbers of 64 bits that
--- never fall and stand still at their last value.
+-- never fall and stop at their greatest value.
 use Rattle.std.specs.Prelude.{◌≡◌, ◌<◌, ℕ, List, ◌++◌, length, take, Option, Some, None, ◌≤◌, ◌+◌, ◌-◌, ◌^◌, min}
 
--- one more, or the last value
+-- one more, or the greatest value
 abbrev pub next_count : ℕ → ℕ
 next_count n = min (n + 1) (2 ^ 64 - 1)
 
--- the count rose, or stands at its last value
+-- the count rose, or is at its greatest value
 abbrev pub Rose : ℕ → ℕ → Type 0
 Rose before now = next_count before ≤ now
 
--- what contracts see of each sink: its bytes, where they are known, and how often it failed
+-- what contracts see of each sink: its bytes, if they are known, and how often it failed
 pub record SinkState : Type 0 where
   pub bytes : Option (List ℕ)
   pub faults : ℕ
 
--- what is known of a sink once it gained a piece: where its bytes are known, these and the piece
+-- what is known of a sink once it gained a piece: if its bytes are known, these and the piece
 abbrev pub with_gained : Option (List ℕ) → List ℕ → Option (List ℕ)
 with_gained None piece = None
 with_gained (Some bytes) piece = Some (bytes ++ piece)

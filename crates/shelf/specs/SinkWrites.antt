@@ -1,4 +1,4 @@
--- What a write to a sink of bytes may answer, and sinks whose faults are ordered beforehand.
+-- What a write to a sink of bytes may return, and sinks whose faults are planned beforehand.
 use Rattle.std.specs.Prelude.{⊤, ◌≡◌, ◌≢◌, ◌≤◌, ℕ, Bool, IsTrue, true, false, ◌&&◌, ◌==◌, not, List, ◌++◌, length, take, drop, Option, Some, None, Result, Ok, Err, OnOk, OnErr, IsErrOf}
 use Rattle.std.proofs.Common.{refl, ap, append_assoc}
 use Rattle.shelf.specs.declared.output.SinkError.{SinkError}
@@ -6,7 +6,7 @@ use Rattle.shelf.specs.declared.output.SinkError.TheVariants.{Failed, NoMemory}
 use Rattle.shelf.specs.Scripts.{CallScript}
 use Rattle.shelf.specs.Sink.{SinkState, with_gained, GainedPart, Rose}
 
--- two gains are one of the bytes together
+-- two gains are one gain of the bytes together
 pub gained-gained : (before : Option (List ℕ)) (first next : List ℕ)
     → with_gained (with_gained before first) next ≡ with_gained before (first ++ next)
 gained-gained None first next = refl
@@ -20,9 +20,9 @@ pub record IsGathered (text : List ℕ) (before now : Option (List ℕ)) (waitin
   pub gained : now ≡ with_gained before (take written text)
   pub waits : waiting ≡ drop written text
 
--- what a write of these bytes leaves of a sink: all of them where it succeeds, and else a part; and
--- each error has its cause. No fault is counted unless it failed, so a write is not tried again
--- behind a fault
+-- a sink after a write of these bytes: it gained all of them if the write succeeded, otherwise a
+-- part; and each error has its cause. No fault is counted unless it failed, so a write is not
+-- tried again after a fault
 pub record IsAfterWrite (bytes : List ℕ) (takes_memory : Bool) (old new : SinkState)
     (result : Result (⊤) SinkError) : Type 0 where
   pub whole : OnOk result (new.bytes ≡ with_gained old.bytes bytes)
@@ -32,13 +32,13 @@ pub record IsAfterWrite (bytes : List ℕ) (takes_memory : Bool) (old new : Sink
   pub failed : IsErrOf result Failed → Rose old.faults new.faults
   pub no_memory : IsErrOf result NoMemory → IsTrue takes_memory
 
--- the answer is a fault, or an Ok of nothing for a piece that has bytes
+-- the result is a fault, or an Ok of nothing for a piece that has bytes
 abbrev pub is_write_fault : List ℕ → Result ℕ SinkError → Bool
 is_write_fault piece (Ok taken) = (taken == 0) && not (length piece == 0)
 is_write_fault piece (Err Failed) = true
 is_write_fault piece (Err NoMemory) = false
 
--- bytes, the most that one call takes, and the calls that are to fail
+-- bytes, the most that one call accepts, and the calls that are to fail
 pub record ScriptedBytes : Type 0 where
   pub bytes : List ℕ
   pub most : ℕ

@@ -1,4 +1,4 @@
--- What a read of a reader of std answers, and what a write to a writer of std leaves.
+-- What a read of a reader of std returns, and a writer of std after a write to it.
 use Rattle.std.specs.Prelude.{⊤, ◌≡◌, ℕ, ◌<◌, ◌≤◌, List, ◌++◌, length, take, Option, IfSome, Result, Ok, Err, Vec}
 use Rattle.std.specs.Global.{Global}
 use Rattle.std.specs.Io.KnownBytes.{Appends}
@@ -10,25 +10,25 @@ use Rattle.shelf.specs.Sink.{next_count}
 use Rattle.shelf.specs.declared.source.ShelfError.{ShelfError}
 use Rattle.shelf.specs.declared.source.ShelfError.TheVariants.{Missing, NoMemory, TooLong}
 
--- why a call of the system failed, by the kind of its error: want of memory, or else this cause
+-- why a call of the system failed, by the kind of its error: out of memory, otherwise this cause
 abbrev pub cause_by_kind : ErrorKind → ShelfError → ShelfError
 cause_by_kind OutOfMemory other = NoMemory
 cause_by_kind kind other = other
 
--- what contracts see of each reader: the bytes that it has left, where they are known, and how often
+-- what contracts see of each reader: the bytes that it has left, if they are known, and how often
 -- it failed
 pub record ReaderState : Type 0 where
   pub left : Option (List ℕ)
   pub faults : ℕ
 
--- the content grew by all that a reader had left, where that is known, or by the first so many
--- bytes of it; a read that failed or found no memory says nothing of it
+-- the content grew by all that a reader had left, if that is known, or by this many first bytes of
+-- it; a read that failed or ran out of memory says nothing about it
 abbrev pub HasFront : {E : Type 0} → Option (List ℕ) → ℕ → (before now : List ℕ) → Result (⊤) E → Type 0
 HasFront known most before now (Ok done) =
     IfSome known (λ left. now ≡ before ++ take most left)
 HasFront known most before now (Err error) = ⊤
 
--- the count of faults after an error: each is one, unless its kind is want of memory
+-- the count of faults after an error: each is one, unless its kind is out of memory
 abbrev pub fault_of_kind : ErrorKind → ℕ → ℕ
 fault_of_kind OutOfMemory faults = faults
 fault_of_kind kind faults = next_count faults
@@ -38,16 +38,16 @@ abbrev pub counted_fault : {T : Type 0} → ℕ → Result T Error → ℕ
 counted_fault faults (Ok done) = faults
 counted_fault faults (Err error) = fault_of_kind (error_kind error) faults
 
--- what a reader had left, where that is known, is what was read of it; or it is longer than this,
--- where that is the answer. A read that failed or found no memory says nothing of it
+-- what a reader had left, if that is known, is what was read; or it is longer than this, if that
+-- is the result. A read that failed or ran out of memory says nothing about it
 abbrev pub IsReadOf : Option (List ℕ) → ℕ → Result (Vec ℕ Global) ShelfError → Type 0
 IsReadOf known limit (Ok content) = IfSome known (λ left. content.items ≡ left)
 IsReadOf known limit (Err TooLong) = IfSome known (λ left. limit < length left)
 IsReadOf known limit (Err Missing) = ⊥
 IsReadOf known limit (Err cause) = ⊤
 
--- the bytes that a writer holds, where they are known, grew by the first of a piece: by so many as
--- an Ok says, and at an error by some or by none
+-- the bytes that a writer has, if they are known, grew by the first of a piece: by as many as an
+-- Ok says, and on an error by some or by none
 abbrev pub GainsFront : {E : Type 0} → List ℕ → Result ℕ E → (before now : Option (List ℕ)) → Type 0
 GainsFront piece (Ok taken) before now = Appends before now (take taken piece)
 GainsFront piece (Err error) before now =

@@ -6,11 +6,11 @@ ghost use Rattle.shelf.specs.SinkWrites.{IsAfterWrite, IsGathered};
 use crate::output::{Sink, SinkError, write_whole};
 use std::marker::Model;
 
-/// How many bytes a block holds.
+/// How many bytes a block has at most.
 const BLOCK_BYTES: usize = 65_536;
 
-/// The bytes of a text that wait to be written: pieces that are written together, so that a sink of
-/// the system is called once for many of them. It takes no memory. Contracts see these bytes.
+/// The bytes of a text that wait to be written: pieces that are written together, so that a sink
+/// of the system is called once for many of them. It allocates nothing. Contracts see these bytes.
 #[derive(Drop)]
 pub struct Block {
     bytes: [u8; BLOCK_BYTES],
@@ -28,7 +28,7 @@ impl Model for Block {
 }
 
 impl Block {
-    /// A block in which nothing waits.
+    /// An empty block.
     pub fn new() -> Block
         ensures { result ≡ [] }
     {
@@ -55,8 +55,8 @@ impl Block {
         self.len = end;
     }
 
-    /// Adds the next piece of a text. Where there is no room for it, what waits is written before;
-    /// at an error the sink gained a part of the text, and the block is as it was.
+    /// Adds the next piece of a text. If there is no room for it, what waits is written first; on
+    /// an error the sink has gained a part of the text, and the block is unchanged.
     pub fn push<K: Sink>(&mut self, piece: &[u8], sink: &mut K) -> Result<(), SinkError>
         requires { length piece.now ≤ 65536 }
         ensures gathered { (text : List ℕ) (before : Option (List ℕ))

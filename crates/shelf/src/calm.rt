@@ -7,7 +7,7 @@ use crate::source::{HeldFiles, Shelf, ShelfError};
 use std::alloc::Global;
 use std::marker::Model;
 
-/// Files in memory that can always be read, where there is memory for a copy.
+/// Files in memory that can always be read, if there is memory for a copy.
 #[derive(Drop)]
 pub struct CalmShelf {
     files: HeldFiles,
@@ -55,7 +55,7 @@ impl Shelf for CalmShelf {
     }
 }
 
-/// Bytes in memory, which can always be added to, where there is memory.
+/// Bytes in memory, which can always be added to, if there is memory.
 #[derive(Drop)]
 pub struct CalmSink(Vec<u8>);
 

@@ -1,16 +1,16 @@
 //! The edge of a program: a source of whole files, and a sink of bytes.
 //!
-//! Both are traits, so that what stands above runs over real files and streams as over files and
-//! bytes in memory. The content of a shelf or a sink is known to contracts where its kind allows
-//! it; faults, and the reads of a shelf, are counted by each kind. What is promised is exact where
-//! the content is known: a read returns the named file or says why not, and a write appends what it
-//! took. Where it isn't known, an error other than out of memory comes only where the count of
-//! faults rose. No shelf returns more bytes than it was asked for.
+//! Both are traits, so that the crates above run over real files and streams as over files and
+//! bytes in memory. Contracts know the content of a shelf or a sink if its kind allows it; each
+//! kind counts faults and the reads of a shelf. The promises are exact if the content is known: a
+//! read returns the named file or says why not, and a write appends what it accepted. If it isn't
+//! known, an error other than out of memory occurs only if the count of faults rose. No shelf
+//! returns more bytes than it was asked for.
 //!
 //! A `Block` gathers the pieces of a text in a fixed array, so that they are written together.
 //!
-//! The kinds in memory can be ordered to fail at given calls, or never fail. The kinds over the
-//! system are a few lines that are trusted.
+//! The kinds in memory can be made to fail at given calls, or never fail. The kinds over the
+//! system are a few trusted lines.
 #![tactic(auto)]
 
 mod block;

@@ -26,15 +26,15 @@ impl From<AllocError> for SinkError {
     }
 }
 
-/// A sink of bytes, which go to its end.
+/// A sink of bytes, which are added at its end.
 pub trait Sink {
-    /// What contracts see: the bytes, where they are known, and the count of faults.
+    /// What contracts see: the bytes, if they are known, and the count of faults.
     ghost state: { Self → SinkState };
 
-    /// Whether writes to this kind of sink may take memory.
+    /// Whether writes to this kind of sink may allocate.
     ghost takes_memory: { Bool };
 
-    /// Takes some bytes of the piece from its front, and says how many.
+    /// Accepts some bytes from the front of the piece, and returns how many.
     fn write(&mut self, piece: &[u8]) -> Result<u64, SinkError>
         requires short { length piece.now ≤ 65536 }
         ensures within { IfOk result (λ taken. taken ≤ length piece.now) }
@@ -47,11 +47,12 @@ pub trait Sink {
             → Rose (state self.old).faults (state self.new).faults }
         ensures no_memory { IsErrOf result SinkError.NoMemory → IsTrue takes_memory }
 
-        // No fault is counted of a call that didn't fail, nor take nothing of a piece with bytes.
+        // No fault is counted for a call that didn't fail and that accepted some of any piece with
+        // bytes.
         ensures calm { result ≢ Err SinkError.Failed → (result ≡ Ok 0 → piece.now ≡ [])
             → (state self.new).faults ≡ (state self.old).faults }
 
-        // A sink that takes nothing of a piece has failed too.
+        // A sink that accepts nothing of a piece has failed too.
         ensures stuck { result ≡ Ok 0 → 0 < length piece.now
             → Rose (state self.old).faults (state self.new).faults };
 }
@@ -59,10 +60,10 @@ pub trait Sink {
 /// The most bytes that are given to one write.
 const CHUNK_BYTES: usize = 65_536;
 
-/// Writes all the bytes, in chunks of at most 65,536 bytes, and takes no memory of its own.
+/// Writes all the bytes, in chunks of at most 65,536 bytes, and allocates nothing itself.
 ///
-/// At an error the sink gained the bytes of the writes before it. A write that takes nothing ends
-/// the call as a failed one does.
+/// On an error the sink has gained the bytes of the writes before it. A write that accepts nothing
+/// ends the call like a failed one.
 pub fn write_whole<K: Sink>(sink: &mut K, bytes: &[u8]) -> Result<(), SinkError>
     ensures after { IsAfterWrite bytes.now K.takes_memory
         (K.state sink.old) (K.state sink.new) result }

@@ -1,4 +1,4 @@
-//! Files and bytes in memory, with calls that are ordered to fail.
+//! Files and bytes in memory, with calls that are made to fail.
 ghost use Rattle.std.specs.Prelude.{◌≡◌, ◌≤◌, ◌↔◌, ◌++◌, IsTrue, IfOk, OnErr, IsErrOf, Some, [], true, length, min, take};
 ghost use Rattle.shelf.specs.Sink.{next_count};
 ghost use Rattle.shelf.specs.Scripts.{script_of, FailsNext, after_call};
@@ -35,7 +35,7 @@ impl Script {
         }
     }
 
-    /// Counts a call, and says whether it is to fail; the count of faults rises where it is.
+    /// Counts a call, and returns whether it is to fail; then the count of faults rises.
     fn begin_call(&mut self) -> bool
         ensures fails { IsTrue result ↔ FailsNext self.old }
         ensures after { self.new ≡ after_call self.old result }
@@ -123,7 +123,7 @@ impl Shelf for MemShelf {
 
 /// Bytes in memory, at which the calls fail that its maker listed.
 ///
-/// Calls are counted from 1. The count of faults rises at the listed calls and where a call takes
+/// Calls are counted from 1. The count of faults rises at the listed calls and when a call accepts
 /// nothing of a piece that has bytes, and at no other call.
 #[derive(Drop)]
 pub struct MemSink {
@@ -141,7 +141,7 @@ impl Model for MemSink {
 }
 
 impl MemSink {
-    /// An empty sink that takes at most `most` bytes a call, and at which the calls with these
+    /// An empty sink that accepts at most `most` bytes a call, and at which the calls with these
     /// numbers fail.
     pub fn new(alloc: Global, most: u64, failing: Vec<u64>) -> Self
         ensures { result ≡ record { bytes = []; most = most; script = script_of failing.items } }

@@ -24,7 +24,7 @@ pub enum ShelfError {
     /// There is no file of this name.
     #[error("there is no such file")]
     Missing,
-    /// The file has more bytes than the caller takes.
+    /// The file has more bytes than the caller accepts.
     #[error("the file is too long")]
     TooLong,
     /// There is no memory for the content.
@@ -41,7 +41,8 @@ impl From<AllocError> for ShelfError {
 }
 
 impl ShelfError {
-    /// Why a call of the system failed, by the kind of its error: out of memory, or else `other`.
+    /// Why a call of the system failed, by the kind of its error: out of memory, otherwise
+    /// `other`.
     pub fn by_kind(error: &io::Error, other: ShelfError) -> ShelfError
         ensures { result ≡ cause_by_kind (error_kind error.now) other }
     {
@@ -51,7 +52,7 @@ impl ShelfError {
         }
     }
 
-    /// Why a file can't be opened: out of memory, or else there is none of this name.
+    /// Why a file can't be opened: out of memory, otherwise there is none of this name.
     pub fn of_open(error: &io::Error) -> ShelfError
         ensures { result ≡ cause_by_kind (error_kind error.now) Missing }
     {
@@ -61,10 +62,10 @@ impl ShelfError {
 
 /// A source of whole files by name.
 pub trait Shelf {
-    /// What contracts see: the files, where they are known, and the counts of faults and of reads.
+    /// What contracts see: the files, if they are known, and the counts of faults and of reads.
     ghost state: { Self → ShelfState };
 
-    /// The whole content of the file `name`, where it has at most `limit` bytes.
+    /// The whole content of the file `name`, if it has at most `limit` bytes.
     ///
     /// Any call may run out of memory.
     fn read(&mut self, name: &str, limit: u64) -> Result<Vec<u8>, ShelfError>
@@ -74,8 +75,8 @@ pub trait Shelf {
         ensures failed { IsErrOf result ShelfError.Failed
             → Rose (state self.old).faults (state self.new).faults }
 
-        // A call that is served counts no fault, nor one that finds no memory; where files are
-        // known, none but a failed one does.
+        // A call that succeeds or runs out of memory counts no fault; if the files are known, only
+        // a failed call does.
         ensures calm { is_refusal result ≡ false
             → (state self.new).faults ≡ (state self.old).faults }
         ensures calm_known { ForSome (state self.old).files (λ _.
@@ -83,7 +84,7 @@ pub trait Shelf {
 
         ensures within { IfOk result (λ content. length content.items ≤ limit) }
 
-        // Where files are known, they decide what a call answers that is served.
+        // If the files are known, they decide what a call returns that succeeds.
         ensures content { IfOk result (λ content.
             ForSome (state self.old).files (λ files.
             HasFile files name.now limit content.items)) }
@@ -93,7 +94,7 @@ pub trait Shelf {
             IsNoFault result
             → (IsErrOf result ShelfError.TooLong ↔ HasLongerFile files name.now limit)) }
 
-        // Where they aren't, the count does.
+        // If they aren't, the count does.
         ensures missing_unknown { ForNone (state self.old).files
             (IsErrOf result ShelfError.Missing
             → Rose (state self.old).faults (state self.new).faults) }
@@ -144,7 +145,7 @@ impl HeldFiles {
         HeldFiles { alloc, files }
     }
 
-    /// A copy of the file of this name, where it has at most `limit` bytes.
+    /// A copy of the file of this name, if it has at most `limit` bytes.
     pub(crate) fn copy(&self, name: &str, limit: u64) -> Result<Vec<u8>, ShelfError>
         ensures no_fault { is_read_fault result ≡ false }
         ensures content { IfOk result (λ content. HasFile self.now name.now limit content.items) }

@@ -1,8 +1,8 @@
-//! What a reader has left, read whole; and pieces that go through a writer of std.
+//! What a reader has left, read whole; and pieces written by a writer of std.
 //!
-//! Contracts see the bytes that a reader of std has left (`remaining`) and those that a writer holds
-//! (`contents`), where its type says them. When a call of std fails they don't see. So a reader is
-//! what counts its faults here: an error is told where the count rose, and nowhere else.
+//! Contracts see the bytes that a reader of std has left (`remaining`) and those that a writer has
+//! (`contents`), if its type says them. Contracts don't see whether a call of std fails. So a
+//! reader here counts its faults: there is an error exactly if the count rose.
 ghost use Rattle.std.specs.Prelude.{◌≡◌, ◌≢◌, ◌≤◌, ◌++◌, if◌then◌else◌, IfErr, IfOk, IfSome, OnOk, length};
 ghost use Rattle.std.specs.Io.KnownBytes.{Keeps, WriteAppends};
 ghost use Rattle.std.specs.IoError.{error_kind};
@@ -18,14 +18,13 @@ use std::marker::Model;
 
 /// What bytes can be read from, once: an open file, or bytes in memory.
 pub trait Reader {
-    /// What contracts see: the bytes that are left, where they are known, and the count of faults.
+    /// What contracts see: the bytes that are left, if they are known, and the count of faults.
     ghost state: { Self → ReaderState };
 
     /// Adds all that is left to the content, or the first `most` bytes of it.
     ///
-    /// # Errors
-    /// The reader's own, which is a fault, or out of memory, by its kind. The content has some of
-    /// the bytes then.
+    /// # Errors The reader's own, which is a fault, or out of memory, by its kind. Then the
+    /// content has some of the bytes.
     fn read_front(&mut self, most: u64, content: &mut Vec<u8>) -> io::Result<()>
         ensures front { HasFront (state self.old).left most content.old.items content.new.items result }
         ensures faults { (state self.new).faults
@@ -45,7 +44,7 @@ impl Reader for &[u8] {
     }
 }
 
-/// A reader of std that counts the errors which it answers, except for running out of memory.
+/// A reader of std that counts the errors that it returns, except for running out of memory.
 #[derive(Drop)]
 pub struct CountedReader<R: Read + Drop> {
     reader: R,
@@ -61,7 +60,7 @@ impl<R: Read + Drop> Model for CountedReader<R> {
 }
 
 impl<R: Read + Drop> CountedReader<R> {
-    /// This reader, of which no error was counted yet.
+    /// This reader, with no error counted yet.
     pub fn new(reader: R) -> Self
         ensures { result ≡ record { left = R.remaining reader; faults = 0 } }
     {
@@ -94,12 +93,11 @@ impl<R: Read + Drop> Reader for CountedReader<R> {
     }
 }
 
-/// All that this reader has left, where that is at most `limit` bytes. No more than one byte past
-/// the limit is read.
+/// All that this reader has left, if that is at most `limit` bytes. At most one byte beyond the
+/// limit is read.
 ///
-/// # Errors
-/// `TooLong` where the reader has more left. An error of the reader by its kind
-/// (`ShelfError::by_kind`): `NoMemory`, or `Failed`, exactly where the reader's count of faults rose.
+/// # Errors `TooLong` if the reader has more left. An error of the reader by its kind
+/// (`ShelfError::by_kind`): `NoMemory`, or `Failed`, exactly if the reader's count of faults rose.
 pub fn read_up_to<R: Reader>(
     alloc: Global,
     reader: &mut R,
@@ -119,9 +117,9 @@ pub fn read_up_to<R: Reader>(
     }
 }
 
-/// Writes some of the piece from its front, says how many bytes, and flushes the stream, so that a
-/// fault of the device is noticed. Where the flush fails the stream has some of the piece. What a
-/// signal interrupts is tried again.
+/// Writes some of the piece from its front, returns how many bytes, and flushes the stream, so
+/// that a fault of the device is noticed. If the flush fails, the stream has some of the piece. A
+/// call that a signal interrupts is tried again.
 pub fn write_through<W: Write>(stream: &mut W, piece: &[u8]) -> io::Result<usize>
     ensures within { IfOk result (λ taken. taken ≤ length piece.now) }
     ensures gains { GainsFront piece.now result (W.contents stream.old) (W.contents stream.new) }

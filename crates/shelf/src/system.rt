@@ -1,8 +1,8 @@
 //! The edge: files, standard output and standard error of the system.
 //!
-//! Nothing is known here of what a file holds or of what reaches a stream of the system, so neither
-//! is known to contracts. Of readers and writers whose bytes are known, these lines are proved:
-//! what `read_up_to` returns, and what a `StdSink` takes.
+//! Nothing is known here of what is in a file or of what reaches a stream of the system, so
+//! contracts know neither. For readers and writers whose bytes are known, these lines are proved:
+//! what `read_up_to` returns, and what a `StdSink` accepts.
 ghost use Rattle.std.specs.Prelude.{◌≡◌, ◌≤◌, None, false, length, IfOk, ◌≢◌, if◌then◌else◌};
 ghost use Rattle.shelf.specs.Sink.{next_count};
 
@@ -17,7 +17,7 @@ use std::rt::Files;
 /// The files of a system, by their paths.
 ///
 /// A file that can't be opened is missing, and one that is opened but can't be read, as a folder,
-/// is a failure. Its model is the count of its faults, which rises at each error but want of
+/// is a failure. Its model is the count of its faults, which rises at each error except out of
 /// memory, and the count of its reads.
 #[derive(Drop)]
 pub struct DiskShelf<R: Files + AllocGlobal + Drop> {
@@ -46,7 +46,7 @@ impl<R: Files + AllocGlobal + Drop> DiskShelf<R> {
         }
     }
 
-    // The content of the file of this name, which is missing where it can't be opened.
+    // The content of the file of this name, which is missing if it can't be opened.
     fn open_and_read(&self, name: &str, limit: u64) -> Result<Vec<u8>, ShelfError>
         ensures { IfOk result (λ content. length content.items ≤ limit) }
     {
@@ -82,10 +82,10 @@ impl<R: Files + AllocGlobal + Drop> Shelf for DiskShelf<R> {
 
 /// A stream of the system, as its standard output or its standard error.
 ///
-/// Its model is the bytes that the stream holds, where its type says them, and the count of its
-/// faults, which rises at each error and where the stream takes nothing of a piece that has bytes.
-/// A write that a signal interrupts is no error, and is tried again. Its writes take no memory. As a
-/// sink its bytes aren't known, since an error may leave a part of a piece with the stream.
+/// Its model is the bytes that the stream has, if its type says them, and the count of its faults,
+/// which rises at each error and when the stream accepts nothing of a piece that has bytes. A
+/// write that a signal interrupts is no error, and is tried again. Its writes allocate nothing. As
+/// a sink its bytes aren't known, because an error may leave a part of a piece in the stream.
 #[derive(Drop)]
 pub struct StdSink<W: Write + Drop> {
     stream: W,

@@ -13,11 +13,11 @@ use Rattle.switch_table.specs.declared.tables.PartRow.{PartRow}
 use Rattle.switch_table.specs.declared.tables.Tables.{Tables}
 use Rattle.ternary.specs.Word.{WordValue, word_text}
 
--- a line, with the line feed that ends it
+-- a line with its line feed
 abbrev pub with_line_feed : List ℕ → List ℕ
 with_line_feed text = text ++ 10 ∷ []
 
--- the names of the targets, each behind a blank
+-- the names of the targets, each after a blank
 abbrev pub targets_text : Net → List ℕ → List ℕ
 targets_text net targets = codes " targets" ++ names_text net targets
 

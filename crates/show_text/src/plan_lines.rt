@@ -30,7 +30,7 @@ pub fn push_part(entry: &mut Line, part: &Partition)
     entry.push_number(part.rules.items().len() as u64);
 }
 
-/// Adds the names of targets, each behind a blank.
+/// Adds the names of targets, each after a blank.
 #[tactic(auto, using(lines::proofs::CallerLemmas::pushed_append))]
 pub fn push_targets(entry: &mut Line, net: &Net, targets: &Targets)
     ensures text { entry.new ≡ line_with entry.old (targets_text net.now targets.now) }
@@ -40,7 +40,7 @@ pub fn push_targets(entry: &mut Line, net: &Net, targets: &Targets)
     push_names(entry, net, targets.items());
 }
 
-// Makes the line that of a rule.
+// Sets the line to that of a rule.
 fn set_rule(entry: &mut Line, rule: &Rule)
     ensures { entry.new ≡ with_line_feed (rule_text_of rule.now) }
 {

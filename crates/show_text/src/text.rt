@@ -12,7 +12,7 @@ use policy_rules::{Partition, Targets, count_words};
 use std::alloc::{AllocError, Global};
 use switch_table::{PartRow, Tables};
 
-/// The version that the tables of a command are of.
+/// The version of the tables that a command prints.
 const FIRST_VERSION: u32 = 1;
 
 /// The text of a plan: how many words the policy has, how many partitions there are, and each of
@@ -67,7 +67,7 @@ fn text_of_tables(alloc: Global, net: &Net, s: u32, tables: &Tables) -> Result<V
     Ok(text)
 }
 
-// Makes the line that of a switch and a version.
+// Sets the line to that of a switch and a version.
 #[tactic(auto, using(lines::proofs::CallerLemmas::pushed_append, lines::proofs::CallerLemmas::pushed_whole, crate::proofs::LineSizes::switch_fits))]
 fn set_switch(entry: &mut Line, net: &Net, s: u32, version: u32)
     requires { IsNet net.now }
@@ -83,7 +83,7 @@ fn set_switch(entry: &mut Line, net: &Net, s: u32, version: u32)
     entry.push("\n");
 }
 
-// Makes the line that of a number behind its title.
+// Sets the line to that of a number after its title.
 #[tactic(auto, using(lines::proofs::CallerLemmas::pushed_append, lines::proofs::CallerLemmas::pushed_whole, crate::proofs::LineSizes::count_fits))]
 fn set_count(entry: &mut Line, title: &str, count: u64)
     requires { length title.now ≤ 100 }
@@ -108,7 +108,7 @@ fn add_count(
     text.extend_from_slice(entry.bytes())
 }
 
-// Makes the line that of a partition with its targets.
+// Sets the line to that of a partition with its targets.
 #[tactic(auto, using(lines::proofs::CallerLemmas::pushed_append, lines::proofs::CallerLemmas::pushed_whole, crate::proofs::LineSizes::hosted_fits))]
 fn set_hosted(entry: &mut Line, net: &Net, part: &Partition, targets: &Targets)
     requires { IsNet net.now }
@@ -139,7 +139,7 @@ fn add_hosted(
     Ok(())
 }
 
-// Makes the line that of a partition.
+// Sets the line to that of a partition.
 #[tactic(auto, using(lines::proofs::CallerLemmas::pushed_append, lines::proofs::CallerLemmas::pushed_whole, crate::proofs::LineSizes::part_fits))]
 fn set_part(entry: &mut Line, part: &Partition)
     ensures { entry.new ≡ with_line_feed (part_text part.now) }
@@ -160,7 +160,7 @@ fn add_own(text: &mut Vec<u8>, entry: &mut Line, parts: &[Partition]) -> Result<
     Ok(())
 }
 
-// Makes the line that of the partition rule of a region.
+// Sets the line to that of the partition rule of a region.
 #[tactic(auto, using(lines::proofs::CallerLemmas::pushed_append, lines::proofs::CallerLemmas::pushed_whole, crate::proofs::LineSizes::row_fits))]
 fn set_row(entry: &mut Line, net: &Net, number: u64, row: &PartRow)
     requires { IsNet net.now }

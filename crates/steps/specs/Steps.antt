@@ -1,5 +1,5 @@
--- First tier. The steps that a network can be asked for: they name switches and links that it has,
--- and policy files that there are.
+-- First tier. The steps that a network may take: they name switches and links that it has, and
+-- policy files that exist.
 use Rattle.std.specs.Prelude.{⊤, ℕ, ◌<◌, ◌≤◌, length, IsTrue}
 use Rattle.five_tuple.specs.Header.{IsHeader}
 use Rattle.net_file.specs.Joins.{are_linked}
@@ -21,7 +21,7 @@ HasSwitch net switch = switch < length net.switches
 abbrev pub HasLink : Net → ℕ → ℕ → Type 0
 HasLink net one two = IsTrue (are_linked net.links one two)
 
--- a step of this network, where so many policy files are named
+-- a step of this network, if this many policy files are named
 abbrev pub IsStep : Net → ℕ → Step → Type 0
 IsStep net files (step.Packet switch header) = HasSwitch net switch × IsHeader header
 IsStep net files (step.Hop packet) = packet ≤ max_number

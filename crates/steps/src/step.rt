@@ -15,9 +15,9 @@ pub enum Step {
     Hop { packet: u32 },
     /// The packet is lost on its way.
     Lose { packet: u32 },
-    /// The message reaches its receiver, once more if it did before.
+    /// The message reaches its receiver, again if it did before.
     Deliver { message: u32 },
-    /// The message never reaches its receiver from now on.
+    /// The message never reaches its receiver again.
     Forget { message: u32 },
     /// The entry at this place of the switch's cache times out; the place of the oldest is 0.
     Expire { switch: u32, place: u32 },
@@ -27,23 +27,23 @@ pub enum Step {
     LinkDown { one: u32, two: u32 },
     /// The link between these two switches works again.
     LinkUp { one: u32, two: u32 },
-    /// The switch goes down, and loses all that it holds.
+    /// The switch goes down, and loses all that it has.
     Crash { switch: u32 },
-    /// The switch comes up again, in a boot of its own.
+    /// The switch comes up again, in a new boot.
     Restart { switch: u32 },
     /// The controller is told that the switch is down.
     Confirm { switch: u32 },
-    /// What the switch and the controller have to tell each other is sent once more.
+    /// What the switch and the controller have to say to each other is sent again.
     Resend { switch: u32 },
 }
 
-/// What one row of a schedule stands for.
+/// What one row of a schedule asks for.
 #[derive(Clone, Copy, Debug, PartialEq, Eq)]
 pub enum Event {
     /// This one step.
     One(Step),
     /// Each message that waits is delivered, by ascending number, those sent meanwhile too.
     Flush,
-    /// Each packet that travels hops until it travels no more, by ascending number.
+    /// Each packet that travels hops until it no longer travels, by ascending number.
     Drain,
 }

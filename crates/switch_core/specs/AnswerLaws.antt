@@ -1,5 +1,6 @@
--- What a switch answers to packets, as relations in terms of lookups, rules, routes and
--- tunnels: `x_laws` of the crate ensures that each call's answer is one, and the only one.
+-- What a switch returns for packets, as relations in terms of lookups, rules, routes and tunnels:
+-- `x_laws` of the crate ensures that each call's result is in its relation, and that nothing else
+-- is.
 use Rattle.std.specs.Prelude.{ℕ, ◌≡◌, ◌≢◌, ◌+◌, ◌↔◌, ◌⊎◌, ◌==◌, if◌then◌else◌, Bool, true, false, Option, Some, None, List, [], ◌∷◌, map, slice_get, IsTrue, IsFalse, IsSome, MatchOption}
 use Rattle.five_tuple.specs.Header.{IsHeader, number_of}
 use Rattle.five_tuple.specs.declared.header.Header.{Header}
@@ -59,12 +60,12 @@ pub record IsReady (s : SwitchValue) (header : Header) : Type 0 where
   pub is_header : IsHeader header
 
 -- such a switch, and a packet at the end of its route there: on a leg of a version that the switch
--- holds, the leg's partition is one of its own, and has the header
+-- has, the leg's partition is one of its own, and has the header
 pub record IsArriving (s : SwitchValue) (t : TunnelValue) : Type 0 where
   pub ready : IsReady s t.header
   pub authority : IsAtAuthority s t.header t.leg
 
--- what the cache and the tables of the stamp say of a header
+-- what the cache and the tables of the stamp say about a header
 abbrev pub lookup_by_stamp : SwitchValue → Header → Found
 lookup_by_stamp s header = lookup_of s.cache.entries (stamp_tables s) header
 
@@ -78,8 +79,8 @@ pub record OwnRule (tables : Tables) (header : Header) : Type 0 where
   pub at_place : slice_get part.rules place ≡ Some rule
   pub first : first_rule part.rules header ≡ Some rule
 
--- the route to the first of these targets that the switch reaches, by the links that it knows, less
--- those that the packet found down
+-- the route to the first of these targets that the switch reaches, by the links that it knows,
+-- except those that the packet found down
 abbrev pub route_known : SwitchValue → ℕ → Packet → List ℕ → Option (List ℕ)
 route_known s near packet targets = route_of s.database s.number targets near packet.down
 
@@ -95,24 +96,24 @@ pub record IsByCache (s : SwitchValue) (header : Header) (decision : Decision) :
   pub first : first_entry s.stamp (number_of header) s.cache.entries ≡ Some entry
   pub decided : decision ≡ by_entry entry
 
--- a rule of the switch's own decides, by the tables of the decision's version
+-- one of the switch's own rules decides, by the tables of the decision's version
 pub record IsByOwnRule (s : SwitchValue) (header : Header) (decision : Decision) : Type 0 where
   pub tables : Tables
   pub held : held_tables s decision.version ≡ Some tables
   pub own : OwnRule tables header
   pub decided : decision ≡ by_rule s.number decision.version own.part.number own.rule
 
--- ---- the answer of a lookup
+-- ---- the result of a lookup
 
--- the rule that goes to a cache where one of these rules decides, by tables of a version: its word
+-- the rule that is sent to a cache if one of these rules decides, by tables of a version: its word
 -- is the widened one
 abbrev pub rule_to_cache : {tables : Tables} {header : Header} → ℕ → OwnRule tables header → Body
 rule_to_cache {tables} {header} version own =
     CacheRule version (widen (number_of header) own.part.region own.part.rules own.place)
     own.rule.rule own.rule.action
 
--- one of these rules decides, by tables of a version, and goes to the cache of the switch where the
--- packet entered, unless that is this one
+-- one of these rules decides, by tables of a version, and is sent to the cache of the switch where
+-- the packet entered, unless that is this one
 abbrev pub decided_by : (s : SwitchValue) → Site → (packet : Packet) → ℕ →
     {tables : Tables} → OwnRule tables packet.header → Answer
 decided_by s site packet version own =
@@ -139,7 +140,7 @@ pub record IsRightAnswer (s : SwitchValue) (site : Site) (packet : Packet)
       lookup_by_stamp s packet.header ≡ Authority partition place →
       (by : IsDecidedIn s site packet s.stamp (stamp_tables s) partition answer)
       × (by.own.place ≡ place)
-  -- a partition rule sends it to exactly its targets, and it is stuck on that leg exactly where no
+  -- a partition rule sends it to exactly its targets, and it is stuck on that leg exactly if no
   -- route leads to them
   pub redirect : (partition : ℕ) (targets : List ℕ) →
       lookup_by_stamp s packet.header ≡ Redirect partition targets →
@@ -148,7 +149,7 @@ pub record IsRightAnswer (s : SwitchValue) (site : Site) (packet : Packet)
       (answer ≡ Stuck (cause_of s site.near packet.down leg targets) leg)
       (λ route. answer ≡ Seek (setting_out packet leg targets route)))
 
--- the answer of a lookup is one, and the only one
+-- the result of a lookup is in the relation, and nothing else is
 pub record LookupLaws : Type 0 where
   pub is : (s : SwitchValue) (site : Site) (packet : Packet) →
       IsReady s packet.header →
@@ -161,14 +162,14 @@ pub record LookupLaws : Type 0 where
 
 pub record IsEntry (s : SwitchValue) (site : Site) (packet : Packet)
     (enter_answer : Entered) : Type 0 where
-  -- closed exactly where the switch doesn't serve
+  -- closed exactly if the switch doesn't serve
   pub closed : (enter_answer ≡ entry.Closed) ↔ IsFalse (serves s)
   -- otherwise it is looked up
   pub answered : IsReady s packet.header →
       (answer : Answer) × (enter_answer ≡ entered_with answer)
       × IsRightAnswer s site packet answer
 
--- the answer of `enter` is one, and the only one
+-- the result of `enter` is in the relation, and nothing else is
 pub record EnterLaws : Type 0 where
   pub is : (s : SwitchValue) (site : Site) (packet : Packet) →
       IsEntry s site packet (enter_answer s site packet)
@@ -180,12 +181,12 @@ pub record EnterLaws : Type 0 where
 
 pub record IsNextOf (s : SwitchValue) (site : Site) (packet : Packet) (action : Action)
     (way : Next) : Type 0 where
-  -- dropped exactly where the action is to drop it
+  -- dropped exactly if the action is to drop it
   pub dropped : (way ≡ goes.Dropped) ↔ (action ≡ Drop)
-  -- out here exactly where the action's port is one of this switch
+  -- out here exactly if the action's port is one of this switch
   pub out : (port : ℕ) → (way ≡ goes.Out port)
       ↔ ((action ≡ OutBy port) × (port_owner site.ports port ≡ Some s.number))
-  -- to another switch's port by the route to that switch alone, and stuck exactly where none leads
+  -- to another switch's port only by the route to that switch, and stuck exactly if none leads
   -- there
   pub exit : (port owner : ℕ) → action ≡ OutBy port →
       port_owner site.ports port ≡ Some owner → owner ≢ s.number →
@@ -195,7 +196,7 @@ pub record IsNextOf (s : SwitchValue) (site : Site) (packet : Packet) (action : 
   pub no_owner : (port : ℕ) → action ≡ OutBy port → port_owner site.ports port ≡ None →
       way ≡ goes.Stuck NoRoute
 
--- the way on of a packet that was decided is one, and the only one
+-- the way on of a packet that was decided is in the relation, and no other one is
 pub record ExitLaws : Type 0 where
   pub is : (s : SwitchValue) (site : Site) (packet : Packet) (action : Action) →
       IsNextOf s site packet action (next_of s site packet action)
@@ -208,20 +209,20 @@ pub record IsArrival (s : SwitchValue) (site : Site) (t : TunnelValue)
     (arrive_answer : Arrived) : Type 0 where
   -- at the end of its way to a port it leaves by that port
   pub out : (port : ℕ) → t.leg ≡ ExitLeg port → arrive_answer ≡ arrival.Out port
-  -- on a leg of a version that the switch holds it is decided by that version: by the first rule of
+  -- on a leg of a version that the switch has it is decided by that version: by the first rule of
   -- the leg's partition to hold the header
   pub decided : (version partition : ℕ) (tables : Tables) →
       IsArriving s t → t.leg ≡ SeekLeg version partition → held_tables s version ≡ Some tables →
       (answer : Answer) × (arrive_answer ≡ arrived_with answer)
       × IsDecidedIn s site (packet_of t) version tables partition answer
-  -- where the leg's version isn't held it is looked up anew under the stamp, as if it came in here
-  -- with the links that it found down
+  -- if the switch doesn't have the leg's version, it is looked up again under the stamp, as if it
+  -- came in here with the links that it found down
   pub anew : (version partition : ℕ) →
       IsArriving s t → t.leg ≡ SeekLeg version partition → IsFalse (holds_version s version) →
       (answer : Answer) × (arrive_answer ≡ arrived_with answer)
       × IsRightAnswer s site (packet_of t) answer
 
--- the answer of `arrive` is one, and the only one
+-- the result of `arrive` is in the relation, and nothing else is
 pub record ArriveLaws : Type 0 where
   pub is : (s : SwitchValue) (site : Site) (t : TunnelValue) →
       IsArrival s site t (arrive_answer s site t)
@@ -235,13 +236,13 @@ abbrev pub is_by_authority : How → Bool
 is_by_authority (ByAuthority switch partition) = true
 is_by_authority _ = false
 
--- by a cached rule of the stamp's version, or by a rule of the switch's own by the tables of the
--- decision's version; and the packet goes on as the decision's action says
+-- by a cached rule of the stamp's version, or by one of the switch's own rules by the tables of
+-- the decision's version; and the packet moves on as the decision's action says
 pub record IsDecision (s : SwitchValue) (site : Site) (packet : Packet)
     (decision : Decision) (cache : Option Body) (way : Next) : Type 0 where
   pub source : IsByCache s packet.header decision ⊎ IsByOwnRule s packet.header decision
   pub onward : way ≡ next_of s site packet decision.action
-  -- a rule is sent to a cache exactly where an authority rule decided, and the packet entered
+  -- a rule is sent to a cache exactly if an authority rule decided, and the packet entered
   -- elsewhere ..
   pub sent : IsSome cache
       ↔ (IsTrue (is_by_authority decision.how) × (packet.ingress ≢ s.number))
@@ -251,7 +252,7 @@ pub record IsDecision (s : SwitchValue) (site : Site) (packet : Packet)
       × (body ≡ rule_to_cache decision.version by.own)
 
 pub record DecisionLaws : Type 0 where
-  -- so is every decision of a packet that comes in or arrives
+  -- this is true of every decision of a packet that comes in or arrives
   pub on_entry : (s : SwitchValue) (site : Site) (packet : Packet)
       (decision : Decision) (way : Next) → IsReady s packet.header →
       enter_answer s site packet ≡ entry.Decided decision way →
@@ -261,7 +262,7 @@ pub record DecisionLaws : Type 0 where
       (decision : Decision) (cache : Option Body) (way : Next) → IsArriving s t →
       arrive_answer s site t ≡ arrival.Decided decision cache way →
       IsDecision s site (packet_of t) decision cache way
-  -- by the tables of a plan, rules of the switch's own decide as the plan's policy does
+  -- by the tables of a plan, the switch's own rules decide as the plan's policy does
   pub as_policy : (s : SwitchValue) (header : Header) (decision : Decision) (rows : List Row)
       (plan : List Hosted) → AreSoundPartitions rows (map part_of plan) → IsHeader header →
       held_tables s decision.version ≡ Some (tables_of plan decision.version s.number) →
@@ -270,7 +271,7 @@ pub record DecisionLaws : Type 0 where
 
 -- ---- a packet on its way
 
--- on its leg a packet may take another route, stand elsewhere on it, and find links down
+-- on its leg a packet may take another route, be elsewhere on it, and find links down
 abbrev pub IsSamePacket : TunnelValue → TunnelValue → Type 0
 IsSamePacket before after =
     after ≡ record before { route = after.route; place = after.place; down = after.down }
@@ -284,7 +285,7 @@ abbrev pub route_around : SwitchValue → ℕ → TunnelValue → ℕ → Option
 route_around s near t other = route_of s.database (here t) t.targets near (down_with t other)
 
 pub record IsHop (s : SwitchValue) (near : ℕ) (t : TunnelValue) (after : Moved) : Type 0 where
-  -- a link is found down exactly where it leads to the next switch of the route, and isn't usable
+  -- a link is found down exactly if it leads to the next switch of the route and isn't usable
   pub found : (other : ℕ) → (link_found_down near (next t) ≡ Some other)
       ↔ ((next t ≡ Some other) × IsFalse (has near other))
   -- at the end of its route the packet arrives
@@ -292,7 +293,7 @@ pub record IsHop (s : SwitchValue) (near : ℕ) (t : TunnelValue) (after : Moved
   -- over a usable link it moves one place on
   pub moves : (other : ℕ) → next t ≡ Some other → IsTrue (has near other) →
       after ≡ record { end = hop.Move other; tunnel = record t { place = t.place + 1 } }
-  -- a link that is found down joins the others, and where no way leads around them the packet is
+  -- a link that is found down joins the others, and if no way leads around them the packet is
   -- stuck
   pub stuck : (other : ℕ) → link_found_down near (next t) ≡ Some other →
       route_around s near t other ≡ None →
@@ -300,8 +301,8 @@ pub record IsHop (s : SwitchValue) (near : ℕ) (t : TunnelValue) (after : Moved
         end = hop.Stuck (cause_of s near (down_with t other) t.leg t.targets);
         tunnel = record t { down = down_with t other };
       }
-  -- otherwise it takes that way: it has arrived where the way ends here, and moves to its second
-  -- switch where it doesn't
+  -- otherwise it takes that way: it has arrived if the way ends here, and otherwise moves to its
+  -- second switch
   pub turns : (other : ℕ) (way : List ℕ) → link_found_down near (next t) ≡ Some other →
       route_around s near t other ≡ Some way →
       MatchOption (slice_get way 1)
@@ -313,8 +314,8 @@ pub record IsHop (s : SwitchValue) (near : ℕ) (t : TunnelValue) (after : Moved
         end = hop.Move second;
         tunnel = record t { route = way; place = 1; down = down_with t other };
       })
-  -- so a packet that moved stands at that switch, to which a usable link leads, and one that
-  -- arrived stands at this switch still, at the end of its route
+  -- so a packet that moved is at that switch, to which a usable link leads, and one that arrived
+  -- is still at this switch, at the end of its route
   pub stands : (other : ℕ) → after.end ≡ hop.Move other → here after.tunnel ≡ other
   pub usable : (other : ℕ) → after.end ≡ hop.Move other → IsTrue (has near other)
   pub stays : StandsAt s t.route t.place → after.end ≡ hop.Arrive →
@@ -322,7 +323,7 @@ pub record IsHop (s : SwitchValue) (near : ℕ) (t : TunnelValue) (after : Moved
   pub ends : after.end ≡ hop.Arrive → next after.tunnel ≡ None
   pub same_packet : IsSamePacket t after.tunnel
 
--- what becomes of a packet by `hop` is one, and the only one
+-- the result of `hop` is in the relation, and nothing else is
 pub record HopLaws : Type 0 where
   pub is : (s : SwitchValue) (near : ℕ) (t : TunnelValue) → IsHop s near t (hop_answer s near t)
   pub only : (s : SwitchValue) (near : ℕ) (t : TunnelValue) (after : Moved) →

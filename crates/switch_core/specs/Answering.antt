@@ -1,7 +1,7 @@
--- What a switch answers to a packet that comes in, or that is at the end of its route, as
--- functions: both by the answer of one lookup (Yu, Rexford, Freedman and Wang, "Scalable Flow-Based
--- Networking with DIFANE", SIGCOMM 2010). What they say are the relations of `AnswerLaws`, which
--- allow no other answer.
+-- What a switch returns for a packet that comes in, or that is at the end of its route, as
+-- functions: both by the result of one lookup (Yu, Rexford, Freedman and Wang, "Scalable
+-- Flow-Based Networking with DIFANE", SIGCOMM 2010). What they say are the relations of
+-- `AnswerLaws`, which allow no other result.
 use Rattle.std.specs.Prelude.{⊤, ℕ, ◌≡◌, Option, Some, None, if◌then◌else◌, IsSomeAnd, IsTrue, IfSome, Result, Ok, Err}
 use Rattle.std.specs.Option.{option_map_or}
 use Rattle.five_tuple.specs.declared.header.Header.{Header}
@@ -25,7 +25,7 @@ use Rattle.switch_core.specs.Deciding.{by_entry, by_rule, packet_with, rule_for_
 use Rattle.switch_core.specs.Ends.{Site, next_of, set_out}
 use Rattle.switch_core.specs.State.{SwitchValue, held_tables, holds_version, serves, stamp_tables}
 
--- ---- the answer of a lookup
+-- ---- the result of a lookup
 
 -- the rule at a place of one of the switch's own partitions decides
 unfoldable pub decided_at : SwitchValue → Site → Packet → ℕ → Partition → ℕ → Answer
@@ -35,7 +35,7 @@ decided_at s site packet version part place =
     (rule_for_cache s.number packet version part place)
     (next_of s site packet rule.action)
 
--- on a leg, where there is a route to its targets
+-- on a leg, if there is a route to its targets
 abbrev pub seek_by : Leg → Result TunnelValue Cause → Answer
 seek_by leg (Ok tunnel) = Seek tunnel
 seek_by leg (Err cause) = Stuck cause leg
@@ -68,20 +68,20 @@ decided_in s site packet partition tables =
 abbrev pub CanLookUp : SwitchValue → Type 0
 CanLookUp s = IsTrue (serves s) → IsTrue (holds_version s s.stamp)
 
--- a packet that comes in at this switch, and met no link
+-- a packet that comes in at this switch, and found no link down
 abbrev pub incoming_packet : SwitchValue → ℕ → Header → Packet
 incoming_packet s number header = packet_with number header s.number no_links
 
--- closed exactly where the switch doesn't serve
+-- closed exactly if the switch doesn't serve
 unfoldable pub admitted : SwitchValue → Site → Packet → Option Answer
 admitted s site packet = if serves s then Some (looked_up s site packet) else None
 
--- nothing goes to a cache
+-- nothing is sent to a cache
 abbrev pub IsUncached : Option Answer → Type 0
 IsUncached (Some (Decided decision cache way)) = cache ≡ None
 IsUncached _ = ⊤
 
--- as `enter` answers it
+-- as `enter` returns it
 abbrev pub enter_answer : SwitchValue → Site → Packet → Entered
 enter_answer s site packet = entry_of (admitted s site packet)
 
@@ -99,8 +99,8 @@ IsAtAuthority s header (SeekLeg version partition) =
     (λ tables. IsSomeAnd (own_part tables partition) (λ part. IsTrue (is_in header part)))
 IsAtAuthority s header (ExitLeg port) = ⊤
 
--- out by the leg's port; or by the tables of the leg's version, and where the switch hasn't got
--- them by a new lookup
+-- out by the leg's port; or by the tables of the leg's version, or, if the switch doesn't have
+-- them, by a new lookup
 abbrev pub arrived_on : SwitchValue → Site → Packet → Leg → Arrival
 arrived_on s site packet (ExitLeg port) = arrival.Out port
 arrived_on s site packet (SeekLeg version partition) =
@@ -110,6 +110,6 @@ arrived_on s site packet (SeekLeg version partition) =
 unfoldable pub received : SwitchValue → Site → TunnelValue → Arrival
 received s site t = arrived_on s site (packet_of t) t.leg
 
--- as `arrive` answers it
+-- as `arrive` returns it
 abbrev pub arrive_answer : SwitchValue → Site → TunnelValue → Arrived
 arrive_answer s site t = arrival_of (received s site t)

@@ -1,4 +1,4 @@
--- What becomes of a packet at a switch, and how the calls answer it.
+-- What becomes of a packet at a switch, and how the calls return it.
 use Rattle.std.specs.Prelude.{ℕ, Option, Some, None}
 use Rattle.ctrl_msg.specs.declared.message.Body.{Body}
 use Rattle.policy_rules.specs.declared.packet.Cause.{Cause}
@@ -12,19 +12,19 @@ use Rattle.switch_core.specs.declared.tunnel_calls.Next.{Next}
 use Rattle.tunnel.specs.Tunnel.{TunnelValue}
 
 -- of a packet whose header was looked up: it is decided, with a rule for the cache of the switch
--- where it entered, unless that is this one; or it sets out to an authority switch of its
+-- where it entered, unless that is this one; or it is sent to an authority switch of its
 -- partition; or no route leads there
 pub data Answer : Type 0 where
   Decided : Decision → Option Body → Next → Answer
   Seek : TunnelValue → Answer
   Stuck : Cause → Leg → Answer
 
--- of a packet at the end of its route: out of the network, by this port, or such an answer
+-- of a packet at the end of its route: out of the network, by this port, or such a result
 pub data Arrival : Type 0 where
   Out : ℕ → Arrival
   Answered : Answer → Arrival
 
--- as `enter` answers it, where the switch serves
+-- as `enter` returns it, if the switch serves
 abbrev pub entered_with : Answer → Entered
 entered_with (Decided decision cache way) = entered.Decided decision way
 entered_with (Seek tunnel) = entered.Seek tunnel
@@ -34,7 +34,7 @@ abbrev pub entry_of : Option Answer → Entered
 entry_of None = entered.Closed
 entry_of (Some answer) = entered_with answer
 
--- as `arrive` answers it
+-- as `arrive` returns it
 abbrev pub arrived_with : Answer → Arrived
 arrived_with (Decided decision cache way) = arrived.Decided decision cache way
 arrived_with (Seek tunnel) = arrived.Seek tunnel

@@ -1,4 +1,4 @@
--- Where a packet goes once it is decided, and why it is stuck: both rules in one place. What the
+-- Where a packet moves once it is decided, and why it is stuck: both rules in one place. What the
 -- first one says is the relation `IsWayOn`, which allows no other way.
 use Rattle.std.specs.Prelude.{ℕ, Bool, true, false, ◌&&◌, ◌==◌, if◌then◌else◌, Option, Some, None, option_map, Result, Ok, Err, List, [], ◌∷◌}
 use Rattle.std.specs.List.{list_all}
@@ -51,7 +51,7 @@ unfoldable pub cause_of : SwitchValue → ℕ → List ℕ → Leg → List ℕ 
 cause_of s near down leg targets =
     if is_seek leg && are_isolated s near down targets then NoAuthority else NoRoute
 
--- the packet at the beginning of its route to the leg's targets; stuck exactly where there is none
+-- the packet at the beginning of its route to the leg's targets; stuck exactly if there is none
 unfoldable pub set_out : SwitchValue → ℕ → Packet → Leg → List ℕ → Result TunnelValue Cause
 set_out s near packet leg targets =
     ok_or
@@ -66,15 +66,15 @@ abbrev pub exit_by : Result TunnelValue Cause → Next
 exit_by (Ok tunnel) = Exit tunnel
 exit_by (Err cause) = Stuck cause
 
--- out by a port, where its switch is this one; otherwise to its switch. No route leads to a port
--- that no switch has
+-- out by a port, if its switch is this one; otherwise to its switch. No route leads to a port that
+-- no switch has
 unfoldable pub leave_by : SwitchValue → ℕ → Packet → ℕ → Option ℕ → Next
 leave_by s near packet port None = Stuck NoRoute
 leave_by s near packet port (Some owner) = if owner == s.number
     then Out port
     else exit_by (set_out s near packet (ExitLeg port) (owner ∷ []))
 
--- where a packet goes that was decided in this way
+-- where a packet moves that was decided like this
 unfoldable pub next_of : SwitchValue → Site → Packet → Action → Next
 next_of s site packet Drop = Dropped
 next_of s site packet (OutBy port) =

@@ -1,5 +1,5 @@
--- The definitions by which clauses of this crate and of those above speak of switches, passed on
--- from the files that define them.
+-- The definitions that clauses of this crate and of those above use for switches, passed on from
+-- the files that define them.
 pub use Rattle.switch_core.specs.AnswerLaws.{ArriveLaws, DecisionLaws, EnterLaws, ExitLaws, HopLaws, LookupLaws}
 pub use Rattle.switch_core.specs.Answers.{Answer, arrival_of, arrived_with, entered_with, entry_of}
 pub use Rattle.switch_core.specs.Answering.{CanLookUp, IsAtAuthority, IsUncached, admitted, answer_by, arrive_answer, arrived_on, decided_at, decided_in, enter_answer, incoming_packet, looked_up, packet_of, received, seek_by}

@@ -1,4 +1,4 @@
--- What becomes of a packet by what a switch says of it, before a route is taken.
+-- What becomes of a packet at a switch, before a route is taken.
 use Rattle.std.specs.Prelude.{⊤, Option, option_map}
 use Rattle.ctrl_msg.specs.declared.message.Body.{Body}
 use Rattle.ctrl_msg.specs.declared.message.Body.TheVariants.{CacheRule}
@@ -18,7 +18,7 @@ abbrev pub cached_by : Decision → Option WordValue → Option Body
 cached_by decision word =
     option_map (λ word. CacheRule decision.version word decision.rule decision.action) word
 
--- the answer, with the route that is to be taken
+-- the result, with the route that is to be taken
 abbrev pub answer_of : SwitchValue → Site → Packet → Forwarding → Arrival
 answer_of s site packet (Out port) = answer.Out port
 answer_of s site packet (Decided decision word) =
@@ -27,7 +27,7 @@ answer_of s site packet (Decided decision word) =
 answer_of s site packet (Seek leg targets) =
     answer.Answered (seek_by leg (set_out s site.near packet leg targets))
 
--- the answer to a packet that comes in
+-- the result for a packet that comes in
 abbrev pub admitted_as : SwitchValue → Site → Packet → Option Forwarding → Option Arrival
 admitted_as s site packet forwarding = option_map (answer_of s site packet) forwarding
 

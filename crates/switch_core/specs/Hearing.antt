@@ -1,6 +1,6 @@
--- What a message does at a switch, and what the switch sends upon it. Policies change in two phases
--- (Reitblatt, Foster, Rexford, Schlesinger and Walker, "Abstractions for Network Update", SIGCOMM
--- 2012); adverts are flooded as in OSPF (RFC 2328, section 13).
+-- What a message does at a switch, and what the switch sends in reply. Policies change in two
+-- phases (Reitblatt, Foster, Rexford, Schlesinger and Walker, "Abstractions for Network Update",
+-- SIGCOMM 2012); adverts are flooded as in OSPF (RFC 2328, section 13).
 use Rattle.std.specs.Prelude.{⊤, ℕ, Bool, true, not, ◌&&◌, ◌||◌, ◌==◌, max, nat_le, nat_lt, if◌then◌else◌, Option, Some, None, List, [], ◌∷◌, ◌++◌, filter, map}
 use Rattle.std.specs.Option.{option_map_or}
 use Rattle.failover.specs.Adverts.{after_hearing, is_news}
@@ -40,14 +40,14 @@ with_installed s tables =
     then s
     else record s { tables = s.tables ++ tables ∷ [] }
 
--- its stamp is at least this version; where it rises, the cache is raised to it
+-- its stamp is at least this version; if it rises, the cache is raised to it
 unfoldable pub raised_to : SwitchValue → ℕ → SwitchValue
 raised_to s version = if nat_lt s.stamp version
     then record s { stamp = version; cache = after_raise version s.cache }
     else s
 
--- its stamp is at least this version; where it rises, the cache is carried to it, past what was
--- touched
+-- its stamp is at least this version; if it rises, the cached rules are carried to it, except
+-- those that the change touches
 unfoldable pub stamped_with : SwitchValue → ℕ → List WordValue → SwitchValue
 stamped_with s version touched = if nat_lt s.stamp version
     then record s { stamp = version; cache = after_carry version touched s.cache }
@@ -56,18 +56,18 @@ stamped_with s version touched = if nat_lt s.stamp version
 abbrev pub opened_with : SwitchValue → ℕ → SwitchValue
 opened_with s version = record (raised_to s version) { is_open = true }
 
--- its collect mark is at least this version, and the tables up to the mark are gone
+-- its collect mark is at least this version, and the tables up to the mark are dropped
 unfoldable pub collected_to : SwitchValue → ℕ → SwitchValue
 collected_to s version = let mark = max s.collected version in record s {
   collected = mark;
   tables = filter (λ tables. nat_lt mark tables.version) s.tables;
 }
 
--- the cache takes the rule in, as the one of this message
+-- the cache gets the rule, as the one of this message
 abbrev pub with_learnt : SwitchValue → CacheEntry → SwitchValue
 with_learnt s entry = record s { cache = after_accept s.stamp entry s.cache }
 
--- the advert is of another switch, and none of that switch is held or this one is newer
+-- the advert is of another switch, and the database has none of that switch or this one is newer
 unfoldable pub is_news_here : SwitchValue → Advert → Bool
 is_news_here s advert = not (advert.origin == s.number) && is_news s.database advert
 

@@ -15,7 +15,7 @@ use Rattle.switch_core.specs.Hearing.{collected_to, with_message, with_heard, wi
 use Rattle.switch_core.specs.State.{HasOwnUpTo, SwitchValue, held_tables}
 use Rattle.ternary.specs.Word.{WordValue}
 
--- what alone a message may change, and that a stamp and a collect mark never fall within a boot
+-- all that a message may change, and that a stamp and a collect mark never fall within a boot
 pub record IsHeard (before after : SwitchValue) : Type 0 where
   pub rest : after ≡ record before {
     is_open = after.is_open;
@@ -32,11 +32,11 @@ pub record SwitchLaws : Type 0 where
   -- the adverts with which a network begins are those with which its switches may begin
   pub first : (near : List ℕ) (count number : ℕ) → number < 64 →
       HasOwnUpTo (first_adverts near count) number 1 1
-  -- a packet is stuck exactly where no route leads to the targets of its leg ..
+  -- a packet is stuck exactly if no route leads to the targets of its leg ..
   pub stuck : (s : SwitchValue) (near : ℕ) (packet : Packet) (leg : Leg) (targets : List ℕ) →
       IsErr (set_out s near packet leg targets) ↔
       (route_of s.database s.number targets near packet.down ≡ None)
-  -- .. and has no authority exactly where it looks for one, and each target is isolated
+  -- .. and has no authority exactly if it looks for one, and each target is isolated
   pub no_authority : (s : SwitchValue) (near : ℕ) (down : List ℕ) (leg : Leg) (targets : List ℕ) →
       (cause_of s near down leg targets ≡ NoAuthority) ↔
       (IsTrue (is_seek leg)
@@ -45,12 +45,13 @@ pub record SwitchLaws : Type 0 where
       IsHeard s (with_message s number body)
   pub not_obeyed : (s : SwitchValue) (number : ℕ) (body : Body) → obeys s body ≡ false →
       with_message s number body ≡ s
-  -- tables that come in are held, unless those of their version are or the collect mark is there
+  -- tables that come in are kept, unless the switch has those of their version or its collect mark
+  -- is at least that
   pub after_install : (s : SwitchValue) (tables : Tables) (version : ℕ) →
       held_tables (with_installed s tables) version
       ≡ option_or (held_tables s version)
       (if (tables.version == version) && nat_lt s.collected version then Some tables else None)
-  -- of what was held, exactly the versions above the collect mark are
+  -- of the versions that the switch had, it keeps exactly those above the collect mark
   pub after_collect : (s : SwitchValue) (mark version : ℕ) →
       held_tables (collected_to s mark) version
       ≡ (if nat_lt (max s.collected mark) version then held_tables s version else None)
@@ -58,7 +59,7 @@ pub record SwitchLaws : Type 0 where
       (raised_to s version).stamp ≡ max s.stamp version
   pub after_stamp : (s : SwitchValue) (version : ℕ) (touched : List WordValue) →
       (stamped_with s version touched).stamp ≡ max s.stamp version
-  -- adverts of others are heard, and its own are left alone
+  -- adverts of others are heard, and its own are ignored
   pub after_advert : (s : SwitchValue) (advert : Advert) →
       (with_heard s advert).database
       ≡ (if advert.origin == s.number then s.database else after_hearing s.database advert)

@@ -5,22 +5,23 @@ use Rattle.failover.specs.declared.advert.Advert.{Advert}
 use Rattle.switch_table.specs.Cache.{after_clear, after_expire}
 use Rattle.switch_core.specs.State.{SwitchValue, own_advert}
 
--- the next advert of its own, of these neighbours
+-- its next own advert, of these neighbours
 abbrev pub next_advert : SwitchValue → ℕ → Advert
 next_advert s near = own_advert s.number s.boot (s.seq + 1) near
 
--- it holds its next advert
+-- it keeps its next advert
 abbrev pub near_changed : SwitchValue → ℕ → SwitchValue
 near_changed s near = record s {
   seq = s.seq + 1;
   database = slice_set s.database s.number (Some (next_advert s near));
 }
 
--- the cache entry at a place goes
+-- the cache entry at a place is removed
 abbrev pub entry_expired : SwitchValue → ℕ → SwitchValue
 entry_expired s place = record s { cache = after_expire place s.cache }
 
--- closed, and with nothing of what it learnt: its number, boot, cache capacity and count are left
+-- closed, and with nothing of what it learnt: only its number, boot, cache capacity and count
+-- remain
 abbrev pub without_memory : SwitchValue → SwitchValue
 without_memory s = record s {
   is_open = false;

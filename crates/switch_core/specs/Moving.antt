@@ -11,7 +11,7 @@ use Rattle.switch_core.specs.declared.packet.Onward.TheVariants.{AtEnd, Next, Li
 use Rattle.switch_core.specs.Ends.{cause_of}
 use Rattle.switch_core.specs.State.{SwitchValue}
 
--- a packet at this place of its route stands at the switch
+-- a packet at this place of its route is at the switch
 abbrev pub StandsAt : SwitchValue → List ℕ → ℕ → Type 0
 StandsAt s route place = slice_get route place ≡ Some s.number
 
@@ -25,7 +25,7 @@ abbrev pub move_answer : TunnelValue → Option ℕ → Moved
 move_answer t None = record { end = Arrive; tunnel = t }
 move_answer t (Some other) = record { end = Move other; tunnel = advanced_tunnel t }
 
--- along a new route; stuck exactly where there is none
+-- along a new route; stuck exactly if there is none
 abbrev pub moved_along : SwitchValue → ℕ → TunnelValue → Option (List ℕ) → Moved
 moved_along s near t None = record {
   end = Stuck (cause_of s near t.down t.leg t.targets);
@@ -33,7 +33,7 @@ moved_along s near t None = record {
 }
 moved_along s near t (Some route) = move_answer (on_route t route) (next (on_route t route))
 
--- the switch takes a new route for the packet, by its usable links and what it knows of others
+-- the switch takes a new route for the packet, by its usable links and what it knows about others
 unfoldable pub rerouted_here : SwitchValue → ℕ → TunnelValue → Moved
 rerouted_here s near t = moved_along s near t (route_from_here t s.database near)
 
@@ -42,7 +42,7 @@ abbrev pub link_found_down : ℕ → Option ℕ → Option ℕ
 link_found_down near None = None
 link_found_down near (Some other) = if has near other then None else Some other
 
--- a link that is found down is marked, and the packet takes a new route; otherwise it goes on
+-- a link that is found down is marked, and the packet takes a new route; otherwise it moves on
 abbrev pub hopped_to : SwitchValue → ℕ → TunnelValue → Option ℕ → Moved
 hopped_to s near t None = move_answer t (next t)
 hopped_to s near t (Some other) = rerouted_here s near (marked_down t other)
@@ -50,7 +50,7 @@ hopped_to s near t (Some other) = rerouted_here s near (marked_down t other)
 unfoldable pub hop_answer : SwitchValue → ℕ → TunnelValue → Moved
 hop_answer s near t = hopped_to s near t (link_found_down near (next t))
 
--- where a packet with this next switch goes on
+-- where a packet with this next switch moves on
 abbrev pub onward_to : ℕ → Option ℕ → Onward
 onward_to near None = AtEnd
 onward_to near (Some other) = if has near other then Next other else LinkDown other

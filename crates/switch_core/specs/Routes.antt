@@ -5,6 +5,6 @@ use Rattle.failover.specs.Links.{no_links}
 use Rattle.failover.specs.Routes.{route_of}
 use Rattle.switch_core.specs.declared.routes.KeptRoute.{KeptRoute}
 
--- the way is the route by these adverts, where no link was found down
+-- the way is the route by these adverts, with no link found down
 abbrev pub IsRouteBy : List (Option Advert) → KeptRoute → Type 0
 IsRouteBy adverts way = route_of adverts way.from (way.target ∷ []) way.near no_links ≡ Some way.route

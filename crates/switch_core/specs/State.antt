@@ -27,7 +27,7 @@ pub record SwitchValue : Type 0 where
   pub database : List (Option Advert)
   -- of its own newest advert in this boot
   pub seq : ℕ
-  -- how many packet calls it answered
+  -- how many packet calls it counted
   pub handled : ℕ
 
 abbrev pub switch_value : Inside → SwitchValue
@@ -49,7 +49,7 @@ switch_value s = record {
 abbrev pub serves : SwitchValue → Bool
 serves s = s.is_up && s.is_open
 
--- the tables of a version, where it has them
+-- the tables of a version, if it has them
 abbrev pub held_tables : SwitchValue → ℕ → Option Tables
 held_tables s version = find (λ tables. tables.version == version) s.tables
 
@@ -63,20 +63,20 @@ no_tables = record { version = 0; parts = []; auth = [] }
 abbrev pub stamp_tables : SwitchValue → Tables
 stamp_tables s = unwrap_or (held_tables s s.stamp) no_tables
 
--- one more packet call; the count stands still at its last value
+-- one more packet call; the count stops at its greatest value
 abbrev pub call_counted : SwitchValue → SwitchValue
 call_counted s = record s { handled = min (s.handled + 1) (2 ^ 64 - 1) }
 
 abbrev pub own_advert : ℕ → ℕ → ℕ → ℕ → Advert
 own_advert number boot seq up = record { origin = number; boot = boot; seq = seq; up = up }
 
--- no advert that is held of the switch is newer than this boot and seq
+-- no advert of the switch is newer than this boot and seq
 abbrev pub HasOwnUpTo : List (Option Advert) → ℕ → ℕ → ℕ → Type 0
 HasOwnUpTo adverts number boot seq =
     (advert : Advert) → held_advert adverts number ≡ Some advert
     → IsFalse (is_newer advert (own_advert number boot seq 0))
 
--- what holds of each switch
+-- what is true of each switch
 pub record IsSwitch (s : SwitchValue) : Type 0 where
   pub number : s.number < 64
   pub sound : All AreSoundTables s.tables

@@ -15,7 +15,7 @@ use switch_table::{Found, Tables};
 
 impl Switch {
     /// What becomes of a packet that comes into the network here, whatever its number: `None`
-    /// exactly where the switch doesn't serve. Otherwise it is looked up under the switch's stamp,
+    /// exactly if the switch doesn't serve. Otherwise it is looked up under the switch's stamp,
     /// and nothing is sent to a cache. `lookup_laws` says how. It copies no route and no set of
     /// links.
     pub fn admit(&mut self, h: &Header) -> Option<Forwarding>
@@ -36,10 +36,10 @@ impl Switch {
         Some(forwarding)
     }
 
-    /// What becomes of a packet that stands here, at the end of its route, whatever its number and
-    /// the links that it found down. On its leg to a port it leaves. On its leg to an authority
-    /// switch it is decided by the tables of its version. Where these aren't there, it is looked up
-    /// anew under the switch's stamp. It copies no route and no set of links.
+    /// What becomes of a packet that is here, at the end of its route, whatever its number and the
+    /// links that it found down. On its leg to a port it leaves. On its leg to an authority switch
+    /// it is decided by the tables of its version. If the switch doesn't have these, the packet is
+    /// looked up again under the switch's stamp. It copies no route and no set of links.
     pub fn receive(&mut self, t: Arriving) -> Forwarding
         requires serving { IsTrue (serves self.old) }
         requires stamped { CanLookUp self.old }
@@ -66,7 +66,7 @@ impl Switch {
         }
     }
 
-    // By the tables of this version, if they are held, and otherwise by a lookup.
+    // By the tables of this version if the switch has them, otherwise by a lookup.
     fn judge(&self, h: &Header, ingress: u32, version: u32, partition: u32) -> Forwarding
         requires stamped { IsTrue (holds_version self.now self.now.stamp) }
         requires authority { IsAtAuthority self.now h.now (SeekLeg version partition) }
@@ -90,7 +90,7 @@ impl Switch {
             ≡ Answered (looked_up self.now site (packet_with number h.now ingress down)) }
     {
         let finder = self.stamp_tables().finder();
-        // The call says that the header is below its bound.
+        // The call tells the proof that the header is below its bound.
         let _ = h.number();
         let found = finder.lookup(&self.cache, h);
         self.by_found(h, ingress, finder.tables(), &found)

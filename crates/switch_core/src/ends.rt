@@ -11,9 +11,9 @@ use policy_rules::{Cause, Leg, Targets};
 use std::alloc::Global;
 
 impl Switch {
-    /// The route of a packet that sets out here on this leg, to the first of its targets that it
-    /// reaches, and found these links down, if any. No tunnel is made for it, and those that found
-    /// none down share their route.
+    /// The route of a packet that begins this leg here, to the first of its targets that it can
+    /// reach, around the links that it found down, if any. No tunnel is made for it, and packets
+    /// that found none down share their route.
     ///
     /// `near` has a bit for each switch to which there is a usable link.
     ///
@@ -43,7 +43,7 @@ impl Switch {
         }
     }
 
-    // Why there is none past these links.
+    // Why there is none around these links.
     #[cold]
     #[inline(never)]
     fn why_stuck(&self, near: u64, down: Option<&DownSet>, leg: &Leg, targets: &Targets) -> Cause
@@ -68,7 +68,7 @@ impl Switch {
         }
     }
 
-    // Whether no known link ends at any of these switches.
+    // Whether no known link leads to any of these switches.
     #[tactic(auto, unfolding(crate::specs::Ends::are_isolated))]
     fn are_isolated(&self, near: u64, down: &DownSet, targets: &[u32]) -> bool
         ensures { result ≡ are_isolated self.now near down.now targets.now }

@@ -6,14 +6,14 @@ use ctrl_msg::Body;
 use policy_rules::{Leg, Targets};
 use ternary::Word;
 
-/// What becomes of a packet at a switch, before a route is taken: small beside a tunnel, which has
-/// room for a route. `Switch::shared_route` finds the route.
+/// What becomes of a packet at a switch, before a route is taken: small compared with a tunnel,
+/// which has room for a route. `Switch::shared_route` finds the route.
 #[derive(Drop)]
 pub enum Forwarding {
     /// Out of the network, by this port of the switch: at the end of the packet's route to it.
     Out(u32),
     /// Decided, with the word of a rule for the cache of the switch where the packet entered,
-    /// unless that is this one. It goes on as the decision's action says.
+    /// unless that is this one. It moves on as the decision's action says.
     Decided {
         decision: Decision,
         word: Option<Word>,

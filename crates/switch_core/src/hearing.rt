@@ -26,12 +26,11 @@ pub type Replies = Items<Message>;
 
 impl Switch {
     /// The message of this number is delivered here. A switch that is down does nothing, nor does
-    /// one to which comes a message of another boot, or one for the controller.
+    /// one that gets a message of another boot or one for the controller.
     ///
     /// `near` has a bit for each switch to which there is a usable link.
     ///
-    /// # Errors
-    /// Only out of memory; nothing changes then, and the message is as good as not delivered.
+    /// # Errors Only out of memory; then nothing changes, as if the message hadn't been delivered.
     #[tactic(auto, unfolding(crate::specs::Hearing::with_message, crate::specs::Hearing::replies, crate::specs::Hearing::opening_stamp))]
     pub fn hear(&mut self, number: u32, body: &Body, near: u64) -> Result<Heard, AllocError>
         requires { IsSoundBody body.now }
@@ -140,7 +139,7 @@ impl Switch {
         Ok(())
     }
 
-    // Serves from now on, under at least this version.
+    // Serves from now on, with at least this version as its stamp.
     fn open_with(&mut self, version: u32)
         ensures { self.new ≡ opened_with self.old version }
     {
@@ -148,8 +147,8 @@ impl Switch {
         self.is_open = true;
     }
 
-    // Stamps with at least this version from now on; where the stamp rises, the cache is carried to
-    // it, past what was touched.
+    // Stamps with at least this version from now on; if the stamp rises, the cached rules are
+    // carried to it, except those that the change touches.
     #[tactic(auto, unfolding(crate::specs::Hearing::stamped_with))]
     fn stamp_with(&mut self, version: u32, touched: &Touched) -> Result<(), AllocError>
         ensures after { OnOk result (self.new ≡ stamped_with self.old version touched.now) }
@@ -162,7 +161,7 @@ impl Switch {
         Ok(())
     }
 
-    // Stamps with at least this version from now on; where the stamp rises, the cache is raised to
+    // Stamps with at least this version from now on; if the stamp rises, the cache is raised to
     // it.
     #[tactic(auto, unfolding(crate::specs::Hearing::raised_to))]
     fn raise(&mut self, version: u32)
@@ -202,7 +201,8 @@ impl Switch {
         }
     }
 
-    // Whether the advert is of another switch, and newer than the one of it that is held, if any.
+    // Whether the advert is of another switch, and newer than the one that the database has of
+    // that switch, if any.
     #[tactic(auto, unfolding(crate::specs::Hearing::is_news_here, failover::specs::Adverts::is_news))]
     fn is_news(&self, advert: &Advert) -> bool
         ensures { result ≡ is_news_here self.now advert.now }
@@ -226,7 +226,7 @@ fn to_controller(body: Body) -> Message
     }
 }
 
-// This message alone.
+// Only this message.
 fn one_reply(alloc: Global, message: Message) -> Result<Replies, AllocError>
     ensures { IfOk result (λ replies. replies ≡ message ∷ []) }
 {

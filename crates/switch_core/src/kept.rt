@@ -25,7 +25,7 @@ impl Model for KeptTables {
 }
 
 impl KeptTables {
-    /// These tables, with their trees, or with new ones where they have none.
+    /// These tables, with their trees, or with new ones if they have none.
     ///
     /// # Errors
     /// Only out of memory.
@@ -37,7 +37,7 @@ impl KeptTables {
         Ok(KeptTables { finder })
     }
 
-    /// The tables, by the trees of which headers are looked up.
+    /// The tables, whose trees are used to look headers up.
     pub fn finder(&self) -> &Finder
         ensures { result.now.tables ≡ self.now }
     {

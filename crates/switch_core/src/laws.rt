@@ -1,31 +1,31 @@
 ghost use Rattle.switch_core.specs.Exports.{ArriveLaws, DecisionLaws, EnterLaws, ExitLaws, HopLaws, LookupLaws, SwitchLaws};
 
-/// What the steps of a switch have in common, and when a packet is stuck: a law on the definitions
-/// alone.
+/// What the steps of a switch have in common, and when a packet is stuck: a law about the
+/// definitions only.
 pub fn switch_laws()
     ensures { SwitchLaws }
 {}
 
-/// What a switch answers to a packet by a lookup, by what the cache and the tables of the stamp say
-/// of the header: a relation that allows one answer. A law about the definition only.
+/// What a switch returns for a packet by a lookup, by what the cache and the tables of the stamp
+/// say about the header: a relation that allows one result. A law about the definition only.
 pub fn lookup_laws()
     ensures { LookupLaws }
 {}
 
-/// What `Switch::enter` answers, by a lookup: a relation that allows one answer. A law on the
-/// definition alone.
+/// What `Switch::enter` returns, by a lookup: a relation that allows one result. A law about the
+/// definition only.
 pub fn enter_laws()
     ensures { EnterLaws }
 {}
 
-/// Where a packet goes that was decided, by the owner of its action's port: a relation that allows
-/// one way. A law about the definition only.
+/// Where a packet moves that was decided, by the owner of its action's port: a relation that
+/// allows one way. A law about the definition only.
 pub fn exit_laws()
     ensures { ExitLaws }
 {}
 
-/// What `Switch::arrive` answers, by the tables of the leg's version or by a lookup: a relation
-/// that allows one answer. A law about the definition only.
+/// What `Switch::arrive` returns, by the tables of the leg's version or by a lookup: a relation
+/// that allows one result. A law about the definition only.
 pub fn arrive_laws()
     ensures { ArriveLaws }
 {}

@@ -2,12 +2,12 @@
 //!
 //! A `Switch` promises that each of its calls is a step that `specs/` states on the record that
 //! contracts see: its number, boot, stamp, tables by version, cache, database of adverts, and how
-//! many packet calls it answered. The laws say what those steps are in terms of lookups, rules,
-//! routes and tunnels. Only `begin`, `hear` and `shared_route` take memory.
+//! many packet calls it counted. The laws say what those steps are in terms of lookups, rules,
+//! routes and tunnels. Only `begin`, `hear` and `shared_route` allocate.
 //!
-//! A packet comes in by `admit` and goes on by `pass`; `receive` says what becomes of it at the end
-//! of its route, and `shared_route` finds the route of a leg. `enter`, `hop` and `arrive` are the
-//! same calls by whole tunnels.
+//! A packet comes in by `admit` and moves on by `pass`; `receive` says what becomes of it at the
+//! end of its route, and `shared_route` finds the route of a leg. `enter`, `hop` and `arrive` are
+//! the same calls for whole tunnels.
 //!
 //! ```text
 //! let mut switch = Switch::begin(alloc, 0, 256, tables, base)?;

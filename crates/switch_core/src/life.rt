@@ -5,7 +5,8 @@ use crate::switch::Switch;
 use failover::Advert;
 
 impl Switch {
-    /// Its usable links are these now: its own advert of them, which it holds, to be told.
+    /// Its usable links are these now. Returns its new own advert of them, which it keeps, to be
+    /// sent.
     pub fn near_changed(&mut self, near: u64) -> Advert
         requires { self.old.seq < 2 ^ 32 - 1 }
         ensures advert { result ≡ next_advert self.old near }
@@ -22,8 +23,8 @@ impl Switch {
         advert
     }
 
-    /// Takes the cached rule at this place, from 0, out and returns the number of its message;
-    /// `None` where there is none.
+    /// Removes the cached rule at this place, from 0, and returns the number of its message;
+    /// `None` if there is none.
     pub fn expire(&mut self, k: u32) -> Option<u32>
         ensures message { result
             ≡ option_map (λ entry. entry.message) (slice_get self.old.cache.entries k) }
@@ -40,7 +41,7 @@ impl Switch {
         self.is_up = false;
     }
 
-    /// It comes up again, closed, in its next boot, which is answered.
+    /// It comes up again, closed, in its next boot, which is returned.
     pub fn restart(&mut self) -> u32
         requires down { IsFalse self.old.is_up }
         requires boot { self.old.boot < 2 ^ 32 - 1 }
@@ -53,7 +54,7 @@ impl Switch {
         self.boot
     }
 
-    // All that it learnt is gone.
+    // Forgets all that it learnt.
     fn forget(&mut self)
         ensures { self.new ≡ without_memory self.old }
     {

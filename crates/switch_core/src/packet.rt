@@ -2,8 +2,8 @@ use failover::Route;
 use five_tuple::Header;
 use policy_rules::Leg;
 
-/// A packet that is put to a switch at the end of its route, as it is kept: neither its number nor
-/// the links that it found down make a difference to what is said of it.
+/// A packet that is given to a switch at the end of its route, as it is kept: neither its number
+/// nor the links that it found down change the result.
 #[derive(Clone, Copy)]
 pub struct Arriving<'a> {
     pub header: &'a Header,
@@ -15,13 +15,13 @@ pub struct Arriving<'a> {
     pub place: u32,
 }
 
-/// Where a packet goes on from a switch of its route.
+/// Where a packet moves on from a switch of its route.
 #[derive(Clone, Copy, Debug, PartialEq, Eq)]
 pub enum Onward {
-    /// Nowhere: it stands at the end of its route.
+    /// Nowhere: it is at the end of its route.
     AtEnd,
     /// To this next switch of its route.
     Next(u32),
-    /// Not on along its route, since the link to this next switch is down.
+    /// Not on along its route, because the link to this next switch is down.
     LinkDown(u32),
 }

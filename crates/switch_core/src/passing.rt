@@ -9,8 +9,8 @@ use base::has;
 use failover::Route;
 
 impl Switch {
-    /// Where a packet that stands here, at this place of its route, goes on; no tunnel is made for
-    /// it. A link is down where it isn't usable.
+    /// Where a packet that is here, at this place of its route, moves on; no tunnel is made for
+    /// it. A link is down if it isn't usable.
     ///
     /// `near` has a bit for each switch to which there is a usable link.
     pub fn pass(&mut self, route: &Route, place: u32, near: u64) -> Onward
@@ -30,7 +30,7 @@ impl Switch {
     }
 }
 
-// The switch behind this place of the route.
+// The switch after this place of the route.
 fn next_switch(route: &Route, place: u32) -> Option<u32>
     ensures next { result ≡ slice_get route.now (place + 1) }
     ensures route { IsRouteList route.now }

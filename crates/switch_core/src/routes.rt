@@ -12,7 +12,7 @@ use std::marker::Model;
 /// The most routes that are kept at once.
 const MAX_KEPT: usize = 64;
 
-/// A route of `from` to one target, where no link was found down.
+/// A route of `from` to one target, for packets that found no link down.
 #[derive(Drop)]
 pub struct KeptRoute {
     from: u32,
@@ -22,7 +22,7 @@ pub struct KeptRoute {
     route: Shared<Route>,
 }
 
-/// The adverts that a switch holds, and routes that it found by them, so that packets share these.
+/// The adverts that a switch has, and routes that it found by them, so that packets share these.
 /// Contracts see the adverts.
 #[derive(Drop)]
 pub struct Routes {
@@ -43,7 +43,7 @@ impl Model for Routes {
 }
 
 impl Routes {
-    /// These adverts. It takes no memory yet.
+    /// These adverts. It allocates nothing yet.
     pub fn new(alloc: Global, database: Database) -> Routes
         ensures { result ≡ database }
     {
@@ -60,7 +60,7 @@ impl Routes {
         &self.database
     }
 
-    /// Holds the advert where it is news, as `Database::hear` does.
+    /// Keeps the advert if it is news, as `Database::hear` does.
     pub fn hear(&mut self, advert: &Advert) -> bool
         ensures news { result ≡ is_news self.old advert.now }
         ensures after { self.new ≡ after_hearing self.old advert.now }
@@ -69,7 +69,7 @@ impl Routes {
         self.database.hear(advert)
     }
 
-    /// All adverts are gone.
+    /// Removes all adverts.
     pub fn clear(&mut self)
         ensures { self.new ≡ no_adverts }
     {
@@ -77,8 +77,8 @@ impl Routes {
         self.database = Database::empty();
     }
 
-    /// A route to the first of the targets that is reached past these links, where any were found
-    /// down; `None` where none leads there. Where none was, those who ask for it share it.
+    /// A route to the first of the targets that is reachable around these links, if any were found
+    /// down; `None` if none is reachable. If none was found down, the callers share the route.
     ///
     /// # Errors
     /// Only out of memory.
@@ -103,7 +103,7 @@ impl Routes {
         self.find_route(alloc, from, targets, near)
     }
 
-    // The route that is kept, if one is.
+    // The kept route, if there is one.
     fn kept_route(&self, from: u32, target: u32, near: u64) -> Option<&Shared<Route>>
         ensures { IfSome result (λ route.
             route_of self.now from (target ∷ []) near no_links ≡ Some route.now) }
@@ -116,7 +116,7 @@ impl Routes {
         None
     }
 
-    // A route that wasn't kept, and is from now on where it leads to the first target of all.
+    // A route that wasn't kept, and is kept from now on if it leads to the first target of all.
     #[cold]
     #[inline(never)]
     fn find_route(
@@ -148,7 +148,7 @@ impl Routes {
         Ok(Some(route))
     }
 
-    // A route past these links, which no other packet shares yet.
+    // A route around these links, which no other packet shares yet.
     #[cold]
     #[inline(never)]
     fn own_route(

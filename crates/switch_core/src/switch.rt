@@ -13,7 +13,7 @@ use std::marker::Model;
 use switch_table::Cache;
 
 /// One switch. Contracts see the record of its number, boot, whether it is up and open, stamp,
-/// collect mark, tables, cache, adverts, own seq, and how many packet calls it answered.
+/// collect mark, tables, cache, adverts, own seq, and how many packet calls it counted.
 #[derive(Drop)]
 pub struct Switch {
     pub(crate) number: u32,
@@ -42,8 +42,8 @@ impl Model for Switch {
 }
 
 impl Switch {
-    /// The switch of this number, up and open in its first boot, with these tables of version 1 and
-    /// these adverts, and room for so many cached rules.
+    /// The switch of this number, up and open in its first boot, with these tables of version 1
+    /// and these adverts, and room for this many cached rules.
     ///
     /// # Errors
     /// Only out of memory.
@@ -85,7 +85,7 @@ impl Switch {
         self.number
     }
 
-    /// Whether it is up and open, so that it answers packets.
+    /// Whether it is up and open, so that it handles packets.
     pub fn serves(&self) -> bool
         ensures { result ≡ serves self.now }
     {
@@ -99,7 +99,7 @@ impl Switch {
         self.is_up
     }
 
-    /// The number of the boot that it is in, or, where it is down, of its last one.
+    /// The number of the boot that it is in, or, if it is down, of its last one.
     pub fn boot(&self) -> u32
         ensures { result ≡ self.now.boot }
     {
@@ -120,18 +120,18 @@ impl Switch {
         self.held_tables(version).is_some()
     }
 
-    /// How many packet calls it answered: of `admit` for a packet that comes in here, of `pass` for
-    /// one that stands here at a place of its route, and of `receive` for one that stands here at
-    /// its route's end. `enter`, `hop` and `arrive` make one of these each. No call counts without
-    /// the packet's header, or its route and its place there, which has to be this switch. The count
-    /// stands still at its last value.
+    /// How many packet calls it counted: of `admit` for a packet that comes in here, of `pass` for
+    /// one that is here at a place of its route, and of `receive` for one that is here at its
+    /// route's end. `enter`, `hop` and `arrive` make one of these each. A call counts only with
+    /// the packet's header, or with its route and its place there, which has to be this switch.
+    /// The count stops at its greatest value.
     pub fn handled(&self) -> u64
         ensures { result ≡ self.now.handled }
     {
         self.handled
     }
 
-    /// The newest advert that it holds of this origin; `None` exactly where it holds none.
+    /// The newest advert that it has of this origin; `None` exactly if it has none.
     pub fn known(&self, origin: u32) -> Option<Advert>
         ensures held { result ≡ held_advert self.now.database origin }
         ensures origin { IfSome result (λ advert. advert.origin ≡ origin) }
@@ -139,7 +139,7 @@ impl Switch {
         self.database.database().get(origin)
     }
 
-    /// The tables of this version, where it has them.
+    /// The tables of this version, if it has them.
     pub(crate) fn held_tables(&self, version: u32) -> Option<&KeptTables>
         ensures { option_copied result ≡ held_tables self.now version }
     {

@@ -1,7 +1,7 @@
-//! The calls by whole tunnels, as other programs may make them: `enter` and `arrive` give the packet
-//! its route at once, and `hop` takes the next one where a link is down. The program makes none of
-//! them, but those that they stand on: it shares one route among packets. What each answers is as
-//! its name here says, and each is thin: it asks `admit`, `receive` or `pass`.
+//! The calls for whole tunnels, as other programs may make them: `enter` and `arrive` give the
+//! packet its route at once, and `hop` takes the next one if a link is down. The program makes
+//! none of these, only the calls under them, so that packets share one route. What each returns is
+//! as its name here says, and each is thin: it calls `admit`, `receive` or `pass`.
 ghost use Rattle.std.specs.Prelude.{◌≡◌, ◌∷◌, [], IsTrue, None};
 ghost use Rattle.policy_rules.specs.declared.packet.Leg.TheVariants.{Exit as ExitLeg};
 ghost use Rattle.tunnel.specs.Moves.{next};
@@ -21,7 +21,7 @@ use policy_rules::{Action, Cause, Leg, Targets};
 use ternary::Word;
 use tunnel::Tunnel;
 
-/// A packet at a switch, as it sets out on a leg.
+/// A packet at a switch at the beginning of a leg.
 #[derive(Drop)]
 pub struct Packet {
     pub number: u32,
@@ -32,7 +32,7 @@ pub struct Packet {
     pub down: DownSet,
 }
 
-/// Where a packet goes that was decided.
+/// Where a packet moves that was decided.
 #[derive(Drop)]
 pub enum Next {
     Dropped,
@@ -43,7 +43,7 @@ pub enum Next {
     Stuck(Cause),
 }
 
-/// What a switch answers to a packet that comes into the network.
+/// What a switch returns for a packet that comes into the network.
 #[derive(Drop)]
 pub enum Entered {
     /// The switch doesn't serve.
@@ -51,11 +51,11 @@ pub enum Entered {
     Decided { decision: Decision, next: Next },
     /// To an authority switch of the packet's partition.
     Seek(Tunnel),
-    /// There is no route for this leg, which the lookup gave.
+    /// There is no route for this leg, which the lookup returned.
     Stuck { cause: Cause, leg: Leg },
 }
 
-/// What a switch answers to a packet at the end of its route.
+/// What a switch returns for a packet at the end of its route.
 #[derive(Drop)]
 pub enum Arrived {
     /// Out of the network, by this port of the switch.
@@ -68,7 +68,7 @@ pub enum Arrived {
     },
     /// To an authority switch of the packet's partition.
     Seek(Tunnel),
-    /// There is no route for this leg, which the lookup gave.
+    /// There is no route for this leg, which the lookup returned.
     Stuck {
         cause: Cause,
         leg: Leg,
@@ -86,7 +86,7 @@ pub struct Hop {
 /// Where a hop ends.
 #[derive(Clone, Copy, Debug, PartialEq, Eq)]
 pub enum HopEnd {
-    /// At the end of the route, where it stands.
+    /// At the end of the route, where the packet is.
     Arrive,
     /// At this next switch of the route.
     Move(u32),
@@ -94,9 +94,9 @@ pub enum HopEnd {
 }
 
 impl Switch {
-    /// A packet of this number comes into the network here: closed exactly where the switch doesn't
+    /// A packet of this number comes into the network here: closed exactly if the switch doesn't
     /// serve. Otherwise it is looked up under the switch's stamp, and is decided by a cached or an
-    /// authority rule, or sets out to its partition's targets; nothing is sent to a cache.
+    /// authority rule, or is sent to its partition's targets; nothing is sent to a cache.
     /// `enter_laws` and `lookup_laws` say how.
     ///
     /// `near` has a bit for each switch to which there is a usable link.
@@ -121,9 +121,10 @@ impl Switch {
         }
     }
 
-    /// A packet stands here, at the end of its route. On its way to a port it leaves. On its way to
-    /// an authority switch it is decided by the tables of its version. Where these aren't there, it
-    /// is looked up anew under the switch's stamp. `arrive_laws` and `lookup_laws` say how.
+    /// A packet is here, at the end of its route. On its way to a port it leaves. On its way to an
+    /// authority switch it is decided by the tables of its version. If the switch doesn't have
+    /// these, it is looked up again under the switch's stamp. `arrive_laws` and `lookup_laws` say
+    /// how.
     ///
     /// `near` has a bit for each switch to which there is a usable link.
     #[tactic(auto, unfolding(crate::specs::Answering::received))]
@@ -146,10 +147,10 @@ impl Switch {
         self.answer_arrival(Site { near, ports }, &carried(t), forwarding)
     }
 
-    /// A packet that stands here goes on: at the end of its route it arrives. Where the link to the
-    /// next switch is usable it moves there. Otherwise that link is found down and the packet takes
-    /// a new route, on which it moves or arrives, or is stuck. `hop_laws` says how. A packet that
-    /// arrives stands here, at the end of its route.
+    /// A packet that is here moves on: at the end of its route it arrives. If the link to the next
+    /// switch is usable it moves there. Otherwise that link is found down and the packet takes a
+    /// new route, on which it moves or arrives, or is stuck. `hop_laws` says how. A packet that
+    /// arrives is here, at the end of its route.
     ///
     /// `near` has a bit for each switch to which there is a usable link.
     #[tactic(auto, unfolding(crate::specs::Moving::hop_answer))]
@@ -201,7 +202,7 @@ impl Switch {
         }
     }
 
-    /// The answer to a packet that comes in, of this forwarding.
+    /// The result for a packet that comes in, with this forwarding.
     fn answer_entry(&self, site: Site, packet: &Packet, forwarding: Forwarding) -> Entered
         requires { IsByLookup forwarding }
         ensures { (answer : Answer)
@@ -223,7 +224,7 @@ impl Switch {
         }
     }
 
-    /// The answer to a packet at the end of its route, of this forwarding.
+    /// The result for a packet at the end of its route, with this forwarding.
     fn answer_arrival(&self, site: Site, packet: &Packet, forwarding: Forwarding) -> Arrived
         ensures { result
             ≡ arrival_of (answer_of self.now (site_of site.entry) packet.now forwarding) }
@@ -244,7 +245,7 @@ impl Switch {
         }
     }
 
-    // Where a packet goes that was decided by this action.
+    // Where a packet moves that was decided by this action.
     #[tactic(auto, unfolding(crate::specs::Ends::next_of, crate::specs::Ends::leave_by))]
     fn next(&self, site: Site, packet: &Packet, action: Action) -> Next
         ensures { result ≡ next_of self.now (site_of site.entry) packet.now action }
@@ -270,7 +271,7 @@ impl Switch {
         }
     }
 
-    /// The packet at the beginning of its route to the first of these targets that it reaches.
+    /// The packet at the beginning of its route to the first of these targets that it can reach.
     ///
     /// # Errors
     /// Why there is none.
@@ -312,7 +313,7 @@ fn carried(t: &Tunnel) -> Packet
     }
 }
 
-// The rule for a cache, where there is a word.
+// The rule for a cache, if there is a word.
 fn cached_by(decision: &Decision, word: Option<Word>) -> Option<Body>
     ensures { result ≡ cached_by decision.now word }
 {

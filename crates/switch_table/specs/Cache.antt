@@ -18,24 +18,23 @@ same_key a b = (a.version == b.version) && word_eq a.word b.word
 abbrev pub HaveDistinctKeys : List CacheEntry → Type 0
 HaveDistinctKeys entries = AllPairs (λ a b. IsFalse (same_key a b)) entries
 
--- where there are more than so many, the first one goes
+-- if there are more than this many, the first one is evicted
 abbrev pub newest_entries : ℕ → List CacheEntry → List CacheEntry
 newest_entries capacity entries = if nat_lt capacity (length entries) then drop 1 entries
     else entries
 
--- an entry is taken in last; one of a version below the stamp, or of a key that is there, changes
--- nothing
+-- an entry is added last; one of a version below the stamp, or of an existing key, changes nothing
 abbrev pub after_accept : ℕ → CacheEntry → CacheValue → CacheValue
 after_accept stamp entry cache =
     if nat_lt entry.version stamp || list_any (same_key entry) cache.entries
     then cache
     else record cache { entries = newest_entries cache.capacity (cache.entries ++ entry ∷ []) }
 
--- the entry at a place goes, and those after it close up
+-- the entry at a place is removed, and those after it close up
 abbrev pub after_expire : ℕ → CacheValue → CacheValue
 after_expire place cache = record cache { entries = remove cache.entries place }
 
--- the entries of versions below the stamp go
+-- the entries of versions below the stamp are removed
 abbrev pub after_raise : ℕ → CacheValue → CacheValue
 after_raise stamp cache =
     record cache { entries = filter (λ entry. nat_le stamp entry.version) cache.entries }
@@ -43,7 +42,7 @@ after_raise stamp cache =
 abbrev pub after_clear : CacheValue → CacheValue
 after_clear cache = record cache { entries = [] }
 
--- what holds of each cache
+-- what is true of each cache
 pub record IsCache (cache : CacheValue) : Type 0 where
   pub distinct : HaveDistinctKeys cache.entries
   pub few : length cache.entries ≤ cache.capacity

@@ -19,7 +19,7 @@ pub record CacheLaws : Type 0 where
   pub kept_by_carry : (version : ℕ) (touched : List WordValue) (cache : CacheValue) →
       IsCache cache → IsCache (after_carry version touched cache)
 
--- the entry is one of the version before, of a word that meets no touched one, which went over
+-- the entry is one of the version before, of a word that meets no touched one, which was carried
 pub record WasCarried (version : ℕ) (touched : List WordValue) (cache : CacheValue)
     (entry : CacheEntry) : Type 0 where
   pub old : CacheEntry
@@ -29,17 +29,17 @@ pub record WasCarried (version : ℕ) (touched : List WordValue) (cache : CacheV
   pub is : entry ≡ under version old
 
 pub record CarryLaws : Type 0 where
-  -- an entry of the version before whose word meets no touched one is there under the version, if
-  -- not as it was then as the one of its word that came before the change did
+  -- for an entry of the version before whose word meets no touched one, there is one under the
+  -- version: the same entry or, if one of its word came before the change did, that one
   pub untouched : (version : ℕ) (touched : List WordValue) (cache : CacheValue)
       (entry : CacheEntry) → Contains cache.entries entry → entry.version + 1 ≡ version →
       IsFalse (meets_any touched entry.word) →
       Any (λ kept. (kept.version ≡ version) × (kept.word ≡ entry.word))
       (after_carry version touched cache).entries
-  -- what is there was there, or went over
+  -- each entry was there before, or was carried
   pub only : (version : ℕ) (touched : List WordValue) (cache : CacheValue) →
       All (λ entry. ((version ≤ entry.version) × Contains cache.entries entry)
       ⊎ WasCarried version touched cache entry) (after_carry version touched cache).entries
-  -- where all is touched, the entries of earlier versions go
+  -- if everything is touched, the entries of earlier versions are removed
   pub all : (version : ℕ) (cache : CacheValue) →
       after_carry version all_touched cache ≡ after_raise version cache

@@ -1,5 +1,5 @@
--- Cache entries that outlive a change of the policy: those that meet nothing of what the change
--- touches go over to the version that it makes.
+-- Cache entries that outlive a change of the policy: those that meet no touched word are carried
+-- to the version that it makes.
 use Rattle.std.specs.Prelude.{ℕ, ◌+◌, Bool, not, ◌&&◌, ◌==◌, nat_le, nat_lt, if◌then◌else◌, Option, Some, None, List, [], ◌∷◌, length, filter_map}
 use Rattle.std.specs.List.{list_any}
 use Rattle.ternary.specs.Word.{WordValue}
@@ -11,7 +11,7 @@ use Rattle.switch_table.specs.declared.cache.CacheEntry.{CacheEntry}
 abbrev pub all_touched : List WordValue
 all_touched = any_word ∷ []
 
--- these words, where a list has room for them, and otherwise that word alone
+-- these words, if a list has room for them, otherwise only that word
 abbrev pub few_touched : List WordValue → List WordValue
 few_touched words = if nat_lt 16 (length words) then all_touched else words
 
@@ -30,15 +30,15 @@ is_carried version touched entries entry =
     (entry.version + 1 == version) && not (meets_any touched entry.word)
     && not (list_any (same_key (under version entry)) entries)
 
--- what becomes of an entry of a cache as it goes over to a version: one of that version or a later
--- one stays, and one of an earlier version goes over or is gone
+-- what becomes of an entry of a cache that is carried to a version: one of that version or a later
+-- one stays, and one of an earlier version is carried or removed
 abbrev pub carried_entry : ℕ → List WordValue → List CacheEntry → CacheEntry → Option CacheEntry
 carried_entry version touched entries entry =
     if nat_le version entry.version then Some entry
     else if is_carried version touched entries entry then Some (under version entry)
     else None
 
--- the cache goes over to the version, where these words were touched: what is left keeps its order
+-- the cache is carried to the version, with these words touched: what is left keeps its order
 abbrev pub after_carry : ℕ → List WordValue → CacheValue → CacheValue
 after_carry version touched cache =
     record cache { entries = filter_map (carried_entry version touched cache.entries) cache.entries }

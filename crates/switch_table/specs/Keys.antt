@@ -1,4 +1,4 @@
--- Cache entries as a map holds them: what was learnt, under a key.
+-- Cache entries as a map has them: what was learnt, under a key.
 use Rattle.std.specs.Prelude.{ℕ, ◌+◌, ◌-◌, Bool, not, ◌&&◌, ◌==◌, List, map, bit_and}
 use Rattle.std.specs.List.{IsDistinct, list_any}
 use Rattle.std.specs.Map.{keys_of}
@@ -12,7 +12,7 @@ use Rattle.switch_table.specs.declared.key.Learnt.{Learnt}
 abbrev pub Pair : Type 0
 Pair = CacheKey × Learnt
 
--- the key of an entry, where so much is added to its version
+-- the key of an entry, if this much is added to its version
 abbrev pub key_of : ℕ → CacheEntry → CacheKey
 key_of shift entry = record { number = entry.version + shift; word = entry.word }
 
@@ -23,7 +23,7 @@ learnt_of entry =
 abbrev pub pair_of : ℕ → CacheEntry → Pair
 pair_of shift entry = (key_of shift entry, learnt_of entry)
 
--- the entry of a pair, where so much was added to its version
+-- the entry of a pair, if this much was added to its version
 abbrev pub kept_entry : ℕ → Pair → CacheEntry
 kept_entry shift pair = record {
   version = pair.0.number - shift;
@@ -39,7 +39,7 @@ kept_entries shift pairs = map (kept_entry shift) pairs
 unfoldable pub equal_keys : CacheKey → CacheKey → Bool
 equal_keys a b = (a.number == b.number) && word_eq a.word b.word
 
--- no two pairs have one key
+-- no two pairs have the same key
 abbrev pub HaveOwnKeys : List Pair → Type 0
 HaveOwnKeys pairs = IsDistinct equal_keys (keys_of pairs)
 
@@ -53,7 +53,7 @@ key_under number header mask = record {
   word = record { value = bit_and header mask.mask; mask = mask.mask };
 }
 
--- the key is such a one, of one of these masks
+-- the key is such a key, of one of these masks
 abbrev pub is_hit : ℕ → ℕ → List WordValue → CacheKey → Bool
 is_hit number header masks key =
     list_any (λ mask. equal_keys (key_under number header mask) key) masks

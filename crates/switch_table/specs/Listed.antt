@@ -1,4 +1,4 @@
--- The words of a list of what a change touches, as it is held.
+-- The words of a list of what a change touches, as it is stored.
 use Rattle.std.specs.Prelude.{List}
 use Rattle.ternary.specs.Word.{WordValue}
 use Rattle.switch_table.specs.declared.touched.Listed.{Listed}

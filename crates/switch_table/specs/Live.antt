@@ -11,7 +11,7 @@ pub record AreBlocks (counts : List ℕ) (flags : List Bool) : Type 0 where
   pub each : (k : ℕ) → k < length counts →
       slice_index_or counts k 0 ≡ count_set (take 64 (drop (64 * k) flags))
 
--- there are counts for so many places
+-- there are counts for this many places
 abbrev pub CountPlaces : LiveCounts → ℕ → Type 0
 CountPlaces live places = places ≤ 64 * length live.blocks.items
 
@@ -20,7 +20,7 @@ pub record AreCounts (live : LiveCounts) (flags : List Bool) : Type 0 where
   pub all : live.all ≡ count_set flags
   pub blocks : AreBlocks live.blocks.items flags
 
--- the flag at this place is set, and so many before it are
+-- the flag at this place is set, and so are this many before it
 pub record IsNthSet (before place : ℕ) (flags : List Bool) : Type 0 where
   pub is_set : slice_get flags place ≡ Some true
   pub earlier : count_set (take place flags) ≡ before

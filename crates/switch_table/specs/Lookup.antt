@@ -1,6 +1,6 @@
--- What the tables and the cache of a switch say of a header: cached rules first, then authority
--- rules, then partition rules (Yu, Rexford, Freedman and Wang, "Scalable Flow-Based Networking with
--- DIFANE", SIGCOMM 2010).
+-- What the tables and the cache of a switch say about a header: cached rules first, then authority
+-- rules, then partition rules (Yu, Rexford, Freedman and Wang, "Scalable Flow-Based Networking
+-- with DIFANE", SIGCOMM 2010).
 use Rattle.std.specs.Prelude.{ℕ, ◌≡◌, ◌^◌, ◌<◌, if◌then◌else◌, Option, Some, List, [], length, map, All, find, position, unwrap_or, option_map, option_and_then, slice_get}
 use Rattle.std.specs.Option.{option_map_or}
 use Rattle.five_tuple.specs.Header.{IsHeader, number_of}
@@ -32,14 +32,14 @@ redirect_of header rows =
     Redirect (unwrap_or (position (row_has header) rows) 0)
     (option_map_or (λ row. row.targets) (find (row_has header) rows) [])
 
--- what the tables say of the header
+-- what the tables say about the header
 abbrev pub table_lookup : Tables → Header → Found
 table_lookup tables header =
     option_map_or (authority_of header) (find (is_in header) tables.auth)
     (redirect_of header tables.parts)
 
--- what a cache of these entries and the tables say of the header: an entry of another version says
--- nothing
+-- what a cache of these entries and the tables say about the header: an entry of another version
+-- says nothing
 abbrev pub lookup_of : List CacheEntry → Tables → Header → Found
 lookup_of entries tables header =
     option_map_or Cached (first_entry tables.version (number_of header) entries)
@@ -53,7 +53,7 @@ lookup_in switch header hosted = if has_target switch hosted
     then authority_of header (part_of hosted)
     else Redirect hosted.0.number hosted.1
 
--- what a plan says of the header at a switch, by the partition that holds it
+-- what a plan says about the header at a switch, by the partition that holds it
 abbrev pub plan_lookup : List Hosted → ℕ → Header → Option Found
 plan_lookup plan switch header =
     option_map (lookup_in switch header) (find (λ hosted. is_in header (part_of hosted)) plan)

@@ -9,6 +9,6 @@ pub record HasMaskIn (words : List WordValue) (word : WordValue) : Type 0 where
   pub sound : IsWord word
   pub there : IsTrue (list_any (λ other. other.mask == word.mask) words)
 
--- the same, where the masks are known
+-- the same, if the masks are known
 abbrev pub HasMaskOf : Option (List WordValue) → WordValue → Type 0
 HasMaskOf masks word = IfSome masks (λ words. HasMaskIn words word)

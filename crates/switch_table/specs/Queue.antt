@@ -1,4 +1,4 @@
--- Cache entries as a queue holds them: as pairs, whose keys have a shift added to the versions.
+-- Cache entries as a queue has them: as pairs, whose keys have a shift added to the versions.
 use Rattle.std.specs.Prelude.{ℕ, ◌+◌, ◌≤◌, ◌<◌, ◌^◌, Option, List, All}
 use Rattle.ternary.specs.Word.{WordValue}
 use Rattle.switch_table.specs.Keys.{Pair, kept_entries}
@@ -14,7 +14,7 @@ HaveVersions shift pairs =
 abbrev pub AreUpTo : ℕ → List CacheEntry → Type 0
 AreUpTo newest entries = All (λ entry. entry.version ≤ newest) entries
 
--- where the masks are known, these are those of all entries
+-- if the masks are known, these are those of all entries
 abbrev pub AreMasked : Option (List WordValue) → List CacheEntry → Type 0
 AreMasked masks entries = All (λ entry. HasMaskOf masks entry.word) entries
 

@@ -18,14 +18,15 @@ use Rattle.switch_table.specs.declared.tables.Tables.{Tables}
 abbrev pub row_has : Header → PartRow → Bool
 row_has header row = holds row.region (number_of header)
 
--- some rule of the partition holds each header of its region, as where the last one covers it
+-- some rule of the partition holds each header of its region, for example because the last one
+-- covers it
 abbrev pub DecidesAll : Partition → Type 0
 DecidesAll part =
     (header : Header) → IsHeader header → IsTrue (is_in header part)
     → IsSome (first_rule part.rules header)
 
--- each header lies in one region; an authority partition has the place of its region as its number,
--- which no other one has, and its last rule covers the region; a place has 32 bits
+-- each header lies in one region; an authority partition has the place of its region as its
+-- number, which no other has, and its last rule covers the region; a place has 32 bits
 pub record AreSoundTables (tables : Tables) : Type 0 where
   pub one : (header : Header) → IsHeader header → count_by (row_has header) tables.parts ≡ 1
   pub numbers : (let regions = map (λ row. row.region) tables.parts in
@@ -46,7 +47,7 @@ row_of hosted = record { region = hosted.0.region; targets = hosted.1 }
 abbrev pub has_target : ℕ → Hosted → Bool
 has_target switch hosted = list_any (nat_eq switch) hosted.1
 
--- the tables that a plan gives to a switch: all regions with their targets, and exactly the
+-- the tables that a plan gives a switch: all regions with their targets, and exactly the
 -- partitions whose targets contain it, in the order of the plan
 abbrev pub tables_of : List Hosted → ℕ → ℕ → Tables
 tables_of plan version switch = record {

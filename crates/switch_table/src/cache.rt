@@ -13,8 +13,8 @@ use std::alloc::{AllocError, Global};
 use std::marker::Model;
 use ternary::Word;
 
-/// A rule that a switch has learnt of an authority switch: what becomes of the headers of a word,
-/// by one version.
+/// A rule that a switch has learnt from an authority switch: what becomes of the headers of a
+/// word, by one version.
 #[derive(Clone, Copy, Debug, PartialEq, Eq)]
 pub struct CacheEntry {
     pub version: u32,
@@ -27,7 +27,7 @@ pub struct CacheEntry {
 }
 
 impl CacheEntry {
-    /// The key in a queue that adds so much to versions.
+    /// The key in a queue that adds this much to versions.
     pub(crate) fn key(&self, shift: u64) -> CacheKey
         requires { shift ≤ 2 ^ 32 }
         ensures { result ≡ key_of shift self.now }
@@ -38,7 +38,7 @@ impl CacheEntry {
         }
     }
 
-    /// What it says beside its key.
+    /// What it says besides its key.
     pub(crate) fn learnt(&self) -> Learnt
         ensures { result ≡ learnt_of self.now }
     {
@@ -49,7 +49,7 @@ impl CacheEntry {
         }
     }
 
-    /// The entry of this key in a queue that adds so much to versions.
+    /// The entry of this key in a queue that adds this much to versions.
     pub(crate) fn of(key: &CacheKey, learnt: &Learnt, shift: u64) -> CacheEntry
         requires { (shift ≤ key.now.number) × (key.now.number < shift + 2 ^ 32) }
         ensures { result ≡ kept_entry shift (key.now, learnt.now) }
@@ -84,7 +84,7 @@ impl Model for Cache {
 }
 
 impl Cache {
-    /// A cache without entries, for at most so many.
+    /// A cache without entries, for at most this many.
     pub fn new(alloc: Global, capacity: u32) -> Cache
         ensures { result ≡ record { entries = []; capacity = capacity } }
     {
@@ -103,12 +103,11 @@ impl Cache {
         self.queue.iter()
     }
 
-    /// Takes an entry in as the last one; where there are then more than the capacity, the first
-    /// one goes. Nothing changes where its version is below the stamp, or where an entry of its
-    /// version and word is there.
+    /// Adds an entry as the last one; if there are then more than the capacity, the first one is
+    /// evicted. Nothing changes if its version is below the stamp, or if there is an entry of its
+    /// version and word.
     ///
-    /// # Errors
-    /// Only out of memory; nothing changes then.
+    /// # Errors Only out of memory; then nothing changes.
     pub fn accept(&mut self, stamp: u32, entry: CacheEntry) -> Result<(), AllocError>
         ensures ok { OnOk result (self.new ≡ after_accept stamp entry self.old) }
         ensures err { OnErr result (self.new ≡ self.old) }
@@ -126,8 +125,8 @@ impl Cache {
         }
     }
 
-    /// Takes the entry at this place, from 0, out and returns the number of its message; `None`
-    /// where there is none.
+    /// Removes the entry at this place, from 0, and returns the number of its message; `None` if
+    /// there is none.
     pub fn expire(&mut self, k: u32) -> Option<u32>
         ensures message { result
             ≡ option_map (λ entry. entry.message) (slice_get self.old.entries k) }
@@ -137,19 +136,19 @@ impl Cache {
         Some(entry.message)
     }
 
-    /// Takes out the entries of versions below the stamp.
+    /// Removes the entries of versions below the stamp.
     pub fn raise(&mut self, stamp: u32)
         ensures { self.new ≡ after_raise stamp self.old }
     {
         self.queue.keep_from(stamp);
     }
 
-    /// Carries the entries to a version: those of the version before go over to it where their
+    /// Carries the entries to a version: those of the version before become entries of it if their
     /// words meet none of the touched ones, and keep their places in the order. The others of that
-    /// version and all of earlier ones go, and so does one whose word an entry of the version has.
+    /// version and all of earlier ones are removed, and so is one whose word an entry of the
+    /// version has.
     ///
-    /// # Errors
-    /// Only out of memory; nothing changes then.
+    /// # Errors Only out of memory; then nothing changes.
     pub fn carry(&mut self, version: u32, touched: &Touched) -> Result<(), AllocError>
         ensures ok { OnOk result (self.new ≡ after_carry version touched.now self.old) }
         ensures err { OnErr result (self.new ≡ self.old) }
@@ -157,7 +156,7 @@ impl Cache {
         self.queue.carry(version, touched)
     }
 
-    /// Takes out all entries.
+    /// Removes all entries.
     pub fn clear(&mut self)
         ensures { self.new ≡ after_clear self.old }
     {
@@ -179,8 +178,8 @@ pub fn cache_laws()
 {}
 
 /// What is carried to a version: no rule of the version before that the change doesn't touch is
-/// lost, and each rule that goes over was there and is touched by nothing. A law on the definitions
-/// alone.
+/// lost, and each carried rule was in the cache and isn't touched. A law about the definitions
+/// only.
 pub fn carry_laws()
     ensures { CarryLaws }
 {}

@@ -40,7 +40,7 @@ fn one_or_two(words: &[Word]) -> Option<(Word, Word)>
     Some((*one, *other))
 }
 
-// The same for two words, in a loop of its own, which holds them in registers.
+// The same for two words, in its own loop, which keeps them in registers.
 #[inline(never)]
 fn are_apart(keys: &[CacheKey], number: u64, one: Word, other: Word) -> bool
     ensures { result ≡ list_all (λ key. (key.number == number)

@@ -72,7 +72,7 @@ impl<'a> Model for CacheItems<'a> {
 }
 
 impl<'a> CacheItems<'a> {
-    /// The entries of these slots, whose keys add so much to the versions.
+    /// The entries of these slots, whose keys add this much to the versions.
     pub(crate) fn new(slots: SlotItems<'a>, shift: u64) -> CacheItems<'a>
         requires { HaveVersions shift slots }
         ensures { result ≡ kept_entries shift slots.entry }

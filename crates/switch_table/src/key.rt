@@ -1,17 +1,17 @@
 use policy_rules::Action;
 use ternary::Word;
 
-/// What makes a cache entry one of its kind: its word, and a number for its version.
+/// What identifies a cache entry: its word, and a number for its version.
 ///
-/// The number is the version and what a queue adds to it, which falls as entries go over to a later
-/// version. So an entry that goes over keeps its key.
+/// The number is the version and what a queue adds to it, which falls when entries are carried to
+/// a later version. So an entry that is carried keeps its key.
 #[derive(Clone, Copy, PartialEq, Eq, Hash)]
 pub struct CacheKey {
     pub number: u64,
     pub word: Word,
 }
 
-/// What a cache entry says beside its key.
+/// What a cache entry says besides its key.
 #[derive(Clone, Copy)]
 pub struct Learnt {
     pub rule: Option<u32>,
@@ -19,7 +19,7 @@ pub struct Learnt {
     pub message: u32,
 }
 
-/// A place of a map of entries: what was learnt, or what is left of it once it is gone.
+/// A place of a map of entries: what was learnt, or what is left of it once it is removed.
 #[derive(Clone, Copy)]
 pub struct Slot {
     pub learnt: Learnt,

@@ -1,14 +1,14 @@
-//! What a switch holds of its rules: the tables of a version, the cache of learnt rules, and the
+//! What a switch keeps of its rules: the tables of a version, the cache of learnt rules, and the
 //! lookup of a header.
 //!
-//! A `Cache` promises to be a list: each call is an operation on the list of its entries, and want
-//! of memory changes nothing. `cache_laws` says of lists alone that no call makes two entries of
-//! one version and word, and `carry_laws` that a change of the policy takes from a cache no rule
-//! that it doesn't touch. `lookup` promises the first cached rule of the tables' version, else the
-//! first authority rule, else the redirect; it takes no memory. `tables_laws` says of the tables
-//! that a plan gives to a switch that they are sound, that they say what the plan says, and that
-//! they lead each header to the policy's first match, by the switch's own rules or by those of any
-//! target.
+//! A `Cache` promises to be a list: each call is an operation on the list of its entries, and
+//! running out of memory changes nothing. `cache_laws` says of lists only that no call makes two
+//! entries of one version and word, and `carry_laws` that a change of the policy removes from a
+//! cache no rule that it doesn't touch. `lookup` promises the first cached rule of the tables'
+//! version, otherwise the first authority rule, otherwise the redirect; it allocates nothing.
+//! `tables_laws` says of the tables that a plan gives a switch that they are sound, that they say
+//! what the plan says, and that they lead each header to the policy's first match, by the switch's
+//! own rules or by those of any target.
 #![tactic(auto)]
 
 mod cache;

@@ -3,7 +3,7 @@ ghost use Rattle.switch_table.specs.Live.{AreBlocks, AreCounts, CountPlaces, cou
 
 use std::alloc::{AllocError, Global};
 
-/// So many places are a block.
+/// This many places are a block.
 pub const BLOCK: usize = 64;
 
 /// How many places of a list are live: in all, and of each block.
@@ -33,10 +33,9 @@ impl LiveCounts {
         self.all
     }
 
-    /// Makes room for so many places.
+    /// Makes room for this many places.
     ///
-    /// # Errors
-    /// Only out of memory; the counts are those of the same places then.
+    /// # Errors Only out of memory; then the counts are those of the same places.
     pub fn make_room(&mut self, places: usize) -> Result<(), AllocError>
         ensures kept { (flags : List Bool) → AreCounts self.old flags → AreCounts self.new flags }
         ensures room { OnOk result (CountPlaces self.new places) }
@@ -44,7 +43,7 @@ impl LiveCounts {
         reach(&mut self.blocks, places.div_ceil(BLOCK))
     }
 
-    /// A live place comes behind so many.
+    /// A live place is added after this many.
     pub fn add(&mut self, place: usize)
         requires room { CountPlaces self.old (place + 1) }
         requires fits { place < 2 ^ 63 }
@@ -56,7 +55,7 @@ impl LiveCounts {
         self.all = self.all.wrapping_add(1);
     }
 
-    /// This place, which was live, is dead.
+    /// This place, which was live, is dead from now on.
     pub fn take(&mut self, place: usize)
         requires { CountPlaces self.old (place + 1) }
         ensures { (flags : List Bool) → AreCounts self.old flags →
@@ -67,7 +66,7 @@ impl LiveCounts {
         self.all = self.all.wrapping_sub(1);
     }
 
-    /// There are so many places, all of them live.
+    /// There are this many places, all of them live.
     pub fn fill(&mut self, places: usize)
         requires { CountPlaces self.old places }
         ensures { AreCounts self.new (replicate places true) }
@@ -76,8 +75,8 @@ impl LiveCounts {
         self.all = places;
     }
 
-    /// The block of the live place that has so many live ones before it, and how many of these are
-    /// in that block.
+    /// The block of the live place that has this many live ones before it, and how many of these
+    /// are in that block.
     pub fn block_of(&self, before: usize) -> (usize, usize)
         ensures { (flags : List Bool) → AreCounts self.now flags → before < count_set flags →
             (count_set (take (64 * result.0) flags) + result.1 ≡ before)
@@ -87,7 +86,7 @@ impl LiveCounts {
     }
 }
 
-// Adds counts of nothing until there are so many.
+// Adds counts of 0 until there are this many.
 fn reach(counts: &mut Vec<u32>, len: usize) -> Result<(), AllocError>
     ensures kept { (flags : List Bool) → AreBlocks counts.old.items flags →
         AreBlocks counts.new.items flags }
@@ -99,7 +98,7 @@ fn reach(counts: &mut Vec<u32>, len: usize) -> Result<(), AllocError>
     Ok(())
 }
 
-// Counts so many live places.
+// Counts this many live places.
 fn fill(counts: &mut [u32], places: usize)
     requires { places ≤ 64 * length counts.old }
     ensures { AreBlocks counts.new (replicate places true) }
@@ -112,7 +111,7 @@ fn fill(counts: &mut [u32], places: usize)
     }
 }
 
-// Where so many come to an end as one goes over the counts, and how many are left there.
+// The place at which the sum of the counts reaches this many, and how many are left there.
 fn block_at(counts: &[u32], before: usize) -> (usize, usize)
     ensures within { result.0 ≤ length counts.now }
     ensures before { sum (take result.0 counts.now) + result.1 ≡ before }

@@ -8,16 +8,16 @@ use std::alloc::{AllocError, Global};
 use std::marker::Model;
 use ternary::Word;
 
-// So many entries come at least before the masks are gathered anew.
+// At least this many entries come before the masks are collected again.
 const LEAST_WAIT: usize = 1024;
 
-// So many masks are few at most.
+// At most this many masks are few.
 const MAX_FEW: usize = 256;
 
-/// The masks of a queue's entries, where they are few beside these: a word of each. Where they
-/// were many, they are gathered anew once so many entries have come as there were.
+/// The masks of a queue's entries, if they are few compared with these: a word of each. If they
+/// were many, they are collected again once as many entries have come as there were.
 ///
-/// Contracts see the words, or `None` where the masks aren't known. A mask may stay longer than its
+/// Contracts see the words, or `None` if the masks aren't known. A mask may stay longer than its
 /// entries.
 #[derive(Drop)]
 pub struct Masks {
@@ -36,12 +36,12 @@ impl Model for Masks {
 }
 
 impl Masks {
-    /// Masks that are to be gathered once some entries have come.
+    /// Masks to collect once some entries have come.
     pub fn new(alloc: Global) -> Masks {
         Masks::unknown(alloc, 0)
     }
 
-    // Masks that are to be gathered once so many entries have come.
+    // Masks to collect once this many entries have come.
     fn unknown(alloc: Global, entries: usize) -> Masks
         ensures { (word : WordValue) → HasMaskOf result word }
     {
@@ -52,7 +52,7 @@ impl Masks {
         }
     }
 
-    /// The masks of these entries, of which there are so many.
+    /// The masks of these entries, of which there are this many.
     pub fn gather(alloc: Global, entries: CacheItems<'_>, count: usize) -> Result<Masks, AllocError>
         ensures { IfOk result
             (λ masks. All (λ entry. HasMaskOf masks entry.word) entries.entry) }
@@ -71,19 +71,19 @@ impl Masks {
         })
     }
 
-    /// Whether it is time to gather them.
+    /// Whether it is time to collect them.
     pub fn are_due(&self) -> bool {
         !self.are_known && self.wait == 0
     }
 
-    /// Where so many entries are left of those that were counted: waits for no more than as many.
+    /// This many entries are left of those that were counted: waits for at most as many.
     pub fn wait_for(&mut self, count: usize)
         ensures { self.new ≡ self.old }
     {
         self.wait = self.wait.min(count.max(LEAST_WAIT));
     }
 
-    /// Takes in the mask of a word that comes to so many entries.
+    /// Adds the mask of a word that comes to this many entries.
     pub fn add(&mut self, word: &Word, count: usize) -> Result<(), AllocError>
         ensures kept { (one : WordValue) → HasMaskOf self.old one → HasMaskOf self.new one }
         ensures added { OnOk result (HasMaskOf self.new word.now) }
@@ -100,7 +100,7 @@ impl Masks {
         Ok(())
     }
 
-    /// A word of each mask, if they are known and few beside so many entries.
+    /// A word of each mask, if they are known and few compared with this many entries.
     pub fn few(&self, count: usize) -> Option<&[Word]>
         ensures { IfSome result (λ words. self.now ≡ Some words.now) }
     {
@@ -112,12 +112,13 @@ impl Masks {
     }
 }
 
-// Whether a look for each of so many masks is less work than one at each of so many entries.
+// Whether one look-up for each of this many masks is less work than a look at each of this many
+// entries.
 fn are_few(masks: usize, entries: usize) -> bool {
     masks <= MAX_FEW.min(entries / 64)
 }
 
-// Notes the word's mask, if it isn't there.
+// Adds the word's mask, if it isn't there.
 fn note(words: &mut Vec<Word>, word: &Word) -> Result<(), AllocError>
     ensures kept { (one : WordValue) → HasMaskIn words.old.items one → HasMaskIn words.new.items one }
     ensures added { OnOk result (HasMaskIn words.new.items word.now) }

@@ -14,9 +14,9 @@ use std::marker::Model;
 
 /// Entries in the order in which they came, no two of one version and word. Contracts see the list.
 ///
-/// The key of an entry has its version and the shift. So where entries go over to the next version,
-/// the shift falls by one, and no entry is written. No entry is of a later version than `newest`,
-/// so that a carry need not look at all of them to know that none is of its version.
+/// The key of an entry has its version and the shift. So when entries are carried to the next
+/// version, the shift falls by one, and no entry is written. No entry is of a later version than
+/// `newest`, so that a carry need not look at all of them to know that none is of its version.
 #[derive(Drop)]
 pub struct EntryQueue {
     slots: Slots,
@@ -60,7 +60,7 @@ impl EntryQueue {
         self.slots.contains(&entry.key(self.shift))
     }
 
-    /// Gathers the masks, if it is time to.
+    /// Collects the masks, if it is time to.
     pub fn gather_masks(&mut self) -> Result<(), AllocError>
         ensures { self.new ≡ self.old }
     {
@@ -70,7 +70,7 @@ impl EntryQueue {
         Ok(())
     }
 
-    /// Puts an entry last, whose version and word are not there.
+    /// Puts an entry last; there is none of its version and word.
     pub fn push(&mut self, entry: &CacheEntry) -> Result<(), AllocError>
         requires { IsFalse (list_any (same_key entry.now) self.old) }
         ensures ok { OnOk result (self.new ≡ self.old ++ entry.now ∷ []) }
@@ -82,7 +82,7 @@ impl EntryQueue {
         Ok(())
     }
 
-    /// Puts an entry last, whose version and word are not there, and takes the first one out.
+    /// Puts an entry last and removes the first one; there is none of its version and word.
     pub fn replace_first(&mut self, entry: &CacheEntry) -> Result<(), AllocError>
         requires some { 0 < length self.old }
         requires absent { IsFalse (list_any (same_key entry.now) self.old) }
@@ -94,7 +94,7 @@ impl EntryQueue {
         Ok(())
     }
 
-    /// Takes the entry at this place out, if there is one.
+    /// Removes the entry at this place, if there is one.
     pub fn remove(&mut self, place: usize) -> Option<CacheEntry>
         ensures entry { result ≡ slice_get self.old place }
         ensures rest { self.new ≡ remove self.old place }
@@ -111,9 +111,9 @@ impl EntryQueue {
         self.masks.wait_for(self.slots.len());
     }
 
-    /// Carries the entries to this version. Where none was of this version or a later one, those
-    /// that go over stay as they are; otherwise a new queue is made of what is left, and then takes
-    /// the place of the old one.
+    /// Carries the entries to this version. If none was of this version or a later one, those that
+    /// are carried stay unchanged; otherwise a new queue is made of what is left, and then
+    /// replaces the old one.
     pub fn carry(&mut self, version: u32, touched: &Touched) -> Result<(), AllocError>
         ensures ok { OnOk result
             (self.new ≡ filter_map (carried_entry version touched.now self.old) self.old) }
@@ -132,7 +132,7 @@ impl EntryQueue {
         Ok(())
     }
 
-    // Slots that hold what is left of the entries, in order, under keys of this shift.
+    // Slots with what is left of the entries, in order, under keys of this shift.
     fn carried(&self, version: u32, touched: &Touched, shift: u64) -> Result<Slots, AllocError>
         requires { shift ≤ 2 ^ 32 }
         ensures { IfOk result (λ slots. slots ≡ map (pair_of shift)
@@ -166,7 +166,7 @@ impl EntryQueue {
         if stays { Some(over) } else { None }
     }
 
-    /// Takes out all entries, and gives their memory back.
+    /// Removes all entries, and frees their memory.
     pub fn clear(&mut self)
         ensures { self.new ≡ [] }
     {
@@ -181,8 +181,8 @@ impl EntryQueue {
         CacheItems::new(self.slots.iter(), self.shift)
     }
 
-    /// The first entry of this version whose word holds the header number: where the masks are few,
-    /// of each of them one key alone may be such an entry's.
+    /// The first entry of this version whose word holds the header number: if the masks are few,
+    /// for each of them only one key may be such an entry's.
     pub fn first_entry(&self, version: u32, number: u128) -> Option<CacheEntry>
         ensures { result ≡ first_entry version number self.now }
     {

@@ -9,7 +9,7 @@ use crate::tables::{PartRow, Tables};
 use five_tuple::Header;
 use policy_rules::{Partition, Targets, first_hit};
 
-/// What a switch says of a header.
+/// What a switch says about a header.
 #[derive(Clone, Copy, Debug, PartialEq, Eq)]
 pub enum Found {
     /// A cached rule decides it.
@@ -21,8 +21,8 @@ pub enum Found {
     Redirect { partition: u32, targets: Targets },
 }
 
-/// Looks a header up: the first cached rule of the tables' version that holds it, else the first
-/// authority rule that holds it, else the partition rule that does.
+/// Looks a header up: the first cached rule of the tables' version that holds it, otherwise the
+/// first authority rule that holds it, otherwise the partition rule that does.
 pub fn lookup(cache: &Cache, tables: &Tables, header: &Header) -> Found
     requires { AreSoundTables tables.now }
     ensures { result ≡ lookup_of cache.now.entries tables.now header.now }

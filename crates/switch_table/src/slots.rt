@@ -17,10 +17,10 @@ use ternary::Word;
 
 /// What was learnt, each under its own key, in the order in which it came. Contracts see the list.
 ///
-/// A map has it in this order. A slot that goes stays as a dead one, so that none moves, until there
-/// are 64 more dead ones than live ones. The counts of live ones lead to the place of one. So each
-/// call takes constant time over many calls, but those that go over all, and `remove`, which goes
-/// over the counts.
+/// A map keeps it in this order. A removed slot stays as a dead one, so that none moves, until
+/// there are 64 more dead ones than live ones. The counts of live ones lead to the place of one.
+/// So each call takes constant amortized time, except those that go over all slots, and `remove`,
+/// which goes over the counts.
 #[derive(Drop)]
 pub struct Slots {
     map: IndexMap<CacheKey, Slot>,
@@ -29,7 +29,7 @@ pub struct Slots {
     first: usize,
 }
 
-// So many more dead than live slots may there be.
+// There may be this many more dead than live slots.
 const MAX_DEAD: usize = 64;
 
 impl Model for Slots {
@@ -63,12 +63,12 @@ impl Slots {
         ensures len { result ≡ length self.now }
         ensures distinct { HaveOwnKeys self.now }
     {
-        // The map is asked because it says that its keys are distinct.
+        // This tells the proof that the map's keys are distinct.
         let slots = self.map.len();
         self.live.all().min(slots)
     }
 
-    /// Whether the key is there.
+    /// Whether there is such a key.
     pub fn contains(&self, key: &CacheKey) -> bool
         ensures { result ≡ has_key key.now self.now }
     {
@@ -78,7 +78,7 @@ impl Slots {
         }
     }
 
-    /// Puts this last, under a key that is not there.
+    /// Puts this last, under a new key.
     pub fn push(&mut self, key: CacheKey, learnt: Learnt) -> Result<(), AllocError>
         requires { IsFalse (has_key key self.old) }
         ensures ok { OnOk result (self.new ≡ self.old ++ (key, learnt) ∷ []) }
@@ -96,7 +96,7 @@ impl Slots {
         Ok(())
     }
 
-    /// Takes out what stands at this place, if there is any.
+    /// Removes what is at this place, if there is any.
     pub fn remove(&mut self, place: usize) -> Option<(CacheKey, Learnt)>
         ensures pair { result ≡ slice_get self.old place }
         ensures rest { self.new ≡ remove self.old place }
@@ -128,7 +128,7 @@ impl Slots {
         self.first = 0;
     }
 
-    /// Keeps those of this number whose words meet none of these. Where that is so of all, no slot
+    /// Keeps those of this number whose words meet none of these. If that is true of all, no slot
     /// is written.
     pub fn keep_carried(&mut self, number: u64, touched: &[Word])
         ensures { self.new ≡ filter (λ pair. is_carried_key number touched.now pair.0) self.old }
@@ -162,7 +162,7 @@ impl Slots {
     }
 }
 
-// The slots from this place on. The map's length is asked for what it says of the keys.
+// The slots from this place on. The call of `len` tells the proof what it says about the keys.
 fn from_first(map: &IndexMap<CacheKey, Slot>, first: usize) -> Slice<'_, CacheKey, Slot>
     requires { first ≤ length map.now.entries }
     ensures slots { result ≡ drop first map.now.entries }
@@ -172,7 +172,7 @@ fn from_first(map: &IndexMap<CacheKey, Slot>, first: usize) -> Slice<'_, CacheKe
     rest
 }
 
-// The key of the slot at this place, and what it holds.
+// The key of the slot at this place, and what is in it.
 fn pair_at(map: &IndexMap<CacheKey, Slot>, place: usize) -> Option<(CacheKey, Learnt)>
     ensures { result ≡ option_map (λ slot. (slot.0, slot.1.learnt))
         (slice_get map.now.entries place) }
@@ -196,7 +196,7 @@ fn place_under(map: &IndexMap<CacheKey, Slot>, number: u64, header: u128, mask: 
     }
 }
 
-// The place of the live slot that has so many live ones before it. All slots before `first` are
+// The place of the live slot that has this many live ones before it. All slots before `first` are
 // dead.
 fn place_of_live(
     map: &IndexMap<CacheKey, Slot>,
@@ -219,7 +219,7 @@ fn place_of_live(
     start + nth_live(rest.values().as_slice(), left)
 }
 
-// The same in a list of slots; their number where there is none.
+// The same in a list of slots; their number if there is none.
 fn nth_live(slots: &[Slot], before: usize) -> usize
     ensures within { result ≤ length slots.now }
     ensures found { let flags = map (λ slot. slot.is_live) slots.now in
@@ -237,7 +237,7 @@ fn nth_live(slots: &[Slot], before: usize) -> usize
     slots.len()
 }
 
-// Has the slot at this place be dead.
+// Makes the slot at this place dead.
 fn kill(map: &mut IndexMap<CacheKey, Slot>, place: usize)
     ensures { (slot : SlotPair) → slice_get map.old.entries place ≡ Some slot →
         map.new.entries ≡ set map.old.entries place (killed slot) }
@@ -247,7 +247,7 @@ fn kill(map: &mut IndexMap<CacheKey, Slot>, place: usize)
     }
 }
 
-// Sees to it that no slot has this key, which no live one has.
+// Makes sure that no slot has this key, which no live one has.
 fn release_key(
     map: &mut IndexMap<CacheKey, Slot>,
     live: &mut LiveCounts,
@@ -270,8 +270,8 @@ fn release_key(
     Ok(())
 }
 
-// Gives the dead slot at this place a key that no version and shift make, and answers `true`. Where
-// that key is there, changes nothing and answers `false`: it never is, which isn't proved.
+// Gives the dead slot at this place a key that no version and shift make, and returns `true`. If
+// there is that key, changes nothing and returns `false`: there never is, which isn't proved.
 fn vacate(map: &mut IndexMap<CacheKey, Slot>, place: usize) -> Result<bool, AllocError>
     requires { slice_get (flags_of map.old.entries) place ≡ Some false }
     ensures pairs { live_pairs map.new.entries ≡ live_pairs map.old.entries }
@@ -292,7 +292,7 @@ fn vacate(map: &mut IndexMap<CacheKey, Slot>, place: usize) -> Result<bool, Allo
     Ok(true)
 }
 
-// Takes the dead slots out.
+// Removes the dead slots.
 fn sweep(map: &mut IndexMap<CacheKey, Slot>, live: &mut LiveCounts)
     requires { AreCounts live.old (flags_of map.old.entries) }
     ensures slots { map.new.entries ≡ filter is_live map.old.entries }

@@ -2,7 +2,7 @@ use base::SharedList;
 use policy_rules::{Partition, Targets};
 use ternary::Word;
 
-/// A partition rule: the headers of a region go to one of its targets.
+/// A partition rule: the headers of a region are sent to one of its targets.
 #[derive(Clone, Copy, Debug, PartialEq, Eq)]
 pub struct PartRow {
     pub region: Word,
@@ -17,7 +17,7 @@ pub type PartRows = SharedList<PartRow>;
 /// them.
 pub type Partitions = SharedList<Partition>;
 
-/// What a switch knows of one version: the partition rules, and the authority rules of its own
+/// What a switch knows about one version: the partition rules, and the authority rules of its own
 /// partitions.
 #[derive(Debug, Drop)]
 pub struct Tables {

@@ -9,14 +9,14 @@ use ternary::Word;
 /// The most words of a list.
 const MAX_TOUCHED: usize = 16;
 
-/// What a change of a policy touches: a list of at most 16 words, so that each header which the
-/// change decides anew is in one of them. Contracts see the list.
+/// What a change of a policy touches: a list of at most 16 words, so that each header that the
+/// change decides otherwise is in one of them. Contracts see the list.
 #[derive(Debug, Drop)]
 pub struct Touched {
     listed: Listed,
 }
 
-// The words, or the one word of every header, which takes no memory.
+// The words, or the one word of every header, which allocates nothing.
 #[derive(Debug, Drop)]
 enum Listed {
     Words(Vec<Word>),
@@ -36,7 +36,7 @@ impl Model for Touched {
 }
 
 impl Touched {
-    /// The list of these words; `None` where there are more than 16.
+    /// The list of these words; `None` if there are more than 16.
     pub fn new(words: Vec<Word>) -> Option<Touched>
         ensures list { IfSome result (λ touched. touched ≡ words.items) }
         ensures none { IsNone result ↔ (16 < vec_len words) }
@@ -49,7 +49,7 @@ impl Touched {
         })
     }
 
-    /// The word of every header alone.
+    /// Only the word of every header.
     pub fn all() -> Touched
         ensures { result ≡ all_touched }
     {

@@ -28,7 +28,7 @@ pub record IsEnd (candidates : List Candidate) (place : ℕ) : Type 0 where
   pub one : length candidates ≡ 1
   pub there : All (λ candidate. candidate.place ≡ place) candidates
 
--- the tree of these regions within a region: more than one are parted at their cut bit
+-- the tree of these regions within a region: more than one are separated at their cut bit
 abbrev pub IsCandidateTreeOf : List Candidate → WordValue → LookupTree ℕ → Type 0
 IsCandidateTreeOf candidates region (Leaf place) = IsEnd candidates place
 IsCandidateTreeOf candidates region (Sides bit low high) =
@@ -43,7 +43,7 @@ pub record IsStuck (candidates : List Candidate) (region : WordValue) : Type 0 w
   pub not_one : length candidates ≢ 1
   pub none : NoneFree region (some_fix candidates)
 
--- a tree that is grown in the same way of regions of any kind, some of which can't be parted
+-- a tree that is built in the same way from regions of any kind, some of which can't be separated
 abbrev pub IsGrownShape : List Candidate → WordValue → LookupTree ℕ → Type 0
 IsGrownShape candidates region (Leaf place) = IsEnd candidates place ⊎ IsStuck candidates region
 IsGrownShape candidates region (Sides bit low high) =
@@ -55,7 +55,7 @@ IsGrownShape candidates region (Sides bit low high) =
 abbrev pub IsFinderTree : List PartRow → LookupTree ℕ → Type 0
 IsFinderTree rows tree = IsCandidateTreeOf (candidates_of rows) any_word tree
 
--- the trees that are grown of these partition rules and authority partitions
+-- the trees that are built from these partition rules and authority partitions
 pub record AreTreesOf (rows : List PartRow) (parts : List Partition) (trees : Trees) : Type 0 where
   pub words : AreRegions (candidates_of rows)
   pub tree : IsGrownShape (candidates_of rows) any_word (candidate_shape_of trees.tree)

@@ -1,4 +1,4 @@
--- A decision tree over the bits of a header number, apart from the memory that holds it.
+-- A decision tree over the bits of a header number, apart from the memory that it is in.
 use Rattle.std.specs.Prelude.{⊤, ℕ, ◌<◌, ◌==◌, if◌then◌else◌}
 use Rattle.std.specs.Int.{bit_at}
 

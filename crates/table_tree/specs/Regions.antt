@@ -34,12 +34,12 @@ candidates_of_side candidates region bit one = filter (candidate_meets (fix_of r
 abbrev pub all_fix : List Candidate → ℕ → Bool
 all_fix candidates bit = list_all (λ candidate. is_fixed_of candidate.region bit) candidates
 
--- some one does
+-- some region does
 abbrev pub some_fix : List Candidate → ℕ → Bool
 some_fix candidates bit = list_any (λ candidate. is_fixed_of candidate.region bit) candidates
 
 -- of the bits that are free in the region, the least one that every one of the candidates fixes,
--- and where there is none, the least one that some one fixes
+-- or, if there is none, the least one that some candidate fixes
 abbrev pub IsCutBit : List Candidate → WordValue → ℕ → Type 0
 IsCutBit candidates region bit =
     IsLeastFree region (all_fix candidates) bit
@@ -49,7 +49,7 @@ IsCutBit candidates region bit =
 abbrev pub AreRegions : List Candidate → Type 0
 AreRegions candidates = All (λ candidate. IsWord candidate.region) candidates
 
--- what holds of the regions that meet a region of the header space: no header is in two of them,
+-- what is true of the regions that meet a region of the header space: no header is in two of them,
 -- and each of its own is in one
 pub record AreNodeCandidates (candidates : List Candidate) (region : WordValue) : Type 0 where
   pub whole : IsWord region

@@ -1,6 +1,6 @@
 -- A decision tree that finds the first rule of a header: a list of rules is cut as in Yu, Rexford,
--- Freedman and Wang, "Scalable Flow-Based Networking with DIFANE", SIGCOMM 2010; where a cut pays
--- is this project's own.
+-- Freedman and Wang, "Scalable Flow-Based Networking with DIFANE", SIGCOMM 2010; when a cut pays
+-- is this project's own rule.
 use Rattle.std.specs.Prelude.{ℕ, zero, suc, ◌+◌, ◌*◌, ◌&&◌, if◌then◌else◌, nat_lt, nat_le, Bool, true, false, Option, Some, None, List, [], ◌∷◌, length, map, slice_get}
 use Rattle.std.specs.Option.{option_map_or}
 use Rattle.ternary.specs.Word.{WordValue, holds}
@@ -31,7 +31,7 @@ abbrev pub ranked_by_place : ℕ → List Rule → List Rule
 ranked_by_place place [] = []
 ranked_by_place place (rule ∷ rules) = record rule { rank = place } ∷ ranked_by_place (place + 1) rules
 
--- a node of so many rules is worth this cut: it has more than 16, the larger side has fewer, and
+-- a node of this many rules is worth this cut: it has more than 16, the larger side has fewer, and
 -- both together have at most five quarters of them
 abbrev pub is_worth_cutting : ℕ → Cost → Bool
 is_worth_cutting count cost = nat_lt 16 count && nat_lt cost.larger count
@@ -41,12 +41,13 @@ abbrev pub if_pays : ℕ → Option Cost → Option Cost
 if_pays count None = None
 if_pays count (Some cost) = if is_worth_cutting count cost then Some cost else None
 
--- with so many cuts left, the cut of the node that costs least, where it pays
+-- with this many cuts left, the cut of the node that costs least, if it pays
 abbrev pub paying_cut : ℕ → List Rule → WordValue → Option Cost
 paying_cut zero rules region = None
 paying_cut (suc cuts) rules region = if_pays (length rules) (least_below 104 rules region)
 
--- the places of these rules, where there is no cut; both sides of it, grown in this way
+-- the places of these rules, if there is no cut; otherwise both sides of it, built by this
+-- function
 abbrev pub tree_by_cut : (List Rule → WordValue → LookupTree (List ℕ)) → List Rule → WordValue
     → Option Cost → LookupTree (List ℕ)
 tree_by_cut grow rules region None = Leaf (map (λ (rule : Rule). rule.rank) rules)
@@ -55,7 +56,7 @@ tree_by_cut grow rules region (Some cost) =
     (grow (side_of rules region cost.bit false) (fix_of region cost.bit false))
     (grow (side_of rules region cost.bit true) (fix_of region cost.bit true))
 
--- the tree of the rules of a region, with at most so many cuts one below another
+-- the tree of the rules of a region, with at most this many cuts one below another
 unfoldable pub rule_tree_within : ℕ → List Rule → WordValue → LookupTree (List ℕ)
 rule_tree_within zero rules region = tree_by_cut (λ rs r. Leaf []) rules region None
 rule_tree_within (suc cuts) rules region =

@@ -8,8 +8,9 @@ use crate::node::Candidate;
 use cut_tree::free_bits;
 use ternary::{ALL_BITS, Word};
 
-/// The bit at which these regions, which meet a region, are parted: of its free bits the least one
-/// that all of them fix, else the least one that some one fixes. `None` where no one fixes any.
+/// The bit at which these regions, which meet a region, are separated: of its free bits the least
+/// one that all of them fix, otherwise the least one that some region fixes. `None` if no region
+/// fixes any.
 pub fn cut_bit(candidates: &[Candidate], region: &Word) -> Option<u32>
     ensures some { IfSome result (λ bit. IsCutBit candidates.now region.now bit) }
     ensures free { IfSome result (λ bit. IsFreeBit region.now bit) }
@@ -42,7 +43,7 @@ fn fixed_by_some(candidates: &[Candidate]) -> u128
     bits
 }
 
-// The lowest bit of the number; `None` of 0.
+// The lowest bit of the number; `None` for 0.
 fn lowest(bits: u128) -> Option<u32>
     ensures some { IfSome result (λ bit. IsLowest bits bit) }
     ensures none { IfNone result (bits ≡ 0) }

@@ -41,8 +41,9 @@ impl Model for Finder {
 }
 
 impl Finder {
-    /// A finder for these tables. Each cut of its tree parts the regions that are left at the least
-    /// bit that each of them fixes, or if there is none, at the least one that some one fixes.
+    /// A finder for these tables. Each cut of its tree separates the regions that are left at the
+    /// least bit that each of them fixes or, if there is none, at the least one that some region
+    /// fixes.
     ///
     /// # Errors
     /// Only out of memory.
@@ -57,7 +58,7 @@ impl Finder {
         Ok(Finder::of(tables, trees))
     }
 
-    /// The finder of these tables, by trees that were grown for equal ones.
+    /// The finder of these tables, with trees that were built for equal ones.
     pub fn of(tables: Rc<Tables>, trees: Rc<Trees>) -> Finder
         requires sound { AreSoundTables tables.value }
         requires trees { AreTreesOf tables.value.parts tables.value.auth trees.value }
@@ -71,8 +72,8 @@ impl Finder {
     }
 
     /// Looks a header up, as `switch_table::lookup` does: the first cached rule of the tables'
-    /// version that holds it, else the first authority rule that holds it, else the partition rule
-    /// that does. It takes no memory.
+    /// version that holds it, otherwise the first authority rule that holds it, otherwise the
+    /// partition rule that does. It allocates nothing.
     pub fn lookup(&self, cache: &Cache, header: &Header) -> Found
         ensures { result ≡ lookup_of cache.now.entries self.now.tables header.now }
     {
@@ -82,7 +83,7 @@ impl Finder {
         }
     }
 
-    /// The tables that it was built of.
+    /// The tables that it was built from.
     pub fn tables(&self) -> &Tables
         ensures { result.now ≡ self.now.tables }
     {
@@ -97,7 +98,7 @@ impl Finder {
     }
 
     /// The place of the first rule that holds the header, in the authority partition of this
-    /// number. It takes no memory.
+    /// number. It allocates nothing.
     pub fn first(&self, partition: u32, header: &Header) -> Option<usize>
         requires { IsSomeAnd (find (λ part. part.number == partition) self.now.tables.auth)
             (λ part. IsTrue (is_in header.now part)) }
@@ -108,7 +109,7 @@ impl Finder {
         ensures sound { AreSoundTables self.now.tables }
         ensures header { IsHeader header.now }
     {
-        // For the proof: a header that is read is one.
+        // For the proof: a header that is read is sound.
         let _ = header.number();
         match own_place(self.tables.auth.items(), partition) {
             Some(own) => self.first_at(own, header),
@@ -129,7 +130,7 @@ impl Finder {
         self.trees.rule_trees[own].first(part.rules.items(), header)
     }
 
-    // What the tables say of the header.
+    // What the tables say about the header.
     fn table_lookup(&self, header: &Header) -> Found
         ensures { result ≡ table_lookup self.now.tables header.now }
     {

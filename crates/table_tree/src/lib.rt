@@ -1,11 +1,11 @@
-//! Lookups by trees: what the tables of a switch say of a header is found by the header's bits, in
-//! the place of a search through the partition rules and through a partition's rules.
+//! Lookups by trees: what the tables of a switch say about a header is found by the header's bits,
+//! instead of a search through the partition rules and through a partition's rules.
 //!
 //! A `RuleTree` leads a header to the places of the few rules of a list that may hold it; its
-//! `first` promises what `first_hit` answers. `Trees` are grown once for equal tables, whatever
+//! `first` promises what `first_hit` returns. `Trees` are built once for equal tables, whatever
 //! their version: a tree over the partition rules, and a rule tree for each authority partition. A
-//! `Finder` shares them with others, and its tables. Its `lookup` promises the answer of
-//! `switch_table::lookup` for these tables. Neither lookup takes memory.
+//! `Finder` shares them with others, and its tables. Its `lookup` promises the result of
+//! `switch_table::lookup` for these tables. Neither lookup allocates.
 #![tactic(auto)]
 
 mod bits;

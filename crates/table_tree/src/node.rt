@@ -69,7 +69,7 @@ fn numbered(alloc: Global, rows: &[PartRow]) -> Result<Vec<Candidate>, AllocErro
     Ok(candidates)
 }
 
-// Those whose regions meet this one.
+// The candidates whose regions meet this one.
 #[tactic(auto, using(crate::proofs::NodeLemmas::kept_same))]
 fn meeting(
     alloc: Global,

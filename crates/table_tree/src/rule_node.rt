@@ -45,7 +45,7 @@ impl RuleNode {
     }
 }
 
-/// The tree of a node with at most so many cuts one below another.
+/// The tree of a node with at most this many cuts one below another.
 pub fn grow(alloc: Global, node: Node, cuts: u32) -> Result<RuleNode, AllocError>
     ensures { IfOk result (λ tree.
         rule_shape tree ≡ rule_tree_within cuts node.rules.items node.region) }
@@ -56,7 +56,7 @@ pub fn grow(alloc: Global, node: Node, cuts: u32) -> Result<RuleNode, AllocError
     };
     let low = node.half(alloc, cost.bit, false)?;
     let high = node.half(alloc, cost.bit, true)?;
-    // The way down keeps the lists of the halves alone.
+    // On the way down only the lists of the halves are kept.
     drop(node);
     let low = grow(alloc, low, cuts - 1)?;
     let high = grow(alloc, high, cuts - 1)?;
@@ -67,7 +67,7 @@ pub fn grow(alloc: Global, node: Node, cuts: u32) -> Result<RuleNode, AllocError
     })
 }
 
-// The cut of the node that costs least, where one is left and it pays.
+// The cut of the node that costs least, if one is left and it pays.
 #[tactic(auto, using(crate::proofs::RuleLemmas::none_left, crate::proofs::RuleLemmas::few_stay, crate::proofs::RuleLemmas::large_stays, crate::proofs::RuleLemmas::spread_stays, crate::proofs::RuleLemmas::cut_pays))]
 fn paying_cut(node: &Node, cuts: u32) -> Option<Cost>
     ensures cut { result ≡ paying_cut cuts node.now.rules.items node.now.region }

@@ -27,8 +27,9 @@ pub struct RuleTree {
 impl RuleTree {
     /// The tree of these rules in this region.
     ///
-    /// A node is cut at its free bit that costs least, where it has more than 16 rules, lies fewer
-    /// than 12 cuts deep, its larger side has fewer rules, and both together at most five quarters.
+    /// A node is cut at its free bit that costs least if it has more than 16 rules, is fewer than
+    /// 12 cuts deep, its larger side has fewer rules, and both together have at most five quarters
+    /// of its rules.
     ///
     /// # Errors
     /// Only out of memory.
@@ -48,8 +49,8 @@ impl RuleTree {
         })
     }
 
-    /// The place of the first of the rules that holds the header, as `first_hit` answers it, by the
-    /// tree of these rules. It takes no memory.
+    /// The place of the first of the rules that holds the header, as `first_hit` returns it, by
+    /// the tree of these rules. It allocates nothing.
     pub fn first(&self, rules: &[Rule], header: &Header) -> Option<usize>
         requires built { rule_shape self.now.root ≡ rule_tree rules.now self.now.region }
         requires header { IsTrue (holds self.now.region (number_of header.now)) }
@@ -90,7 +91,7 @@ fn ranked(alloc: Global, rules: &[Rule]) -> Result<Vec<Rule>, AllocError>
     let mut ranked = Vec::with_capacity(alloc, rules.len())?;
     for rule in rules {
         let rank = ranked.len() as u32;
-        // For the proof: a word that is read is one.
+        // For the proof: a word that is read is sound.
         let _ = rule.word.mask();
         ranked.push(Rule { rank, ..*rule })?;
     }

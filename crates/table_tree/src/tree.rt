@@ -41,7 +41,7 @@ impl PartTree {
 }
 
 /// The tree of the regions of a node. A node that has several, or none, and can't be cut gets an
-/// end at place 0: there is none in the tree of sound tables.
+/// end at place 0: the tree of sound tables has no such node.
 #[tactic(auto, using(crate::proofs::NodeLemmas::half_smaller, crate::proofs::FindLemmas::end_is))]
 pub fn grow(alloc: Global, node: PartNode) -> Result<PartTree, AllocError>
     ensures { IfOk result (λ tree. IsGrownShape node.candidates.items node.region
@@ -56,7 +56,7 @@ pub fn grow(alloc: Global, node: PartNode) -> Result<PartTree, AllocError>
     };
     let low = node.half(alloc, bit, false)?;
     let high = node.half(alloc, bit, true)?;
-    // The way down keeps the lists of the halves alone.
+    // On the way down only the lists of the halves are kept.
     drop(node);
     let low = grow(alloc, low)?;
     let high = grow(alloc, high)?;

@@ -19,7 +19,7 @@ pub struct Trees {
 
 impl Trees {
     /// The trees for tables with these partition rules and authority partitions. They may be any:
-    /// `Finder::of` asks for sound tables.
+    /// `Finder::of` requires sound tables.
     ///
     /// # Errors
     /// Only out of memory.

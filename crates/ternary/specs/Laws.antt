@@ -41,7 +41,7 @@ pub record CoversLaws : Type 0 where
   pub antisymmetric : (a b : WordValue) → IsWord a → IsWord b → IsTrue (covers_of a b)
       → IsTrue (covers_of b a) → a ≡ b
   pub any : (w : WordValue) → IsTrue (covers_of any_word w)
-  -- the word of one header is covered where the header is held
+  -- the word of one header is covered if the header is held
   pub exact : (w : WordValue) (h : ℕ) → IsWord w → h < 2 ^ 104
       → covers_of w (exact_word h) ≡ holds w h
   -- a word without a free bit is covered by what it meets
@@ -49,9 +49,9 @@ pub record CoversLaws : Type 0 where
       → IsTrue (meets a b) → IsTrue (covers_of a b)
 
 pub record MeetLaws : Type 0 where
-  -- words meet where no bit is fixed in both to different values
+  -- words meet if no bit is fixed in both to different values
   pub bitwise : (a b : WordValue) → IsTrue (meets a b) ↔ AgreesOnBoth a b
-  -- the meet holds what both hold, and is none where both hold nothing
+  -- the meet holds what both hold, and there is none if both hold nothing
   pub both : (a b m : WordValue) → meet_of a b ≡ Some m → IsMeet a b m
   pub none : (a b : WordValue) (h : ℕ) → meet_of a b ≡ None → (holds a h && holds b h) ≡ false
   pub some : (a b : WordValue) → is_some (meet_of a b) ≡ meets a b
@@ -70,7 +70,7 @@ pub record MeetLaws : Type 0 where
       → covers_of m c ≡ (covers_of a c && covers_of b c)
   pub covered : (a b : WordValue) → IsWord b → IsTrue (covers_of a b) ↔ (meet_of a b ≡ Some b)
   pub meets_cover : (a b : WordValue) → IsTrue (covers_of a b) → IsTrue (meets b a)
-  -- what a word does not meet, none that it covers does
+  -- what a word does not meet, no word that it covers meets
   pub monotone : (a b c : WordValue) → IsTrue (covers_of a b) → meet_of a c ≡ None
       → meet_of b c ≡ None
   -- narrowed to a, and then to what a covers, is narrowed to the latter at once
@@ -90,7 +90,7 @@ pub record FixLaws : Type 0 where
   pub same_bit : (w : WordValue) (k : ℕ) (one : Bool) → IsTrue (is_fixed_of (fix_of w k one) k)
   pub other_bit : (w : WordValue) (k j : ℕ) (one : Bool) → j ≢ k
       → is_fixed_of (fix_of w k one) j ≡ is_fixed_of w j
-  -- how a word stands to a header's bit, and to a half of r
+  -- a word and a header's bit, and a half of r
   pub admits_bit : (w : WordValue) (k : ℕ) (one : Bool) (h : ℕ) → IsTrue (holds w h)
       → bit_at h k ≡ from_bool one → IsTrue (admits w k one)
   pub meets_half : (w r : WordValue) (k : ℕ) (one : Bool) → IsFalse (is_fixed_of r k)
@@ -137,7 +137,7 @@ pub record FreeBitsLaws : Type 0 where
   pub ascending : (w : WordValue) → IsStrictlyIncreasing (free_bits w)
   pub any : length (free_bits any_word) ≡ 104
   pub exact : (h : ℕ) → free_bits (exact_word h) ≡ []
-  -- a fixed bit, and it alone, is gone
+  -- the fixed bit is removed, and only it
   pub fixed : (w : WordValue) (k : ℕ) (one : Bool)
       → free_bits (fix_of w k one) ≡ filter (λ j. not (j == k)) (free_bits w)
   pub shorter : (w : WordValue) (k : ℕ) (one : Bool) → k < 104 → IsFalse (is_fixed_of w k)

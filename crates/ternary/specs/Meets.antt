@@ -54,7 +54,7 @@ meeting_word a b = record {
       b.mask;
 }
 
--- the word of what both hold, if there is something
+-- the word of what both hold, if there is such a header
 unfoldable pub meet_of : WordValue → WordValue → Option WordValue
 meet_of a b = if meets a b then Some (meeting_word a b) else None
 
@@ -78,7 +78,7 @@ is_fixed_of w k = bit_at w.mask k == 1
 unfoldable pub admits : WordValue → ℕ → Bool → Bool
 admits w k one = not (is_fixed_of w k) || (bit_at w.value k == from_bool one)
 
--- bit k fixed to 1 or 0: a half of w, where the bit was free
+-- bit k fixed to 1 or 0: a half of w, if the bit was free
 unfoldable pub fix_of : WordValue → ℕ → Bool → WordValue
 fix_of w k one = record { value = with_bit w.value k one; mask = bit_or w.mask (2 ^ k) }
 

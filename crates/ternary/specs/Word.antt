@@ -9,7 +9,7 @@ pub record WordValue : Type 0 where
   pub value : ℕ
   pub mask : ℕ
 
--- the value, read on the bits of the mask alone
+-- the value, read only on the bits of the mask
 abbrev pub fixed_value : WordValue → ℕ
 fixed_value w = bit_and w.value w.mask
 

@@ -16,30 +16,30 @@ pub fn exact_laws()
     ensures { ExactLaws }
 {}
 
-/// `covers` orders the words. A word covers that of one header where it holds this header, and what
-/// it meets where that has no free bit.
+/// `covers` orders the words. A word covers that of one header if it holds this header, and a word
+/// that it meets if that has no free bit.
 pub fn covers_laws()
     ensures { CoversLaws }
 {}
 
-/// `meet` gives the greatest word that both cover. To narrow a word to `a`, and then to what `a`
+/// `meet` returns the greatest word that both cover. To narrow a word to `a`, and then to what `a`
 /// covers, is to narrow it to the latter at once.
 pub fn meet_laws()
     ensures { MeetLaws }
 {}
 
-/// A free bit parts a word in two halves: each header is in the one that has its bit.
+/// A free bit divides a word into two halves: each header is in the one that has its bit.
 pub fn fix_laws()
     ensures { FixLaws }
 {}
 
 /// A freed bit widens a word, and keeps the order of two words. Two words meet, or one covers the
-/// other, where they do with a bit freed and that bit agrees.
+/// other, if they do with a bit freed and that bit agrees.
 pub fn free_laws()
     ensures { FreeLaws }
 {}
 
-/// The free bits of a word as an ascending list: to fix one takes it, and it alone, away.
+/// The free bits of a word as an ascending list: to fix one removes it, and only it.
 pub fn free_bits_laws()
     ensures { FreeBitsLaws }
 {}

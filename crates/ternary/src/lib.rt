@@ -1,10 +1,10 @@
 //! Words with free bits over header numbers of 104 bits, as a ternary content-addressable memory
 //! matches them.
 //!
-//! A word fixes some bits and leaves the others free. Each operation answers for exactly the
-//! headers that a word holds, and takes no memory. What holds of all words is ensured by the laws,
-//! functions with an empty body, for proofs where no call runs; a map whose keys are words compares
-//! them by `word_eq`.
+//! A word fixes some bits and leaves the others free. Each operation is exact about the headers
+//! that a word holds, and allocates nothing. What is true of all words is ensured by the laws,
+//! functions with an empty body, for proofs in which no call runs; a map whose keys are words
+//! compares them by `word_eq`.
 //!
 //! A caller, which imports `IfSome` and `IsNone` from std, `AreDisjoint` and `IsMeet` from
 //! `specs/Meets.antt`:

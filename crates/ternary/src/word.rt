@@ -10,11 +10,11 @@ use std::marker::Model;
 /// The mask of all 104 bits of a header number.
 pub const ALL_BITS: u128 = (1 << 104) - 1;
 
-/// A set of header numbers, given by the bits that it fixes: a header is in it where it agrees with
+/// A set of header numbers, given by the bits that it fixes: a header is in it if it agrees with
 /// the value on each bit of the mask.
 ///
 /// A bit of the mask is fixed, every other bit is free. Value and mask are below 2^104, and no bit
-/// of the value lies outside the mask, so equal sets are equal words.
+/// of the value is outside the mask, so equal sets are equal words.
 #[derive(Clone, Copy, Debug, PartialEq, Eq, Hash)]
 pub struct Word {
     value: u128,
@@ -35,8 +35,8 @@ impl Model for Word {
 }
 
 impl Word {
-    /// The word of this pair; `None` where the value has a bit outside the mask, or the mask one
-    /// from bit 104 on.
+    /// The word of this pair; `None` if the value has a bit outside the mask, or the mask one from
+    /// bit 104 on.
     pub fn new(value: u128, mask: u128) -> Option<Word>
         ensures pair { IfSome result (λ w. (w ≡ record { value = value; mask = mask }) × IsWord w) }
         ensures taken { let pair : WordValue = record { value = value; mask = mask } in
@@ -99,7 +99,7 @@ impl Word {
         h & self.mask == self.value
     }
 
-    /// The word of the headers that both hold; `None` where there is no such header.
+    /// The word of the headers that both hold; `None` if there is no such header.
     pub fn meet(&self, other: &Word) -> Option<Word>
         ensures pair { result ≡ meet_of self.now other.now }
         ensures both { IfSome result (λ m. IsMeet self.now other.now m × IsWord m) }
@@ -158,8 +158,8 @@ impl Word {
         }
     }
 
-    /// This word with the bit `bit` free: it holds what this word holds with the bit set to 0 or to
-    /// 1.
+    /// This word with the bit `bit` free: it holds the headers that this word holds with the bit
+    /// set to 0 or to 1.
     pub fn free(&self, bit: u32) -> Word
         requires { bit < 104 }
         ensures pair { result ≡ free_of self.now bit }

@@ -1,4 +1,4 @@
--- What the lines of a trace tell of a packet's decision, in the order of the lines.
+-- What the lines of a trace say about a packet's decision, in the order of the lines.
 use Rattle.std.specs.Prelude.{⊤, ℕ, ◌≡◌, ◌≢◌, ◌⊎◌, ◌+◌, ◌-◌, ◌<◌, ◌≤◌, ◌==◌, if◌then◌else◌, Option, Some, None, option_to_list, List, [], ◌∷◌, ◌++◌, All, Contains, length, slice_get}
 use Rattle.five_tuple.specs.declared.header.Header.{Header}
 use Rattle.policy_rules.specs.Policy.{IsFirstMatch}
@@ -18,7 +18,7 @@ abbrev pub with_told : Option Told → List Told → List Told
 with_told None more = more
 with_told (Some first) more = first ∷ more
 
--- what these lines tell, in order; each good line tells one thing
+-- what these lines say, in order; each good line says one thing
 abbrev pub all_told : List TraceLine → List Told
 all_told [] = []
 all_told (Whole text ∷ lines) = with_told (told_of text) (all_told lines)
@@ -26,7 +26,7 @@ all_told (Open text ∷ lines) = all_told lines
 
 -- ---- versions
 
--- the policies of the versions behind what is told: a line that submits the next version adds the
+-- the policies of the versions after what is told: a line that submits the next version adds the
 -- policy that its file makes
 abbrev pub policies_with : List PolicyFile → List (List Row) → Told → List (List Row)
 policies_with files policies (told.Submitted file version) = if version == length policies + 1
@@ -38,7 +38,7 @@ policies_from files policies [] = policies
 policies_from files policies (first ∷ more) =
     policies_from files (policies_with files policies first) more
 
--- of the first file, and those that were submitted; the first version's first
+-- the policy of the first file, and those that were submitted; the first version's first
 abbrev pub policies_told : List PolicyFile → List Told → List (List Row)
 policies_told files ts = policies_from files (option_to_list (made_policy files 1 None)) ts
 
@@ -77,7 +77,7 @@ pub record IsWaiting (ts : List Told) (header : Header) : Type 0 where
   pub row : ts ≡ before ++ told.Row (Some header) ∷ after
   pub last : All IsBetween after
 
--- the packet entered once, behind a row of its own with this header, under this mark
+-- the packet entered once, after its own row with this header, under this mark
 pub record HasEntered (ts : List Told) (packet : ℕ) (header : Header) (mark : ℕ) : Type 0 where
   pub before : List Told
   pub after : List Told
@@ -110,13 +110,13 @@ pub record HasDecision (files : List PolicyFile) (ts : List Told) (packet : ℕ)
   pub printed : IsPrinted rule_text action_text hit
   pub acts : hit.action ≡ action
 
--- the packet got its one decision before it ended, and none behind its end
+-- the packet got its one decision before it ended, and none after its end
 pub record IsDecidedOnce (files : List PolicyFile) (before after : List Told) (packet : ℕ)
     (action : Action) : Type 0 where
   pub decided : HasDecision files before packet action
   pub none_later : All (DecidesOther packet) after
 
--- a packet that is told to be dropped, or out by a port, was decided so
+-- a packet that lines say is dropped, or out by a port, was decided like that
 abbrev pub IsJustified : List PolicyFile → List Told → List Told → ℕ → End → Type 0
 IsJustified files before after packet Dropped =
     IsDecidedOnce files before after packet action.Drop

@@ -1,4 +1,5 @@
--- An index of a policy's rows: which of them lie in one slot, and which are looked at for a header.
+-- An index of a policy's rows: which of them are in one slot, and which are looked at for a
+-- header.
 use Rattle.std.specs.Prelude.{ℕ, ◌≡◌, ◌≢◌, ◌+◌, ◌*◌, ◌/◌, ◌%◌, ◌^◌, ◌<◌, ◌≤◌, ◌==◌, ◌&&◌, Bool, nat_lt, true, if◌then◌else◌, Option, Some, None, MatchOption, List, All, Contains, length, slice_get}
 use Rattle.std.specs.List.{position_or_len}
 use Rattle.std.specs.Option.{option_map_or}
@@ -30,7 +31,7 @@ pub record IsSoundShape (shape : Shape) : Type 0 where
   pub src : shape.src ≤ 32
   pub dst : shape.dst ≤ 32
 
--- shapes with one more, where it isn't there yet
+-- shapes with one more, if it isn't there yet
 pub record Notes (before : List Shape) (shape : Shape) (after : List Shape) : Type 0 where
   pub there : position_or_len (is_shape shape) after < length after
   pub kept : (row : Row) → HasShape before row → HasShape after row
@@ -47,7 +48,7 @@ pub record AreShapesOf (rows : List Row) (shapes : List Shape) : Type 0 where
 abbrev pub mixed_of : ℕ → ℕ → ℕ
 mixed_of src dst = (src * 2654435769 % 2 ^ 32 + dst * 2246822519 % 2 ^ 32) % 2 ^ 32
 
--- of blocks that begin with these addresses: each of so many shapes has an equal share of 4,096
+-- of blocks that begin with these addresses: each of this many shapes has an equal share of 4,096
 -- slots, and this is one of the share of the shape at this place
 abbrev pub slot_of : ℕ → ℕ → ℕ → ℕ → ℕ
 slot_of shapes place src dst =
@@ -95,13 +96,13 @@ IsMatchIn rows fields hit = MatchOption hit.rule (hit.action ≡ Drop)
 abbrev pub IsNoHigher : Hit → Row → Type 0
 IsNoHigher hit row = MatchOption hit.rule ⊥ (λ priority. row.priority ≤ priority)
 
--- the better of the row, where it matches, and of the hit
+-- the better of the row, if it matches, and the hit
 abbrev pub better_of : Row → Fields → Hit → Hit
 better_of row fields hit =
     if option_map_or (λ priority. nat_lt priority row.priority) hit.rule true
     && row_matches row fields then hit_of (Some row) else hit
 
--- with the matching rows of a slot, a hit that reaches what the first one reaches
+-- with the matching rows of a slot, a hit at least as good as the first one
 pub record IsBetter (shapes : List Shape) (rows : List Row) (slot : ℕ) (fields : Fields)
     (first hit : Hit) : Type 0 where
   pub matching : IsMatchIn rows fields first → IsMatchIn rows fields hit

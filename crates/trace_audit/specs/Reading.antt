@@ -1,5 +1,5 @@
--- How a trace is read: each line may be a move of the abstract machine, and is good where
--- the machine may take that move.
+-- How a trace is read: each line may be a move of the abstract machine, and is good if the machine
+-- may take that move.
 use Rattle.std.specs.Prelude.{ℕ, ◌≡◌, ◌-◌, ◌≤◌, ◌==◌, if◌then◌else◌, Option, Some, None, option_to_list, List, [], ◌∷◌, length, slice_get}
 use Rattle.std.specs.Result.{result_ok}
 use Rattle.five_tuple.specs.Texts.{parts_round}
@@ -16,7 +16,7 @@ use Rattle.trace_audit.specs.Told as told
 
 -- ---- policies
 
--- the file of a number, from 1, if it is there
+-- the file of a number, from 1, if it exists
 abbrev pub numbered_file : List PolicyFile → ℕ → Option PolicyFile
 numbered_file files file = if file == 0 then None else slice_get files (file - 1)
 
@@ -29,12 +29,12 @@ latest_policy policies = slice_get policies (length policies - 1)
 
 -- ---- states
 
--- what a reader knows: the machine, and the header of a packet's row that waits for its entry
+-- what a reader knows: the machine, and the pending header of a packet's row
 pub record TraceState : Type 0 where
   pub machine : Machine
   pub pending : Option Header
 
--- the policy of the first file, the mark 0, no packets, and no header that waits
+-- the policy of the first file, the mark 0, no packets, and no pending header
 abbrev pub first_state : List PolicyFile → TraceState
 first_state files = record {
   machine = record {
@@ -70,12 +70,12 @@ Follows files old told.Nothing new = new ≡ old
 
 -- ---- lines
 
--- a line that its line feed ends, or what stands behind the last line feed
+-- a line with its line feed, or what follows the last line feed
 pub data TraceLine : Type 0 where
   Whole : (text : List ℕ) → TraceLine
   Open : (text : List ℕ) → TraceLine
 
--- the lines of the parts that stand round line feeds
+-- the lines of the parts between line feeds
 abbrev pub open_line : List ℕ → List TraceLine
 open_line [] = []
 open_line (byte ∷ bytes) = Open (byte ∷ bytes) ∷ []

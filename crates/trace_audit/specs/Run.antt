@@ -1,4 +1,4 @@
--- The moves that the lines of a trace tell, as items of a journal.
+-- The moves that the lines of a trace state, as items of a journal.
 use Rattle.std.specs.Prelude.{ℕ, ◌≡◌, List, [], ◌∷◌, ◌++◌}
 use Rattle.five_tuple.specs.declared.header.Header.{Header}
 use Rattle.policy_rules.specs.declared.file.PolicyFile.{PolicyFile}
@@ -16,7 +16,7 @@ use Rattle.trace_audit.specs.Reading.{IsPrinted, TraceLine}
 use Rattle.trace_audit.specs.Told.{Told}
 use Rattle.trace_audit.specs.Told as told
 
--- the items of what is told behind these: the one that it tells, where it is a move, and else none.
+-- the items of what is told after these: the one that it states, if it is a move, otherwise none.
 -- A packet enters with the header of its row. What the machine doesn't look at may be anything.
 abbrev pub AreItemsOf : List Told → Told → List Item → Type 0
 AreItemsOf before (told.Entered packet) items = (switch : ℕ) × (header : Header)
@@ -35,13 +35,13 @@ AreItemsOf before (told.Ended packet Stuck) items = (switch : ℕ) × (cause : C
 AreItemsOf before (told.Row header) items = items ≡ []
 AreItemsOf before told.Nothing items = items ≡ []
 
--- the items of all that is told behind these, one after another
+-- the items of all that is told after these, one after another
 abbrev pub AreItems : List Told → List Told → List Item → Type 0
 AreItems before [] items = items ≡ []
 AreItems before (first ∷ more) items = (front rest : List Item) × (items ≡ front ++ rest)
     × AreItemsOf before first front × AreItems (before ++ first ∷ []) more rest
 
--- the moves that the lines tell are a run of the machine that has these files of policies and
+-- the moves that the lines state are a run of the machine that has these files of policies and
 -- changes, on whatever network
 pub record AreRun (files : List PolicyFile) (lines : List TraceLine) : Type 0 where
   pub moves : List Item

@@ -1,4 +1,4 @@
--- How the code's values are seen, and what its parts say of them.
+-- How contracts see the code's values, and what its parts say about them.
 use Rattle.std.specs.Prelude.{ℕ, ◌-◌, ◌==◌, nat_le, if◌then◌else◌, Bool, MatchBool, Option, Some, None, option_map, List, slice_get}
 use Rattle.std.specs.BTreeMap.{get}
 use Rattle.std.specs.Option.{option_or}
@@ -41,7 +41,7 @@ told_seen (line.Decided packet version rule action) =
 told_seen (line.Ended packet end) = told.Ended packet (end_seen end)
 told_seen line.Nothing = told.Nothing
 
--- what the decision of a packet says, where it has one
+-- what the decision of a packet says, if it has one
 abbrev pub action_seen : TracePacket → Action
 action_seen p = if p.is_out then Out p.port else Drop
 
@@ -85,7 +85,7 @@ abbrev pub packets_seen : Packets → ℕ → Option Packet
 packets_seen p number = option_map packet_seen
     (option_or (run_get p.first p.run.items number) (get nat_cmp p.others number))
 
--- the machine, and the header that waits
+-- the machine, and the pending header
 abbrev pub state_seen : Auditor → TraceState
 state_seen a = record {
   machine = record {
@@ -96,7 +96,7 @@ state_seen a = record {
   pending = a.pending;
 }
 
--- this packet in the place of what was known of its number
+-- this packet instead of what was known of its number
 abbrev pub with_one : (ℕ → Option Packet) → ℕ → Packet → ℕ → Option Packet
 with_one packets number packet = λ other. if other == number then Some packet else packets other
 
@@ -105,7 +105,7 @@ abbrev pub IsTaken : List PolicyFile → TraceState → Told → TraceState → 
 IsTaken files old told new good = MatchBool good
     (Follows files old told new) ((other : TraceState) → Follows files old told other → ⊥)
 
--- the same of a line
+-- the same for a line
 abbrev pub IsLineRead : List PolicyFile → TraceState → TraceLine → TraceState → Bool → Type 0
 IsLineRead files old line new good = MatchBool good
     (ReadsLine files old line new) ((other : TraceState) → ReadsLine files old line other → ⊥)

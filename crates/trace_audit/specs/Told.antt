@@ -1,5 +1,5 @@
--- What a line of a printed trace tells, by its first words. A line is cut at each single
--- blank, so that two blanks make an empty word. A number is decimal, without sign or leading zero.
+-- What a line of a printed trace says, by its first words. A line is cut at each single blank, so
+-- that two blanks make an empty word. A number is decimal, without sign or leading zero.
 use Rattle.std.specs.Prelude.{ℕ, ◌≡◌, ◌==◌, ◌&&◌, ◌||◌, ◌⊎◌, nat_le, not, if◌then◌else◌, Bool, false, MatchOption, Option, Some, None, option_map, List, [], ◌∷◌, take, drop, codes, bytes_eq}
 use Rattle.std.specs.List.{list_all, list_any}
 use Rattle.std.specs.Option.{option_map_or}
@@ -13,7 +13,7 @@ use Rattle.steps.specs.Steps.{max_number}
 use Rattle.update_machine.specs.Machine.{End, Dropped, LeftBy, Lost, Stuck}
 
 pub data Told : Type 0 where
-  -- a row of a schedule, with its header where it is a packet's
+  -- a row of a schedule, with its header if it is a packet's
   Row : (header : Option Header) → Told
   -- a move of the abstract machine; of a decision the texts of its rule and its action
   Entered : (packet : ℕ) → Told
@@ -26,7 +26,7 @@ pub data Told : Type 0 where
 
 -- ---- words
 
--- what stands before and after the first such byte of the text; or it has none
+-- what is before and after the first such byte of the text; or it has none
 abbrev pub IsCut : ℕ → List ℕ → Option (Bor (List ℕ) × Bor (List ℕ)) → Type 0
 IsCut byte text cut = MatchOption cut
     (parts_round byte text ≡ text ∷ [])
@@ -35,7 +35,7 @@ IsCut byte text cut = MatchOption cut
 abbrev pub words_of : List ℕ → List (List ℕ)
 words_of line = parts_round 32 line
 
--- those of the text that is left, if one is left
+-- the words of the text that is left, if one is left
 abbrev pub words_left : Option (Bor (List ℕ)) → List (List ℕ)
 words_left None = []
 words_left (Some text) = words_of text.now
@@ -48,7 +48,7 @@ has_no_blank word = list_all (λ b. not (b == 32)) word
 abbrev pub TakesWord : List (List ℕ) → (List ℕ → Bool) → List (List ℕ) → Bool → Type 0
 TakesWord old passes new said = (next : List ℕ) × (old ≡ next ∷ new) × (said ≡ passes next)
 
--- none or more than one
+-- no word or more than one
 abbrev pub IsNoSingle : List (List ℕ) → Type 0
 IsNoSingle words = (words ≡ []) ⊎ ((one : List ℕ) × (two : List ℕ) × (more : List (List ℕ))
     × (words ≡ one ∷ two ∷ more))
@@ -62,7 +62,7 @@ abbrev pub version_of_word : List ℕ → Option ℕ
 version_of_word word =
     if bytes_eq (take 1 word) (codes "v") then number_of_word (drop 1 word) else None
 
--- the number of a row, cut at the colon behind it
+-- the number of a row, cut at the colon after it
 abbrev pub is_row_number : List (List ℕ) → Bool
 is_row_number (number ∷ [] ∷ []) = option_map_or (nat_le 1) (number_up_to max_events number) false
 is_row_number _ = false
@@ -73,7 +73,7 @@ pair_told told _ _ = None
 
 -- ---- rows
 
--- `row R: packet S SRC DST SPORT DPORT PROTO`, behind the kind
+-- `row R: packet S SRC DST SPORT DPORT PROTO`, after the kind
 abbrev pub packet_row_told : List ℕ → List (List ℕ) → Option Told
 packet_row_told row (switch ∷ src ∷ dst ∷ sport ∷ dport ∷ proto ∷ []) =
     if is_row_number (parts_round 58 row) && is_name switch
@@ -88,7 +88,7 @@ row_told (row ∷ kind ∷ fields) =
 row_told (row ∷ []) = Some (Row None)
 row_told [] = None
 
--- ---- moves, by the words behind the first one
+-- ---- moves, by the words after the first one
 
 -- `entered I S`
 abbrev pub entered_told : List (List ℕ) → Option Told
@@ -141,7 +141,7 @@ abbrev pub any_told : List (List ℕ) → Option Told
 any_told (more ∷ others) = Some Nothing
 any_told [] = None
 
--- the word alone
+-- only the word
 abbrev pub alone_told : List (List ℕ) → Option Told
 alone_told [] = Some Nothing
 alone_told _ = None
@@ -153,7 +153,7 @@ silent_words = codes "closed" ∷ codes "tunnelled" ∷ codes "exit" ∷ codes "
     ∷ codes "refused" ∷ codes "current" ∷ codes "booted" ∷ codes "opened" ∷ codes "down"
     ∷ codes "over" ∷ codes "link" ∷ []
 
--- an item, by its word and the words behind it
+-- an item, by its word and the words after it
 unfoldable pub item_told : List ℕ → List (List ℕ) → Option Told
 item_told word args =
     if bytes_eq word (codes "entered") then entered_told args else
@@ -167,7 +167,7 @@ item_told word args =
     if bytes_eq word (codes "nothing") then alone_told args else
     if list_any (bytes_eq word) silent_words then any_told args else None
 
--- behind a first empty word: an item stands behind two blanks
+-- after a first empty word: an item follows two blanks
 abbrev pub indented_told : List (List ℕ) → Option Told
 indented_told (second ∷ word ∷ args) = if bytes_eq second [] then item_told word args else None
 indented_told _ = None
@@ -179,6 +179,6 @@ told_by_words (first ∷ args) =
     if bytes_eq first [] then indented_told args else None
 told_by_words [] = None
 
--- what a line tells; none where it is bad whatever stands before it
+-- what a line says; none if it is bad whatever comes before it
 unfoldable pub told_of : List ℕ → Option Told
 told_of line = told_by_words (words_of line)

@@ -1,4 +1,4 @@
--- What is said of a trace as a whole.
+-- The verdict on a trace as a whole.
 use Rattle.std.specs.Prelude.{ℕ, ◌≡◌, ◌-◌, ◌≤◌, min, List, length, take}
 use Rattle.policy_rules.specs.declared.file.PolicyFile.{PolicyFile}
 use Rattle.trace_audit.specs.Reading.{AreGood, TraceLine}
@@ -13,7 +13,7 @@ pub record IsFirstBad (files : List PolicyFile) (lines : List TraceLine) (number
   pub before : AreGood files (take (number - 1) lines)
   pub bad : AreGood files (take number lines) → ⊥
 
--- a line's number stands still at the end of its type
+-- a line's number stops at the greatest of its type
 abbrev pub IsAuditVerdict : List PolicyFile → List TraceLine → Verdict → Type 0
 IsAuditVerdict files lines Yes = AreGood files lines
 IsAuditVerdict files lines (No line) =

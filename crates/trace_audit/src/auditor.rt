@@ -15,11 +15,11 @@ use crate::told::{End, LineMeaning};
 use policy_rules::{Action, Amendment, ApplyError, Header, Policy, PolicyFile, apply};
 use std::alloc::{AllocError, Global};
 
-/// At most so many versions are submitted.
+/// At most this many versions are submitted.
 const MAX_VERSIONS: u32 = 64;
 
-/// What a reader of a trace knows behind the lines that it read: the policies of the versions, the
-/// mark, the packets, and the header of a packet's row that waits for its entry.
+/// What a reader of a trace knows after the lines that it read: the policies of the versions, the
+/// mark, the packets, and the pending header of a packet's row.
 #[derive(Drop)]
 pub(crate) struct Auditor {
     policies: Vec<IndexedPolicy>,
@@ -44,7 +44,7 @@ fn made_policy(
     }
 }
 
-// The file of this number, from 1, if it is there.
+// The file of this number, from 1, if it exists.
 fn numbered_file(files: &[PolicyFile], file: u32) -> Option<&PolicyFile>
     ensures { option_copied result ≡ numbered_file files.now file }
 {
@@ -203,7 +203,7 @@ impl Auditor {
         Ok(true)
     }
 
-    /// Takes what a line tells, and says whether that may be.
+    /// Takes what a line says, and returns whether the machine allows it.
     ///
     /// # Errors
     /// Only out of memory.
@@ -235,7 +235,7 @@ impl Auditor {
     }
 }
 
-// Whether the packet may end so.
+// Whether the packet may end like this.
 fn may_end(packet: &TracePacket, end: End) -> bool
     ensures { IsTrue result ↔ MayEnd (packet_seen packet.now) (end_seen end) }
 {

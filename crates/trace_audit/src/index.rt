@@ -16,27 +16,27 @@ pub(crate) struct Shape {
     pub dst: u32,
 }
 
-/// So many slots the rows of a policy are laid in.
+/// How many slots the rows of a policy are put in.
 const SLOTS: usize = 4096;
 
-/// An index is made where there are so many rows for each shape, or more.
+/// An index is made if there are at least this many rows for each shape.
 const ROWS_A_SHAPE: usize = 16;
 
-/// The rows of a policy by their blocks of addresses, so that few are looked at for a header: tuple
-/// space search (Srinivasan, Suri, Varghese, "Packet Classification using Tuple Space Search").
-/// Each shape has a share of the slots of its own, and of it one slot is looked into for a header.
-/// So no row is looked at twice, whatever the rows are.
+/// The rows of a policy by their blocks of addresses, so that few are looked at for a header:
+/// tuple space search (Srinivasan, Suri, Varghese, "Packet Classification using Tuple Space
+/// Search"). Each shape has its own share of the slots, and for a header one slot of each share is
+/// looked into. So no row is looked at twice, whatever the rows are.
 #[derive(Drop)]
 pub(crate) struct Index {
     // The shapes that rows have.
     shapes: Vec<Shape>,
-    // Of each slot its last row, by its place in the policy.
+    // For each slot its last row, by its place in the policy.
     last: Vec<Option<u32>>,
-    // Of each row the last one before it in its slot.
+    // For each row the last one before it in its slot.
     earlier: Vec<Option<u32>>,
 }
 
-/// A policy that was submitted, with an index of its rows where they have few shapes. Contracts see
+/// A policy that was submitted, with an index of its rows if they have few shapes. Contracts see
 /// the rows.
 #[derive(Drop)]
 pub(crate) struct IndexedPolicy {
@@ -69,7 +69,7 @@ fn slot(shapes: &[Shape], place: usize, src: u32, dst: u32) -> usize
     place * share + ((u64::from(mixed) * share as u64) >> 32) as usize
 }
 
-// The place of the shape among the others, if it is there.
+// The place of the shape among the others, if it is one of them.
 fn place_of(shapes: &[Shape], shape: Shape) -> Option<usize>
     ensures { result ≡ position (is_shape shape) shapes.now }
 {
@@ -87,7 +87,7 @@ fn slot_of_row(shapes: &[Shape], row: &Row) -> usize
     slot(shapes, place, row.src.address, row.dst.address)
 }
 
-// The better of the row, where it matches, and of the hit.
+// The better of the row, if it matches, and the hit.
 fn better(row: &Row, fields: &Fields, hit: Hit) -> Hit
     ensures { result ≡ better_of row.now fields.now hit }
 {
@@ -113,7 +113,7 @@ impl Shape {
     }
 }
 
-// Notes the shape among others.
+// Adds the shape to the others.
 fn note(shapes: &mut Vec<Shape>, shape: Shape) -> Result<(), AllocError>
     ensures { OnOk result (Notes shapes.old.items shape shapes.new.items) }
 {
@@ -164,7 +164,7 @@ impl Index {
         Ok(())
     }
 
-    // An index of the rows, where they have few shapes: with more, a scan costs less.
+    // An index of the rows, if they have few shapes: with more, a scan costs less.
     fn of(alloc: Global, rows: &[Row]) -> Result<Option<Index>, AllocError>
         requires { IsPolicy rows.now }
         ensures { IfOk result (λ some. IfSome some (IsIndexOf rows.now)) }

@@ -1,12 +1,12 @@
 //! A checker of printed traces: whether the text of a journal is one that the abstract machine
 //! allows.
 //!
-//! `audit` reads a trace line by line. What a line tells is a table over its first words
-//! (`specs/Told.antt`); a line is good where the machine may take the move that it tells
-//! (`specs/Reading.antt`). `audit` promises to answer Yes exactly where every line is good, and
-//! else names the first one that isn't. So on Yes the moves are a run of the machine
-//! (`specs/Run.antt`), and each packet that is printed as dropped or out by a port got one decision
-//! before (`specs/Decided.antt`).
+//! `audit` reads a trace line by line. What a line says is a table over its first words
+//! (`specs/Told.antt`); a line is good if the machine may take the move that it states
+//! (`specs/Reading.antt`). `audit` promises to return Yes exactly if every line is good, and
+//! otherwise the number of the first one that isn't. So on Yes the moves are a run of the machine
+//! (`specs/Run.antt`), and each packet that is printed as dropped or out by a port got one
+//! decision before (`specs/Decided.antt`).
 //!
 //! ```text
 //! let verdict = audit(alloc, b"row 1: packet a 10.0.0.1 10.0.0.2 1 2 tcp\n  closed 1 a\n", &files)?;

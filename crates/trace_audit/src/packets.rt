@@ -34,11 +34,11 @@ pub(crate) enum PacketEnd {
 pub(crate) struct TracePacket {
     src: u32,
     dst: u32,
-    // The mark as it came in.
+    // The mark when it came in.
     entry_mark: u32,
-    // Of the row that decided it.
+    // The priority of the row that decided it.
     priority: u32,
-    // By which it is to leave, where it is.
+    // The port by which it is to leave, if it is to.
     port: u32,
     sport: u16,
     dport: u16,
@@ -85,14 +85,14 @@ impl TracePacket {
         })
     }
 
-    /// The mark as it came in.
+    /// The mark when it came in.
     pub fn entry_mark(&self) -> u32
         ensures { result ≡ (packet_seen self.now).entry_mark }
     {
         self.entry_mark
     }
 
-    // What its decision says, where it has one.
+    // What its decision says, if it has one.
     fn decided_action(&self) -> Action
         ensures { result ≡ action_seen self.now }
     {
@@ -200,7 +200,7 @@ impl Packets {
         }
     }
 
-    /// Puts the packet in the place of what was known of its number.
+    /// Replaces what was known of its number by this packet.
     ///
     /// # Errors
     /// Only out of memory.

@@ -19,10 +19,10 @@ pub(crate) enum End {
     Stuck,
 }
 
-/// What a line tells.
+/// What a line says.
 #[derive(Clone, Copy)]
 pub(crate) enum LineMeaning<'a> {
-    /// A row of the schedule, with its header where it is a packet's.
+    /// A row of the schedule, with its header if it is a packet's.
     Row(Option<Header>),
     Entered(u32),
     Submitted {
@@ -55,7 +55,7 @@ fn number(word: &[u8]) -> Option<u32>
     Some(number as u32)
 }
 
-// A version behind `v`.
+// A version after `v`.
 fn version(word: &[u8]) -> Option<u32>
     ensures { result ≡ version_of_word word.now }
 {
@@ -201,7 +201,7 @@ fn read_stuck<'a>(mut words: Words<'a>) -> Option<LineMeaning<'a>>
 
 // ---- lines
 
-// Any bytes behind a blank.
+// Any bytes after a blank.
 fn read_any<'a>(mut words: Words<'a>) -> Option<LineMeaning<'a>>
     ensures { option_map told_seen result ≡ any_told words.entry }
 {
@@ -282,7 +282,7 @@ fn read_item<'a>(word: &[u8], words: Words<'a>) -> Option<LineMeaning<'a>>
     }
 }
 
-// An item, behind its two blanks. Those that each packet has are tried first.
+// An item, after its two blanks. Those that each packet has are tried first.
 #[tactic(auto, unfolding(crate::specs::Told::item_told))]
 fn read_known_item<'a>(mut words: Words<'a>) -> Option<LineMeaning<'a>>
     ensures { option_map told_seen result ≡ indented_told ([] ∷ words.entry) }
@@ -300,7 +300,7 @@ fn read_known_item<'a>(mut words: Words<'a>) -> Option<LineMeaning<'a>>
     read_item(word, words)
 }
 
-// An item stands behind two blanks.
+// An item follows two blanks.
 fn read_indented<'a>(mut words: Words<'a>) -> Option<LineMeaning<'a>>
     ensures { option_map told_seen result ≡ indented_told words.entry }
 {
@@ -312,7 +312,7 @@ fn read_indented<'a>(mut words: Words<'a>) -> Option<LineMeaning<'a>>
     read_item(word, words)
 }
 
-/// What a line tells; `None` where it is bad whatever stands before it.
+/// What a line says; `None` if it is bad whatever comes before it.
 #[tactic(auto, unfolding(crate::specs::Told::told_of))]
 pub(crate) fn read_line<'a>(line: &'a [u8]) -> Option<LineMeaning<'a>>
     ensures { option_map told_seen result ≡ told_of line.now }
@@ -324,7 +324,7 @@ pub(crate) fn read_line<'a>(line: &'a [u8]) -> Option<LineMeaning<'a>>
     }
 }
 
-// What a line tells, by its words.
+// What a line says, by its words.
 fn read_words<'a>(mut words: Words<'a>) -> Option<LineMeaning<'a>>
     ensures { option_map told_seen result ≡ told_by_words words.entry }
 {

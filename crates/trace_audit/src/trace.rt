@@ -13,20 +13,20 @@ use crate::words::cut;
 use policy_rules::PolicyFile;
 use std::alloc::{AllocError, Global};
 
-/// What is said of a trace.
+/// The verdict on a trace.
 #[derive(Clone, Copy, Debug, PartialEq, Eq)]
 pub enum Verdict {
     /// Every line is good.
     Yes,
     /// The line of this number, from 1, is the first bad one. A number above 4,294,967,295 is
-    /// answered as that.
+    /// returned as 4,294,967,295.
     No { line: u32 },
 }
 
-/// Whether the trace is the printed run of an abstract machine that has these files of policies and
-/// changes, and begins with the policy of the first one: each line that tells a move tells one that
-/// the machine may take then, and no line is of another form than those of a journal. Where the
-/// first file is a change, the machine begins with no policy.
+/// Whether the trace is the printed run of an abstract machine that has these files of policies
+/// and changes, and begins with the policy of the first one: each line that states a move states
+/// one that the machine may take then, and no line is of another form than those of a journal. If
+/// the first file is a change, the machine begins with no policy.
 ///
 /// # Errors
 /// Only out of memory.
@@ -58,7 +58,7 @@ pub fn audit(alloc: Global, trace: &[u8], files: &[PolicyFile]) -> Result<Verdic
     Ok(Verdict::Yes)
 }
 
-// What holds of each file is known where it is read.
+// The proof knows that each file is sound once it is read.
 fn files_are_sound(files: &[PolicyFile])
     ensures { All IsPolicyFile files.now }
 {
@@ -80,7 +80,7 @@ fn file_is_sound(file: &PolicyFile)
     }
 }
 
-// Reads a line, and says whether it is good.
+// Reads a line, and returns whether it is good.
 #[tactic(auto, using(crate::proofs::TraceLines::line_read, crate::proofs::TraceLines::line_unread))]
 fn take_line(
     auditor: &mut Auditor,

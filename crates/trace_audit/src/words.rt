@@ -11,7 +11,7 @@ fn place_of(text: &[u8], byte: u8) -> Option<usize>
     memchr(byte, text)
 }
 
-// The place of the first such byte, where it is likely to be near.
+// The place of the first such byte, which is likely to be near.
 #[inline(always)]
 fn near_place_of(text: &[u8], byte: u8) -> Option<usize>
     ensures { result ≡ position (λ b. b == byte) text.now }
@@ -19,7 +19,7 @@ fn near_place_of(text: &[u8], byte: u8) -> Option<usize>
     text.iter().position(|b| *b == byte)
 }
 
-// What stands before and after this place, that of the first such byte; `None` where there is none.
+// What is before and after this place, that of the first such byte; `None` if there is none.
 #[inline(always)]
 fn cut_at(text: &[u8], at: Option<usize>) -> Option<(&[u8], &[u8])>
     requires { (byte : ℕ) × (at ≡ position (λ b. b == byte) text.now) }
@@ -31,14 +31,14 @@ fn cut_at(text: &[u8], at: Option<usize>) -> Option<(&[u8], &[u8])>
     }
 }
 
-/// What stands before and after the first such byte; `None` where there is none.
+/// What is before and after the first such byte; `None` if there is none.
 pub(crate) fn cut(text: &[u8], byte: u8) -> Option<(&[u8], &[u8])>
     ensures { IsCut byte text.now result }
 {
     cut_at(text, place_of(text, byte))
 }
 
-/// The same, where the byte is likely to be near.
+/// The same for a byte that is likely to be near.
 #[inline(always)]
 pub(crate) fn cut_near(text: &[u8], byte: u8) -> Option<(&[u8], &[u8])>
     ensures { IsCut byte text.now result }
@@ -46,7 +46,7 @@ pub(crate) fn cut_near(text: &[u8], byte: u8) -> Option<(&[u8], &[u8])>
     cut_at(text, near_place_of(text, byte))
 }
 
-// What stands behind the word and a blank, where the text begins with them.
+// What follows the word and a blank, if the text begins with them.
 #[inline(always)]
 fn behind<'a>(text: &'a [u8], word: &[u8]) -> Option<&'a [u8]>
     requires { IsTrue (has_no_blank word.now) }
@@ -69,7 +69,7 @@ fn behind<'a>(text: &'a [u8], word: &[u8]) -> Option<&'a [u8]>
 /// The words of a line that are still to be read. Contracts see them.
 #[derive(Drop)]
 pub(crate) struct Words<'a> {
-    // What stands behind the words that were read; none where they were all.
+    // What follows the words that were read; none if they were all.
     rest: Option<&'a [u8]>,
 }
 
@@ -120,7 +120,7 @@ impl<'a> Words<'a> {
         }
     }
 
-    /// The next word, where it is the last one.
+    /// The next word, if it is the last one.
     #[inline(always)]
     pub fn last(mut self) -> Option<&'a [u8]>
         ensures some { IfSome result (λ word. self.entry ≡ word.now ∷ []) }
@@ -133,7 +133,7 @@ impl<'a> Words<'a> {
         Some(word)
     }
 
-    /// Takes the next word where it is this one and words stand behind it, and says whether it is.
+    /// Takes the next word if it is this one and more words follow it, and returns whether it did.
     #[inline(always)]
     pub fn take(&mut self, word: &[u8]) -> bool
         requires { IsTrue (has_no_blank word.now) }
@@ -151,7 +151,7 @@ impl<'a> Words<'a> {
         }
     }
 
-    /// Takes the next word, if there is one, and says whether it is this one.
+    /// Takes the next word, if there is one, and returns whether it is this one.
     #[inline(always)]
     pub fn next_is(&mut self, word: &[u8]) -> Option<bool>
         requires { IsTrue (has_no_blank word.now) }
@@ -165,7 +165,7 @@ impl<'a> Words<'a> {
         Some(next == word)
     }
 
-    /// The same of one of two words.
+    /// The same for one of two words.
     #[inline(always)]
     pub fn next_is_either(&mut self, one: &[u8], other: &[u8]) -> Option<bool>
         requires one { IsTrue (has_no_blank one.now) }

@@ -1,4 +1,4 @@
--- The text of a journal that answers a schedule, and the lines that may stand behind it.
+-- The text of a journal that answers a schedule, and the lines that may follow it.
 use Rattle.std.specs.Prelude.{ℕ, ◌≡◌, ◌≢◌, ◌≤◌, ◌⊎◌, Option, None, Some, List, ◌∷◌, [], ◌++◌, All, codes, length}
 use Rattle.std.specs.List.{flat_map}
 use Rattle.control_laws.specs.Always.{AreEvents}
@@ -21,13 +21,13 @@ pub record IsLastLine (line : List ℕ) : Type 0 where
 abbrev pub with_line_feeds : List (List ℕ) → List ℕ
 with_line_feeds lines = flat_map (λ line. line ++ 10 ∷ []) lines
 
--- the journal answers the events, or those in front of the row at which it is full
+-- the journal answers the events, or those before the row at which it is full
 abbrev pub IsAnsweredTo : Setting → List Event → List Item → Option ℕ → Type 0
 IsAnsweredTo setting events journal None = Answers setting events journal
 IsAnsweredTo setting events journal (Some row) = StopsFull setting events journal row
 
--- of each journal that answers at most 100,000 events, on a network whose files have numbers that a
--- trace may have, its text and whole last lines behind it are good lines
+-- for each journal that answers at most 100,000 events, on a network whose files have numbers that
+-- a trace may have, its text and whole last lines after it are good lines
 abbrev pub TextsAreGood : Type 0
 TextsAreGood = (setting : Setting) (events : List Event) (journal : List Item) (full : Option ℕ)
     (last : List (List ℕ)) → IsSetting setting → AreEvents setting events

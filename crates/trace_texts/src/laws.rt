@@ -8,7 +8,8 @@ use packet_laws::{
 };
 
 /// Each line of the text of a journal that answers a schedule is good, and so are whole lines of
-/// meters, and of whether the network is quiet, behind it: `audit` returns Yes for them.
+/// meters, and the one that says whether the network is quiet, after it: `audit` returns Yes for
+/// them.
 pub fn texts_are_good()
     ensures { TextsAreGood }
 {

@@ -1,8 +1,8 @@
-//! The texts of journals as traces: the text of each journal that answers a schedule is one that the
-//! checker of traces returns Yes.
+//! The texts of journals as traces: the checker of traces returns Yes for the text of each journal
+//! that answers a schedule.
 //!
-//! No code: the function is the law that it ensures. `audit` of `trace_audit` returns Yes
-//! exactly where each line is good; by the law each line of such a text is.
+//! No code: the function is the law that it ensures. `audit` of `trace_audit` returns Yes exactly
+//! if each line is good; by the law each line of such a text is.
 #![tactic(auto)]
 
 mod laws;

@@ -1,5 +1,5 @@
--- Where packets stand, as masks: bit i % 64 of the mask of i / 64 and a switch says that packet i
--- stands at the switch. Masks of the same form say which of these masks have a bit.
+-- Where packets are, as masks: bit i % 64 of the mask of i / 64 and a switch says that packet i is
+-- at the switch. Masks of the same form say which of these masks have a bit.
 use Rattle.std.specs.Prelude.{ℕ, ◌≡◌, ◌+◌, ◌*◌, ◌/◌, ◌%◌, ◌<◌, ◌≤◌, ◌==◌, Bool, true, false, not, if◌then◌else◌, Option, List, MatchOption, length, slice_index_or}
 use Rattle.base.specs.Masks.{has}
 
@@ -14,7 +14,7 @@ is_marked masks i s = has (mask_at masks (i / 64) s) (i % 64)
 abbrev pub has_marks : List ℕ → ℕ → ℕ → Bool
 has_marks masks block s = not (mask_at masks block s == 0)
 
--- the other way, where it turns
+-- flipped, if it is to
 abbrev pub flipped_if : Bool → Bool → Bool
 flipped_if turns was = if turns then not was else was
 
@@ -28,12 +28,12 @@ abbrev pub IsLeastMarked : List ℕ → ℕ → ℕ → ℕ → Type 0
 IsLeastMarked masks switch from least = (from ≤ least) × (is_marked masks least switch ≡ true)
     × IsNoneMarked masks switch from least
 
--- the least number at or above `from` that is marked at the switch; none where none is
+-- the least number at or above `from` that is marked at the switch; none if none is
 abbrev pub IsNextMarked : List ℕ → ℕ → ℕ → Option ℕ → Type 0
 IsNextMarked masks switch from next = MatchOption next
     ((i : ℕ) → from ≤ i → is_marked masks i switch ≡ false) (IsLeastMarked masks switch from)
 
--- that number, where it is of the block of `from`; none where none of that block is marked
+-- that number, if it is of the block of `from`; none if none of that block is marked
 abbrev pub IsNextInBlock : List ℕ → ℕ → ℕ → Option ℕ → Type 0
 IsNextInBlock masks switch from next = MatchOption next
     (IsNoneMarked masks switch from ((from / 64 + 1) * 64)) (IsLeastMarked masks switch from)

@@ -17,7 +17,7 @@ pub record Flight : Type 0 where
   pub version : ℕ
   pub rule : Option ℕ
 
--- of the packet of each number what is known of it, if it travels
+-- for each number, what is known of its packet, if that travels
 abbrev pub Flights : Type 0
 Flights = List (Option Flight)
 
@@ -29,7 +29,7 @@ abbrev pub WithOne : Flights → ℕ → Option Flight → Flights → Type 0
 WithOne before packet this after =
     (i : ℕ) → flight after i ≡ (if i == packet then this else flight before i)
 
--- the least number at or above `from` of a packet that travels; none where none does
+-- the least number at or above `from` of a packet that travels; none if none does
 abbrev pub IsNextFrom : Flights → ℕ → Option ℕ → Type 0
 IsNextFrom flights from next = MatchOption next
     ((i : ℕ) → from ≤ i → flight flights i ≡ None)
@@ -48,7 +48,7 @@ HasPlace place t = place < length t.tunnel.route
 abbrev pub placed_at : ℕ → Flight → Flight
 placed_at place t = record t { tunnel = record t.tunnel { place = place } }
 
--- ---- one packet where it stands
+-- ---- one packet where it is
 
 pub record Standing : Type 0 where
   pub packet : ℕ
@@ -86,26 +86,26 @@ standing_kept at = record {
   down = unwrap_or at.down no_links;
 }
 
--- ---- where they stand
+-- ---- where they are
 
--- a packet is there, and stands at the switch
+-- there is a packet, and it is at the switch
 abbrev pub stands_at : ℕ → Option Flight → Bool
 stands_at switch None = false
 stands_at switch (Some t) = here t.tunnel == switch
 
--- the least number at or above `from` of a packet that stands at the switch; none where none does
+-- the least number at or above `from` of a packet that is at the switch; none if none is
 abbrev pub IsNextAt : Flights → ℕ → ℕ → Option ℕ → Type 0
 IsNextAt flights switch from next = MatchOption next
     ((i : ℕ) → from ≤ i → stands_at switch (flight flights i) ≡ false)
     (λ least. (from ≤ least) × (stands_at switch (flight flights least) ≡ true)
     × ((i : ℕ) → from ≤ i → i < least → stands_at switch (flight flights i) ≡ false))
 
--- the packets that stand at the switch, ascending by number
+-- the packets at the switch, ascending by number
 unfoldable pub numbers_at : Flights → ℕ → List ℕ
 numbers_at flights switch =
     filter (λ i. stands_at switch (flight flights i)) (range_with_len 0 (length flights))
 
--- those that stood at the switch travel no more; all others are as before
+-- those that were at the switch no longer travel; all others are as before
 abbrev pub WithoutAt : Flights → ℕ → Flights → Type 0
 WithoutAt before switch after = (i : ℕ) → flight after i
     ≡ (if stands_at switch (flight before i) then None else flight before i)
@@ -129,18 +129,18 @@ flight_kept kept = record {
   rule = kept.rule;
 }
 
--- each packet is marked where it stands, and nowhere else
+-- each packet is marked where it is, and nowhere else
 abbrev pub AreMarked : Flights → List ℕ → Type 0
 AreMarked flights by_switch =
     (i s : ℕ) → s < 64 → is_marked by_switch i s ≡ stands_at s (flight flights i)
 
--- at switches below 64 alone
+-- only at switches below 64
 abbrev pub StandBelow : Flights → Type 0
 StandBelow flights =
     (i s : ℕ) → 64 ≤ s → stands_at s (flight flights i) ≡ false
 
 -- numbers have 32 bits, no packet below the first one travels, and packets are marked where they
--- stand
+-- are
 pub record IsTable (flights : Flights) (first : ℕ) (by_switch : List ℕ) : Type 0 where
   pub few : length flights ≤ 4_294_967_296
   pub none : (i : ℕ) → i < first → flight flights i ≡ None

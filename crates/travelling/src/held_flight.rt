@@ -1,4 +1,4 @@
-//! Packets that lie on the heap, so that the slot of one that ended takes few bytes.
+//! Packets that are kept on the heap, so that the slot of one that ended takes few bytes.
 ghost use Rattle.std.specs.Prelude.{◌≡◌, IfOk};
 ghost use Rattle.travelling.specs.Travelling.{HasPlace, placed_at};
 
@@ -41,7 +41,7 @@ impl HeldFlight {
         &self.kept
     }
 
-    /// It stands at this place of its route. It takes no memory.
+    /// Moves the packet to this place of its route. Allocates nothing.
     pub fn move_to(&mut self, place: u32)
         requires { HasPlace place self.old }
         ensures { self.new ≡ placed_at place self.old }

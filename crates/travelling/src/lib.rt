@@ -2,8 +2,8 @@
 //!
 //! `Travelling` keeps what is known of each packet that travels: its tunnel, and the version and
 //! the rule of its decision. It promises that each call changes only the packet of its number, and
-//! that `next` finds the least number of one that travels. To make a `Standing` or its links may take
-//! memory, and so may `put`; no other call does.
+//! that `next` finds the least number of one that travels. To make a `Standing` or its links may
+//! allocate, and so may `put`; no other call does.
 //!
 //! ```text
 //! let mut travelling = Travelling::new(alloc);

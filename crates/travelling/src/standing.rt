@@ -15,7 +15,7 @@ pub struct Standing {
     /// The switch where it came in.
     pub ingress: u32,
     pub switch: u32,
-    /// The links that it found down; a set is there only where it found one.
+    /// The links that it found down; there is a set only if it found one.
     pub down: Option<SharedLinks>,
     /// The version of its decision; 0 before it.
     pub version: u32,
@@ -24,10 +24,9 @@ pub struct Standing {
 }
 
 impl Standing {
-    /// The link from the switch where it stands to this other one was found down.
+    /// The link from the switch where it is to this other one was found down.
     ///
-    /// # Errors
-    /// Out of memory; nothing changes then.
+    /// # Errors Only out of memory; then nothing changes.
     pub fn mark_down(&mut self, alloc: Global, other: u32) -> Result<(), AllocError>
         requires different { other ≢ self.old.switch }
         requires here { self.old.switch < 64 }
@@ -46,7 +45,7 @@ impl Standing {
         Ok(())
     }
 
-    /// The links that it found down, if there is one.
+    /// The links that it found down, if it found one.
     pub fn links(&self) -> Option<&DownSet>
         ensures { unwrap_or (option_copied result) no_links ≡ (standing_kept self.now).down }
     {
@@ -58,8 +57,7 @@ impl Standing {
 
     /// The set of the links that it found down, shared.
     ///
-    /// # Errors
-    /// Out of memory, which is taken only where it found none.
+    /// # Errors Only out of memory, and only if it found none.
     pub fn into_links(self, alloc: Global) -> Result<SharedLinks, AllocError>
         ensures { IfOk result (λ links. links ≡ (standing_kept self).down) }
     {

@@ -11,7 +11,7 @@ use std::marker::Model;
 use tunnel::Route;
 
 /// What the table keeps of a packet on its way: its route is the one that the journal's item has,
-/// and a set of links is there only where the packet found one down. Contracts see the packet in
+/// and there is a set of links only if the packet found one down. Contracts see the packet in
 /// flight.
 #[derive(Drop)]
 pub struct StoredFlight {
@@ -42,7 +42,7 @@ impl Model for StoredFlight {
 
 impl StoredFlight {
     /// What is kept of a packet that begins this route on its leg to these targets. The route and
-    /// the set of links stay shared, and it takes no memory.
+    /// the set of links stay shared, and it allocates nothing.
     pub fn begin(at: Standing, leg: Leg, targets: Targets, route: SharedRoute) -> StoredFlight
         ensures { result
             ≡ travels_by (begun_at (standing_kept at) leg targets route) at.version at.rule }
@@ -62,7 +62,7 @@ impl StoredFlight {
         }
     }
 
-    /// The packet at the switch where it stands; the set of links stays shared.
+    /// The packet at the switch where it is; the set of links stays shared.
     ///
     /// # Errors
     /// Only out of memory.
@@ -107,7 +107,7 @@ impl StoredFlight {
         &self.targets
     }
 
-    /// The switch where it stands.
+    /// The switch where it is.
     pub fn here(&self) -> u32
         ensures here { result ≡ here self.now.tunnel }
         ensures switch { result < 64 }
@@ -115,7 +115,7 @@ impl StoredFlight {
         self.route.get().items()[self.place as usize]
     }
 
-    /// Its route, which begins at the switch where it set out.
+    /// Its route, which begins at the switch where it took it.
     pub fn route(&self) -> &Route
         ensures { result.now ≡ self.now.tunnel.route }
     {
@@ -141,7 +141,7 @@ impl StoredFlight {
             .copied()
     }
 
-    /// It stands at this place of its route. It takes no memory.
+    /// Moves the packet to this place of its route. Allocates nothing.
     pub fn move_to(&mut self, place: u32)
         requires { HasPlace place self.old }
         ensures { self.new ≡ placed_at place self.old }

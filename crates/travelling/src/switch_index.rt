@@ -1,8 +1,9 @@
-//! Where packets stand: a bit for each packet and each switch.
+//! Where packets are: a bit for each packet and each switch.
 //!
-//! The bits of a block, 64 packets, lie in one mask for each switch. Bits of the same form say
-//! which of these masks have one, and again which of theirs: so a search for the packets at a
-//! switch reads no packet, and passes 262,144 of them by one mask where none stands there.
+//! The bits of a block, 64 packets, are in one mask for each switch. Bits of the same form say
+//! which of these masks have one, and more such bits which of those masks have one. So a search
+//! for the packets at a switch reads no packet, and skips 262,144 of them by one mask if none is
+//! there.
 ghost use Rattle.std.specs.Prelude.{◌≡◌, ◌+◌, ◌*◌, ◌/◌, ◌<◌, ◌≤◌, ◌==◌, ◌&&◌, ℕ, [], false, true, length, max, slice_index_or, OnOk};
 ghost use Rattle.travelling.specs.SwitchIndex.{AreOfBlocks, IsLeastMarked, IsNextInBlock, IsNextMarked, flipped_if, has_marks, is_marked};
 ghost use Rattle.travelling.specs.Travelling.{stands_at};
@@ -12,7 +13,7 @@ use base::only_if;
 use std::alloc::{AllocError, Global};
 use std::marker::Model;
 
-/// The marks of where packets stand. Contracts see those of the packets.
+/// The marks of where packets are. Contracts see those of the packets.
 #[derive(Drop)]
 pub struct SwitchIndex {
     packets: Vec<u64>,
@@ -34,7 +35,7 @@ impl Model for SwitchIndex {
 }
 
 impl SwitchIndex {
-    /// No packet is marked. It takes no memory yet.
+    /// No packet is marked. It allocates nothing yet.
     pub fn new(alloc: Global) -> SwitchIndex
         ensures { result ≡ [] }
     {
@@ -45,8 +46,8 @@ impl SwitchIndex {
         }
     }
 
-    /// There is a bit for the packet of this number. Each new mask is pushed, so that n packets
-    /// take O(n) in all.
+    /// Makes sure that there is a bit for the packet of this number. Each new mask is pushed, so
+    /// that n packets take O(n) in all.
     pub fn make_bits(&mut self, number: usize) -> Result<(), AllocError>
         requires { number < 4_294_967_296 }
         ensures room { OnOk result (number + 64 ≤ length self.new) }
@@ -58,7 +59,7 @@ impl SwitchIndex {
         make_masks(&mut self.packets, number)
     }
 
-    /// Where the slot's packet stands it is marked if it wasn't, and not marked if it was.
+    /// Flips the mark of the slot's packet at the switch where it is.
     pub fn mark_slot(&mut self, number: usize, slot: &Option<HeldFlight>)
         requires { number + 64 ≤ length self.old }
         ensures room { length self.new ≡ length self.old }
@@ -71,8 +72,8 @@ impl SwitchIndex {
         }
     }
 
-    // The mark of the packet at the switch is turned, and that of its block where it is the
-    // block's only one.
+    // Flips the mark of the packet at the switch, and that of its block if it is the block's only
+    // one.
     fn flip(&mut self, number: usize, switch: u32)
         requires room { number + 64 ≤ length self.old }
         requires switch { switch < 64 }
@@ -105,7 +106,7 @@ impl SwitchIndex {
     }
 }
 
-// There are masks up to that of this number at each switch.
+// Makes sure that there are masks up to that of this number at each switch.
 fn make_masks(masks: &mut Vec<u64>, number: usize) -> Result<(), AllocError>
     requires { number < 4_294_967_296 }
     ensures room { OnOk result (number + 64 ≤ length masks.new.items) }
@@ -120,8 +121,8 @@ fn make_masks(masks: &mut Vec<u64>, number: usize) -> Result<(), AllocError>
     Ok(())
 }
 
-// The mark of the number at the switch is turned. Answers whether its block has marks there and
-// had none, or has none and had one.
+// Flips the mark of the number at the switch. Returns whether its block has marks there and had
+// none, or has none and had one.
 fn turn(masks: &mut Vec<u64>, number: usize, switch: u32) -> bool
     requires room { number + 64 ≤ length masks.old.items }
     requires switch { switch < 64 }
@@ -140,7 +141,7 @@ fn turn(masks: &mut Vec<u64>, number: usize, switch: u32) -> bool
 }
 
 // The least number at or above `from` that is marked at the switch, if there is one, by the marks
-// of the blocks. It goes over those of 64 blocks at once.
+// of the blocks. It looks at those of 64 blocks at once.
 fn next_by_blocks(masks: &[u64], blocks: &[u64], from: usize, switch: u32) -> Option<usize>
     requires blocks { AreOfBlocks masks.now blocks.now }
     requires switch { switch < 64 }
@@ -155,7 +156,7 @@ fn next_by_blocks(masks: &[u64], blocks: &[u64], from: usize, switch: u32) -> Op
     }
 }
 
-// The least number at or above `from` that is marked at the switch, if there is one. It goes over
+// The least number at or above `from` that is marked at the switch, if there is one. It looks at
 // 64 at once.
 fn next_marked(masks: &[u64], from: usize, switch: u32) -> Option<usize>
     requires { switch < 64 }

@@ -1,12 +1,12 @@
 //! The packets on their way: a table by their numbers, which grows as the journal does.
 //!
 //! A slot has at most 16 bytes, and a packet takes it when it first travels: slots are pushed, so
-//! n packets take O(n) in all. What is known of a packet lies on the heap, and is given back where
-//! the packet travels no more. Its route is that of the journal's item, and a hop writes the place
-//! on it alone, so a hop takes no memory. The first number moves on over the slots of packets that
-//! ended, so that a drain behind each of n packets passes each slot once, O(n) in all. Packets are
-//! marked where they stand, so that a search for those at a switch looks at no other packet's slot.
-//! No slot is given back before the end, as in a journal.
+//! n packets take O(n) in all. What is known of a packet is kept on the heap, and freed when the
+//! packet no longer travels. Its route is that of the journal's item, and a hop writes only the
+//! place on it, so a hop allocates nothing. The first number moves past the slots of packets that
+//! ended, so that a drain after each of n packets passes each slot once, O(n) in all. Packets are
+//! marked where they are, so that a search for those at a switch looks at no other packet's slot.
+//! No slot is freed before the end, as in a journal.
 ghost use Rattle.std.specs.Prelude.{◌≡◌, ◌+◌, ◌<◌, ◌≤◌, ℕ, max, [], Some, None, is_some, option_map, length, slice_set, IsSome, OnOk};
 ghost use Rattle.std.specs.Option.{IsSomeAnd, option_copied};
 ghost use Rattle.travelling.specs.Travelling.{AreMarked, HasPlace, IsNextAt, IsNextFrom, StandBelow, WithOne, placed_at, flight};
@@ -24,7 +24,7 @@ pub struct Travelling {
     slots: Vec<Option<HeldFlight>>,
     // No packet below it travels.
     first: usize,
-    // Where packets stand.
+    // Where packets are.
     by_switch: SwitchIndex,
 }
 
@@ -39,7 +39,7 @@ impl Model for Travelling {
 }
 
 impl Travelling {
-    /// No packet travels. It takes no memory yet.
+    /// No packet travels. It allocates nothing yet.
     pub fn new(alloc: Global) -> Travelling
         ensures { result ≡ [] }
     {
@@ -67,7 +67,7 @@ impl Travelling {
         }
     }
 
-    /// The packet travels, and this is known of it from now on.
+    /// The packet travels from now on, with this known of it.
     ///
     /// # Errors
     /// Only out of memory.
@@ -88,7 +88,7 @@ impl Travelling {
         Ok(())
     }
 
-    /// The packet stands at this place of its route. It takes no memory.
+    /// Moves the packet to this place of its route. Allocates nothing.
     pub fn move_to(&mut self, packet: u32, place: u32)
         requires { IsSomeAnd (flight self.old packet) (HasPlace place) }
         ensures { WithOne self.old packet
@@ -97,7 +97,7 @@ impl Travelling {
         move_slot(&mut self.slots, &mut self.by_switch, packet as usize, place);
     }
 
-    /// The packet doesn't travel from now on. Answers whether it did.
+    /// The packet no longer travels. Returns whether it did.
     pub fn remove(&mut self, packet: u32) -> bool
         ensures was { result ≡ is_some (flight self.old packet) }
         ensures after { WithOne self.old packet None self.new }
@@ -122,7 +122,7 @@ impl Travelling {
         }
     }
 
-    /// The least number at or above `from` of a packet that stands at the switch.
+    /// The least number at or above `from` of a packet that is at the switch.
     pub fn next_at(&self, from: usize, switch: u32) -> Option<u32>
         ensures { IsNextAt self.now switch from result }
     {
@@ -137,7 +137,8 @@ impl Travelling {
     }
 }
 
-// There is a slot of this number. Each new one is pushed, so that n of them take O(n) in all.
+// Makes sure that there is a slot of this number. Each new one is pushed, so that n of them take
+// O(n) in all.
 #[tactic(auto, using(crate::proofs::PacketTable::pushed_same))]
 fn make_room(slots: &mut Vec<Option<HeldFlight>>, number: usize) -> Result<(), AllocError>
     ensures room { OnOk result (number < length slots.new.items) }
@@ -150,8 +151,8 @@ fn make_room(slots: &mut Vec<Option<HeldFlight>>, number: usize) -> Result<(), A
     Ok(())
 }
 
-// The least number at or above `from` of a slot that holds a packet; where there is none, one of no
-// slot.
+// The least number at or above `from` of a slot that holds a packet; if there is none, a number
+// beyond the slots.
 fn first_held(slots: &[Option<HeldFlight>], from: usize) -> usize
     ensures from { from ≤ result }
     ensures empty { (i : ℕ) → from ≤ i → i < result → flight slots.now i ≡ None }
@@ -164,7 +165,7 @@ fn first_held(slots: &[Option<HeldFlight>], from: usize) -> usize
     number
 }
 
-// The slot holds this from now on, and its packet is marked where it stands.
+// The slot holds this from now on, and its packet is marked where it is.
 fn set_slot(
     slots: &mut Vec<Option<HeldFlight>>,
     by_switch: &mut SwitchIndex,
@@ -185,7 +186,7 @@ fn set_slot(
     slots[number] = slot;
 }
 
-// The packet of the slot stands at this place of its route, and is marked there.
+// Moves the packet of the slot to this place of its route, and marks it there.
 fn move_slot(
     slots: &mut Vec<Option<HeldFlight>>,
     by_switch: &mut SwitchIndex,

@@ -21,7 +21,7 @@ tunnel_begun packet header ingress leg targets route down =
       down = down;
     }
 
--- the switch where it stands
+-- the switch where it is
 abbrev pub here : TunnelValue → ℕ
 here t = slice_index t.route t.place
 
@@ -37,11 +37,11 @@ advanced_tunnel t = record t { place = t.place + 1 }
 abbrev pub marked_down : TunnelValue → ℕ → TunnelValue
 marked_down t other = record t { down = with_link t.down (here t) other }
 
--- its route from here by the links that are known here, less those found down
+-- its route from here by the links that are known here, except those found down
 abbrev pub route_from_here : TunnelValue → List (Option Advert) → ℕ → Option (List ℕ)
 route_from_here t adverts near = route_of adverts (here t) t.targets near t.down
 
--- it stands at the beginning of this route
+-- it is at the beginning of this route
 abbrev pub on_route : TunnelValue → List ℕ → TunnelValue
 on_route t route = record t { route = route; place = 0 }
 

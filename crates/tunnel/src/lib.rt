@@ -2,8 +2,8 @@
 //!
 //! `Tunnel` keeps the route and the place on it, and the links that the packet found down. It
 //! promises that a packet moves along its route one switch at a time, that a new route is the
-//! defined one less all links found down, and that nothing else of the packet ever changes. Nothing
-//! here takes memory.
+//! defined one without the links found down, and that nothing else of the packet ever changes.
+//! Nothing here allocates.
 //!
 //! ```text
 //! match packet.next() {

@@ -54,7 +54,7 @@ impl Tunnel {
     ) -> Tunnel
         ensures { result ≡ tunnel_begun packet header ingress leg targets route down }
     {
-        // For the proof: a route that is read is one.
+        // For the proof: a route that is read is sound.
         let _ = route.items();
         Tunnel {
             packet,
@@ -68,7 +68,7 @@ impl Tunnel {
         }
     }
 
-    /// The switch where the packet stands.
+    /// The switch where the packet is.
     pub fn here(&self) -> u32
         ensures here { result ≡ here self.now }
         ensures switch { result < 64 }
@@ -94,8 +94,8 @@ impl Tunnel {
         self.place += 1;
     }
 
-    /// Adds the link between the switch where the packet stands and this other one to the links
-    /// found down.
+    /// Adds the link between the switch where the packet is and this other one to the links found
+    /// down.
     pub fn mark_down(&mut self, other: u32)
         requires different { other ≢ here self.old }
         requires switch { other < 64 }
@@ -106,8 +106,8 @@ impl Tunnel {
     }
 
     /// Takes the route from here to the first of its targets that a path of known links reaches,
-    /// without the links found down, and stands at its beginning. False exactly where there is
-    /// none; nothing changes then.
+    /// without the links found down, and puts the packet at its beginning. False exactly if there
+    /// is none; then nothing changes.
     pub fn reroute(&mut self, base: &Database, near: u64) -> bool
         ensures found { result ≡ is_some (route_from_here self.old base.now near) }
         ensures after { self.new ≡ put_on_route self.old (route_from_here self.old base.now near) }

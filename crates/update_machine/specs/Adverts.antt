@@ -1,4 +1,4 @@
--- What switches tell of their own links, and the adverts that they hold with it (OSPF, RFC 2328,
+-- What switches say of their own links, and the adverts that they have then (OSPF, RFC 2328,
 -- section 13.1); the routes that they find.
 use Rattle.std.specs.Prelude.{ℕ, ◌+◌, Bool, true, false, not, ◌&&◌, ◌==◌, if◌then◌else◌, Option, Some, None, List, ◌++◌, count_by, filter_map, slice_set}
 use Rattle.failover.specs.Adverts.{held_advert}
@@ -14,14 +14,14 @@ use Rattle.update_machine.specs.Steps.{StepItems, steps_in}
 
 -- ---- the own advert
 
--- the switch was in this boot as the step began, and its usable links changed in the step
+-- the switch was in this boot when the step began, and its usable links changed in the step
 abbrev pub has_change : Setting → ℕ → ℕ → StepItems → Bool
 has_change setting s boot step =
     boot_of step.before s == boot
     && not (near setting step.before s == near setting (step.before ++ step.items) s)
 
--- how many steps of its boot changed the switch's usable links, and one more in boot 1; 0 where it
--- is down
+-- how many steps of its boot changed the switch's usable links, and one more in boot 1; 0 if it is
+-- down
 unfoldable pub own_seq : Setting → List Item → ℕ → ℕ
 own_seq setting journal s = elim (is_up journal s) [
   | false ↦ 0
@@ -29,7 +29,7 @@ own_seq setting journal s = elim (is_up journal s) [
       + (if boot_of journal s == 1 then 1 else 0)
 ]
 
--- what the switch tells of its usable links
+-- what the switch says of its usable links
 unfoldable pub own_advert : Setting → List Item → ℕ → Advert
 own_advert setting journal s = record {
   origin = s;
@@ -40,7 +40,7 @@ own_advert setting journal s = record {
 
 -- ---- what a switch knows
 
--- its own advert, if it told one in its boot
+-- its own advert, if it sent one in its boot
 abbrev pub own_if_sent : Advert → Option Advert
 own_if_sent advert = if advert.seq == 0 then None else Some advert
 
@@ -52,19 +52,19 @@ adverts_known setting journal s =
 abbrev pub advert_known : Setting → List Item → ℕ → ℕ → Option Advert
 advert_known setting journal s origin = held_advert (adverts_known setting journal s) origin
 
--- the adverts that the switch holds, by ascending origin
+-- the adverts that the switch has, by ascending origin
 unfoldable pub held_adverts : Setting → List Item → ℕ → List Advert
 held_adverts setting journal s = filter_map (held_advert (adverts_known setting journal s)) switches
 
 -- ---- routes over known links
 
 -- the route of a switch to the first of these targets that it reaches, by the links that it knows
--- less those that are down
+-- except those that are down
 unfoldable pub route_from : Setting → List Item → ℕ → List ℕ → List ℕ → Option (List ℕ)
 route_from setting journal s targets down =
     route_of (adverts_known setting journal s) s targets (near setting journal s) down
 
--- none of the links that the switch knows, less those that are down, ends at the target
+-- none of the links that the switch knows, except those that are down, ends at the target
 unfoldable pub is_cut_off : Setting → List Item → ℕ → List ℕ → ℕ → Bool
 is_cut_off setting journal s down target =
     is_isolated (adverts_known setting journal s) s target (near setting journal s) down

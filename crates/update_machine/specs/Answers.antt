@@ -12,7 +12,7 @@ use Rattle.update_machine.specs.Travels.{next_travelling}
 use Rattle.update_machine.specs.Pieces.{piece}
 use Rattle.update_machine.specs.Setting.{Setting}
 
--- a step, and the row of the schedule that it is of
+-- a step, and the row of the schedule that it belongs to
 pub record StepOfRow : Type 0 where
   pub row : ℕ
   pub step : Step
@@ -38,14 +38,14 @@ next_delivery journal = option_map Deliver (next_waiting journal)
 abbrev pub next_hop : List Item → Option Step
 next_hop journal = option_map Hop (next_travelling journal)
 
--- behind this journal, these are steps of the row, each the next one; and then there is none
+-- after this journal, these are steps of the row, each the next one; and then there is none
 abbrev pub AreAll : Setting → (List Item → Option Step) → ℕ → List Item → List StepOfRow → Type 0
 AreAll setting next row before [] = next before ≡ None
 AreAll setting next row before (first ∷ steps) =
     (first.row ≡ row) × (next before ≡ Some first.step)
     × AreAll setting next row (before ++ piece setting before first.row first.step) steps
 
--- the same of the first ones, behind which others may come
+-- the same for the first ones, after which others may come
 abbrev pub AreSome : Setting → (List Item → Option Step) → ℕ → List Item → List StepOfRow → Type 0
 AreSome setting next row before [] = ⊤
 AreSome setting next row before (first ∷ steps) =
@@ -54,7 +54,7 @@ AreSome setting next row before (first ∷ steps) =
 
 -- ---- the steps of events
 
--- behind this journal, these are all steps of the event of the row
+-- after this journal, these are all steps of the event of the row
 abbrev pub AreStepsOf : Setting → ℕ → Event → List Item → List StepOfRow → Type 0
 AreStepsOf setting row (One step) before steps = steps ≡ record { row = row; step = step } ∷ []
 AreStepsOf setting row Flush before steps = AreAll setting next_delivery row before steps
@@ -71,7 +71,7 @@ AreFirstStepsOf setting row Drain before steps = AreSome setting next_hop row be
 pub record Splits (mine rest steps : List StepOfRow) : Type 0 where
   pub split : steps ≡ mine ++ rest
 
--- behind this journal, these are all steps of the events, the first of which has this row
+-- after this journal, these are all steps of the events, the first of which has this row
 abbrev pub AreSteps : Setting → ℕ → List Event → List Item → List StepOfRow → Type 0
 AreSteps setting row [] before steps = steps ≡ []
 AreSteps setting row (event ∷ events) before steps =
@@ -79,7 +79,7 @@ AreSteps setting row (event ∷ events) before steps =
     × AreStepsOf setting row event before mine
     × AreSteps setting (row + 1) events (after_steps setting before mine) rest
 
--- and these are the first steps of the events: of the first event alone, or all of these and then
+-- and these are the first steps of the events: only of the first event, or all of these and then
 -- first ones of the others
 abbrev pub AreFirstSteps : Setting → ℕ → List Event → List Item → List StepOfRow → Type 0
 AreFirstSteps setting row [] before steps = steps ≡ []
@@ -98,14 +98,14 @@ pub record Answers (setting : Setting) (events : List Event) (journal : List Ite
   pub allowed : AreSteps setting 1 events [] steps
   pub written : journal ≡ after_steps setting [] steps
 
--- the journal answers the events as far as it goes: it is the pieces of their first steps
+-- the journal answers the events up to its end: it is the pieces of their first steps
 pub record AnswersSoFar (setting : Setting) (events : List Event) (journal : List Item)
     : Type 0 where
   pub steps : List StepOfRow
   pub allowed : AreFirstSteps setting 1 events [] steps
   pub written : journal ≡ after_steps setting [] steps
 
--- the journal begins an answer to the events: items of the last of its steps may lack
+-- the journal begins an answer to the events: items of the last of its steps may be missing
 pub record BeginsAnswer (setting : Setting) (events : List Event) (journal : List Item)
     : Type 0 where
   pub whole : List Item
@@ -119,12 +119,12 @@ pub record BeginsAnswer (setting : Setting) (events : List Event) (journal : Lis
 abbrev pub AreAnswered : Setting → List Event → Type 0
 AreAnswered setting events = (journal : List Item) × Answers setting events journal
 
--- behind this journal the event has all its steps: if it is a flush or a drain, it comes to an end
+-- after this journal the event has all its steps: if it is a flush or a drain, it ends
 abbrev pub HasSteps : Setting → ℕ → Event → List Item → Type 0
 HasSteps setting row event before =
     (steps : List StepOfRow) × AreStepsOf setting row event before steps
 
--- each of the events has all its steps, behind an answer to those before it
+-- each of the events has all its steps, after an answer to those before it
 abbrev pub HaveSteps : Setting → List Event → Type 0
 HaveSteps setting events =
     (first : List Event) (event : Event) (others : List Event) (journal : List Item)

@@ -1,6 +1,6 @@
 -- The life of a switch: its boots, whether it is up, and what it heard in its boot. A switch that
--- restarts has forgotten everything; that is our own, as the papers on DIFANE and on updates in two
--- phases tell of no restart. A message is read where it was sent.
+-- restarts has forgotten everything; that is our own, because the papers on DIFANE and on updates
+-- in two phases have no restart. A message is read where it was sent.
 use Rattle.std.specs.Prelude.{ℕ, Bool, true, false, ◌&&◌, ◌==◌, if◌then◌else◌, Option, Some, None, unwrap_or, List, [], ◌∷◌, ◌++◌}
 use Rattle.std.specs.Option.{option_map_or}
 use Rattle.ctrl_msg.specs.Bodies.{body_boot}
@@ -27,7 +27,7 @@ gives_up s (item.Down switch) = if switch == s then Some false else None
 gives_up s (item.Booted switch boot) = if switch == s then Some true else None
 gives_up s _ = None
 
--- a switch is up at first, and where it didn't go down since its last boot
+-- a switch is up at first, and if it didn't go down since its last boot
 unfoldable pub is_up : List Item → ℕ → Bool
 is_up journal s = unwrap_or (last_given (gives_up s) journal) true
 
@@ -41,12 +41,12 @@ abbrev pub is_to_switch : ℕ → Place → Bool
 is_to_switch s (receiver.Switch switch) = switch == s
 is_to_switch s receiver.Controller = false
 
--- a body that carries a boot is for that boot alone
+-- a body that carries a boot is only for that boot
 abbrev pub is_for_boot : ℕ → Body → Bool
 is_for_boot boot body = option_map_or (λ of. of == boot) (body_boot body) true
 
--- what the message of this number says to switch s as it is delivered behind this journal: nothing
--- where it is for another switch or another boot, or the switch is down
+-- what the message of this number says to switch s when it is delivered after this journal:
+-- nothing if it is for another switch or another boot, or the switch is down
 abbrev pub body_to_switch : List Item → ℕ → ℕ → Option Body
 body_to_switch before s number = elim (message_of before number) [
   | None ↦ None
@@ -62,6 +62,6 @@ changes_heard s before bodies (item.Delivered number) =
     option_map_or (λ body. bodies ++ body ∷ []) (body_to_switch before s number) bodies
 changes_heard s before bodies _ = bodies
 
--- the bodies that were delivered to the switch in its boot; none where it is down
+-- the bodies that were delivered to the switch in its boot; none if it is down
 unfoldable pub heard : List Item → ℕ → List Body
 heard journal s = folded_value (changes_heard s) [] journal

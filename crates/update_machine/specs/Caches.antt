@@ -1,5 +1,5 @@
--- The cache of a switch, and what it says of a header (Yu, Rexford, Freedman and Wang, "Scalable
--- Flow-Based Networking with DIFANE", SIGCOMM 2010).
+-- The cache of a switch, and what it says about a header (Yu, Rexford, Freedman and Wang,
+-- "Scalable Flow-Based Networking with DIFANE", SIGCOMM 2010).
 use Rattle.std.specs.Prelude.{ℕ, ◌==◌, nat_lt, if◌then◌else◌, List, [], ◌∷◌, ◌++◌}
 use Rattle.std.specs.Option.{option_map_or}
 use Rattle.ctrl_msg.specs.declared.message.Body.{Body}
@@ -22,13 +22,13 @@ use Rattle.update_machine.specs.Versions.{stamp_of, tables_at}
 abbrev pub raised_from : ℕ → ℕ → CacheValue → CacheValue
 raised_from earlier stamp cache = if nat_lt earlier stamp then after_raise stamp cache else cache
 
--- a stamp that rises to a version carries the entries to it, past what its change touches
+-- a stamp that rises to a version carries the entries to it, except those that its change touches
 abbrev pub carried_from : List WordValue → ℕ → ℕ → CacheValue → CacheValue
 carried_from touched earlier version cache =
     if nat_lt earlier version then after_carry version touched cache else cache
 
--- what a delivered body makes of the cache, under the stamps before and after its delivery: a cache
--- rule is taken in, a switch that opens may raise its stamp, and one that is told to stamp too
+-- the cache after a delivered body, under the stamps before and after its delivery: a cache rule
+-- is added, a switch that opens may raise its stamp, and so may one that is told to stamp
 abbrev pub cache_after : (ℕ → List WordValue) → ℕ → ℕ → ℕ → CacheValue → Body → CacheValue
 cache_after touched_of earlier stamp number cache (CacheRule version word rule action) =
     after_accept stamp
@@ -64,7 +64,7 @@ unfoldable pub cache_of : Setting → List Item → ℕ → CacheValue
 cache_of setting journal s =
     folded_value (changes_cache setting s) (record { entries = []; capacity = setting.net.cache }) journal
 
--- what the cache of the switch and the tables of its stamp say of the header
+-- what the cache of the switch and the tables of its stamp say about the header
 unfoldable pub lookup_at : Setting → List Item → ℕ → Header → Found
 lookup_at setting journal s header =
     lookup_of (cache_of setting journal s).entries

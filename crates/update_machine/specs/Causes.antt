@@ -1,4 +1,4 @@
--- First tier. What stands in a journal before ends, failures and updates. The notion is our own.
+-- First tier. What a journal says before ends, failures and updates. The notion is our own.
 use Rattle.std.specs.Prelude.{⊤, ℕ, ◌≡◌, ◌⊎◌, Bool, true, false, not, ◌&&◌, ◌||◌, ◌==◌, Option, Some, None, option_to_list, List, [], ◌∷◌, ◌++◌, All, Contains, IsTrue, IsFalse}
 use Rattle.std.specs.List.{list_any}
 use Rattle.five_tuple.specs.declared.header.Header.{Header}
@@ -25,7 +25,7 @@ gives_step _ = None
 unfoldable pub present_step : List Item → Option Step
 present_step journal = last_given gives_step journal
 
--- a packet leaves where it stands, by a port of that switch, with its own header, version and rule
+-- a packet leaves where it is, by a port of that switch, with its own header, version and rule
 pub record LeavesRightly (setting : Setting) (before : List Item) (packet port : ℕ)
     (leaving : Leaving) : Type 0 where
   pub switch : ℕ
@@ -36,7 +36,7 @@ pub record LeavesRightly (setting : Setting) (before : List Item) (packet port :
   pub decided : decision_of before packet
       ≡ Some (record { version = leaving.version; rule = leaving.rule; action = Out port })
 
--- a packet is lost by its own row, or with the switch where it stands
+-- a packet is lost by its own row, or with the switch where it is
 pub record IsLostWith (before : List Item) (packet : ℕ) : Type 0 where
   pub switch : ℕ
   pub crashes : present_step before ≡ Some (Crash switch)
@@ -46,7 +46,7 @@ abbrev pub IsLostRightly : List Item → ℕ → Type 0
 IsLostRightly before packet =
     (present_step before ≡ Some (Lose packet)) ⊎ IsLostWith before packet
 
--- a packet finds a link of the network down, from where it stands: that switch can't use it
+-- a packet finds a link of the network down, from where it is: that switch can't use it
 pub record FindsDown (setting : Setting) (before : List Item) (packet one two : ℕ) : Type 0 where
   pub stands : standing before packet ≡ Some one
   pub linked : IsTrue (are_linked setting.net.links one two)
@@ -63,7 +63,7 @@ abbrev pub is_open : Setting → List Item → ℕ → ℕ → ℕ → ℕ → B
 is_open setting before packet s one two =
     knows_link setting before s one two && not (list_any (finds_down packet one two) before)
 
--- the switches behind the first one are each joined to the one before it, and end at the target
+-- the switches after the first one are each joined to the one before it, and end at the target
 abbrev pub Leads : (ℕ → ℕ → Bool) → ℕ → List ℕ → ℕ → Type 0
 Leads joined at [] target = at ≡ target
 Leads joined at (next ∷ rest) target = IsTrue (joined at next) × Leads joined next rest target
@@ -81,8 +81,8 @@ AreTargets setting before packet (Exit port) targets =
     × (decision.action ≡ Out port)
     × (option_to_list (owner_of setting.net.switches port) ≡ targets)
 
--- a packet is stuck where it stands, at a switch that serves: over the links that this one knows,
--- less those that the packet found down, no way leads to any target of its leg
+-- a packet is stuck where it is, at a switch that serves: over the links that the switch knows,
+-- except those that the packet found down, no way leads to any target of its leg
 pub record IsStuckRightly (setting : Setting) (before : List Item) (packet switch : ℕ) (leg : Leg)
     : Type 0 where
   pub stands : standing before packet ≡ Some switch
@@ -113,7 +113,7 @@ HasCause setting before (item.LinkIs one two up) = IsLinkStep (present_step befo
 HasCause setting before (item.Submitted file version) = present_step before ≡ Some (Update file)
 HasCause setting before _ = ⊤
 
--- behind this journal, each of the items has its cause in what stands before it: for any table of
+-- after this journal, each of the items has its cause in what comes before it: for any table of
 -- causes
 abbrev pub HaveCauses : (List Item → Item → Type 0) → List Item → List Item → Type 0
 HaveCauses cause before [] = ⊤

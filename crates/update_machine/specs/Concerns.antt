@@ -1,5 +1,5 @@
 -- Which items concern a switch, a packet, a message, the links, the policies or the controller:
--- other items change nothing of what a journal says of them.
+-- other items don't change what a journal says of them.
 use Rattle.std.specs.Prelude.{ℕ, Bool, true, false, ◌||◌, ◌==◌, List, IsFalse}
 use Rattle.std.specs.Option.{option_map_or}
 use Rattle.ctrl_msg.specs.declared.message.Body.{Body}
@@ -14,7 +14,7 @@ use Rattle.update_machine.specs.Versions.{is_submission}
 use Rattle.update_machine.specs.Boots.{is_to_switch}
 use Rattle.update_machine.specs.Links.{message_of}
 
--- none of these items, behind this journal, is one that concerns it
+-- none of these items, after this journal, is one that concerns it
 abbrev pub NoneConcern : (List Item → Item → Bool) → List Item → List Item → Type 0
 NoneConcern concerns before items =
     HaveCauses (λ journal item. IsFalse (concerns journal item)) before items
@@ -60,13 +60,13 @@ abbrev pub is_message_to_controller : List Item → ℕ → Bool
 is_message_to_controller before number =
     option_map_or (λ message. is_to_controller message.to) (message_of before number) false
 
--- a switch is let serve by it
+-- a switch may serve after it
 abbrev pub is_opening : Body → Bool
 is_opening (OpenAt boot version) = true
 is_opening _ = false
 
--- what is delivered to the controller, by what it opens switches, confirmations, submissions and
--- marks
+-- what is delivered to the controller, messages by which it opens switches, confirmations,
+-- submissions and marks
 abbrev pub concerns_controller : List Item → Item → Bool
 concerns_controller before (item.Delivered number) = is_message_to_controller before number
 concerns_controller before (item.Sent number message) = is_opening message.body
@@ -76,9 +76,9 @@ concerns_controller before (item.Current version) = true
 concerns_controller before (item.Retired version) = true
 concerns_controller before _ = false
 
--- ---- what stands on several
+-- ---- what depends on several
 
--- whether the switch hears of links or sees its own: what it knows of the network
+-- whether the switch hears of links or sees its own: what it knows about the network
 abbrev pub concerns_known : ℕ → List Item → Item → Bool
 concerns_known s before item = concerns_switch s before item || concerns_links before item
 
@@ -86,7 +86,7 @@ concerns_known s before item = concerns_switch s before item || concerns_links b
 abbrev pub concerns_policies : List Item → Item → Bool
 concerns_policies before item = is_submission item
 
--- what the switch holds, and by which policy: what it says of a header
+-- what the switch has, and by which policy: what it says about a header
 abbrev pub concerns_lookups : ℕ → List Item → Item → Bool
 concerns_lookups s before item = concerns_switch s before item || concerns_policies before item
 
@@ -96,7 +96,7 @@ concerns_waiting s before (item.Down switch) = switch == s
 concerns_waiting s before (item.OverNow switch) = switch == s
 concerns_waiting s before _ = false
 
--- the calls of a switch: packets that come in there, hops of those that stand there, and how a hop
+-- the calls of a switch: packets that come in there, hops of those that are there, and how a hop
 -- ends
 abbrev pub concerns_calls : ℕ → List Item → Item → Bool
 concerns_calls s before (item.Entered packet switch header) = switch == s

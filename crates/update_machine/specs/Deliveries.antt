@@ -1,4 +1,4 @@
--- What a delivery causes, and what switches tell when their links change. Adverts that reach all
+-- What a delivery causes, and what switches send when their links change. Adverts that reach all
 -- switches are those of OSPF (RFC 2328, section 13).
 use Rattle.std.specs.Prelude.{ℕ, true, false, not, ◌&&◌, ◌==◌, nat_lt, Bool, Some, None, List, [], ◌∷◌, map, filter}
 use Rattle.std.specs.List.{flat_map}
@@ -38,8 +38,8 @@ abbrev pub has_changed : Setting → List Item → List Item → ℕ → Bool
 has_changed setting before journal s =
     is_up journal s && not (near setting before s == near setting journal s)
 
--- what the switch tells a neighbour: all adverts that it holds over a link that became usable, its
--- own alone over another one
+-- what the switch sends a neighbour: all adverts that it has over a link that became usable, only
+-- its own over another one
 abbrev pub messages_over : Setting → List Item → List Item → ℕ → ℕ → List Message
 messages_over setting before journal s neighbour = elim (has (near setting before s) neighbour) [
   | true ↦ advert_to neighbour (own_advert setting journal s) ∷ []
@@ -50,7 +50,7 @@ abbrev pub messages_of : Setting → List Item → List Item → ℕ → List Me
 messages_of setting before journal s =
     flat_map (messages_over setting before journal s) (switches_in setting (near setting journal s))
 
--- each switch whose links changed tells its neighbours, all by ascending number
+-- each switch whose links changed sends to its neighbours, all by ascending number
 unfoldable pub link_changes : Setting → List Item → List Item → List Item
 link_changes setting before journal =
     send_items journal
@@ -70,7 +70,7 @@ abbrev pub is_news_to : Setting → List Item → ℕ → Advert → Bool
 is_news_to setting before s advert =
     not (advert.origin == s) && is_news (adverts_known setting before s) advert
 
--- a switch acknowledges tables and stamps, opens where it didn't serve, and passes news on
+-- a switch acknowledges tables and stamps, opens if it didn't serve, and passes news on
 unfoldable pub switch_items : Setting → List Item → ℕ → Body → List Item → List Item
 switch_items setting before s (Install boot tables) journal =
     send_items journal (to_controller (Installed s boot tables.version) ∷ [])
@@ -108,8 +108,8 @@ controller_items setting before body journal =
 
 -- ---- a delivery
 
--- what the receiver does behind the `Delivered`: a switch does nothing that is down, or for a
--- message of another boot
+-- what the receiver does after the `Delivered`: a switch that is down does nothing, nor does one
+-- for a message of another boot
 abbrev pub received_items : Setting → List Item → ℕ → Message → List Item → List Item
 received_items setting before number message journal = elim message.to [
   | receiver.Controller ↦ controller_items setting before message.body journal

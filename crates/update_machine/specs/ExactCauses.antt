@@ -1,4 +1,4 @@
--- The causes of what packets find, as the functions say that give their routes.
+-- The causes of what packets find, as the functions that compute their routes say.
 use Rattle.std.specs.Prelude.{ℕ, ◌≡◌, Some, List, find, option_map, All, IsFalse}
 use Rattle.failover.specs.Links.{IsReachable}
 use Rattle.base.specs.Masks.{has}
@@ -14,7 +14,7 @@ use Rattle.update_machine.specs.Setting.{Setting}
 use Rattle.update_machine.specs.Versions.{plan_at}
 use Rattle.update_machine.specs.PacketRoutes.{found_down, next_switch, targets_of}
 
--- a packet finds the link from where it stands to the next switch of its route, and can't use it
+-- the link from where the packet is to the next switch of its route exists, and isn't usable
 pub record FindsNextDown (setting : Setting) (before : List Item) (packet one two : ℕ) : Type 0 where
   pub stands : standing before packet ≡ Some one
   pub next : next_switch before packet ≡ Some two
@@ -32,7 +32,7 @@ SeeksOwn setting before packet (Exit port) =
     (decision : Decision) × (decision_of before packet ≡ Some decision)
     × (decision.action ≡ Out port)
 
--- a packet is stuck where it stands: over the links that its switch knows, less those that the
+-- a packet is stuck where it is: over the links that its switch knows, except those that the
 -- packet found down, no path leads to any target of its leg
 pub record FindsNoPath (setting : Setting) (before : List Item) (packet switch : ℕ) (leg : Leg)
     : Type 0 where

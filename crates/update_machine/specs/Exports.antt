@@ -1,5 +1,5 @@
--- The definitions by which clauses of this crate and of those above speak of journals, passed on
--- from the files that define them.
+-- The definitions that clauses of this crate and of those above use for journals, passed on from
+-- the files that define them.
 pub use Rattle.update_machine.specs.Answers.{Answers, AnswersSoFar, AreAll, AreAnswered, AreSome, AreStepsOf, BeginsAnswer, HaveSteps, IsReached, StepOfRow, after_steps, next_delivery, next_hop}
 pub use Rattle.update_machine.specs.Boots.{is_up}
 pub use Rattle.update_machine.specs.Causes.{HasCause, HaveCauses}

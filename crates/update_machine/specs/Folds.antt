@@ -1,12 +1,12 @@
--- First tier. Four ways in which a journal says something: what an item told last, how many items
--- satisfy a test, what they give one after another, and what becomes of a value as each changes it.
--- An item that refers back, as a delivery to its message, is read on the journal before it.
+-- First tier. Four ways in which a journal says something: what an item said last, how many items
+-- satisfy a test, what they give one after another, and what becomes of a value when each changes
+-- it. An item that refers back, as a delivery to its message, is read on the journal before it.
 use Rattle.std.specs.Prelude.{ℕ, Bool, Option, None, List, [], ◌∷◌, ◌++◌, count_by}
 use Rattle.std.specs.List.{flat_map}
 use Rattle.std.specs.Option.{option_or}
 use Rattle.journal.specs.declared.item.Item.{Item}
 
--- what the last item that tells something tells
+-- what the last item that says something says
 abbrev pub last_given : {X : Type 0} → (Item → Option X) → List Item → Option X
 last_given tells [] = None
 last_given tells (item ∷ items) = option_or (last_given tells items) (tells item)
@@ -19,12 +19,12 @@ count_of test journal = count_by test journal
 abbrev pub all_given : {X : Type 0} → (Item → List X) → List Item → List X
 all_given gives journal = flat_map gives journal
 
--- what becomes of a value as each of these items changes it, behind this journal
+-- what becomes of a value when each of these items changes it, after this journal
 abbrev pub folded_from : {X : Type 0} → (List Item → X → Item → X) → List Item → X → List Item → X
 folded_from changes before value [] = value
 folded_from changes before value (item ∷ items) =
     folded_from changes (before ++ item ∷ []) (changes before value item) items
 
--- what becomes of a value as each item of a journal changes it
+-- what becomes of a value when each item of a journal changes it
 abbrev pub folded_value : {X : Type 0} → (List Item → X → Item → X) → X → List Item → X
 folded_value changes start journal = folded_from changes [] start journal

@@ -1,4 +1,4 @@
--- A play stops in front of a step that would begin behind a full journal. The notion is our own.
+-- A play stops before a step that would begin with a full journal. The notion is our own.
 use Rattle.std.specs.Prelude.{⊤, ℕ, ◌≡◌, ◌<◌, ◌≤◌, Option, Some, None, List, [], ◌∷◌, ◌++◌}
 use Rattle.journal.specs.declared.item.Item.{Item}
 use Rattle.steps.specs.declared.step.Event.{Event}
@@ -7,20 +7,20 @@ use Rattle.update_machine.specs.Messages.{next_message}
 use Rattle.update_machine.specs.Pieces.{piece}
 use Rattle.update_machine.specs.Setting.{Setting}
 
--- so many messages fill a journal
+-- this many messages fill a journal
 abbrev pub full_at : ℕ
 full_at = 990_000
 
--- so many messages were sent that no step begins behind this journal: messages are numbered from 1,
+-- so many messages were sent that no step begins after this journal: messages are numbered from 1,
 -- so the next one has a number above their count
 abbrev pub IsFull : List Item → Type 0
 IsFull journal = full_at < next_message journal
 
--- a step may begin behind this journal
+-- a step may begin after this journal
 abbrev pub HasRoom : List Item → Type 0
 HasRoom journal = next_message journal ≤ full_at
 
--- each of these steps begins with room, the first one behind this journal
+-- each of these steps begins with room, the first one after this journal
 abbrev pub HaveRoom : Setting → List Item → List StepOfRow → Type 0
 HaveRoom setting before [] = ⊤
 HaveRoom setting before (next ∷ steps) =
@@ -44,7 +44,7 @@ pub record StopsFull (setting : Setting) (events : List Event) (journal : List I
   pub full : IsFull journal
   pub of_row : next.row ≡ row
 
--- what a play of the events leaves: its journal, and the row at which it stopped full, if it did
+-- the result of a play of the events: its journal, and the row at which it stopped full, if it did
 abbrev pub IsPlay : Setting → List Event → List Item → Option ℕ → Type 0
 IsPlay setting events journal None = AnswersWithRoom setting events journal
 IsPlay setting events journal (Some row) = StopsFull setting events journal row

@@ -1,5 +1,5 @@
--- How often a switch was called for a packet: to take it in, to move it on, and to receive it at
--- the end of its route. The count is our own: by it a journal shows that its switches were asked.
+-- How often a switch was called for a packet: to let it in, to move it on, and to receive it at
+-- the end of its route. The count is our own: by it a journal shows that its switches were called.
 use Rattle.std.specs.Prelude.{ℕ, ◌+◌, ◌-◌, ◌^◌, Bool, true, false, ◌||◌, ◌==◌, min, if◌then◌else◌, List, [], ◌∷◌, sum_by}
 use Rattle.std.specs.List.{list_any}
 use Rattle.journal.specs.declared.item.Item.{Item}
@@ -9,7 +9,7 @@ use Rattle.update_machine.specs.Folds.{count_of}
 use Rattle.update_machine.specs.Travels.{travels_at}
 use Rattle.update_machine.specs.Steps.{StepItems, steps_in}
 
--- a packet was taken in, or refused
+-- a packet was let in, or refused
 abbrev pub is_entry_at : ℕ → Item → Bool
 is_entry_at s (item.Entered packet switch header) = switch == s
 is_entry_at s (item.Closed packet switch) = switch == s
@@ -30,7 +30,7 @@ stuck_at_link [] = false
 abbrev pub stays_on_way : List Item → Bool
 stays_on_way items = list_any is_move items || stuck_at_link items
 
--- a hop of a packet that stood at the switch is a call there, and another one where it arrives
+-- a hop of a packet that was at the switch is a call there, and another one if it arrives
 abbrev pub hop_calls : ℕ → StepItems → List Item → ℕ
 hop_calls s step (item.Row row (Hop packet) ∷ items) =
     if travels_at step.before s packet then (if stays_on_way items then 1 else 2) else 0
@@ -40,7 +40,7 @@ hop_calls s step _ = 0
 abbrev pub most_handled : ℕ
 most_handled = 2 ^ 64 - 1
 
--- the entries at the switch and the calls of its hops
+-- the entries at the switch and the calls of hops there
 unfoldable pub handled_count : List Item → ℕ → ℕ
 handled_count journal s =
     min most_handled

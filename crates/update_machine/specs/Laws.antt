@@ -86,16 +86,16 @@ pub record StartLaws : Type 0 where
   pub step : present_step [] ≡ None
   pub packet : (i : ℕ) → PacketStarts i
   pub message : (n : ℕ) → MessageStarts n
-  -- each switch knows the first advert of each one, its own among them
+  -- each switch knows the first advert of each one, its own included
   pub adverts : (setting : Setting) (s : ℕ) → s < length setting.net.switches →
       length setting.net.switches ≤ 64 → adverts_known setting [] s
       ≡ first_adverts (map (links_of setting.net.links) (switches_of setting))
       (length setting.net.switches)
-  -- of a header it says what the tables of the first version say
+  -- about a header it says what the tables of the first version say
   pub lookup : (setting : Setting) (s : ℕ) (header : Header) →
       lookup_at setting [] s header ≡ table_lookup (tables_at setting [] 1 s) header
 
--- items that don't concern a switch leave what is said of it as it is
+-- items that don't concern a switch don't change what is said of it
 pub record SwitchKeeps (setting : Setting) (s : ℕ) (before after : List Item) : Type 0 where
   pub boot : boot_of after s ≡ boot_of before s
   pub up : is_up after s ≡ is_up before s
@@ -105,7 +105,7 @@ pub record SwitchKeeps (setting : Setting) (s : ℕ) (before after : List Item) 
   pub versions : (v : ℕ) → holds_version after s v ≡ holds_version before s v
   pub cache : cache_of setting after s ≡ cache_of setting before s
 
--- those that don't concern a packet, what is said of that
+-- those that don't concern a packet don't change what is said of it
 pub record PacketKeeps (i : ℕ) (before after : List Item) : Type 0 where
   pub header : header_in after i ≡ header_in before i
   pub ingress : ingress_of after i ≡ ingress_of before i
@@ -118,7 +118,7 @@ pub record PacketKeeps (i : ℕ) (before after : List Item) : Type 0 where
   pub next : next_switch after i ≡ next_switch before i
   pub found : found_down after i ≡ found_down before i
 
--- those that don't concern the controller, what it knows
+-- those that don't concern the controller don't change what it knows
 pub record ControllerKeeps (before after : List Item) : Type 0 where
   pub heard : controller_heard after ≡ controller_heard before
   pub known : (s : ℕ) → known_boot after s ≡ known_boot before s
@@ -131,14 +131,15 @@ pub record ControllerKeeps (before after : List Item) : Type 0 where
   pub retired : retired_mark after ≡ retired_mark before
   pub count : version_count after ≡ version_count before
 
--- those that don't concern the links, which of them can be used, and what switches tell of them
+-- those that don't concern the links don't change which of them are usable, and what switches say
+-- of them
 pub record LinksKeep (setting : Setting) (before after : List Item) : Type 0 where
   pub up : (one other : ℕ) → is_link_up after one other ≡ is_link_up before one other
   pub near : (s : ℕ) → near setting after s ≡ near setting before s
   pub seq : (s : ℕ) → own_seq setting after s ≡ own_seq setting before s
   pub advert : (s : ℕ) → own_advert setting after s ≡ own_advert setting before s
 
--- those that concern neither the links nor a switch, what it knows of the network
+-- those that concern neither the links nor a switch don't change what it knows about the network
 pub record KnownKeeps (setting : Setting) (s : ℕ) (before after : List Item) : Type 0 where
   pub known : adverts_known setting after s ≡ adverts_known setting before s
   pub held : held_adverts setting after s ≡ held_adverts setting before s
@@ -149,25 +150,25 @@ pub record KnownKeeps (setting : Setting) (s : ℕ) (before after : List Item) :
   pub cut_off : (down : List ℕ) (target : ℕ) →
       is_cut_off setting after s down target ≡ is_cut_off setting before s down target
 
--- those that don't concern a message, what is said of that
+-- those that don't concern a message don't change what is said of it
 pub record MessageKeeps (n : ℕ) (before after : List Item) : Type 0 where
   pub message : message_of after n ≡ message_of before n
   pub delivered : was_delivered after n ≡ was_delivered before n
   pub forgotten : is_forgotten after n ≡ is_forgotten before n
   pub deliverable : is_deliverable after n ≡ is_deliverable before n
 
--- those that concern no message, what is said of all
+-- those that concern no message don't change what is said of all
 pub record MessagesKeep (before after : List Item) : Type 0 where
   pub next : next_message after ≡ next_message before
   pub waiting : next_waiting after ≡ next_waiting before
   pub sent : sendings after ≡ sendings before
 
--- those that bring in or end no packet, what is said of all
+-- those that bring in or end no packet don't change what is said of all
 pub record PacketsKeep (before after : List Item) : Type 0 where
   pub next : next_packet after ≡ next_packet before
   pub travelling : next_travelling after ≡ next_travelling before
 
--- those that submit no policy, the versions and their policies
+-- those that submit no policy don't change the versions and their policies
 pub record PoliciesKeep (before after : List Item) : Type 0 where
   pub count : version_count after ≡ version_count before
   pub file : (v : ℕ) → file_of after v ≡ file_of before v
@@ -211,7 +212,7 @@ pub record ConcernLaws : Type 0 where
   pub step : (before items : List Item) → NoneConcern concerns_steps before items →
       present_step (before ++ items) ≡ present_step before
 
--- what a switch knows of the network's links
+-- what a switch knows about the network's links
 pub record KnownLinkLaws : Type 0 where
   -- of another switch it knows the newest advert of those that it began with and heard
   pub newest : (setting : Setting) (journal : List Item) (s origin : ℕ) → origin ≢ s → origin < 64 →
@@ -219,15 +220,15 @@ pub record KnownLinkLaws : Type 0 where
       (option_to_list (held_advert (adverts_begun setting journal s) origin)
       ++ adverts_heard journal s)
       (advert_known setting journal s origin)
-  -- of itself what it told last, if it told something in its boot
+  -- of itself what it sent last, if it sent something in its boot
   pub own : (setting : Setting) (journal : List Item) (s : ℕ) → s < 64 →
       advert_known setting journal s s ≡ own_if_sent (own_advert setting journal s)
   -- its route is a shortest one over the links that it knows, and of those the least, to the first
-  -- target that it reaches; there is none exactly where it reaches no target
+  -- target that it reaches; there is none exactly if it reaches no target
   pub route : (setting : Setting) (journal : List Item) (s : ℕ) (targets down : List ℕ) →
       IsRoute (links_known setting journal s down) s targets
       (route_from setting journal s targets down)
-  -- a target is cut off exactly where it is another switch and no link that is known ends at it
+  -- a target is cut off exactly if it is another switch and no known link ends at it
   pub cut_off : (setting : Setting) (journal : List Item) (s target : ℕ) (down : List ℕ) →
       IsTrue (is_cut_off setting journal s down target) ↔
       IsIsolated (links_known setting journal s down) s target

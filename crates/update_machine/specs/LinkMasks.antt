@@ -1,4 +1,4 @@
--- Which links a switch knows, as masks: its own that it can use, and of others those that both ends
+-- Which links a switch knows, as masks: its own usable ones, and of others those that both ends
 -- name by the newest advert that it heard (RFC 2328, sections 13.1 and 16.1).
 use Rattle.std.specs.Prelude.{ℕ, ◌==◌, if◌then◌else◌, Option, Some, None, List, filter, length, map, filter_map}
 use Rattle.net_file.specs.Owners.{links_of}
@@ -42,8 +42,8 @@ abbrev pub adverts_of_others : Setting → List Item → ℕ → List (Option Ad
 adverts_of_others setting journal s =
     after_hearing_all (adverts_begun setting journal s) (adverts_heard journal s)
 
--- the links that the switch knows by what it heard and by what it sees itself, less those that are
--- down: for each switch those to which it has one
+-- the links that the switch knows by what it heard and by what it sees itself, except those that
+-- are down: for each switch those to which it has one
 abbrev pub links_known : Setting → List Item → ℕ → List ℕ → List ℕ
 links_known setting journal s down =
     known_links (adverts_of_others setting journal s) s (near setting journal s) down

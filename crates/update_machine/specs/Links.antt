@@ -1,7 +1,7 @@
 -- First tier. Which links switches can use: those that are up, between switches that serve, as
--- neighbours in OSPF are those that answer (RFC 2328, section 10). And which links a switch knows:
--- its own that it can use, and of others those that both ends claim by the newest advert that it
--- heard (sections 13.1 and 16.1, with a boot number in the place of the ages of adverts).
+-- neighbours in OSPF are those that respond (RFC 2328, section 10). And which links a switch
+-- knows: its own usable ones, and of others those that both ends claim by the newest advert that
+-- it heard (sections 13.1 and 16.1, with a boot number instead of the ages of adverts).
 use Rattle.std.specs.Prelude.{ℕ, Bool, true, false, not, ◌&&◌, ◌||◌, ◌==◌, nat_lt, min, max, if◌then◌else◌, Option, Some, None, option_and_then, unwrap_or, List}
 use Rattle.std.specs.Int.{bit_at}
 use Rattle.std.specs.List.{list_any}
@@ -24,7 +24,7 @@ gives_serving s (item.Booted switch boot) = if switch == s then Some false else 
 gives_serving s (item.Opened switch version) = if switch == s then Some true else None
 gives_serving s _ = None
 
--- a switch serves at first, and once it opened in its boot
+-- a switch serves at first, and after it opened in its boot
 unfoldable pub serves : List Item → ℕ → Bool
 serves journal s = unwrap_or (last_given (gives_serving s) journal) true
 
@@ -33,7 +33,7 @@ abbrev pub gives_link : ℕ → ℕ → Item → Option Bool
 gives_link low high (item.LinkIs one two up) = if one == low && two == high then Some up else None
 gives_link low high _ = None
 
--- the link of two switches is up at first, and where it last came back
+-- the link of two switches is up at first, and if it last came back
 unfoldable pub is_link_up : List Item → ℕ → ℕ → Bool
 is_link_up journal one other =
     unwrap_or (last_given (gives_link (min one other) (max one other)) journal) true
@@ -43,7 +43,7 @@ abbrev pub is_usable : List Item → LinkRow → Bool
 is_usable journal link =
     is_link_up journal link.one link.two && serves journal link.one && serves journal link.two
 
--- a link that can be used joins these switches
+-- a usable link joins these switches
 abbrev pub can_use : Setting → List Item → ℕ → ℕ → Bool
 can_use setting journal one two =
     list_any (λ link. joins one two link && is_usable journal link) setting.net.links
@@ -93,7 +93,7 @@ changes_claim s one before claim (item.Delivered number) =
     newer_of claim (option_and_then (claim_in s one) (message_of before number))
 changes_claim s one before claim _ = claim
 
--- as it all begins each switch knows each one's links in the network
+-- at the beginning each switch knows each one's links in the network
 abbrev pub first_claim : Setting → ℕ → Claim
 first_claim setting one =
     record { boot = 1; seq = 1; links = are_linked setting.net.links one }
@@ -103,7 +103,8 @@ unfoldable pub claim_of : Setting → List Item → ℕ → ℕ → Option Claim
 claim_of setting journal s one =
     folded_value (changes_claim s one) (Some (first_claim setting one)) journal
 
--- to switch s, switch one has a link to two: of itself it sees this, of others it goes by the claim
+-- as switch s sees it, switch one has a link to two: for itself it sees this, for others it uses
+-- the claim
 abbrev pub is_end : Setting → List Item → ℕ → ℕ → ℕ → Bool
 is_end setting journal s one two = if one == s then can_use setting journal s two
     else option_map_or (λ claim. claim.links two) (claim_of setting journal s one) false

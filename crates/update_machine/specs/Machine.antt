@@ -20,7 +20,8 @@ pub data End : Type 0 where
   Lost : End
   Stuck : End
 
--- what the machine knows of a packet: its header, the mark as it came in, its decision and its end
+-- what the machine knows of a packet: its header, the mark when it came in, its decision and its
+-- end
 pub record Packet : Type 0 where
   pub header : Header
   pub entry_mark : ℕ
@@ -46,14 +47,14 @@ first_machine setting = record {
 abbrev pub submitted_policy : Machine → ℕ → Option (List Row)
 submitted_policy machine version = slice_get machine.policies (version - 1)
 
--- the machine with this packet in the place of what it knew of it
+-- the machine with this packet instead of what it knew of it
 abbrev pub with_packet : Machine → ℕ → Packet → Machine
 with_packet machine number packet = record machine {
   packets = λ other. if other == number then Some packet else machine.packets other;
 }
 
--- the policy that a file has, or makes of the newest one, must be there; it is the newest version
--- then, and carries its number
+-- there must be a policy that the file has, or makes of the newest one; then it is the newest
+-- version, and has its number
 pub record Submits (old : Machine) (version : ℕ) (made : Option (List Row)) (new : Machine)
     : Type 0 where
   pub policy : List Row
@@ -73,8 +74,8 @@ pub record Enters (old : Machine) (number : ℕ) (header : Header) (new : Machin
   pub after : new ≡ with_packet old number
       (record { header = header; entry_mark = old.mark; decision = None; end = None })
 
--- a packet gets the first match of one whole version that wasn't retired as it came in, and gets it
--- once
+-- a packet gets the first match of one whole version that wasn't retired when it came in, and gets
+-- it once
 pub record Decides (old : Machine) (number version : ℕ) (hit : Hit) (new : Machine) : Type 0 where
   pub packet : Packet
   pub policy : List Row
@@ -116,7 +117,7 @@ Takes setting old (item.Lost packet) new = Ends old packet Lost new
 Takes setting old (item.Stuck packet switch cause leg down) new = Ends old packet Stuck new
 Takes setting old _ new = new ≡ old
 
--- the machine may take these items in turn
+-- the machine may take these items one after another
 abbrev pub Runs : Setting → Machine → List Item → Machine → Type 0
 Runs setting old [] new = new ≡ old
 Runs setting old (item ∷ items) new =

@@ -40,7 +40,7 @@ abbrev pub hello_boot : ℕ → Body → Option ℕ
 hello_boot s (Hello switch boot) = if switch == s then Some boot else None
 hello_boot s _ = None
 
--- the greatest boot of the switch's hellos; it is 1 where there is none
+-- the greatest boot of the switch's hellos; it is 1 if there is none
 unfoldable pub known_boot : List Item → ℕ → ℕ
 known_boot journal s = fold max 1 (filter_map (hello_boot s) (controller_heard journal))
 
@@ -56,7 +56,7 @@ changes_over s before over (item.Delivered number) =
     if raises_known before s number then false else over
 changes_over s before over _ = over
 
--- an `OverNow` of the switch stands since its known boot became known
+-- there is an `OverNow` of the switch since its known boot became known
 unfoldable pub is_over : List Item → ℕ → Bool
 is_over journal s = folded_value (changes_over s) false journal
 
@@ -142,7 +142,7 @@ abbrev pub all_acked : Setting → List Item → ℕ → Bool
 all_acked setting journal version =
     list_all (λ s. has_acked journal s version) (members setting journal)
 
--- so many versions may be there and not retired, and so many in all
+-- this many versions may exist and not be retired, and this many in all
 abbrev pub most_live : ℕ
 most_live = 8
 
@@ -163,7 +163,7 @@ next_current setting journal =
 abbrev pub least_number : List ℕ → Option ℕ
 least_number numbers = reduce min numbers
 
--- one less than the least acknowledged stamp of the members, or than current where there is none
+-- one less than the least acknowledged stamp of the members, or than current if there is none
 unfoldable pub next_retired : Setting → List Item → ℕ
 next_retired setting journal =
     unwrap_or (least_number (map (acked_stamp journal) (members setting journal)))
@@ -172,15 +172,15 @@ next_retired setting journal =
 
 -- ---- the rule of the marks
 
--- clause (a): current rises only to a version that there is, and only where each member
--- acknowledged every version above the old mark up to it
+-- clause (a): current rises only to a version that exists, and only if each member acknowledged
+-- every version above the old mark up to it
 pub record MayRise (setting : Setting) (before : List Item) (version : ℕ) : Type 0 where
   pub rises : current_mark before < version
   pub there : version ≤ version_count before
   pub acknowledged : (v : ℕ) → current_mark before < v → v ≤ version →
       IsTrue (all_acked setting before v)
 
--- the other clauses hold at the end of each step
+-- the other clauses are true at the end of each step
 pub record AreSettled (setting : Setting) (journal : List Item) : Type 0 where
   -- (b) current is the last version, or a member didn't acknowledge the next one
   pub current : (current_mark journal ≡ version_count journal)

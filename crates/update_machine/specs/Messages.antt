@@ -32,7 +32,7 @@ is_forgotten journal number = nat_lt 0 (count_of (is_forgetting number) journal)
 unfoldable pub was_delivered : List Item → ℕ → Bool
 was_delivered journal number = nat_lt 0 (count_of (is_delivery number) journal)
 
--- it was sent and isn't forgotten, so it may be delivered, also once more
+-- it was sent and isn't forgotten, so it may be delivered, also again
 unfoldable pub is_deliverable : List Item → ℕ → Bool
 is_deliverable journal number =
     is_some (message_of journal number) && not (is_forgotten journal number)
@@ -57,6 +57,6 @@ sent_from number [] = []
 sent_from number (message ∷ messages) =
     item.Sent number message ∷ sent_from (number + 1) messages
 
--- the sending of messages behind a journal
+-- the sending of messages after a journal
 abbrev pub send_items : List Item → List Message → List Item
 send_items journal messages = sent_from (next_message journal) messages

@@ -38,7 +38,7 @@ use Rattle.update_machine.specs.PacketRoutes.{found_down, next_switch, owner, ta
 
 -- ---- blocks
 
--- these items, and what comes behind a journal that has them
+-- these items, and what follows a journal with them at its end
 abbrev pub items_then : List Item → (List Item → List Item) → List Item → List Item
 items_then items rest journal = items ++ rest (journal ++ items)
 
@@ -49,7 +49,7 @@ in_turn (block ∷ blocks) journal = items_then (block journal) (in_turn blocks)
 
 -- ---- legs
 
--- a packet that finds no route is stuck for want of an authority exactly where it seeks one, and no
+-- a packet that finds no route is stuck for lack of an authority exactly if it seeks one and no
 -- known link ends at any target
 abbrev pub cause_at : Setting → List Item → ℕ → List ℕ → Leg → Cause
 cause_at setting journal s down (Seek version partition) =
@@ -64,7 +64,8 @@ stuck_on setting journal i s leg =
     item.Stuck i s (cause_at setting journal s (found_down journal i) leg) leg
     (found_down journal i)
 
--- the route from the switch to the targets of the leg, less the links that the packet found down
+-- the route from the switch to the targets of the leg, without the links that the packet found
+-- down
 abbrev pub route_for : Setting → List Item → ℕ → ℕ → Leg → Option (List ℕ)
 route_for setting journal i s leg =
     route_from setting journal s (targets_of setting journal leg) (found_down journal i)
@@ -97,7 +98,7 @@ leaving_item journal i port = item.Left i port (record {
   rule = unwrap_or (option_map (λ decision. decision.rule) (decision_of journal i)) None;
 })
 
--- a packet with this action is dropped, leaves by a port of the switch, or takes its way to another
+-- a packet with this action is dropped, leaves by a port of the switch, or is sent to another
 unfoldable pub end_items : Setting → ℕ → ℕ → Action → List Item → List Item
 end_items setting i s action.Drop journal = item.Dropped i ∷ []
 end_items setting i s (action.Out port) journal = elim (owner setting port == s) [
@@ -138,7 +139,7 @@ cache_rule found ingress header = record {
       found.rule.rule found.rule.action;
 }
 
--- the switch tells it to another ingress than itself
+-- the switch sends it to an ingress other than itself
 unfoldable pub cache_items : Setting → ℕ → ℕ → AuthorityRule → List Item → List Item
 cache_items setting i s found journal =
     elim (is_at s (ingress_of journal i)) [
@@ -156,7 +157,7 @@ authority_items setting i s (Some found) journal =
     (how.Authority s found.part.number) ∷ [])
     (in_turn (cache_items setting i s found ∷ end_items setting i s found.rule.action ∷ [])) journal
 
--- what a lookup under the switch's stamp makes of the packet
+-- what becomes of the packet by a lookup under the switch's stamp
 abbrev pub found_items : Setting → ℕ → ℕ → Found → List Item → List Item
 found_items setting i s (found.Cached entry) journal =
     items_then
@@ -174,8 +175,8 @@ lookup_items setting i s journal =
 
 -- ---- on the way
 
--- a packet that arrives by its leg: at its port, at an authority switch that holds its version, or
--- at one that doesn't and looks it up anew
+-- a packet that arrives by its leg: at its port, at an authority switch that has its version, or
+-- at one that hasn't and looks it up again
 abbrev pub arrive_by : Setting → ℕ → ℕ → Option Leg → List Item → List Item
 arrive_by setting i s None journal = []
 arrive_by setting i s (Some (Exit port)) journal = leaving_item journal i port ∷ []
@@ -190,7 +191,7 @@ arrive_by setting i s (Some (Seek version partition)) journal =
 unfoldable pub arrive_items : Setting → ℕ → ℕ → List Item → List Item
 arrive_items setting i s journal = arrive_by setting i s (leg_of journal i) journal
 
--- it moves on along its new route, or arrives where that is the switch alone
+-- it moves on along its new route, or arrives if that is only this switch
 abbrev pub go_on : Setting → ℕ → ℕ → List Item → List Item
 go_on setting i s journal = elim (next_switch journal i) [
   | None ↦ arrive_items setting i s journal

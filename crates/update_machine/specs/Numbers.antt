@@ -19,7 +19,7 @@ abbrev pub message_number : Item → List ℕ
 message_number (item.Sent number message) = number ∷ []
 message_number _ = []
 
--- the versions that are there are those from 1 to their count
+-- the versions that exist are those from 1 to their count
 abbrev pub VersionsAreNumbered : List Item → Type 0
 VersionsAreNumbered journal = (v : ℕ) → IsTrue (is_version journal v)
     ↔ ((1 ≤ v) × (v ≤ version_count journal))

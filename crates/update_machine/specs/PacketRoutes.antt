@@ -36,7 +36,7 @@ changes_hops i before hops _ = hops
 unfoldable pub route_place : List Item → ℕ → ℕ
 route_place journal i = folded_value (changes_hops i) 0 journal
 
--- the switch after that place, if the route goes on
+-- the switch after that place, if the route continues
 unfoldable pub next_switch : List Item → ℕ → Option ℕ
 next_switch journal i = slice_get (route_in journal i) (route_place journal i + 1)
 
@@ -58,11 +58,11 @@ targets_in plan partition =
 abbrev pub no_switch : ℕ
 no_switch = 64
 
--- the switch that has the port; where none has, no switch, to which no route leads
+-- the switch that has the port; if none has, no switch, to which no route leads
 abbrev pub owner : Setting → ℕ → ℕ
 owner setting port = unwrap_or (owner_of setting.net.switches port) no_switch
 
--- those of the partition, or the one switch of the port
+-- the targets of the partition, or the switch of the port
 abbrev pub targets_of : Setting → List Item → Leg → List ℕ
 targets_of setting journal (Seek version partition) =
     targets_in (plan_at setting journal version) partition

@@ -1,5 +1,5 @@
--- First tier. The packets of a journal: the header of each, where it stands, and its decision.
--- Their numbers, from 1 in the order of their rows, are our own.
+-- First tier. The packets of a journal: the header of each, where it is, and its decision. Their
+-- numbers, from 1 in the order of their rows, are our own.
 use Rattle.std.specs.Prelude.{ℕ, ◌+◌, Bool, true, false, ◌==◌, if◌then◌else◌, Option, Some, None, List}
 use Rattle.five_tuple.specs.declared.header.Header.{Header}
 use Rattle.policy_rules.specs.declared.policy.Action.{Action}
@@ -18,7 +18,7 @@ is_packet _ = false
 unfoldable pub next_packet : List Item → ℕ
 next_packet journal = count_of is_packet journal + 1
 
--- ---- where it stands
+-- ---- where it is
 
 abbrev pub gives_header : ℕ → Item → Option Header
 gives_header i (item.Entered packet switch header) = if packet == i then Some header else None
@@ -33,7 +33,7 @@ gives_standing i (item.Entered packet switch header) = if packet == i then Some 
 gives_standing i (item.Hopped packet switch) = if packet == i then Some switch else None
 gives_standing i _ = None
 
--- the switch where it stands: that of its last `Entered` or `Hopped`
+-- the switch where it is: that of its last `Entered` or `Hopped`
 unfoldable pub standing : List Item → ℕ → Option ℕ
 standing journal i = last_given (gives_standing i) journal
 

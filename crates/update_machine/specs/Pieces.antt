@@ -1,5 +1,5 @@
--- What each step writes into the journal. The blocks that it puts together name their sources where
--- they stand: `Moves` for packets, `Deliveries` for adverts, `Settling` for updates.
+-- What each step writes into the journal. The sources of its blocks are named where they are
+-- defined: `Moves` for packets, `Deliveries` for adverts, `Settling` for updates.
 use Rattle.std.specs.Bool.{beq}
 use Rattle.std.specs.Prelude.{ℕ, ◌+◌, ◌-◌, Bool, true, false, ◌==◌, min, max, if◌then◌else◌, Ok, Err, Option, Some, None, unwrap_or, List, [], ◌∷◌, ◌++◌, map, slice_get}
 use Rattle.std.specs.List.{flat_map}
@@ -83,8 +83,8 @@ apply_code Absent = 24
 apply_code Taken = 25
 apply_code (TooManyRows rows) = 26
 
--- that of a policy that is refused: it has no plan, or no more versions may be live, or no more may
--- be there in all
+-- the code of a policy that is refused: it has no plan, or no more versions may be unretired, or
+-- no more may exist in all
 abbrev pub plan_code : NoPlan → ℕ
 plan_code (TooManyWords words) = 12
 plan_code TooManyLeaves = 14
@@ -119,7 +119,7 @@ update_items setting file journal = elim (update_code setting journal file) [
 
 -- ---- links and switches
 
--- the link comes back or fails; nothing where it is already so
+-- the link comes back or fails; nothing if it is in that state already
 unfoldable pub link_items : Setting → List Item → ℕ → ℕ → Bool → List Item → List Item
 link_items setting before one two up journal = elim (beq (is_link_up before one two) up) [
   | true ↦ nothing
@@ -128,7 +128,7 @@ link_items setting before one two up journal = elim (beq (is_link_up before one 
       journal
 ]
 
--- the packets that stand there are lost with a switch that was up
+-- the packets that are at a switch that was up are lost with it
 unfoldable pub crash_items : Setting → List Item → ℕ → List Item → List Item
 crash_items setting before s journal = elim (is_up before s) [
   | false ↦ nothing
@@ -137,7 +137,7 @@ crash_items setting before s journal = elim (is_up before s) [
       journal
 ]
 
--- a switch that was down begins its next boot, and tells the controller
+-- a switch that was down begins its next boot, and sends it to the controller
 abbrev pub hello_of : List Item → ℕ → Message
 hello_of journal s = to_controller (Hello s (boot_of journal s))
 
@@ -148,14 +148,14 @@ restart_items s journal = elim (is_up journal s) [
       (λ booted. send_items booted (hello_of booted s ∷ [])) journal
 ]
 
--- the controller waits no longer for a switch that is down
+-- the controller no longer waits for a switch that is down
 unfoldable pub confirm_items : Setting → ℕ → List Item → List Item
 confirm_items setting s journal = elim (is_up journal s) [
   | true ↦ nothing
   | false ↦ items_then (item.OverNow s ∷ []) (settling setting) journal
 ]
 
--- a switch that is up sends its hello again, and to each neighbour every advert that it holds
+-- a switch that is up sends its hello again, and to each neighbour every advert that it has
 abbrev pub resent_by_switch : Setting → List Item → ℕ → List Message
 resent_by_switch setting journal s = elim (is_up journal s) [
   | false ↦ []
@@ -164,7 +164,7 @@ resent_by_switch setting journal s = elim (is_up journal s) [
       (switches_in setting (near setting journal s))
 ]
 
--- these are sent, or nothing happens where there are none
+-- these are sent, or nothing happens if there are none
 abbrev pub sends_or_nothing : List Item → List Message → List Item
 sends_or_nothing journal [] = nothing
 sends_or_nothing journal (message ∷ messages) = send_items journal (message ∷ messages)
@@ -176,7 +176,7 @@ resend_items setting s journal =
 
 -- ---- a step
 
--- what a step writes behind its row, where `before` is the journal before the row
+-- what a step writes after its row, where `before` is the journal before the row
 abbrev pub step_items : Setting → List Item → Step → List Item → List Item
 step_items setting before (Packet switch header) =
     packet_items setting (next_packet before) switch header
@@ -193,7 +193,7 @@ step_items setting before (Restart switch) = restart_items switch
 step_items setting before (Confirm switch) = confirm_items setting switch
 step_items setting before (Resend switch) = resend_items setting switch
 
--- what a step of this row writes behind the journal
+-- what a step of this row writes after the journal
 unfoldable pub piece : Setting → List Item → ℕ → Step → List Item
 piece setting journal row step =
     items_then (item.Row row step ∷ []) (step_items setting journal step) journal

@@ -1,7 +1,7 @@
 -- A quiet network: no switch is down that the controller waits for, and each message that still
 -- matters was received. The notion is our own; that of a newer advert is OSPF's (RFC 2328, section
--- 13.1). It is said of any journal: a message was delivered where a `Delivered` of its number
--- stands behind its sending.
+-- 13.1). It is said of any journal: a message was delivered if a `Delivered` of its number follows
+-- its sending.
 use Rattle.std.specs.Prelude.{⊤, ℕ, ◌≡◌, ◌⊎◌, Bool, true, false, not, ◌&&◌, ◌||◌, ◌==◌, nat_lt, if◌then◌else◌, Option, Some, None, unwrap_or, List, [], ◌∷◌, All, IsTrue}
 use Rattle.std.specs.List.{list_any}
 use Rattle.std.specs.Option.{option_map_or}
@@ -46,7 +46,7 @@ abbrev pub are_old_tables : ℕ → Body → Bool
 are_old_tables current (Install boot tables) = nat_lt tables.version current
 are_old_tables current _ = false
 
--- the acknowledgement of such
+-- the acknowledgement of such tables
 abbrev pub is_old_answer : ℕ → Body → Bool
 is_old_answer current (Installed s boot version) = nat_lt version current
 is_old_answer current _ = false
@@ -55,9 +55,9 @@ abbrev pub begins_boot : ℕ → Item → Bool
 begins_boot s (item.Booted switch boot) = switch == s
 begins_boot s _ = false
 
--- of a switch that is up: what it says in its boot to the controller, but for old acknowledgements;
--- and what was sent to it since that boot began and is an advert or for that boot, but for old
--- tables. The message is one of the journal, with these items behind it
+-- of a switch that is up: what it says in its boot to the controller, except for old
+-- acknowledgements; and what was sent to it since that boot began and is an advert or for that
+-- boot, except for old tables. The message is one of the journal, with these items after it
 abbrev pub matters : List Item → ℕ → Message → List Item → Bool
 matters journal s message after = elim message.to [
   | receiver.Controller ↦
@@ -89,19 +89,20 @@ pub record Replaces (later earlier : Message) : Type 0 where
 
 -- ---- quiet
 
--- one of these items sends what replaces the message, and that is delivered behind it
+-- one of these items sends what replaces the message, and that is delivered later
 abbrev pub IsReplaced : Message → List Item → Type 0
 IsReplaced message [] = ⊥
 IsReplaced message (item.Sent number later ∷ after) =
     (Replaces later message × IsTrue (was_delivered after number)) ⊎ IsReplaced message after
 IsReplaced message (_ ∷ after) = IsReplaced message after
 
--- the message of this number, with these items behind it, was delivered, or what replaces it
+-- the message of this number, with these items after it, was delivered, or one that replaces it
 abbrev pub IsReceived : ℕ → Message → List Item → Type 0
 IsReceived number message after =
     IsTrue (was_delivered after number) ⊎ IsReplaced message after
 
--- so was each message of these last items of the journal that matters to a switch of the network
+-- the same is true of each message of these last items of the journal that matters to a switch of
+-- the network
 abbrev pub AreReceived : Setting → List Item → List Item → Type 0
 AreReceived setting journal [] = ⊤
 AreReceived setting journal (item.Sent number message ∷ after) =
@@ -115,7 +116,7 @@ gives_waited_for s (item.Down switch) = if switch == s then Some true else None
 gives_waited_for s (item.OverNow switch) = if switch == s then Some false else None
 gives_waited_for s _ = None
 
--- the switch went down and no `OverNow` of it stands since
+-- the switch went down and there is no `OverNow` of it since
 abbrev pub is_waited_for : List Item → ℕ → Bool
 is_waited_for journal s = unwrap_or (last_given (gives_waited_for s) journal) false
 

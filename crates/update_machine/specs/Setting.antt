@@ -38,18 +38,18 @@ setting_of net files = record {
 abbrev pub file_at : Setting → ℕ → Option PolicyFile
 file_at setting file = if file == 0 then None else slice_get setting.files (file - 1)
 
--- a file has a policy, or makes one of the policy of the version before; where there is no file, or
--- a change has no policy before it, there is none
+-- a file has a policy, or makes one of the policy of the version before; if there is no file, or a
+-- change has no policy before it, there is none
 abbrev pub made_by : Option PolicyFile → Option (List Row) → Result (List Row) Inapplicable
 made_by (Some (Whole rows)) earlier = Ok rows
 made_by (Some (Change edits)) (Some rows) = applied rows edits
 made_by _ _ = Err Absent
 
--- the same, of the file of this number
+-- the same, for the file of this number
 abbrev pub policy_by : Setting → Option (List Row) → ℕ → Result (List Row) Inapplicable
 policy_by setting earlier file = made_by (file_at setting file) earlier
 
--- what the first item that tells something tells: one more way, beside those of `Folds`
+-- what the first item that says something says: one more way, besides those of `Folds`
 abbrev pub first_given : {X : Type 0} → (Item → Option X) → List Item → Option X
 first_given tells [] = None
 first_given tells (item ∷ items) = option_or (tells item) (first_given tells items)
@@ -83,8 +83,8 @@ NamesOwnPort setting action.Drop = ⊤
 NamesOwnPort setting (action.Out port) =
     IsTrue (is_some (owner_of setting.net.switches port))
 
--- a network, and files of policies and changes that name ports of it alone, of which the first one
--- has a policy, with a plan
+-- a network, and files of policies and changes that name only its ports; the first one has a
+-- policy, with a plan
 pub record IsSetting (setting : Setting) : Type 0 where
   pub net : IsNet setting.net
   pub made : setting ≡ setting_of setting.net setting.files

@@ -31,7 +31,7 @@ install_for setting journal version s =
 abbrev pub open_for : List Item → ℕ → ℕ → Message
 open_for journal version s = to_switch s (OpenAt (known_boot journal s) version)
 
--- stamp with this version, which came of a change that touches these words
+-- stamp with this version, which was made by a change that touches these words
 abbrev pub stamp_for : Setting → List Item → ℕ → ℕ → Message
 stamp_for setting journal version s =
     to_switch s (Stamp (known_boot journal s) version (touched_by setting journal version))
@@ -42,7 +42,7 @@ collect_for journal version s = to_switch s (Collect (known_boot journal s) vers
 
 -- ---- settling
 
--- a mark rises as far as it may, and the members are told so
+-- a mark rises as far as it may, and the members are told
 abbrev pub raised_items : (List Item → ℕ) → (Setting → List Item → ℕ) → (ℕ → Item)
     → (List Item → ℕ → ℕ → Message) → Setting → List Item → List Item
 raised_items mark next says tells setting journal =
@@ -76,25 +76,25 @@ unfoldable pub retired_items : Setting → List Item → List Item
 retired_items setting journal =
     raised_items retired_mark next_retired item.Retired collect_for setting journal
 
--- each part only where there is something
+-- each part only if there is something
 unfoldable pub settling : Setting → List Item → List Item
 settling setting journal =
     in_turn (current_items setting ∷ open_items setting ∷ retired_items setting ∷ []) journal
 
--- ---- what is sent beside it
+-- ---- what else is sent
 
 -- the versions from the current one to the last, ascending
 abbrev pub versions_from_current : List Item → List ℕ
 versions_from_current journal =
     range_with_len (current_mark journal) (version_count journal + 1 - current_mark journal)
 
--- a switch that began a boot is sent the tables of each version from the current one on
+-- the tables of each version from the current one on are sent to a switch that began a boot
 unfoldable pub installs_to : Setting → ℕ → List Item → List Item
 installs_to setting s journal =
     send_items journal
     (map (λ version. install_for setting journal version s) (versions_from_current journal))
 
--- each switch that isn't over is sent the tables of the newest version
+-- the tables of the newest version are sent to each switch that isn't over
 unfoldable pub installs_to_all : Setting → List Item → List Item
 installs_to_all setting journal =
     send_items journal
@@ -108,7 +108,7 @@ submitted_items setting journal =
 
 -- ---- sending again
 
--- of the versions the tables of those that the switch didn't acknowledge
+-- the tables of those of the versions that the switch didn't acknowledge
 abbrev pub unacked_installs : Setting → List Item → ℕ → List ℕ → List Message
 unacked_installs setting journal s versions =
     map (λ version. install_for setting journal version s)
@@ -125,7 +125,7 @@ resent_to_member setting journal s =
     ++ (if retired_mark journal == 0
     then [] else collect_for journal (retired_mark journal) s ∷ [])
 
--- what the controller sends again: tables alone to a joining switch, and nothing to one that is
+-- what the controller sends again: only tables to a joining switch, and nothing to one that is
 -- over
 unfoldable pub resent_by_controller : Setting → List Item → ℕ → List Message
 resent_by_controller setting journal s = elim (is_over journal s) [

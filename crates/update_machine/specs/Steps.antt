@@ -1,4 +1,4 @@
--- The steps of a journal: the stretches from one row to the next, the last of which may go on.
+-- The steps of a journal: the stretches from one row to the next, the last of which may continue.
 use Rattle.std.specs.Prelude.{List, [], ◌∷◌, ◌++◌}
 use Rattle.journal.specs.declared.item.Item.{Item}
 use Rattle.journal.specs.declared.item.Item.TheVariants as item

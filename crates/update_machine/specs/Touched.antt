@@ -1,4 +1,4 @@
--- What the change that made a version touches, as the controller tells it to the switches.
+-- What the change that made a version touches, as the controller sends it to the switches.
 use Rattle.std.specs.Prelude.{ℕ, zero, suc, Option, Some, List, option_and_then}
 use Rattle.policy_rules.specs.Touched.{touched_words}
 use Rattle.policy_rules.specs.declared.file.PolicyFile.{PolicyFile}
@@ -11,7 +11,7 @@ use Rattle.update_machine.specs.Setting.{Setting, file_at, file_of, policy_in}
 use Rattle.update_machine.specs.Versions.{version_count}
 
 -- what a file touches of an earlier policy: the words of the rows that a change removes and adds,
--- where these are few; a policy of its own touches everything
+-- if these are few; a file with its own policy touches everything
 abbrev pub touched_of : Option PolicyFile → Option (List Row) → List WordValue
 touched_of (Some (Change edits)) (Some rows) = few_touched (touched_words rows edits)
 touched_of _ _ = all_touched

@@ -1,4 +1,4 @@
--- Which packets travel, where they came in, and on which leg they are: of those of
+-- Which packets travel, where they came in, and on which leg they are: more about the packets of
 -- `Packets`.
 use Rattle.std.specs.Prelude.{ℕ, Bool, true, false, ◌&&◌, ◌==◌, if◌then◌else◌, Option, Some, None, option_and_then, unwrap_or, List, filter, find}
 use Rattle.std.specs.List.{range_with_len}
@@ -44,11 +44,11 @@ abbrev pub is_at : ℕ → Option ℕ → Bool
 is_at s None = false
 is_at s (Some at) = at == s
 
--- it travels, and stands at the switch
+-- it travels, and is at the switch
 abbrev pub travels_at : List Item → ℕ → ℕ → Bool
 travels_at journal s i = travels journal i && is_at s (standing journal i)
 
--- the packets that stand at a switch on their way, ascending
+-- the packets that are at a switch on their way, ascending
 abbrev pub packets_at : List Item → ℕ → List ℕ
 packets_at journal s = filter (travels_at journal s) (packets_in journal)
 
@@ -57,7 +57,7 @@ abbrev pub port_in : Action → Option ℕ
 port_in action.Drop = None
 port_in (action.Out port) = Some port
 
--- the port by which the packet is to leave; 0 where it has none
+-- the port by which the packet is to leave; 0 if it has none
 abbrev pub exit_port : List Item → ℕ → ℕ
 exit_port journal i =
     unwrap_or (option_and_then (λ decision. port_in decision.action) (decision_of journal i)) 0

@@ -1,4 +1,4 @@
--- The versions of a journal, their policies and plans, and which of them a switch holds and stamps
+-- The versions of a journal, their policies and plans, and which of them a switch has and stamps
 -- packets with. Tables that are installed under a version before packets are stamped with it, and
 -- are removed once none is, are those of Reitblatt, Foster, Rexford, Schlesinger and Walker,
 -- "Abstractions for Network Update".
@@ -21,12 +21,12 @@ use Rattle.partition.specs.Plan.{Hosted}
 
 -- ---- policies and plans
 
--- the partitions of a plan with their targets; none where there is no plan
+-- the partitions of a plan with their targets; none if there is no plan
 abbrev pub hosted_in : Result (List Hosted) NoPlan → List Hosted
 hosted_in (Ok plan) = plan
 hosted_in (Err why) = []
 
--- the partitions of its plan with their targets; none where there is no policy or no plan
+-- the partitions of its plan with their targets; none if there is no policy or no plan
 unfoldable pub plan_at : Setting → List Item → ℕ → List Hosted
 plan_at setting journal version =
     option_map_or (λ rows. hosted_in (setting.plan rows)) (policy_in setting journal version) []
@@ -39,16 +39,16 @@ is_submission _ = false
 unfoldable pub version_count : List Item → ℕ
 version_count journal = count_of is_submission journal + 1
 
--- the version is there: it is the first one, or was submitted
+-- the version exists: it is the first one, or was submitted
 abbrev pub is_version : List Item → ℕ → Bool
 is_version journal version = is_some (file_of journal version)
 
--- the rows of its policy; none where there is no policy
+-- the rows of its policy; none if there is no policy
 unfoldable pub policy_at : Setting → List Item → ℕ → List Row
 policy_at setting journal version = unwrap_or (policy_in setting journal version) []
 
--- the policy of the next version, if it is submitted with this file: what the file makes of the
--- policy of the newest one
+-- the policy of the next version, if this file is submitted: what the file makes of the policy of
+-- the newest one
 unfoldable pub next_policy : Setting → List Item → ℕ → Result (List Row) Inapplicable
 next_policy setting journal file =
     policy_by setting (policy_in setting journal (version_count journal)) file
@@ -59,17 +59,17 @@ pub record HasPlan (setting : Setting) (journal : List Item) (version : ℕ) : T
   pub plan : setting.plan (policy_at setting journal version)
       ≡ Ok (plan_at setting journal version)
 
--- the tables of a version that its plan gives to switch s
+-- the tables of a version that its plan gives switch s
 abbrev pub tables_at : Setting → List Item → ℕ → ℕ → Tables
 tables_at setting journal version s = tables_of (plan_at setting journal version) version s
 
 -- ---- stamps
 
--- the greatest of numbers, and 0 where there is none
+-- the greatest of numbers, and 0 if there is none
 abbrev pub greatest_number : List ℕ → ℕ
 greatest_number numbers = fold max 0 numbers
 
--- the version with which a body lets a switch stamp
+-- the version with which a switch may stamp after a body
 abbrev pub stamp_in : Body → Option ℕ
 stamp_in (OpenAt boot version) = Some version
 stamp_in (Stamp boot version touched) = Some version
@@ -78,7 +78,8 @@ stamp_in _ = None
 abbrev pub first_stamp : List Item → ℕ → List ℕ
 first_stamp journal s = if is_in_first_boot journal s then 1 ∷ [] else []
 
--- the greatest version with which the switch was let stamp in its boot; version 1 counts in boot 1
+-- the greatest version with which the switch was told to stamp, or to open, in its boot; version 1
+-- counts in boot 1
 unfoldable pub stamp_of : List Item → ℕ → ℕ
 stamp_of journal s = greatest_number (first_stamp journal s
     ++ filter_map stamp_in (heard journal s))

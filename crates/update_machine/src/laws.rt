@@ -1,4 +1,5 @@
-//! Laws on journals: functions without a body, whose contracts are facts about definitions only.
+//! Laws about journals: functions without a body, whose contracts are facts about definitions
+//! only.
 ghost use Rattle.std.specs.Prelude.{◌≡◌, ◌+◌, ◌++◌, ◌↔◌, ◌≤◌, ℕ, Bool, Option, Some, Ok, List, [], ◌∷◌, length, map, All, IsTrue};
 ghost use Rattle.std.specs.Option.{option_or};
 ghost use Rattle.policy_rules.specs.Policy.{IsPolicy};
@@ -11,8 +12,8 @@ ghost use Rattle.update_machine.specs.Folds.{all_given, count_of, folded_value, 
 ghost use Rattle.update_machine.specs.Setting.{first_given};
 ghost use Rattle.update_machine.specs.declared.full.TheConstants.{FULL_AT};
 
-/// What a journal says, once more items stand behind it: a law for each of the folds, over
-/// whatever an item tells.
+/// What a journal says once more items follow it: a law for each of the folds, over whatever an
+/// item says.
 #[tactic(auto, using(crate::proofs::FoldLemmas::last_given_append, crate::proofs::FoldLemmas::first_given_append, crate::proofs::FoldLemmas::folded_append))]
 pub fn journals_grow<X>()
     ensures last { (tells : Item → Option X) (before items : List Item)
@@ -30,8 +31,8 @@ pub fn journals_grow<X>()
         ≡ folded_from changes before (folded_value changes start before) items }
 {}
 
-/// A schedule has at most one answer, and at most one that goes so many steps far; an answer goes
-/// as far as it goes, and what goes some steps far begins itself.
+/// A schedule has at most one answer, and at most one of each number of steps; an answer is one of
+/// its own number of steps, and what has some number of steps is a beginning of itself.
 pub fn answers_are_one()
     ensures one { (setting : Setting) (events : List Event) (one other : List Item)
         → Answers setting events one → Answers setting events other → one ≡ other }
@@ -44,9 +45,9 @@ pub fn answers_are_one()
         → AnswersSoFar setting events journal → BeginsAnswer setting events journal }
 {}
 
-/// A schedule has an answer exactly where each of its events has all its steps, so where each flush
-/// and each drain comes to an end; a schedule of single steps always has one. An answer goes on by
-/// the steps of one more event.
+/// A schedule has an answer exactly if each of its events has all its steps, so if each flush and
+/// each drain ends; a schedule of single steps always has one. An answer is continued by the steps
+/// of one more event.
 pub fn answers_exist()
     ensures exactly { (setting : Setting) (events : List Event)
         → AreAnswered setting events ↔ HaveSteps setting events }
@@ -57,10 +58,10 @@ pub fn answers_exist()
         → Answers setting (events ++ event ∷ []) (after_steps setting journal steps) }
 {}
 
-/// A schedule has at most one play, and one if it has an answer: where a play stops full, no other
-/// one goes on or stops elsewhere. What it leaves answers as far as it goes, and so begins an
-/// answer. A journal is full exactly where so many of its items are messages that were sent: as
-/// many as the code's constant says.
+/// A schedule has at most one play, and one if it has an answer: if a play stops full, no other
+/// one goes on or stops elsewhere. Its journal answers the steps that it has, and so is the
+/// beginning of an answer. A journal is full exactly if it has as many items of sent messages as
+/// the code's constant says.
 pub fn plays_are_one()
     ensures one { (setting : Setting) (events : List Event) (one other : List Item)
         (stop halt : Option ℕ) → IsPlay setting events one stop → IsPlay setting events other halt
@@ -82,12 +83,12 @@ pub fn answers_are_numbered()
         → BeginsAnswer setting events journal → AreNumbered journal }
 {}
 
-/// A version that is there keeps its file, and so does its policy and its plan where all versions
-/// before it are there, whatever items come behind; in an answer each version from 1 to their count
-/// is there (`answers_are_numbered`). The plan is that of the policy. The first version has the
-/// policy of the first file, and the version that is submitted next has the next policy: what its
-/// file makes of the policy of the newest version. In a sound setting each policy is one, and names
-/// ports of the network only.
+/// A version that exists keeps its file whatever items follow, and it keeps its policy and its
+/// plan if all versions before it exist; in an answer each version from 1 to their count exists
+/// (`answers_are_numbered`). The plan is that of the policy. The first version has the policy of
+/// the first file, and the version that is submitted next has the next policy: what its file makes
+/// of the policy of the newest version. In a sound setting each policy is one, and names ports of
+/// the network only.
 pub fn versions_keep_policies()
     ensures there { (before items : List Item) (version : ℕ) → IsTrue (is_version before version)
         → IsTrue (is_version (before ++ items) version) }
@@ -121,14 +122,14 @@ pub fn journals_start()
 {}
 
 /// Items that don't concern a switch, a packet, a message, the links, the policies or the
-/// controller change nothing of what a journal says of it.
+/// controller don't change what a journal says of it.
 pub fn other_items_change_nothing()
     ensures { ConcernLaws }
 {}
 
-/// A switch knows of each other one its newest advert, routes by the least shortest path over the
-/// links that it knows, and a target is cut off exactly where none of them ends at it. To a port
-/// that no switch has there is no route.
+/// A switch knows the newest advert of each other one, and routes by the least shortest path over
+/// the links that it knows; a target is cut off exactly if no known link ends at it. There is no
+/// route to a port that no switch has.
 pub fn switches_know_links()
     ensures { KnownLinkLaws }
 {}

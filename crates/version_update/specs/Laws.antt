@@ -8,7 +8,7 @@ use Rattle.version_update.specs.Record.{has_acked, first_record, IsSoundRecord, 
 use Rattle.version_update.specs.Marks.{MarksValue, least_of, AreMarksSettled}
 use Rattle.version_update.specs.Settling.{Names, Settles}
 
--- nothing rose, and nobody is told
+-- nothing rose, and nothing is sent
 abbrev pub nothing_rose : Bool → Settled
 nothing_rose taken = record {
   taken = taken;
@@ -28,23 +28,23 @@ pub record SettlingLaws : Type 0 where
       → Settles before b y → a ≡ b
   pub one_answer : (before a b : MarksValue) (x y : Settled) → Settles before a x
       → Settles before b y → x.taken ≡ y.taken → x ≡ y
-  -- settled marks stay as they are
+  -- settled marks stay unchanged
   pub idle : (marks : MarksValue) (taken : Bool) → AreMarksSettled marks
       → Settles marks marks (nothing_rose taken)
-  -- a mask names switches that there are, and that pass
+  -- a mask names switches that exist and that pass
   pub named : (mask s : ℕ) (passes : SwitchRecord → Bool) (switches : List SwitchRecord)
       → Names mask passes switches → bit_at mask s ≡ 1 →
       (known : SwitchRecord) × (slice_get switches s ≡ Some known) × IsTrue (passes known)
   pub least : (numbers : List ℕ) → MatchOption (least_of numbers) (numbers ≡ []) (IsLeast numbers)
 
 pub record RecordLaws : Type 0 where
-  -- a version is acknowledged at the start, or by a message that was taken
+  -- a version is acknowledged at the start, or by a message that was recorded
   pub first : (version : ℕ) → 1 ≤ version → has_acked first_record version ≡ (version == 1)
   pub hello : (boot version : ℕ) (known : SwitchRecord) → IsTrue (takes_hello boot known)
       → has_acked (hello_recorded boot known) version ≡ false
   pub installed : (boot version other : ℕ) (known : SwitchRecord) → 1 ≤ version → 1 ≤ other →
       has_acked (after_installed boot version known) other
       ≡ (has_acked known other || (takes_installed boot known && other == version))
-  -- none past the last version is
+  -- no version beyond the last one is
   pub past : (count version : ℕ) (known : SwitchRecord) → IsSoundRecord count known
       → count < version → has_acked known version ≡ false

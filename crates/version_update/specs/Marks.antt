@@ -54,7 +54,7 @@ acked_stamps switches = map (λ known. known.acked_stamp) (member_records switch
 abbrev pub least_of : List ℕ → Option ℕ
 least_of numbers = reduce min numbers
 
--- the least acknowledged stamp of the members less 1, and current less 1 where there is no member
+-- the least acknowledged stamp of the members minus 1, or current minus 1 if there is no member
 abbrev pub retired_of : MarksValue → ℕ
 retired_of marks = unwrap_or (least_of (acked_stamps marks.switches)) marks.current - 1
 
@@ -75,7 +75,7 @@ pub record AreMarksSettled (marks : MarksValue) : Type 0 where
   pub retired : marks.retired ≡ retired_of marks
   pub live : marks.retired < marks.count
 
--- settled still, and of the same switches
+-- still settled, and of the same switches
 pub record StaySettled (old new : MarksValue) : Type 0 where
   pub settled : AreMarksSettled new
   pub switches : length new.switches ≡ length old.switches

@@ -32,19 +32,19 @@ has_acked known version = bit_at known.acked (version - 1) == 1
 abbrev pub first_record : SwitchRecord
 first_record = record { boot = 1; phase = Member; acked = 1; open_version = 1; acked_stamp = 1 }
 
--- what is read where there is no switch
+-- what is read if there is no switch
 abbrev pub unknown_switch : SwitchRecord
 unknown_switch = record { boot = 0; phase = Over; acked = 0; open_version = 0; acked_stamp = 0 }
 
--- it speaks of the versions 1 to count alone, and what a member acknowledged is at least what it
--- was opened at
+-- it names only the versions 1 to count, and what a member acknowledged is at least what it was
+-- opened at
 pub record IsSoundRecord (count : ℕ) (known : SwitchRecord) : Type 0 where
   pub acked : known.acked < 2 ^ count
   pub open_version : IsTrue (is_member known.phase) → 1 ≤ known.open_version
   pub acked_stamp : IsTrue (is_member known.phase) → known.open_version ≤ known.acked_stamp
   pub stamp_bound : known.acked_stamp ≤ count
 
--- ---- what the controller hears of it
+-- ---- what the controller hears about it
 
 -- a hello of a greater boot: nothing is acknowledged in that one
 abbrev pub takes_hello : ℕ → SwitchRecord → Bool
@@ -70,13 +70,13 @@ abbrev pub after_stamped : ℕ → ℕ → SwitchRecord → SwitchRecord
 after_stamped boot version known = if takes_stamped boot known then record known
     { acked_stamp = max known.acked_stamp version } else known
 
--- it is gone
+-- it is over
 abbrev pub after_over : SwitchRecord → SwitchRecord
 after_over known = record known { phase = Over }
 
 -- ---- opening
 
--- a joining switch opens where it acknowledged the current version
+-- a joining switch opens if it acknowledged the current version
 abbrev pub opens_at : ℕ → SwitchRecord → Bool
 opens_at current known = is_joining known.phase && has_acked known current
 

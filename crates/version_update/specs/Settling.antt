@@ -1,4 +1,4 @@
--- Settling: what follows from a change of what is known, by its result.
+-- Settling: what follows from a change of what is known, stated about its result.
 use Rattle.std.specs.Prelude.{ℕ, ◌≡◌, ◌+◌, ◌<◌, ◌≤◌, Bool, false, ◌&&◌, nat_lt, if◌then◌else◌, Option, Some, None, List, map, slice_get, IsTrue, IsFalse}
 use Rattle.std.specs.Option.{option_map_or}
 use Rattle.std.specs.Int.{bit_at, from_bool}
@@ -7,29 +7,29 @@ use Rattle.version_update.specs.declared.marks.Settled.{Settled}
 use Rattle.version_update.specs.Record.{is_member, opens_at, opened_record}
 use Rattle.version_update.specs.Marks.{MarksValue, all_have_acked, retired_of}
 
--- the new number where it rose
+-- the new number if it rose
 abbrev pub rises_to : ℕ → ℕ → Option ℕ
 rises_to old new = if nat_lt old new then Some new else None
 
--- bit s of the mask is 1 exactly where there is a switch s that passes
+-- bit s of the mask is 1 exactly if there is a switch s that passes
 abbrev pub Names : ℕ → (SwitchRecord → Bool) → List SwitchRecord → Type 0
 Names mask passes switches = (s : ℕ)
     → bit_at mask s ≡ from_bool (option_map_or passes (slice_get switches s) false)
 
--- what rose, and the switches that are to be told
+-- what rose, and the switches to send to
 pub record Reports (before after : MarksValue) (answer : Settled) : Type 0 where
   pub current : answer.current ≡ rises_to before.current after.current
-  -- a new current version is told to the members from before
+  -- a new current version is sent to the members from before
   pub stamps : Names answer.stamps
       (λ known. nat_lt before.current after.current && is_member known.phase) before.switches
   pub opens : Names answer.opens (opens_at after.current) before.switches
   pub retired : answer.retired ≡ rises_to before.retired after.retired
-  -- a newly retired version is told to all members
+  -- a newly retired version is sent to all members
   pub collects : Names answer.collects
       (λ known. nat_lt before.retired after.retired && is_member known.phase) after.switches
 
--- from the old mark on, each member acknowledged every version up to this one, which is the last or
--- where one stops it
+-- from the old mark on, each member acknowledged every version up to this one, which is the last
+-- version, or one after which a member stops the rise
 pub record RisesTo (marks : MarksValue) (current : ℕ) : Type 0 where
   pub rises : marks.current ≤ current
   pub bound : current ≤ marks.count
@@ -37,8 +37,8 @@ pub record RisesTo (marks : MarksValue) (current : ℕ) : Type 0 where
       → IsTrue (all_have_acked version marks.switches)
   pub stopped : current < marks.count → IsFalse (all_have_acked (current + 1) marks.switches)
 
--- current rises; then the joining switches open that acknowledged it; then retired is as far as the
--- members allow
+-- current rises; then the joining switches that acknowledged it open; then retired is as far as
+-- the members allow
 pub record Settles (before after : MarksValue) (answer : Settled) : Type 0 where
   pub count : after.count ≡ before.count
   pub current : RisesTo before after.current

@@ -1,6 +1,6 @@
 ghost use Rattle.version_update.specs.Laws.{RecordLaws, SettlingLaws};
 
-/// A change settles in one way, and settled marks stay as they are.
+/// A change settles in one way, and settled marks stay unchanged.
 pub fn settling_laws()
     ensures { SettlingLaws }
 {}

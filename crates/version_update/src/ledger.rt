@@ -20,7 +20,7 @@ pub struct Ledger {
     pub current: u32,
     /// The version up to which all are retired.
     pub retired: u32,
-    /// How many switches there are; past them the records say nothing.
+    /// How many switches there are; beyond them the records say nothing.
     number: usize,
     switches: [SwitchRecord; MAX_SWITCHES],
 }
@@ -96,7 +96,7 @@ impl Ledger {
         self.count += 1;
     }
 
-    /// Settles, and tells what rose and which switches are to be told.
+    /// Settles, and returns what rose and to which switches to send.
     pub fn settle(&mut self, taken: bool) -> Settled
         ensures settled { Settles self.old self.new result }
         ensures rule { StaySettled self.old self.new }
@@ -156,7 +156,7 @@ fn first_records() -> [SwitchRecord; MAX_SWITCHES]
     [SwitchRecord::first(); MAX_SWITCHES]
 }
 
-// The new number, where it rose.
+// The new number, if it rose.
 fn raised(old: u32, new: u32) -> Option<u32>
     ensures { result ≡ rises_to old new }
 {

@@ -15,22 +15,22 @@ const MAX_VERSIONS: u32 = 64;
 /// The most versions that are not retired.
 const MAX_LIVE: u32 = 8;
 
-/// What followed from a change: the numbers that rose, and the switches that are to be told.
+/// What followed from a change: the numbers that rose, and the switches to send to.
 ///
 /// Bit s of a mask names the switch s.
 #[derive(Clone, Copy, Debug, PartialEq, Eq)]
 pub struct Settled {
-    /// Whether what was told changed what is known.
+    /// Whether the report changed what is known.
     pub taken: bool,
-    /// The current version, where it rose.
+    /// The current version, if it rose.
     pub current: Option<u32>,
-    /// Where the current version rose, the members from before: each is to stamp packets with it.
+    /// If the current version rose, the members from before: each is to stamp packets with it.
     pub stamps: u64,
     /// The switches that became members: each is to open at the current version.
     pub opens: u64,
-    /// The last retired version, where it rose.
+    /// The last retired version, if it rose.
     pub retired: Option<u32>,
-    /// Where the last retired version rose, all members: each is to drop the tables up to it.
+    /// If the last retired version rose, all members: each is to drop the tables up to it.
     pub collects: u64,
 }
 
@@ -47,10 +47,10 @@ pub enum SubmitError {
 
 /// The marks of a policy's versions, settled after each call.
 ///
-/// Versions are numbered from 1, switches from 0. Each call changes what is known of one switch, or
-/// the number of versions, and then settles: the current version rises as far as each member
-/// acknowledged every version on the way; the joining switches that acknowledged it open there; and
-/// the versions are retired that no member stamps packets with any more.
+/// Versions are numbered from 1, switches from 0. Each call changes what is known of one switch,
+/// or the number of versions, and then settles: the current version rises as far as each member
+/// acknowledged every version on the way; the joining switches that acknowledged it open there;
+/// and versions that no member stamps packets with any more are retired.
 #[derive(Drop)]
 pub struct Marks {
     ledger: Ledger,
@@ -81,7 +81,7 @@ impl Marks {
         }
     }
 
-    /// The switch told this boot: it is taken where it is greater than the known one.
+    /// The switch reported this boot: it is recorded if it is greater than the known one.
     pub fn hello(&mut self, s: u32, boot: u32) -> Settled
         requires { s < length self.old.switches }
         ensures taken { result.taken ≡ takes_hello boot (record_of self.old s) }
@@ -94,8 +94,8 @@ impl Marks {
         self.ledger.settle(taken)
     }
 
-    /// The switch told that it has this version's tables: it is taken in the known boot of a switch
-    /// that is not over.
+    /// The switch reported that it has this version's tables: this is recorded in the known boot
+    /// of a switch that is not over.
     pub fn installed(&mut self, s: u32, boot: u32, version: u32) -> Settled
         requires switch { s < length self.old.switches }
         requires first { 1 ≤ version }
@@ -111,8 +111,8 @@ impl Marks {
         self.ledger.settle(taken)
     }
 
-    /// The switch told that it stamps packets with this version: it is taken in the known boot of a
-    /// member.
+    /// The switch reported that it stamps packets with this version: this is recorded in the known
+    /// boot of a member.
     pub fn stamped(&mut self, s: u32, boot: u32, version: u32) -> Settled
         requires switch { s < length self.old.switches }
         requires first { 1 ≤ version }
@@ -128,7 +128,7 @@ impl Marks {
         self.ledger.settle(taken)
     }
 
-    /// The switch is gone until it tells a greater boot.
+    /// The switch is out until it reports a greater boot.
     pub fn over(&mut self, s: u32) -> Settled
         requires { s < length self.old.switches }
         ensures taken { IsTrue result.taken }
@@ -143,9 +143,8 @@ impl Marks {
 
     /// One more version.
     ///
-    /// # Errors
-    /// `TooManyLive` exactly where 8 versions are not retired; otherwise `TooManyVersions` exactly
-    /// where there are 64. Nothing changed then.
+    /// # Errors `TooManyLive` exactly if 8 versions are not retired; otherwise `TooManyVersions`
+    /// exactly if there are 64. Then nothing changed.
     pub fn submit(&mut self) -> Result<Settled, SubmitError>
         ensures settled { IfOk result (λ answer. Settles (with_version self.old) self.new answer) }
         ensures taken { IfOk result (λ answer. IsTrue answer.taken) }
@@ -162,7 +161,7 @@ impl Marks {
         Ok(self.ledger.settle(true))
     }
 
-    /// Why no version can be added now: what `submit` answers as its error, if it answers one.
+    /// Why no version can be added now: what `submit` returns as its error, if it returns one.
     pub fn refusal(&self) -> Option<SubmitError>
         ensures live { (result ≡ Some TooManyLive) ↔ (self.now.count - self.now.retired ≡ 8) }
         ensures versions { (result ≡ Some TooManyVersions)
@@ -209,7 +208,7 @@ impl Marks {
         self.ledger.switches().len() as u32
     }
 
-    /// How the switch stands.
+    /// The phase of the switch.
     pub fn phase(&self, s: u32) -> Phase
         requires { s < length self.now.switches }
         ensures { result ≡ (record_of self.now s).phase }
@@ -217,7 +216,7 @@ impl Marks {
         self.ledger.record(s).phase
     }
 
-    /// The greatest boot that the switch told, or 1.
+    /// The greatest boot that the switch reported, or 1.
     pub fn boot(&self, s: u32) -> u32
         requires { s < length self.now.switches }
         ensures { result ≡ (record_of self.now s).boot }

@@ -3,21 +3,21 @@ ghost use Rattle.version_update.specs.Record.{is_member, has_acked, first_record
 
 use base::has;
 
-/// How a switch stands to the versions of a policy.
+/// The phase of a switch with respect to the versions of a policy.
 #[derive(Clone, Copy, Debug, PartialEq, Eq)]
 pub enum Phase {
-    /// It told a boot, and was not opened in it yet.
+    /// It reported a boot, and was not opened in it yet.
     Joining,
     /// It was opened, and decides packets.
     Member,
-    /// It was confirmed to be gone; a greater boot brings it back.
+    /// It was confirmed as down; a greater boot brings it back.
     Over,
 }
 
-/// What the controller knows of one switch.
+/// What the controller knows about one switch.
 #[derive(Clone, Copy)]
 pub struct SwitchRecord {
-    /// The greatest boot that the switch told.
+    /// The greatest boot that the switch reported.
     pub boot: u32,
     pub phase: Phase,
     /// The versions that it acknowledged in this boot: version v is the bit v - 1.
@@ -103,7 +103,7 @@ impl SwitchRecord {
         self.phase = Phase::Over;
     }
 
-    /// Opens a joining switch that acknowledged the current version, and tells whether it did.
+    /// Opens a joining switch that acknowledged the current version, and returns whether it did.
     pub fn open_if_acked(&mut self, current: u32) -> bool
         requires first { 1 ≤ current }
         requires last { current ≤ 64 }

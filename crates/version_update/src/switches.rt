@@ -1,4 +1,4 @@
-//! Questions over what is known of all switches, each answered in one walk.
+//! Questions over what is known of all switches, each answered in one pass.
 ghost use Rattle.std.specs.Prelude.{◌≡◌, ◌-◌, ◌<◌, ◌≤◌, ◌&&◌, map, length};
 ghost use Rattle.version_update.specs.Record.{is_member, opens_at, opened_record};
 ghost use Rattle.version_update.specs.Marks.{all_have_acked, acked_stamps, least_of};
@@ -7,7 +7,7 @@ ghost use Rattle.version_update.specs.declared.record.SwitchRecord.{SwitchRecord
 
 use crate::record::SwitchRecord;
 
-/// Where a number rose, the members, as bits at their numbers; else none.
+/// If a number rose, the members, as bits at their numbers; otherwise none.
 pub fn members_where(rose: bool, switches: &[SwitchRecord]) -> u64
     requires { length switches.now ≤ 64 }
     ensures { Names result (λ (known : SwitchRecord). rose && is_member known.phase) switches.now }
@@ -47,7 +47,7 @@ pub fn all_acked(switches: &[SwitchRecord], version: u32) -> bool
         .all(|known| known.has_acked(version))
 }
 
-/// The least stamp that a member acknowledged; `None` where there is no member.
+/// The least stamp that a member acknowledged; `None` if there is no member.
 pub fn least_stamp(switches: &[SwitchRecord]) -> Option<u32>
     ensures { result ≡ least_of (acked_stamps switches.now) }
 {

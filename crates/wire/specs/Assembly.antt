@@ -1,4 +1,4 @@
--- What an assembler of frames holds, and what it refuses.
+-- What an assembler of frames keeps, and what it refuses.
 use Rattle.std.specs.Prelude.{◌≡◌, ◌≢◌, ℕ, ◌+◌, ◌<◌, ◌≤◌, nat_lt, ◌==◌, Bool, true, false, List, [], ◌∷◌, ◌++◌, length, filter, Option, Some, None, IsSome, IfSome, find, Result, Ok, Err, IfErr, IfOk, OnOk, OnErr, ◌↔◌}
 use Rattle.std.specs.List.{insert}
 use Rattle.ctrl_msg.specs.declared.message.Message.{Message}
@@ -9,11 +9,11 @@ use Rattle.base.specs.declared.error.Failure.{Failure}
 use Rattle.wire.specs.declared.error.Malformed.{Malformed}
 use Rattle.wire.specs.Frames.{AreFrames, place_in_frame, count_in_frame, chunk_of, frame}
 
--- the frame that is held at a place
+-- the frame at a place
 abbrev pub held_at : List (List ℕ) → ℕ → Option (List ℕ)
 held_at held place = find (λ f. place_in_frame f == place) held
 
--- a frame is held too: behind those of lower places, and before those of higher ones
+-- a frame is added: after those of lower places, and before those of higher ones
 abbrev pub with_frame : List (List ℕ) → List ℕ → List (List ℕ)
 with_frame held f =
     filter (λ g. nat_lt (place_in_frame g) (place_in_frame f)) held
@@ -34,7 +34,7 @@ pub data IsRefusedFrame (held : List (List ℕ)) (f : List ℕ) : Type 0 where
   no_message : AreAllHeld (with_frame held f) (count_in_frame f)
       → ((m : Message) → AreFrames m (with_frame held f) → ⊥) → IsRefusedFrame held f
 
--- ---- what holds of the held frames
+-- ---- what is true of the frames that it has
 
 -- a frame of this count, whose place is below it
 pub record IsOfCount (count : ℕ) (f : List ℕ) : Type 0 where
@@ -48,35 +48,35 @@ AreRising from count [] = Unit {0}
 AreRising from count (f ∷ fs) =
     (from ≤ place_in_frame f) × IsOfCount count f × AreRising (place_in_frame f + 1) count fs
 
--- the held frames are of one count, each of a place of its own
+-- the frames are of one count, each of its own place
 abbrev pub AreTogether : List (List ℕ) → Type 0
 AreTogether [] = Unit {0}
 AreTogether (f ∷ fs) = AreRising 0 (count_in_frame f) (f ∷ fs)
 
--- ---- what an assembler answers
+-- ---- what an assembler returns
 
--- as many frames as their count, and those of no message
+-- as many frames as their count, but the frames of no message
 abbrev pub AreNone : List (List ℕ) → ℕ → Type 0
 AreNone fs count = (length fs ≡ count) × ((m : Message) → AreFrames m fs → ⊥)
 
--- what frames answer that are all there
+-- the result for frames that have all come
 abbrev pub IsWhole : List (List ℕ) → Result Message (Failure Malformed) → Type 0
 IsWhole fs (Ok m) = AreFrames m fs
 IsWhole fs (Err error) = IfRefused (λ _. AreNone fs (length fs)) error
 
--- what the frames of a count answer
+-- the result for the frames of a count
 abbrev pub IsAssembled : List (List ℕ) → ℕ → Result (Option Message) (Failure Malformed) → Type 0
 IsAssembled fs count (Ok None) = length fs ≢ count
 IsAssembled fs count (Ok (Some m)) = (length fs ≡ count) × AreFrames m fs
 IsAssembled fs count (Err error) = IfRefused (λ _. AreNone fs count) error
 
--- the held frames are of this count, or one of them isn't
+-- the frames are of this count, or one of them isn't
 abbrev pub Agree : List (List ℕ) → ℕ → Bool → Type 0
 Agree held count true = AreRising 0 count held
 Agree held count false =
     (place : ℕ) × (g : List ℕ) × (held_at held place ≡ Some g) × (count_in_frame g ≢ count)
 
--- a frame that can be held beside those that are
+-- a frame that can be added to those that have come
 pub record Joins (held : List (List ℕ)) (f : List ℕ) : Type 0 where
   pub long : 9 ≤ length f
   pub short : length f ≤ 16384
@@ -84,8 +84,8 @@ pub record Joins (held : List (List ℕ)) (f : List ℕ) : Type 0 where
   pub rising : AreRising 0 (count_in_frame f) held
   pub same : (g : List ℕ) → held_at held (place_in_frame f) ≡ Some g → g ≡ f
 
--- where a frame belongs among those that are held: nowhere, where it is already, or before the
--- frame of this index
+-- where a frame belongs among those that have come: nowhere, at the place where it already is, or
+-- before the frame of this index
 abbrev pub IsFrameCheck : List (List ℕ) → List ℕ → FrameCheck → Type 0
 IsFrameCheck held f Refused = IsRefusedFrame held f
 IsFrameCheck held f Held = Joins held f × (with_frame held f ≡ held)
@@ -93,7 +93,7 @@ IsFrameCheck held f (New index) =
     Joins held f × (index ≤ length held) × (with_frame held f ≡ insert held index f)
     × AreRising 0 (count_in_frame f) (insert held index f)
 
--- what taking in a frame answers, and leaves
+-- the result of feeding a frame, and the frames after it
 pub record IsFed (held : List (List ℕ)) (f : List ℕ) (after : List (List ℕ))
     (result : Result (Option Message) (Failure Malformed)) : Type 0 where
   pub together : AreTogether after

@@ -1,4 +1,4 @@
--- Formats: how the values of a type are spelled as bytes. A format is a spelling, a test of which
+-- Formats: how the values of a type are encoded as bytes. A format is an encoding, a test of which
 -- values it is for, and a reader of one value from the front of bytes; larger formats are made of
 -- smaller ones.
 use Rattle.std.specs.Prelude.{ℕ, zero, suc, nat_lt, Bool, true, ◌&&◌, if◌then◌else◌, List, [], ◌∷◌, ◌++◌, length, take, drop, Option, Some, None}
@@ -10,7 +10,7 @@ pub record Format (A : Type 0) : Type 0 where
   pub fits : A → Bool
   pub read : List ℕ → Option (A × List ℕ)
 
--- what follows where something was read
+-- what follows if something was read
 abbrev pub then_read : {A B : Type 0} → Option A → (A → Option B) → Option B
 then_read None f = None
 then_read (Some x) f = f x
@@ -44,7 +44,7 @@ f ⊗ g =
           then_read (g.read x.1) (λ y. Some ((x.0, y.0), y.1)));
     }
 
--- the values of another type, as those that stand for them
+-- the values of another type, encoded as values of this one
 abbrev pub as_type : {A B : Type 0} → (A → B) → (B → A) → Format A → Format B
 as_type to from f =
     record {
@@ -84,7 +84,7 @@ optional flag f =
       read = λ bytes. then_read (flag.read bytes) (λ x. read_flagged f x.0 x.1);
     }
 
--- so many values
+-- this many values
 unfoldable pub read_items : {A : Type 0} → Format A → ℕ → List ℕ → Option (List A × List ℕ)
 read_items f zero bytes = Some ([], bytes)
 read_items f (suc count) bytes =

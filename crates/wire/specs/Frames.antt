@@ -1,4 +1,4 @@
--- How the spelling of a message is cut into frames.
+-- How the encoding of a message is cut into frames.
 use Rattle.std.specs.Prelude.{◌≡◌, ℕ, zero, suc, ◌+◌, ◌-◌, true, List, [], ◌∷◌, ◌++◌, length, take, drop, slice_index_or, slice_set}
 use Rattle.std.specs.Int.{w32, from_be_bytes, div_ceil}
 use Rattle.ctrl_msg.specs.declared.message.Body.{Body}
@@ -11,19 +11,19 @@ use Rattle.wire.specs.Messages.{message}
 abbrev pub most_of_chunk : ℕ
 most_of_chunk = 16376
 
--- so many slices, of n bytes each as long as there are so many
+-- this many slices, of n bytes each as long as there are that many
 abbrev pub equal_chunks : ℕ → ℕ → List ℕ → List (List ℕ)
 equal_chunks zero n bytes = []
 equal_chunks (suc count) n bytes = take n bytes ∷ equal_chunks count n (drop n bytes)
 
--- a head of so many bytes, and the rest in as few chunks as can be
+-- a head of this many bytes, and the rest in as few chunks as possible
 abbrev pub chunks_behind_head : ℕ → List ℕ → List (List ℕ)
 chunks_behind_head head bytes =
     take head bytes
     ∷ equal_chunks (div_ceil (length bytes - head) most_of_chunk) most_of_chunk (drop head bytes)
 
--- of an installation the receiver, the kind and the boot, so that its other chunks say the tables
--- alone; of any other message everything
+-- for an installation the receiver, the kind and the boot, so that its other chunks encode only
+-- the tables; for any other message everything
 abbrev pub head_len : Body → List ℕ → ℕ
 head_len (Install _ _) bytes = 6
 head_len _ bytes = length bytes
@@ -47,7 +47,7 @@ frames_of parts = frames_from 0 (length parts) parts
 abbrev pub frames : Message → List (List ℕ)
 frames m = frames_of (chunks m)
 
--- the message has a spelling, and these are its frames
+-- the message has an encoding, and these are its frames
 pub record AreFrames (m : Message) (fs : List (List ℕ)) : Type 0 where
   pub fits : message.fits m ≡ true
   pub frames_are : fs ≡ frames m
@@ -58,7 +58,7 @@ pub record AreFrames (m : Message) (fs : List (List ℕ)) : Type 0 where
 abbrev pub begun_with : ℕ → List ℕ → List ℕ
 begun_with version bytes = take 8 bytes ++ n4.spell version ++ drop 12 bytes
 
--- the frames of an installation of the same tables under this version: they begin behind the first
+-- the frames of an installation of the same tables under this version: they begin after the first
 -- one, with the version
 abbrev pub frames_of_version : ℕ → List (List ℕ) → List (List ℕ)
 frames_of_version version fs = slice_set fs 1 (begun_with version (slice_index_or fs 1 []))

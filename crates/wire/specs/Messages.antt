@@ -77,7 +77,7 @@ kind_number (Hello _ _) = 7
 kind_number (Installed _ _ _) = 8
 kind_number (Stamped _ _ _) = 9
 
--- a value in its format: the spelling, and whether it has one
+-- a value in its format: the encoding, and whether it has one
 abbrev pub in_format : {A : Type 0} → Format A → A → List ℕ × Bool
 in_format f x = (f.spell x, f.fits x)
 
@@ -128,13 +128,13 @@ body =
       read = λ bytes. then_read (form.n1.read bytes) (λ kind. read_fields kind.0 kind.1);
     }
 
--- ---- what stands before the tables in the spelling of an installation
+-- ---- what comes before the tables in the encoding of an installation
 
 -- the receiver, the kind, and the boot
 unfoldable pub message_front : Format (Place × (ℕ × ℕ))
 message_front = receiver ⊗ form.n1 ⊗ form.n4
 
--- of an installation for this receiver and this boot
+-- the front of an installation for this receiver and this boot
 abbrev pub spelled_front : Place → ℕ → List ℕ
 spelled_front to boot = message_front.spell (to, (1, boot))
 
@@ -143,7 +143,7 @@ pub record IsFront (to : Place) (boot : ℕ) (bytes : List ℕ) : Type 0 where
   pub fits : message_front.fits (to, (1, boot)) ≡ true
   pub spelled : bytes ≡ spelled_front to boot
 
--- what all of the bytes say, where they are a front
+-- what all of the bytes say, if they are a front
 abbrev pub read_front : List ℕ → Option ((Place × ℕ) × List ℕ)
 read_front bytes =
     then_read (message_front.read bytes) (λ x.
@@ -163,18 +163,18 @@ message =
     as_type (λ p. record { to = p.0; body = p.1 }) (λ m. (m.to, m.body))
     (such_that (λ p. suits_receiver p.0 p.1) (receiver ⊗ body))
 
--- the message that all of the bytes spell
+-- the message that all of the bytes encode
 abbrev pub whole_message : List ℕ → Option (Message × List ℕ)
 whole_message bytes =
     then_read (message.read bytes) (λ m. if length m.1 == 0 then Some m else None)
 
--- the bytes are the one spelling of the message, of which each number is within its bytes, each
+-- the bytes are the one encoding of the message, of which each number is within its bytes, each
 -- switch below 64, each list shorter than 2^32, and the receiver one for its body
 pub record IsSpelling (m : Message) (bytes : List ℕ) : Type 0 where
   pub fits : message.fits m ≡ true
   pub spelled : bytes ≡ message.spell m
 
--- ---- what makes a message of the program's types one that has a spelling
+-- ---- when a message of the program's types has an encoding
 
 abbrev pub AreSwitches : PartRow → Type 0
 AreSwitches row = All (λ s. s < 64) row.targets

@@ -1,4 +1,4 @@
--- What reading from bytes gives, and what writing leaves.
+-- What reading from bytes returns, and the bytes after writing.
 use Rattle.std.specs.Prelude.{◌≡◌, ℕ, true, List, ◌++◌, Option, Some, None, Result, Ok, Err}
 use Rattle.std.specs.List.{flat_map, list_all}
 use Rattle.base.specs.Refusals.{IfRefused}
@@ -8,28 +8,28 @@ use Rattle.ctrl_msg.specs.declared.message.Body.{Body}
 use Rattle.wire.specs.Format.{Format}
 use Rattle.wire.specs.Messages.{fields_fit, spelled_fields}
 
--- the answer, seen by view, and the bytes that are left are what was read, unless memory ran out
+-- the result, seen by view, and the bytes that are left are what was read, unless memory ran out
 abbrev pub Gives : {X A : Type 0} → (X → A) → Option (A × List ℕ)
     → Result X (Failure Malformed) → List ℕ → Type 0
 Gives view read (Ok x) rest = read ≡ Some (view x, rest)
 Gives view read (Err error) rest = IfRefused (λ _. read ≡ None) error
 
--- the answer and the bytes that are left are what the format reads
+-- the result and the bytes that are left are what the format reads
 abbrev pub Reads : {A : Type 0} → Format A → List ℕ → Result A (Failure Malformed) → List ℕ → Type 0
 Reads f bytes result rest = Gives (λ x. x) (f.read bytes) result rest
 
--- the value has a spelling, which stands at the end of the new bytes
+-- the value has an encoding, which is at the end of the new bytes
 pub record AppendsForm {A : Type 0} (f : Format A) (x : A) (before after : List ℕ) : Type 0 where
   pub fits : f.fits x ≡ true
   pub bytes : after ≡ before ++ f.spell x
 
--- each of the values has a spelling, and these stand at the end of the new bytes
+-- each of the values has an encoding, and these are at the end of the new bytes
 pub record AppendsItems {A : Type 0} (f : Format A) (xs : List A) (before after : List ℕ)
     : Type 0 where
   pub fits : list_all f.fits xs ≡ true
   pub bytes : after ≡ before ++ flat_map f.spell xs
 
--- the same of a body's fields
+-- the same for a body's fields
 pub record AppendsFields (b : Body) (before after : List ℕ) : Type 0 where
   pub fits : fields_fit b ≡ true
   pub bytes : after ≡ before ++ spelled_fields b

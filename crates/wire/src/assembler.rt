@@ -32,7 +32,7 @@ impl Model for Assembler {
 }
 
 impl Assembler {
-    /// Of no frame; it takes no memory yet.
+    /// For no frame; it allocates nothing yet.
     pub fn new(alloc: Global) -> Assembler
         ensures { result ≡ [] }
     {
@@ -41,13 +41,12 @@ impl Assembler {
         }
     }
 
-    /// Takes in a frame, and returns the message once all of its frames are held; a frame may come
+    /// Takes a frame, and returns the message once it has all of its frames; a frame may come
     /// again, and in any order.
     ///
-    /// # Errors
-    /// `Malformed` where the frame isn't of 9 to 16,384 bytes, its place isn't below its count, a
-    /// held frame has another count, another frame is held at its place, or all frames are there
-    /// and are those of no message. An error changes nothing.
+    /// # Errors `Malformed` if the frame isn't of 9 to 16,384 bytes, its place isn't below its
+    /// count, an earlier frame has another count, another frame has its place, or all frames have
+    /// come and are those of no message. An error changes nothing.
     pub fn feed(&mut self, frame: &[u8]) -> Result<Option<Message>, WireError>
         ensures refused { IfErr result (IfRefused (λ _. IsRefusedFrame self.old frame.now)) }
         ensures taken { OnOk result (IsRefusedFrame self.old frame.now → ⊥) }
@@ -73,7 +72,7 @@ fn feed(frames: &mut Vec<Frame>, alloc: Global, frame: &[u8]) -> Result<Option<M
     }
 }
 
-// Holds one more frame before that of this index, but where an error comes.
+// Adds one more frame before that of this index, unless there is an error.
 fn hold(
     frames: &mut Vec<Frame>,
     alloc: Global,
@@ -101,9 +100,9 @@ fn hold(
 
 /// Where a frame belongs.
 enum FrameCheck {
-    /// It can't be held.
+    /// It is refused.
     Refused,
-    /// It is held already.
+    /// It has come already.
     Held,
     /// Before the frame of this index.
     New(usize),
@@ -128,7 +127,7 @@ fn check_of(frames: &[Frame], frame: &[u8]) -> FrameCheck
     check_among(frames, frame)
 }
 
-// Whether the held frames have this count.
+// Whether the frames that came have this count.
 fn agree(frames: &[Frame], count: u32) -> bool
     requires { AreTogether frames.now }
     ensures { Agree frames.now count result }
@@ -174,7 +173,7 @@ fn first_behind(frames: &[Frame], place: u32) -> Option<usize>
     frames.iter().position(|frame| place <= frame.place())
 }
 
-// How many frames stand before the first of this place or a higher one.
+// How many frames are before the first of this place or a higher one.
 fn index_of(frames: &[Frame], place: u32) -> usize
     ensures { result ≡ position_or_len (λ f. nat_le place (place_in_frame f)) frames.now }
 {

@@ -329,10 +329,9 @@ fn put_body(out: &mut Vec<u8>, body: &Body) -> Result<(), AllocError>
     put_fields(out, body)
 }
 
-/// Writes the spelling of a message at the end.
+/// Writes the encoding of a message at the end.
 ///
-/// # Errors
-/// Only out of memory; a part of the spelling may be written then.
+/// # Errors Only out of memory; then a part of the encoding may be written.
 #[tactic(auto, unfolding(crate::specs::Messages::message))]
 pub fn append(out: &mut Vec<u8>, message: &Message) -> Result<(), AllocError>
     requires { HasSpelling message.now }
@@ -344,7 +343,7 @@ pub fn append(out: &mut Vec<u8>, message: &Message) -> Result<(), AllocError>
     put_body(out, &message.body)
 }
 
-/// The spelling of a message.
+/// The encoding of a message.
 ///
 /// # Errors
 /// Only out of memory.
@@ -357,10 +356,9 @@ pub fn encode(alloc: Global, message: &Message) -> Result<Vec<u8>, AllocError>
     Ok(bytes)
 }
 
-/// The message that the bytes spell.
+/// The message that the bytes encode.
 ///
-/// # Errors
-/// `Malformed` exactly where they are the spelling of no message.
+/// # Errors `Malformed` exactly if they are the encoding of no message.
 #[tactic(auto, using(crate::proofs::MessageDecoding::found, crate::proofs::MessageDecoding::only, crate::proofs::MessageDecoding::malformed))]
 pub fn decode(alloc: Global, bytes: &[u8]) -> Result<Message, WireError>
     ensures found { IfOk result (λ message. IsSpelling message bytes.now) }

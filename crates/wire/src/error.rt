@@ -1,10 +1,10 @@
 use base::Failure;
 use thiserror::Error;
 
-/// The bytes are the spelling of no message.
+/// The bytes are the encoding of no message.
 #[derive(Clone, Copy, Debug, PartialEq, Eq, Error)]
 #[error("the bytes are no message's")]
 pub struct Malformed;
 
-/// Why bytes give no message.
+/// Why bytes are decoded to no message.
 pub type WireError = Failure<Malformed>;

@@ -9,7 +9,7 @@ use std::rc::RcSlice;
 /// The bytes of a frame that say its place and the count of frames.
 pub const HEADER_LEN: usize = 8;
 
-/// A frame, which its clones share: its place, the count of frames, and a chunk of a spelling.
+/// A frame, which its clones share: its place, the count of frames, and a chunk of an encoding.
 /// Contracts see the bytes.
 #[derive(Debug, Drop)]
 pub(crate) struct Frame {
@@ -40,7 +40,7 @@ impl Frame {
         Frame::of_bytes(bytes)
     }
 
-    /// Of these bytes, which are a frame.
+    /// The frame of these bytes, which are one.
     pub fn of_bytes(bytes: Vec<u8>) -> Result<Frame, AllocError>
         requires { 8 ≤ length bytes.items }
         ensures { IfOk result (λ f. f ≡ bytes.items) }
@@ -49,7 +49,7 @@ impl Frame {
         Ok(Frame { bytes })
     }
 
-    /// A copy of these bytes, which are a frame.
+    /// The frame of a copy of these bytes, which are one.
     pub fn copied(alloc: Global, bytes: &[u8]) -> Result<Frame, AllocError>
         requires { 8 ≤ length bytes.now }
         ensures { IfOk result (λ f. f ≡ bytes.now) }
@@ -102,7 +102,7 @@ pub(crate) fn place_of(frame: &[u8]) -> u32
     u32::from_be_bytes([frame[0], frame[1], frame[2], frame[3]])
 }
 
-/// How many frames there are, as this one says.
+/// How many frames there are, as this frame says.
 #[tactic(auto, unfolding(crate::specs::Frames::count_in_frame))]
 pub(crate) fn count_of(frame: &[u8]) -> u32
     requires { 8 ≤ length frame.now }

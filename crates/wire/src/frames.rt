@@ -16,7 +16,7 @@ pub(crate) const MAX_FRAME: usize = 16_384;
 /// The most bytes of a chunk.
 pub(crate) const MAX_CHUNK: usize = MAX_FRAME - HEADER_LEN;
 
-/// Where the version of tables ends in the frame that begins with it.
+/// The end of the version of tables in the frame that begins with it.
 const VERSION_END: usize = HEADER_LEN + 4;
 
 /// The frames of a message. Contracts see the list of their bytes.
@@ -34,7 +34,7 @@ impl Model for Frames {
 }
 
 impl Frames {
-    /// The frame at this place, from 0; `None` exactly at or past the end.
+    /// The frame at this place, from 0; `None` exactly at or beyond the end.
     pub fn get(&self, place: u32) -> Option<&[u8]>
         ensures frame { IfSome result (λ frame. slice_get self.now place ≡ Some frame.now) }
         ensures none { IsNone result ↔ (length self.now ≤ place) }
@@ -45,8 +45,9 @@ impl Frames {
         }
     }
 
-    /// The frames of an installation of the same tables under another version: behind the first
-    /// frame they begin with it, and all else is the same. The frames that don't differ are shared.
+    /// The frames of an installation of the same tables under another version: after the first
+    /// frame they begin with it, and all else is the same. The frames that don't differ are
+    /// shared.
     ///
     /// # Errors
     /// Only out of memory.
@@ -61,7 +62,7 @@ impl Frames {
     }
 }
 
-// These frames, shared once more.
+// A copy of this list, which shares the frames.
 fn shared(alloc: Global, frames: &[Frame]) -> Result<Vec<Frame>, AllocError>
     ensures { IfOk result (λ all. all.items ≡ frames.now) }
 {
@@ -72,7 +73,7 @@ fn shared(alloc: Global, frames: &[Frame]) -> Result<Vec<Frame>, AllocError>
     Ok(all)
 }
 
-// The frame with the four bytes of this version where its chunk begins.
+// The frame with the four bytes of this version at the beginning of its chunk.
 fn begun_with(alloc: Global, version: u32, frame: &[u8]) -> Result<Frame, AllocError>
     requires { 8 ≤ length frame.now }
     ensures { IfOk result (λ f. f ≡ begun_with version frame.now) }
@@ -84,8 +85,8 @@ fn begun_with(alloc: Global, version: u32, frame: &[u8]) -> Result<Frame, AllocE
     Frame::of_bytes(bytes)
 }
 
-/// The frames of a message: of an installation its first six bytes are a chunk, and the rest in
-/// slices of 16,376 bytes; of any other message all bytes are one chunk.
+/// The frames of a message: for an installation its first six bytes are a chunk, and the rest is
+/// cut into chunks of 16,376 bytes; for any other message all bytes are one chunk.
 ///
 /// # Errors
 /// Only out of memory.
@@ -122,7 +123,7 @@ fn split_front(bytes: &[u8], len: usize) -> (&[u8], &[u8])
     }
 }
 
-// The chunks of a spelling, the first of which has so many bytes.
+// The chunks of an encoding, the first of which has this many bytes.
 pub(crate) fn cut(alloc: Global, head: usize, bytes: &[u8]) -> Result<Vec<&[u8]>, AllocError>
     ensures { IfOk result (λ parts. map (λ p. p.now) parts.items
         ≡ chunks_behind_head head bytes.now) }

@@ -1,4 +1,4 @@
-//! What stands before the tables in the spelling of an installation.
+//! What comes before the tables in the encoding of an installation.
 ghost use Rattle.std.specs.Prelude.{◌≡◌, ◌++◌, ℕ, true, IfOk, IfErr, OnOk};
 ghost use Rattle.ctrl_msg.specs.declared.message.Place.{Place};
 ghost use Rattle.base.specs.Refusals.{IfRefused};
@@ -17,8 +17,7 @@ const INSTALL: u8 = 1;
 
 /// Writes at the end the front of an installation for this receiver and this boot.
 ///
-/// # Errors
-/// Only out of memory; a part of it may be written then.
+/// # Errors Only out of memory; then a part of it may be written.
 #[tactic(auto, unfolding(crate::specs::Messages::message_front))]
 pub fn append_front(out: &mut Vec<u8>, to: Place, boot: u32) -> Result<(), AllocError>
     requires { IsPlace to }
@@ -46,8 +45,7 @@ fn read(reader: &mut ByteReader) -> Result<(Place, u32), WireError>
 
 /// The receiver and the boot of an installation whose front these bytes are.
 ///
-/// # Errors
-/// `Malformed` exactly where they are the front of no installation.
+/// # Errors `Malformed` exactly if they are the front of no installation.
 #[tactic(auto, using(crate::proofs::InstallationFronts::front_found, crate::proofs::InstallationFronts::no_front))]
 pub fn decode_front(alloc: Global, bytes: &[u8]) -> Result<(Place, u32), WireError>
     ensures found { IfOk result (λ front. IsFront front.0 front.1 bytes.now) }

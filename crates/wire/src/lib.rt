@@ -1,9 +1,9 @@
-//! Messages as bytes: a canonical spelling, and frames of it that may come in any order.
+//! Messages as bytes: a canonical encoding, and frames of it that may come in any order.
 //!
-//! `encode` and `append` promise the one spelling of a message, and `decode` the message of a
-//! spelling: it answers `Malformed` exactly where bytes are the spelling of no message, so no
-//! message has a second one. `split` promises the frames of a message. An `Assembler` holds frames
-//! by their places; it promises the message exactly where all of its frames are held, and refuses a
+//! `encode` and `append` promise the one encoding of a message, and `decode` the message of an
+//! encoding: it returns `Malformed` exactly if bytes are the encoding of no message, so no message
+//! has a second one. `split` promises the frames of a message. An `Assembler` keeps frames by
+//! their places; it promises the message exactly when it has all of its frames, and refuses a
 //! frame exactly for a stated cause. Errors change nothing.
 //!
 //! ```text

@@ -13,10 +13,10 @@ const LEAST_OF_PART: usize = 32;
 
 /// A part of a message that has a format.
 pub(crate) trait Part: Sized + Drop {
-    /// How it is spelled.
+    /// How it is encoded.
     ghost format: { Format Self };
 
-    /// What its writer sees to.
+    /// What its writer requires.
     ghost needs: { Self → Type 0 };
 
     /// Reads one from the front.
@@ -29,7 +29,7 @@ pub(crate) trait Part: Sized + Drop {
         ensures { OnOk result (AppendsForm format self.now out.old.items out.new.items) };
 }
 
-// The count isn't trusted: room is taken for no more parts than the bytes can have.
+// The count isn't trusted: room is allocated for no more parts than the bytes can have.
 pub(crate) fn read_items<T: Part>(reader: &mut ByteReader, count: u32) -> Result<Vec<T>, WireError>
     ensures { Gives (λ v. v.items) (read_items T.format count reader.old) result reader.new }
 {
@@ -49,7 +49,7 @@ pub(crate) fn read_list<T: Part>(reader: &mut ByteReader) -> Result<Vec<T>, Wire
     read_items(reader, count)
 }
 
-// The parts alone: their count stands before them.
+// Only the parts: their count comes before them.
 pub(crate) fn put_items<T: Part>(items: &[T], out: &mut Vec<u8>) -> Result<(), AllocError>
     requires { All T.needs items.now }
     ensures { OnOk result (AppendsItems T.format items.now out.old.items out.new.items) }

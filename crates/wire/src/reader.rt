@@ -44,7 +44,7 @@ impl<'a> ByteReader<'a> {
         self.bytes.is_empty()
     }
 
-    // The next bytes, where there are so many.
+    // The next bytes, if there are this many.
     fn take(&mut self, count: usize) -> Option<&'a [u8]>
         ensures some { IfSome result (λ front. (count ≤ length self.old)
             × (front.now ≡ take count self.old) × (self.new ≡ drop count self.old)) }

@@ -22,21 +22,21 @@ pub record FilesValue : Type 0 where
   pub files : List PolicyFile
   pub newest : List Row
 
--- the file's own policy, where it is no change
+-- the file's own policy, if it is no change
 abbrev pub own_policy : PolicyFile → Option (List Row)
 own_policy (Whole rows) = Some rows
 own_policy (Change edits) = None
 
--- that of the first file
+-- the policy of the first file
 abbrev pub first_policy : List PolicyFile → Option (List Row)
 first_policy [] = None
 first_policy (first ∷ files) = own_policy first
 
--- the file at a place; one of no edits where there is none
+-- the file at a place; one of no edits if there is none
 abbrev pub file_or_none : List PolicyFile → ℕ → PolicyFile
 file_or_none files place = slice_index_or files place (Change [])
 
--- what a file makes of a policy, and what it touches of that
+-- what a file makes of a policy, and what it touches of that policy
 abbrev pub Making : Type 0
 Making = Result (List Row) Inapplicable × List WordValue
 
@@ -48,7 +48,7 @@ made_from file newest =
 abbrev pub made_at : List PolicyFile → List Row → ℕ → Making
 made_at files newest place = made_from (file_or_none files place) newest
 
--- these rows have no plan, for the cause of this code
+-- these rows have no plan, for the reason with this code
 pub record HasNoPlan (net : Net) (rows : List Row) (code : ℕ) : Type 0 where
   pub why : NoPlan
   pub none : plan_of rows net ≡ Err why
@@ -61,8 +61,8 @@ pub record HasThisPlan (net : Net) (making : Making) (plan : PlanValue) (told : 
   pub planned : plan_of plan.policy net ≡ Ok plan.hosted
   pub told_is : told ≡ making.1
 
--- of what was made of a file: it is a policy that has this plan; or there is none, or it has none,
--- for the cause of this code
+-- about what a file makes: it is a policy that has this plan; or there is none, or it has none,
+-- for the reason with this code
 abbrev pub IsMade : Net → Making → Compiled → Type 0
 IsMade net making (Planned plan told) = HasThisPlan net making plan told
 IsMade net making (Refused code) =
@@ -77,7 +77,7 @@ pub record AreCompiled (net : Net) (files : List PolicyFile) (newest : List Row)
   pub each : (place : ℕ) (compiled : Compiled) → slice_index_or kept place None ≡ Some compiled
       → IsMade net (made_at files newest place) compiled
 
--- what is still kept was kept, and of a file with a policy of its own
+-- what is still kept was kept before, and belongs to a file with its own policy
 pub record KeepsWhole (files : List PolicyFile) (old new : List (Option Compiled)) : Type 0 where
   pub many : length new ≡ length old
   pub each : (place : ℕ) (compiled : Compiled) → slice_index_or new place None ≡ Some compiled

@@ -1,7 +1,7 @@
 -- The least number from one on that passes a test.
 use Rattle.std.specs.Prelude.{ℕ, ◌≡◌, ◌<◌, ◌≤◌, Bool, true, false, Option, MatchOption}
 
--- the least number at or above `from` that passes the test; none where none does
+-- the least number at or above `from` that passes the test; none if none does
 abbrev pub IsLeastFrom : (ℕ → Bool) → ℕ → Option ℕ → Type 0
 IsLeastFrom test from next = MatchOption next
     ((i : ℕ) → from ≤ i → test i ≡ false)

@@ -1,4 +1,4 @@
--- The parts of a world, and what holds of them.
+-- The parts of a world, and what is true of them.
 use Rattle.std.specs.Prelude.{ℕ, ◌≡◌, ◌+◌, ◌<◌, ◌≤◌, Bool, false, Some, List, [], ◌∷◌, ◌++◌, length, OnErr, OnOk, Result}
 use Rattle.controller.specs.Controller.{newest_policy}
 use Rattle.journal.specs.declared.item.Item.{Item}
@@ -27,7 +27,7 @@ pub record AreSoundParts (parts : Parts) : Type 0 where
 abbrev pub HoldNewest : Parts → Type 0
 HoldNewest parts = newest_policy parts.controller ≡ Some parts.files.newest
 
--- what they hold
+-- all that they have
 abbrev pub state_in : Parts → NetworkState
 state_in parts = record {
   switches = parts.switches.items;
@@ -70,13 +70,13 @@ pub record IsReadyForStep (before : List Item) (step : Step) (parts : Parts) : T
   pub few : next_packet before ≤ 4_000_000_000
   pub room : length parts.log.bag < 990_000
 
--- and its row was written behind that journal
+-- and its row was written after that journal
 pub record BeginsStep (before : List Item) (row : ℕ) (step : Step) (parts : Parts) : Type 0 where
   pub ready : IsReadyForStep before step parts
   pub rowed : parts.log.journal ≡ before ++ item.Row row step ∷ []
 
--- the parts behind the step: its items are written, and the parts are as the journal says then;
--- where memory ran out, a part of the items is written
+-- the parts after the step: its items are written, and then the parts are as the journal says; if
+-- memory ran out, a part of the items is written
 pub record Goes {T E : Type 0} (result : Result T E) (before : List Item) (row : ℕ) (step : Step)
     (old new : Parts) : Type 0 where
   pub net : KeepNet old new

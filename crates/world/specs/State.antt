@@ -23,19 +23,20 @@ pub record WorldValue : Type 0 where
   -- how many packets came in or were refused
   pub packets : ℕ
   pub controller : ControllerValue
-  -- the switches to which each switch has a link that is up, as masks, and a usable one
+  -- for each switch, as masks, the switches to which it has a link that is up, and those to which
+  -- it has a usable one
   pub links : List ℕ
   pub near : List ℕ
   -- memory ran out within a step, so that no further one is taken
   pub is_spent : Bool
 
--- what its journal is read against
+-- the setting of its journal
 abbrev pub setting_at : WorldValue → Setting
 setting_at world = setting_of world.net world.files
 
 -- ---- a world
 
--- all that it holds
+-- all that it has
 abbrev pub state_at : WorldValue → NetworkState
 state_at world = record {
   switches = world.switches;

@@ -12,7 +12,7 @@ use net_file::Net;
 use std::alloc::{AllocError, Global};
 use switch_core::Switch;
 
-/// For how many items a journal has room from the beginning, so that a longer one is seldom moved.
+/// How many items a journal has room for from the beginning, so that a longer one is seldom moved.
 const FIRST_ITEMS: usize = 16_384;
 
 /// A journal in which nothing happened yet.

@@ -9,7 +9,7 @@ pub const TOO_MANY_LEAVES: u32 = 14;
 /// Too few switches have room for one of its partitions.
 pub const NO_ROOM: u32 = 15;
 
-/// It has a plan, but no more versions may be live.
+/// It has a plan, but no more versions may be unretired.
 pub const TOO_MANY_LIVE: u32 = 16;
 
 /// It has a plan, but there may be no more versions in all.

@@ -1,6 +1,6 @@
-//! The controller's part: policies that are updated, switches that are confirmed to be gone, and
-//! what is sent again, for it may have been lost: the hello and the adverts of a switch, and what
-//! the controller knows it to lack.
+//! The controller's part: policies that are updated, switches that are confirmed as down, and what
+//! is sent again because it may have been lost: the hello and the adverts of a switch, and what
+//! the controller knows that it lacks.
 ghost use Rattle.std.specs.Prelude.{◌≡◌, ◌==◌, ◌++◌, length, map};
 ghost use Rattle.controller.specs.declared.sends.Act.TheVariants.{Post};
 ghost use Rattle.steps.specs.declared.step.Step.TheVariants.{Confirm as ConfirmStep, Resend as ResendStep, Update as UpdateStep};
@@ -19,8 +19,7 @@ impl Parts {
     /// The policy of the file, or the one that it makes of the newest version's, becomes the newest
     /// version, unless there is none, or it has no plan, or the controller refuses it.
     ///
-    /// # Errors
-    /// Only out of memory; a part of the items is written then.
+    /// # Errors Only out of memory; then a part of the items is written.
     pub fn update(&mut self, alloc: Global, file: u32) -> Result<(), AllocError>
         requires { HasBegun (UpdateStep file) self.old }
         ensures { Plays (UpdateStep file) result self.old self.new }
@@ -46,11 +45,10 @@ impl Parts {
         self.log.journal.push(Item::Refused { file, code })
     }
 
-    /// The controller is told that the switch is down, and waits for it no longer. Nothing happens
-    /// where the switch is up.
+    /// The controller is told that the switch is down, and no longer waits for it. Nothing happens
+    /// if the switch is up.
     ///
-    /// # Errors
-    /// Only out of memory; a part of the items is written then.
+    /// # Errors Only out of memory; then a part of the items is written.
     pub fn confirm(&mut self, alloc: Global, switch: u32) -> Result<(), AllocError>
         requires { HasBegun (ConfirmStep switch) self.old }
         ensures { Plays (ConfirmStep switch) result self.old self.new }
@@ -63,12 +61,11 @@ impl Parts {
         self.log.note_acts(alloc, sends.into_items())
     }
 
-    /// A switch that is up tells the controller its boot again, and its neighbours all adverts that
-    /// it holds; then the controller sends again what the switch didn't acknowledge. Nothing
-    /// happens where none of this is there to send.
+    /// A switch that is up sends its boot to the controller again, and all adverts that it has to
+    /// its neighbours; then the controller sends again what the switch didn't acknowledge. Nothing
+    /// happens if there is nothing to send.
     ///
-    /// # Errors
-    /// Only out of memory; a part of the items is written then.
+    /// # Errors Only out of memory; then a part of the items is written.
     pub fn resend(&mut self, alloc: Global, switch: u32) -> Result<(), AllocError>
         requires { HasBegun (ResendStep switch) self.old }
         ensures { Plays (ResendStep switch) result self.old self.new }

@@ -1,4 +1,4 @@
-//! Messages that are delivered: who hears them, and what is sent upon them.
+//! Messages that are delivered: which switch hears them, and what is sent in reply.
 ghost use Rattle.std.specs.Prelude.{◌≡◌, ◌+◌, ◌-◌, ◌^◌, ◌<◌, ◌≤◌, ◌++◌, All, OnOk, OnErr, length, map};
 ghost use Rattle.message_bag.specs.Posts.{new_post};
 ghost use Rattle.controller.specs.Exports.{ControllerValue, NamesThere, SettlesWith, hear_acts, marks_after, newest_policy};
@@ -16,11 +16,10 @@ use std::alloc::{AllocError, Global};
 use world_log::{Log, relink, usable};
 
 impl Parts {
-    /// A message is delivered: its switch or the controller hears it, and sends what it has to say
-    /// upon it. A switch that opens changes which links can be used.
+    /// A message is delivered: its switch or the controller hears it, and sends its replies. A
+    /// switch that opens changes which links are usable.
     ///
-    /// # Errors
-    /// Only out of memory; a part of the items is written then.
+    /// # Errors Only out of memory; then a part of the items is written.
     pub fn deliver(&mut self, alloc: Global, number: u32) -> Result<(), AllocError>
         requires { HasBegun (DeliverStep number) self.old }
         ensures { Plays (DeliverStep number) result self.old self.new }
@@ -53,11 +52,10 @@ impl Parts {
         }
     }
 
-    /// Links came back or failed, or switches began or ceased to serve: those whose usable links
-    /// changed tell their neighbours.
+    /// Links came back or failed, or switches began or ceased to serve: the switches whose usable
+    /// links changed tell their neighbours.
     ///
-    /// # Errors
-    /// Only out of memory; a part of the items is written then.
+    /// # Errors Only out of memory; then a part of the items is written.
     pub fn change_links(&mut self, alloc: Global) -> Result<(), AllocError>
         requires many { length self.old.switches.items ≤ 64 }
         requires next { All (λ switch. switch.seq < 2 ^ 32 - 1) self.old.switches.items }

@@ -11,10 +11,9 @@ use world_log::{hello, set_ends};
 
 impl Parts {
     /// The switch goes down, unless it is down already: it loses what it learnt, and the packets
-    /// that stand there are lost. The other ends of its usable links tell their neighbours.
+    /// that are there are lost. The other ends of its usable links tell their neighbours.
     ///
-    /// # Errors
-    /// Only out of memory; a part of the items is written then.
+    /// # Errors Only out of memory; then a part of the items is written.
     pub fn crash(&mut self, alloc: Global, switch: u32) -> Result<(), AllocError>
         requires { HasBegun (CrashStep switch) self.old }
         ensures { Plays (CrashStep switch) result self.old self.new }
@@ -28,11 +27,10 @@ impl Parts {
         self.change_links(alloc)
     }
 
-    /// The switch comes up again, closed, in its next boot, and tells the controller so. Nothing
-    /// happens where it is up.
+    /// The switch comes up again, closed, in its next boot, and sends the controller its boot.
+    /// Nothing happens if it is up.
     ///
-    /// # Errors
-    /// Only out of memory; a part of the items is written then.
+    /// # Errors Only out of memory; then a part of the items is written.
     pub fn restart(&mut self, alloc: Global, switch: u32) -> Result<(), AllocError>
         requires { HasBegun (RestartStep switch) self.old }
         ensures { Plays (RestartStep switch) result self.old self.new }
@@ -46,11 +44,11 @@ impl Parts {
         self.log.send(alloc, hello(switch, boot))
     }
 
-    /// The link of two switches comes back, or fails, at both of its ends, and those whose usable
-    /// links changed tell their neighbours. Where it is so already, nothing happens.
+    /// The link of two switches comes back, or fails, at both of its ends, and the switches whose
+    /// usable links changed tell their neighbours. Nothing happens if the link is in that state
+    /// already.
     ///
-    /// # Errors
-    /// Only out of memory; a part of the items is written then.
+    /// # Errors Only out of memory; then a part of the items is written.
     pub fn set_link(
         &mut self,
         alloc: Global,

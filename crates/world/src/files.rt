@@ -15,12 +15,12 @@ use std::alloc::{AllocError, Global};
 use std::marker::Model;
 use switch_table::Touched;
 
-/// What became of the policy of a file, or of the one that it makes of the newest policy.
+/// The result of compiling the policy of a file, or the one that it makes of the newest policy.
 #[derive(Drop)]
 pub enum Compiled {
-    /// It has this plan. A change touches this of the newest policy.
+    /// It has this plan. With what a change touches of the newest policy.
     Planned(Plan, Touched),
-    /// There is none, or it has no plan on the network, for the cause of this code.
+    /// There is none, or it has no plan on the network, for the reason with this code.
     Refused { code: u32 },
 }
 
@@ -92,7 +92,7 @@ impl Files {
     }
 
     /// The plan of the policy that the file at this place, from 0, has, or that it makes of the
-    /// newest policy, and what it touches of that; or why there is none.
+    /// newest policy, and what it touches of the newest policy; or why there is none.
     ///
     /// # Errors
     /// Only out of memory.
@@ -134,7 +134,7 @@ pub fn first_policy(files: &[PolicyFile]) -> &Policy
     }
 }
 
-// Forgets what became of changes.
+// Forgets the results for changes.
 fn forget_changes(files: &[PolicyFile], compiled: &mut Vec<Option<Compiled>>)
     requires { length compiled.old.items ≡ length files.now }
     ensures { KeepsWhole files.now compiled.old.items compiled.new.items }

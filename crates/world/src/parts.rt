@@ -27,12 +27,11 @@ pub struct Parts {
     pub controller: Controller,
 }
 
-// Each kind of step has a method of its own, which begins behind the step's row.
+// Each kind of step has its own method, which begins after the step's row.
 impl Parts {
     /// Takes the step of this row, and writes what happens.
     ///
-    /// # Errors
-    /// Only out of memory; a part of the items is written then.
+    /// # Errors Only out of memory; then a part of the items is written.
     pub fn play(&mut self, alloc: Global, row: u32, step: &Step) -> Result<(), AllocError>
         requires { IsReadyForStep self.old.log.journal step.now self.old }
         ensures { Goes result self.old.log.journal row step.now self.old self.new }

@@ -37,9 +37,9 @@ use world_log::{Log, link_masks};
 /// A network of switches with its controller, the packets on their way in it, and the journal of
 /// what happened.
 ///
-/// Contracts see the network, the files, the journal, the switches, the links that can be used, the
-/// packets on their way, the messages, how many packets there were, the controller, and whether
-/// memory ran out within a step.
+/// Contracts see the network, the files, the journal, the switches, the usable links, the packets
+/// on their way, the messages, how many packets there were, the controller, and whether memory ran
+/// out within a step.
 #[derive(Drop)]
 pub struct World {
     parts: Parts,
@@ -59,7 +59,7 @@ impl Model for World {
 
 impl World {
     /// The network with the policy of the first file in force as version 1: every switch is up and
-    /// serves, and no packet came in yet. The files behind it may be changes.
+    /// serves, and no packet came in yet. The later files may be changes.
     ///
     /// # Errors
     /// Why the first policy has no plan on the network.
@@ -100,13 +100,13 @@ impl World {
         })
     }
 
-    /// Takes the step of this row of a schedule, and writes what happens into the journal. Where
-    /// there is no room for a step any may be asked for, as a flush does by a great number.
+    /// Takes the step of this row of a schedule, and writes what happens into the journal. If
+    /// there is no room for a step, the step may be any, as a flush that calls this with a great
+    /// number needs.
     ///
-    /// # Errors
-    /// `Full` exactly where so many messages were sent that no step begins; nothing changes then.
-    /// Otherwise only out of memory: the journal has a part of the step's items then, and each
-    /// further step is answered so at once, full or not, and changes nothing.
+    /// # Errors `Full` exactly if so many messages were sent that no step begins; then nothing
+    /// changes. Otherwise only out of memory: then the journal has a part of the step's items, and
+    /// each further step returns the same at once, full or not, and changes nothing.
     pub fn step(&mut self, row: u32, step: &Step) -> Result<(), StepError>
         requires may { HasRoom self.old.journal
             → IsStep self.old.net (length self.old.files) step.now }
@@ -146,7 +146,7 @@ impl World {
         Ok(())
     }
 
-    /// The least number at or above `from` of a packet that travels; `None` exactly where there is
+    /// The least number at or above `from` of a packet that travels; `None` exactly if there is
     /// none.
     pub fn next_travelling(&self, from: u32) -> Option<u32>
         ensures next { IsNextFrom self.now.travelling from result }
@@ -159,7 +159,7 @@ impl World {
     }
 
     /// The least number at or above `from` of a message that was never delivered and isn't
-    /// forgotten; `None` exactly where there is none.
+    /// forgotten; `None` exactly if there is none.
     pub fn next_waiting(&self, from: u32) -> Option<u32>
         ensures next { result ≡ next_waiting_post self.now.bag from }
         ensures least { self.now.is_spent ≡ false
@@ -184,7 +184,7 @@ impl World {
         &self.parts.log.journal
     }
 
-    /// What happened so far; all else is let go. It takes no memory.
+    /// What happened so far; all else is dropped. It allocates nothing.
     pub fn into_journal(self) -> Journal
         ensures { result ≡ self.journal }
     {
@@ -230,7 +230,7 @@ impl World {
     }
 
     /// As long as memory didn't run out within a step, the journal is a run of the machine whose
-    /// ends have causes, and the versions are whole; and behind the last step packets are on their
+    /// ends have causes, and the versions are whole; and after the last step packets are on their
     /// way, and the marks are settled.
     pub fn keeps_on_the_way(&self)
         ensures so_far { self.now.is_spent ≡ false

@@ -1,4 +1,4 @@
--- Which links can be used, and what switches tell when that changes.
+-- Which links are usable, and what switches send when that changes.
 use Rattle.std.specs.Prelude.{ℕ, ◌≡◌, ◌<◌, ◌==◌, not, ◌&&◌, Bool, true, false, if◌then◌else◌, Option, Some, None, List, [], ◌∷◌, filter, filter_map, length, map, slice_get, slice_index, slice_index_or}
 use Rattle.std.specs.List.{flat_map, range_with_len}
 use Rattle.std.specs.Option.{option_map_or}
@@ -32,38 +32,37 @@ SetsLink before one two up after = (s k : ℕ) → s < 64 → k < 64
 
 -- ---- usable links
 
--- the switch of this number is there, and serves
+-- the switch of this number exists, and serves
 abbrev pub serves_at : List SwitchValue → ℕ → Bool
 serves_at switches s = option_map_or serves (slice_get switches s) false
 
--- those of these links that can be used, where a switch itself serves, and these others
+-- the usable ones of these links, if the switch itself serves, and these others do
 abbrev pub near_where : ℕ → Bool → (ℕ → Bool) → ℕ
 near_where links own others = mask_of (λ k. has links k && own && others k)
 
--- the switches to which a switch has a usable link, where it has links that are up to these: both
--- ends serve
+-- the switches to which a switch has a usable link, if its links to these are up: both ends serve
 unfoldable pub near_by : List ℕ → List SwitchValue → ℕ → ℕ
 near_by links switches s =
     near_where (slice_index links s) (serves_at switches s) (serves_at switches)
 
--- of all 64 numbers
+-- the same for all 64 numbers
 unfoldable pub near_all : List ℕ → List SwitchValue → List ℕ
 near_all links switches = map (near_by links switches) (range_with_len 0 64)
 
--- ---- what switches tell
+-- ---- what switches send
 
--- the adverts that a switch holds, by ascending origin
+-- the adverts that a switch has, by ascending origin
 abbrev pub all_held : SwitchValue → List Advert
 all_held switch = filter_map (held_advert switch.database) switches
 
--- what the switch tells a neighbour, where it had a usable link to it before, or hadn't
+-- what the switch sends a neighbour, by whether it had a usable link to it before
 abbrev pub adverts_over : SwitchValue → Advert → Bool → ℕ → List Message
 adverts_over switch own had neighbour = elim had [
   | true ↦ advert_to neighbour own ∷ []
   | false ↦ map (advert_to neighbour) (all_held switch)
 ]
 
--- if it has a usable link to that
+-- the same, if it has a usable link to that
 abbrev pub adverts_near : SwitchValue → Advert → ℕ → ℕ → ℕ → List Message
 adverts_near switch own had near other =
     if has near other then adverts_over switch own (has had other) other else []
@@ -73,13 +72,13 @@ abbrev pub advert_if_held : ℕ → Option Advert → List Message
 advert_if_held other None = []
 advert_if_held other (Some advert) = advert_to other advert ∷ []
 
--- all that it holds, if it has a usable link to that
+-- all that it has, if it has a usable link to that
 abbrev pub adverts_all_near : SwitchValue → ℕ → ℕ → List Message
 adverts_all_near switch near other =
     if has near other then map (advert_to other) (all_held switch) else []
 
--- what a switch that is up tells again: the controller its boot, and its neighbours among so many
--- switches all that it holds
+-- what a switch that is up sends again: to the controller its boot, and to its neighbours among
+-- this many switches all that it has
 abbrev pub adverts_again : ℕ → ℕ → ℕ → SwitchValue → List Message
 adverts_again s count near switch = if switch.is_up
     then to_controller (Hello s switch.boot)
@@ -91,12 +90,12 @@ adverts_again s count near switch = if switch.is_up
 abbrev pub links_change : ℕ → ℕ → SwitchValue → Bool
 links_change had near switch = switch.is_up && not (had == near)
 
--- it makes its next advert then
+-- then it makes its next advert
 abbrev pub relinked_as : ℕ → ℕ → SwitchValue → SwitchValue
 relinked_as had near switch = if links_change had near switch then near_changed switch near
     else switch
 
--- and tells its neighbours among so many switches
+-- and sends to its neighbours among this many switches
 abbrev pub adverts_on_change : ℕ → ℕ → ℕ → SwitchValue → List Message
 adverts_on_change count had near switch = if links_change had near switch
     then flat_map (λ other. adverts_over (near_changed switch near) (next_advert switch near)
@@ -109,7 +108,7 @@ adverts_at count had near switches s = elim (slice_get switches s) [
   | Some switch ↦ adverts_on_change count (slice_index had s) (slice_index near s) switch
 ]
 
--- all that is told, by ascending number of the switch that tells it
+-- all that is sent, by ascending number of the sender
 unfoldable pub all_adverts_sent : List ℕ → List ℕ → List SwitchValue → List Message
 all_adverts_sent had near switches =
     flat_map (adverts_at (length switches) had near switches)

@@ -1,17 +1,17 @@
--- Packets that are lost where they stand.
+-- Packets that are lost where they are.
 use Rattle.std.specs.Prelude.{ℕ, ◌≡◌, ◌<◌, ◌≤◌, if◌then◌else◌, None, List, ◌++◌, filter, length, map}
 use Rattle.std.specs.List.{range_with_len}
 use Rattle.journal.specs.declared.item.Item.{Item}
 use Rattle.journal.specs.declared.item.Item.TheVariants as item
 use Rattle.travelling.specs.Travelling.{Flights, flight, stands_at}
 
--- the packets below a number that stand at the switch, ascending
+-- the packets below a number that are at the switch, ascending
 abbrev pub numbers_below : Flights → ℕ → ℕ → List ℕ
 numbers_below flights switch bound =
     filter (λ i. stands_at switch (flight flights i)) (range_with_len 0 bound)
 
--- of the packets below a number those that stood at the switch are lost: their losses are written,
--- and they travel no more; no other loss is written, and all others are as before
+-- of the packets below a number those that were at the switch are lost: their losses are written,
+-- and they no longer travel; no other loss is written, and all others are as before
 pub record AreLostBelow (before : Flights) (switch bound : ℕ) (journal now : List Item)
     (after : Flights) : Type 0 where
   pub within : bound ≤ length before

@@ -1,4 +1,4 @@
--- What becomes of the journal and of the packets on their way as a packet comes in or moves on.
+-- What becomes of the journal and of the packets on their way when a packet comes in or moves on.
 use Rattle.std.specs.Prelude.{ℕ, ◌≡◌, ◌+◌, ◌-◌, ◌^◌, ◌<◌, IsSomeAnd, IsTrue, Option, Some, None, List, [], ◌∷◌, ◌++◌, length, Result, OnOk}
 use Rattle.message_bag.specs.Posts.{Post}
 use Rattle.failover.specs.Links.{no_links}
@@ -30,13 +30,13 @@ coming_in packet header switch = record {
   down = no_links;
 }
 
--- the switch's answer to it
+-- the switch's result for it
 abbrev pub entry : SwitchValue → ℕ → Ports → ℕ → Header → Option Answer
 entry s near ports packet header =
     admitted s (around near ports) (incoming_packet s packet header)
 
--- what its arrival writes where the next message has this number, what it posts, and where the
--- packet is then
+-- what its arrival writes if the next message has this number, what it posts, and where the packet
+-- is then
 unfoldable pub arrival_items : ℕ → SwitchValue → ℕ → Ports → Flight → List Item
 arrival_items number s near ports flight =
     arrived_items number (standing_at s.number flight) flight.version flight.rule
@@ -51,7 +51,7 @@ arrival s near ports flight =
     arrived_flight flight.version flight.rule
     (received s (around near ports) flight.tunnel)
 
--- ---- as it moves on
+-- ---- when it moves on
 
 -- a link was found down, and the packet takes this route around it, unless it is stuck
 abbrev pub turned_items : ℕ → ℕ → Option ℕ → HopEnd → List ℕ → List Item
@@ -72,12 +72,12 @@ abbrev pub ended_posts : SwitchValue → ℕ → Ports → Flight → HopEnd →
 ended_posts s near ports t hop.Arrive = arrival_posts s near ports t
 ended_posts s near ports t _ = []
 
--- the switch is asked once more where it arrives
+-- the switch is called again if the packet arrives
 abbrev pub ended_switch : SwitchValue → HopEnd → SwitchValue
 ended_switch s hop.Arrive = call_counted s
 ended_switch s _ = s
 
--- the packet behind the switch's move
+-- the packet after the switch's move
 abbrev pub hopped_flight : SwitchValue → ℕ → Flight → Flight
 hopped_flight s near t = record t { tunnel = (hop_answer s near t.tunnel).tunnel }
 
@@ -125,8 +125,8 @@ abbrev pub followed_flight : SwitchValue → ℕ → Ports → Flight → Option
 followed_flight s near ports t =
     ended_flight s near ports (record t { tunnel = (followed t).tunnel }) (followed t).end
 
--- the packet that stands there, with this version and this rule, on its leg to these targets, is
--- this one; its switch was asked where it goes on, and the link to another is down
+-- the packet that is there, with this version and this rule, on its leg to these targets, is this
+-- one; its switch was called to move it on, and the link to another is down
 pub record MeetsDownLink (at : Standing) (its_version : ℕ) (its_rule : Option ℕ) (its_leg : Leg)
     (its_targets : List ℕ) (other : ℕ) (before after : SwitchValue) (near : ℕ) (t : Flight)
     : Type 0 where
@@ -142,10 +142,10 @@ pub record MeetsDownLink (at : Standing) (its_version : ℕ) (its_rule : Option 
       → IsAtAuthority before t.tunnel.header t.tunnel.leg
   pub ingress : t.tunnel.ingress < 64
 
--- ---- what a hop needs, and all that it makes of a log
+-- ---- what a hop needs, and all that it does to a log
 
--- the packet of this number stands at the switch, which can be asked of it, and can decide it if it
--- arrives there; and the log has room for a message
+-- the packet of this number is at the switch, whose calls for it may be made, and which can decide
+-- it if it arrives there; and the log has room for a message
 pub record MayGoOn (log : Log) (packet : ℕ) (s : SwitchValue) (near : ℕ) : Type 0 where
   pub known : IsSomeAnd (flight log.travelling packet) (λ t. t.tunnel.packet ≡ packet)
   pub here : (t : Flight) → flight log.travelling packet ≡ Some t
@@ -158,7 +158,7 @@ pub record MayGoOn (log : Log) (packet : ℕ) (s : SwitchValue) (near : ℕ) : T
   pub ingress : (t : Flight) → flight log.travelling packet ≡ Some t → t.tunnel.ingress < 64
   pub few : length log.bag < 2 ^ 32 - 1
 
--- what its hop wrote and posted, where it is then, and that its switch was asked so often
+-- what its hop wrote and posted, where it is then, and how often its switch was called
 pub record HasHopped {T E : Type 0} (result : Result T E) (packet : ℕ) (before : SwitchValue)
     (near : ℕ) (ports : Ports) (old : Log) (after : SwitchValue) (new : Log) (t : Flight)
     : Type 0 where
@@ -166,7 +166,7 @@ pub record HasHopped {T E : Type 0} (result : Result T E) (packet : ℕ) (before
       (hop_posts before near ports t) packet (hop_flight before near ports t) old new
   pub counted : OnOk result (after ≡ hopped_switch before near t)
 
--- so it is with the packet of this number, where the switch was put to it at this site
+-- this is true of the packet of this number, after the hop at this switch and site
 abbrev pub Hops : {T E : Type 0} → Result T E → ℕ → SwitchValue → given.Site → Log → SwitchValue
     → Log → Type 0
 Hops result packet before site old after new = (t : Flight) → flight old.travelling packet ≡ Some t

@@ -10,7 +10,7 @@ use Rattle.journal.specs.declared.item.Item.TheVariants as item
 use Rattle.world_log.specs.Writing.{IsPart}
 use Rattle.world_log.specs.declared.log.Log.{Log}
 
--- where the next message has this number
+-- the item of an act, if the next message has this number
 abbrev pub act_item : ℕ → Act → Item
 act_item number (act.Current version) = item.Current version
 act_item number (act.Retired version) = item.Retired version
@@ -37,22 +37,22 @@ act_posts (first ∷ acts) = act_post first ++ act_posts acts
 
 -- ---- what may be sent
 
--- the bag has room for these messages, each of which has a short spelling
+-- the bag has room for these messages, each of which has a short encoding
 pub record MaySend (bag : List Post) (messages : List Message) : Type 0 where
   pub few : length bag + length messages < 2 ^ 32
   pub spelled : All HasShortSpelling messages
 
--- what the act sends, if it sends something, has a short spelling
+-- what the act sends, if it sends something, has a short encoding
 abbrev pub IsSpelled : Act → Type 0
 IsSpelled (act.Post message) = HasShortSpelling message
 IsSpelled _ = ⊤
 
--- so it is with all that is sent as these acts are done
+-- this is true of all that is sent when these acts are done
 pub record MayNote (bag : List Post) (acts : List Act) : Type 0 where
   pub few : length bag + length (act_posts acts) < 2 ^ 32
   pub spelled : All IsSpelled acts
 
--- what it makes of a log; where memory ran out, a part of the items is written
+-- a log after it; if memory ran out, a part of the items is written
 pub record HasNoted {T E : Type 0} (result : Result T E) (acts : List Act) (old new : Log)
     : Type 0 where
   pub written : OnOk result (new.journal ≡ old.journal ++ act_items (length old.bag + 1) acts)

@@ -1,4 +1,4 @@
--- What the answers of a switch to a packet make of the journal and of the packet.
+-- What the results of a switch for a packet do to the journal and the packet.
 use Rattle.std.specs.Prelude.{ℕ, ◌≡◌, Option, Some, None, option_map, List, [], ◌∷◌, ◌++◌, map, Result, Ok, Err, OnOk, OnErr}
 use Rattle.message_bag.specs.Posts.{Post, new_post}
 use Rattle.ctrl_msg.specs.declared.message.Body.{Body}
@@ -24,15 +24,15 @@ use Rattle.update_machine.specs.Moves.{takes_route}
 use Rattle.travelling.specs.Travelling.{Flight, Standing, WithOne}
 use Rattle.world_log.specs.declared.log.Log.{Log}
 
--- the items begin with what was written behind the old journal
+-- the items begin with what was written after the old journal
 pub record IsPart (old items new : List Item) : Type 0 where
   pub written : List Item
   pub rest : List Item
   pub split : items ≡ written ++ rest
   pub grown : new ≡ old ++ written
 
--- what a call leaves of a log: it wrote these items and posted these frames, and of the packets on
--- their way this one alone is what it is now; where memory ran out, a part of the items is written
+-- a log after a call: it wrote these items and posted these frames, and of the packets on their
+-- way only this one changed, to this; if memory ran out, a part of the items is written
 pub record LogAfter {T E : Type 0} (result : Result T E) (items : List Item) (posts : List Post)
     (packet : ℕ) (this : Option Flight) (old new : Log) : Type 0 where
   pub written : OnOk result (new.journal ≡ old.journal ++ items)
@@ -40,18 +40,18 @@ pub record LogAfter {T E : Type 0} (result : Result T E) (items : List Item) (po
   pub travels : OnOk result (WithOne old.travelling packet this new.travelling)
   pub part : OnErr result (IsPart old.journal items new.journal)
 
--- the packet that stands there, as the switch is asked of it
+-- the packet that is there, as the switch gets it
 abbrev pub packet_standing : Standing → Packet
 packet_standing at = packet_with at.packet at.header at.ingress at.down
 
 -- ---- on a leg
 
--- it takes the route there, or is stuck
+-- it takes the route from there, or is stuck
 abbrev pub set_item : Standing → Leg → Result TunnelValue Cause → Item
 set_item at leg (Ok tunnel) = takes_route at.packet tunnel.leg tunnel.route
 set_item at leg (Err cause) = item.Stuck at.packet at.switch cause leg at.down
 
--- where the packet had this version and this rule
+-- the packet then, if it had this version and this rule
 abbrev pub set_flight : ℕ → Option ℕ → Result TunnelValue Cause → Option Flight
 set_flight version rule (Ok tunnel) =
     Some (record { tunnel = tunnel; version = version; rule = rule })
@@ -85,30 +85,30 @@ decided_items at decision sends onward =
     item.Decided at.packet decision.version decision.rule decision.action decision.how
     ∷ sends ++ end_item at decision onward ∷ []
 
--- it travels on where it is to exit elsewhere
+-- it travels on if it is to exit elsewhere
 abbrev pub decided_flight : Decision → Next → Option Flight
 decided_flight decision (next.Exit tunnel) =
     Some (record { tunnel = tunnel; version = decision.version; rule = decision.rule })
 decided_flight decision _ = None
 
--- ---- by the answer of a lookup
+-- ---- by the result of a lookup
 
 -- one message or none, as a list
 abbrev pub message_list : Option Message → List Message
 message_list None = []
 message_list (Some message) = message ∷ []
 
--- a cache rule goes to the switch where the packet came in
+-- a cache rule is sent to the switch where the packet came in
 abbrev pub cache_message : ℕ → Option Body → Option Message
 cache_message ingress cache =
     option_map (λ body. record { to = receiver.Switch ingress; body = body }) cache
 
--- the message of the answer, if there is one
+-- the message of the result, if there is one
 abbrev pub answer_message : Standing → Answer → Option Message
 answer_message at (answer.Decided decision cache onward) = cache_message at.ingress cache
 answer_message at _ = None
 
--- where the next message has this number
+-- the items, if the next message has this number
 abbrev pub answer_items : ℕ → Standing → Answer → List Item
 answer_items number at (answer.Decided decision cache onward) =
     decided_items at decision (sent_from number (message_list (cache_message at.ingress cache)))
@@ -122,7 +122,7 @@ answer_items number at (answer.Stuck cause leg) =
 abbrev pub answer_posts : Standing → Answer → List Post
 answer_posts at what = map new_post (message_list (answer_message at what))
 
--- where the packet had this version and this rule
+-- the packet then, if it had this version and this rule
 abbrev pub answer_flight : ℕ → Option ℕ → Answer → Option Flight
 answer_flight version rule (answer.Decided decision cache onward) =
     decided_flight decision onward
@@ -130,7 +130,7 @@ answer_flight version rule (answer.Seek tunnel) =
     Some (record { tunnel = tunnel; version = version; rule = rule })
 answer_flight version rule (answer.Stuck cause leg) = None
 
--- ---- as it comes in
+-- ---- when it comes in
 
 abbrev pub entered_items : ℕ → Standing → Option Answer → List Item
 entered_items number at None = item.Closed at.packet at.switch ∷ []
@@ -147,7 +147,7 @@ entered_flight (Some what) = answer_flight 0 None what
 
 -- ---- at the end of its route
 
--- where the packet had this version and this rule
+-- if the packet had this version and this rule
 abbrev pub arrived_items : ℕ → Standing → ℕ → Option ℕ → Arrival → List Item
 arrived_items number at version rule (answer.Out port) = left_item at version rule port ∷ []
 arrived_items number at version rule (answer.Answered what) = answer_items number at what

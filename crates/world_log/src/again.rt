@@ -1,4 +1,4 @@
-//! What a switch tells again, for it may have been lost.
+//! What a switch sends again because it may have been lost.
 ghost use Rattle.std.specs.Prelude.{◌≡◌, ◌<◌, ◌≤◌, ◌++◌, IfOk, OnOk};
 ghost use Rattle.ctrl_msg.specs.declared.message.Body.TheVariants.{Hello};
 ghost use Rattle.ctrl_msg.specs.Kinds.{to_controller};
@@ -10,8 +10,8 @@ use ctrl_msg::{Body, Message, Place};
 use std::alloc::{AllocError, Global};
 use switch_core::Switch;
 
-/// What switch s tells again, where it is up: the controller its boot, and each neighbour among so
-/// many switches all adverts that it holds.
+/// What switch s sends again if it is up: to the controller its boot, and to each neighbour among
+/// this many switches all adverts that it has.
 ///
 /// # Errors
 /// Only out of memory.
@@ -37,7 +37,7 @@ pub fn adverts_again(
     Ok(messages)
 }
 
-// What the switch tells the other one again, if it has a usable link to that.
+// What the switch sends the other one again, if it has a usable link to that.
 fn send_neighbour(
     messages: &mut Vec<Message>,
     switch: &Switch,

@@ -1,17 +1,17 @@
 //! What happened in a network so far, with the packets that are on their way and the messages that
-//! were sent, what each answer of a switch to a packet makes of them, and which links can be used.
+//! were sent, what each result of a switch for a packet does to them, and which links are usable.
 //!
-//! A `Log` promises that each call writes exactly the items that the definitions state of the
-//! answer, posts the messages that it sends under the next numbers, and changes of the packets on
-//! their way the one that it names alone, or at a crash those that stand there. Where memory runs
-//! out, the journal has a part of the items. What the items have to do with earlier ones is for the
-//! crates above to say.
+//! A `Log` promises that each call writes exactly the items that the definitions state for the
+//! result, posts the messages that it sends under the next numbers, and changes, of the packets on
+//! their way, only the one that it names, or at a crash those that are there. If memory runs out,
+//! the journal has a part of the items. How the items depend on earlier ones is stated by the
+//! crates above.
 //!
-//! A link can be used where it is up and both of its ends serve. `usable` promises these links as
+//! A link is usable if it is up and both of its ends serve. `usable` promises these links as
 //! masks, and `relink` that each switch that is up and whose usable links changed makes its next
-//! advert, and tells it over each link that it had, and all that it knows over each new one.
+//! advert, and sends it over each link that it had, and all that it knows over each new one.
 //! `link_masks` and `set_ends` keep which links are up, and `adverts_again` is what a switch sends
-//! once more.
+//! again.
 //!
 //! ```text
 //! let site = Site { near, ports: &ports };

@@ -23,8 +23,7 @@ pub struct Log {
 impl Log {
     /// The message is sent, under the next number.
     ///
-    /// # Errors
-    /// Only out of memory; nothing is written then.
+    /// # Errors Only out of memory; then nothing is written.
     pub fn send(&mut self, alloc: Global, message: Message) -> Result<(), AllocError>
         requires spelling { HasShortSpelling message }
         requires few { length self.old.bag < 2 ^ 32 - 1 }
@@ -65,7 +64,7 @@ impl Log {
         )
     }
 
-    // The packet ends in this way.
+    // The packet ends with this item.
     pub(crate) fn end(&mut self, packet: u32, item: Item) -> Result<(), AllocError>
         ensures { LogAfter result (item ∷ []) [] packet None self.old self.new }
     {
@@ -73,8 +72,8 @@ impl Log {
         self.journal.push(item)
     }
 
-    // The packet moves on to this place of its route, at this switch. It takes no memory but the
-    // journal's.
+    // The packet moves on to this place of its route, at this switch. It allocates only the
+    // journal's memory.
     pub(crate) fn move_on(&mut self, packet: u32, place: u32, switch: u32) -> Result<(), AllocError>
         requires { IsSomeAnd (flight self.old.travelling packet) (HasPlace place) }
         ensures { LogAfter result (HoppedItem packet switch ∷ []) [] packet

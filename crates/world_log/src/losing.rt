@@ -1,4 +1,4 @@
-//! Packets that are lost where they stand.
+//! Packets that are lost where they are.
 ghost use Rattle.std.specs.Prelude.{◌≡◌, ◌++◌, ◌∷◌, [], ℕ, map, None, OnOk, OnErr};
 ghost use Rattle.journal.specs.declared.item.Item.TheVariants.{Lost as LostItem};
 ghost use Rattle.travelling.specs.Travelling.{WithOne, WithoutAt, numbers_at};
@@ -12,8 +12,7 @@ use std::alloc::AllocError;
 impl Log {
     /// The packet is lost. It leaves the table once that is written.
     ///
-    /// # Errors
-    /// Only out of memory; nothing changes then.
+    /// # Errors Only out of memory; then nothing changes.
     pub fn lose(&mut self, packet: u32) -> Result<(), AllocError>
         ensures written { OnOk result (self.new.journal
             ≡ self.old.journal ++ LostItem packet ∷ []) }
@@ -26,13 +25,12 @@ impl Log {
         Ok(())
     }
 
-    /// The packets that stand at the switch are lost, ascending by number, and each leaves the table
-    /// once its loss is written. The search for the next goes on behind each of them, and reads no
-    /// other packet.
+    /// The packets at the switch are lost, ascending by number, and each leaves the table once its
+    /// loss is written. The search for the next continues after each of them, and reads no other
+    /// packet.
     ///
-    /// # Errors
-    /// Only out of memory. A part of the items is written then, and the packets of these alone
-    /// have left the table.
+    /// # Errors Only out of memory. Then a part of the items is written, and only the packets of
+    /// these have left the table.
     pub fn lose_at(&mut self, switch: u32) -> Result<(), AllocError>
         ensures written { OnOk result (self.new.journal ≡ self.old.journal
             ++ map LostItem (numbers_at self.old.travelling switch)) }

@@ -21,8 +21,7 @@ use travelling::{Standing, StoredFlight};
 impl Log {
     /// A packet comes in at the switch, which is asked what becomes of it there.
     ///
-    /// # Errors
-    /// Only out of memory; a part of the items is written then.
+    /// # Errors Only out of memory; then a part of the items is written.
     pub fn enter(
         &mut self,
         alloc: Global,
@@ -73,14 +72,13 @@ impl Log {
         }
     }
 
-    /// The packet of this number, which is on its way and stands at the switch, moves on, or is at
-    /// the end of its route. Where the link to the next switch is found down, it takes another route
-    /// on its leg, or is stuck.
+    /// The packet of this number, which is on its way and at the switch, moves on, or is at the
+    /// end of its route. If the link to the next switch is found down, it takes another route on
+    /// its leg, or is stuck.
     ///
-    /// A move over a link that is usable takes no memory but the journal's.
+    /// A move over a usable link allocates only the journal's memory.
     ///
-    /// # Errors
-    /// Only out of memory; a part of the items is written then.
+    /// # Errors Only out of memory; then a part of the items is written.
     pub fn hop(
         &mut self,
         alloc: Global,
@@ -117,8 +115,8 @@ impl Log {
         }
     }
 
-    // `hop` where the link to this switch is down: the packet takes another route on its leg to
-    // these targets, or is stuck.
+    // `hop` if the link to this switch is down: the packet takes another route on its leg to these
+    // targets, or is stuck.
     #[cold]
     #[inline(never)]
     fn go_around(
@@ -215,7 +213,7 @@ impl Log {
         }
     }
 
-    // This becomes of the packet.
+    // Carries out what becomes of the packet.
     fn settle(
         &mut self,
         alloc: Global,
@@ -255,8 +253,8 @@ impl Log {
         }
     }
 
-    // The packet sets out on the leg by its switch's route, which the item and the table share, or
-    // is stuck there.
+    // The packet begins the leg on its switch's route, which the item and the table share, or is
+    // stuck there.
     fn set_out(
         &mut self,
         alloc: Global,
@@ -316,8 +314,8 @@ impl Log {
         }
     }
 
-    // The packet goes on as its decision says: it is dropped, leaves here by its port, or sets out
-    // to the switch that has the port.
+    // The packet continues as its decision says: it is dropped, leaves here by its port, or is
+    // sent to the switch that has the port.
     fn leave(
         &mut self,
         alloc: Global,

@@ -1,5 +1,5 @@
-//! Which links switches can use, and what they tell each other when that changes, as routers in
-//! OSPF tell what they learn of their links (RFC 2328, sections 12.4 and 13).
+//! Which links switches can use, and what they send each other when that changes, as routers in
+//! OSPF send what they learn about their links (RFC 2328, sections 12.4 and 13).
 ghost use Rattle.std.specs.Prelude.{ℕ, ◌≡◌, ◌-◌, ◌^◌, ◌<◌, ◌≤◌, ◌++◌, All, IfOk, OnOk, length, map};
 ghost use Rattle.base.specs.Masks.{has};
 ghost use Rattle.update_machine.specs.Deliveries.{advert_to};
@@ -11,7 +11,7 @@ use failover::Advert;
 use std::alloc::{AllocError, Global};
 use switch_core::Switch;
 
-/// The switches to which each switch has a usable link, where these links are up.
+/// The switches to which each switch has a usable link, if these links are up.
 pub fn usable(links: &[u64; 64], switches: &[Switch]) -> [u64; 64]
     requires { length switches.now ≤ 64 }
     ensures { result ≡ near_all links.now switches.now }
@@ -36,7 +36,7 @@ fn serving(switches: &[Switch]) -> u64
     mask
 }
 
-// Those of the links of switch s that can be used, where these switches serve.
+// The usable links of switch s, if these switches serve.
 fn usable_from(links: u64, serving: u64, s: u32) -> u64
     requires { s < 64 }
     ensures { result ≡ near_where links (has serving s) (has serving) }
@@ -44,8 +44,8 @@ fn usable_from(links: u64, serving: u64, s: u32) -> u64
     if has(serving, s) { links & serving } else { 0 }
 }
 
-/// Each switch that is up, and whose usable links changed, makes its advert of them. Answers what
-/// they tell their neighbours, by ascending number.
+/// Each switch that is up, and whose usable links changed, makes its advert of them. Returns what
+/// they send their neighbours, by ascending number.
 ///
 /// # Errors
 /// Only out of memory.
@@ -95,7 +95,7 @@ fn relink_one(
     Ok(())
 }
 
-// What the switch tells the other one, if it has a usable link to that.
+// What the switch sends the other one, if it has a usable link to that.
 fn send_near(
     messages: &mut Vec<Message>,
     switch: &Switch,
@@ -114,7 +114,7 @@ fn send_near(
     Ok(())
 }
 
-// Over a link that it had the switch tells its own advert, and over a new one all that it holds.
+// Over a link that it had the switch sends its own advert, and over a new one all that it has.
 fn send_adverts(
     messages: &mut Vec<Message>,
     switch: &Switch,
@@ -132,7 +132,7 @@ fn send_adverts(
     send_all_held(messages, switch, other)
 }
 
-/// The switch tells all adverts that it holds.
+/// The switch sends all adverts that it has.
 ///
 /// # Errors
 /// Only out of memory.

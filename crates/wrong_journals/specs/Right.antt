@@ -1,4 +1,4 @@
--- Right journals: each wrong one is the beginning of one of these, but for one item.
+-- Right journals: each wrong one is the beginning of one of these, except for one item.
 use Rattle.std.specs.Prelude.{false, Some, List, [], ◌∷◌, ◌++◌}
 use Rattle.failover.specs.Links.{no_links}
 use Rattle.policy_rules.specs.declared.packet.Cause.TheVariants.{NoRoute}
@@ -10,25 +10,25 @@ use Rattle.journal.specs.declared.item.Item.TheVariants as item
 use Rattle.steps.specs.declared.step.Step.TheVariants.{Hop, LinkDown, Lose, Packet, Update}
 use Rattle.wrong_journals.specs.Office.{allowed, denied, gets, in_at_a, in_behind_update}
 
--- the packet that row 200 drops is dropped by it
+-- the packet that row 200 matches is dropped by it
 abbrev pub dropped_rightly : List Item
 dropped_rightly =
     in_at_a denied ++ item.Decided 1 1 (Some 200) Drop (Authority 0 0) ∷ item.Dropped 1 ∷ []
 
--- one that is to leave by port 2 goes to b, and leaves there
+-- one that is to leave by port 2 moves to b, and leaves there
 abbrev pub left_rightly : List Item
 left_rightly =
     in_at_a allowed ++ gets 1 (Out 2) ∷ item.Exiting 1 (0 ∷ 1 ∷ []) ∷ item.Row 2 (Hop 1)
     ∷ item.Hopped 1 1
     ∷ item.Left 1 2 (record { packet = 1; header = allowed; version = 1; rule = Some 100 }) ∷ []
 
--- behind the update it is dropped by version 2, once version 1 is retired
+-- after the update it is dropped by version 2, once version 1 is retired
 abbrev pub updated_rightly : List Item
 updated_rightly =
     item.Row 1 (Update 2) ∷ item.Submitted 2 2 ∷ item.Retired 1 ∷ item.Row 2 (Packet 0 allowed)
     ∷ item.Entered 1 0 allowed ∷ gets 2 Drop ∷ item.Dropped 1 ∷ []
 
--- and may be by version 1 before that
+-- and it may be dropped by version 1 before that
 abbrev pub decided_rightly : List Item
 decided_rightly = in_behind_update ++ gets 1 (Out 2) ∷ []
 

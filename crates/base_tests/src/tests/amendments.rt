@@ -14,7 +14,7 @@ const ANY: PortRange = PortRange {
     high: u16::MAX,
 };
 
-// A row on packets to any address, from these and of TCP to this port, where there is one.
+// A row on packets to any address, from these and, if a port is given, of TCP to this port.
 fn row(priority: u32, src: Prefix, port: Option<u16>, action: Action) -> Row {
     let (dport, proto) = match port {
         None => (ANY, Proto::Any),
@@ -121,7 +121,7 @@ fn replaces_a_row_that_is_removed_and_added(rt: HostRuntime) {
     assert!(rt; is_replaced(rt.alloc()) == Some(true));
 }
 
-// The refusal of a change that removes these rows, and adds one whose priority is taken.
+// The refusal of a change that removes these rows, and adds one whose priority is in use.
 fn refused(alloc: Global, removed: &[u32]) -> Option<Failure<Inapplicable>>
     requires { length removed.now < 1000 }
 {
@@ -164,7 +164,7 @@ fn takes_2000_rows_and_no_more(rt: HostRuntime) {
     assert!(rt; takes_most(rt.alloc()) == Some(true));
 }
 
-// The edit that repeats one, where a change removes and adds these.
+// The edit that repeats one, in a change that removes and adds these.
 fn repeated(alloc: Global, removed: &[u32], added: &[Row]) -> Option<Failure<Repeated>>
     requires { length removed.now + length added.now < 2 ^ 32 }
 {
@@ -185,7 +185,7 @@ fn edit_count(file: &PolicyFile) -> usize {
     }
 }
 
-// How many edits the second file has, of a policy and a change.
+// How many edits the second of two files has, a policy and a change.
 fn held(alloc: Global) -> Option<usize> {
     let mut files = Vec::new(alloc);
     files.push(PolicyFile::Whole(policy(alloc)?)).ok()?;

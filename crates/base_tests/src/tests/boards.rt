@@ -16,7 +16,8 @@ fn has_default(held: &[Leaving]) -> bool
     held.iter().any(|one| one.rule.is_none())
 }
 
-/// A kind of a caller's own: it leaves once it holds a packet that the default decided.
+/// A kind that a caller made: it is complete once it has recorded a packet that the default
+/// decided.
 #[derive(Drop)]
 struct UntilDefault {
     port: u32,
@@ -81,7 +82,7 @@ fn leaving_from(packet: u32, x: u32) -> Leaving
     }
 }
 
-// What is recorded of port 3: so many packets from 10.1.1.X.
+// What is recorded of port 3: this many packets from 10.1.1.X.
 fn record_from(x: u32, packets: u64) -> FlowRecord
     requires { x < 256 }
 {
@@ -100,13 +101,13 @@ fn note_all<M: Meter>(board: &mut Board<M>, leavings: &[(u32, Leaving)]) -> Resu
     Ok(())
 }
 
-// The port of the meter of this place, and how often it noted.
+// The port of the meter of this place, and how many packets it recorded.
 fn told(kept: &[Box<dyn Meter>], place: usize) -> Option<(u32, u64)> {
     let meter = kept.get(place)?;
     Some((meter.port(), meter.notes()))
 }
 
-// Whether of the meters of all kinds the recorders of ports 3 and 2 are left after four packets.
+// Whether of the meters of all kinds the recorders of ports 3 and 2 remain after four packets.
 fn leave_in_time(mut board: Board<Box<dyn Meter>>) -> Result<bool, AllocError> {
     let leavings = [
         (3, leaving(1, Some(50))),
@@ -168,8 +169,8 @@ fn count_by_header(mut board: Board<Box<dyn Meter>>) -> Result<bool, AllocError>
     Ok(have_counted(&kept)? && gone.items() == [record_from(1, 1)].as_slice())
 }
 
-/// Two packets of one header and one of another: a meter that stays has a record for each header,
-/// and one that leaves with the first header has told of the first packet alone.
+/// Two packets of one header and one of another: a meter that stays has a record for each header;
+/// one that leaves with the first header has recorded only the first packet.
 #[test]
 fn flows_are_counted_by_header(rt: HostRuntime) -> Result<(), Fail> {
     let alloc = rt.alloc();
@@ -190,7 +191,7 @@ fn three_meters(alloc: Global) -> Result<Vec<FlowMeter>, AllocError> {
     Ok(meters)
 }
 
-// Whether they have told their records in order once they left.
+// Whether their records are in order once they have left.
 fn stay_in_order(meters: Vec<FlowMeter>) -> Result<bool, AllocError> {
     let mut board = Board::new(meters, 0b1000);
     note_all(
@@ -208,8 +209,8 @@ fn stay_in_order(meters: Vec<FlowMeter>) -> Result<bool, AllocError> {
     Ok(kept.is_empty() && gone.items() == each.as_slice())
 }
 
-/// Meters that leave have told their records in the order in which they left, and at one packet in
-/// the order of the board.
+/// The records of meters that left are in the order in which they left; of those that left at one
+/// packet, in the order of the board.
 #[test]
 fn records_stay_in_order(rt: HostRuntime) -> Result<(), Fail> {
     let meters = three_meters(rt.alloc())?;

@@ -146,7 +146,7 @@ fn edit_count(alloc: Global, rows: &str) -> Option<usize> {
     Some(read_change(alloc, &text).ok()?.edits().len())
 }
 
-// Whether 2000 edits are read, and one of another kind behind them is refused for their count.
+// Whether 2000 edits are read, and one of another kind after them is refused for their count.
 fn reads_most(alloc: Global) -> Result<bool, AllocError> {
     let mut rows = many_edits(alloc)?;
     let count = edit_count(alloc, rows.as_str());
@@ -159,7 +159,7 @@ fn takes_2000_edits_and_no_more(rt: HostRuntime) {
     assert!(rt; reads_most(rt.alloc()) == Ok(true));
 }
 
-// What the check answers on the added row, which names port 4, where there are these ports.
+// What the check returns for the added row, which names port 4, on a network with these ports.
 fn checked(alloc: Global, ports: u64) -> Option<Result<(), NoPort>> {
     let text = file(alloc).ok()?;
     let change = read_file(alloc, &text).ok()?;

@@ -1,4 +1,4 @@
-//! The words of cache rules by differing bits, beside those of their definition.
+//! The words of cache rules by differing bits, compared with those of their definition.
 ghost use Rattle.std.specs.Prelude.{◌<◌, length};
 
 use crate::packets::web_header;

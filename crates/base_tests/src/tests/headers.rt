@@ -189,7 +189,7 @@ const COVERS: [(&str, u32, u16, u16); 3] = [
     ("any", 1, 0, 0),
 ];
 
-// Whether the range has so many blocks, and this first one.
+// Whether the range has this many blocks, and this first one.
 fn is_covered(alloc: Global, text: &str, count: u32, first: PortBlock) -> Option<bool> {
     let range = read_range(text.as_bytes())?;
     let blocks = cover(alloc, &range).ok()?;

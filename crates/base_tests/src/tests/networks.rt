@@ -131,7 +131,7 @@ fn refuses_other_bytes(rt: HostRuntime) {
     assert!(rt; refused(rt.alloc(), &[255]) == Some((1, 0)));
 }
 
-// The head of a text, and so many values in the array that it opens.
+// The head of a text, and this many values in the array that it opens.
 fn with_many(alloc: Global, head: &str, count: u32) -> Result<String, AllocError> {
     let mut text = String::from_str(alloc, head)?;
     for _ in 0..count {
@@ -141,7 +141,7 @@ fn with_many(alloc: Global, head: &str, count: u32) -> Result<String, AllocError
     Ok(text)
 }
 
-// Whether a text with so many values is refused for their count.
+// Whether a text with this many values is refused for their count.
 fn has_too_many(alloc: Global, head: &str, count: u32) -> Result<bool, AllocError> {
     let text = with_many(alloc, head, count)?;
     Ok(refused(alloc, text.as_bytes()) == Some((10, 0)))
@@ -164,8 +164,8 @@ fn three(alloc: Global) -> Result<Net, NetError>
     read_net(alloc, text.as_bytes())
 }
 
-// Whether the switches are known by their names, and 2 and 0 are printed by theirs, and not one that
-// isn't there.
+// Whether the switches are known by their names, and 2 and 0 are printed by theirs, and one that
+// doesn't exist isn't.
 fn have_names(alloc: Global, net: &Net) -> Result<bool, AllocError>
     requires { IsNet net.now }
 {
@@ -193,7 +193,7 @@ fn is_copied(net: &Net) -> Result<bool, AllocError>
     Ok(copy.number(b"b") == Some(1))
 }
 
-// Whether the three answer on their names, links and ports, and a copy does.
+// Whether the network of three, and a copy of it, know their names, links and ports.
 fn answer(alloc: Global) -> Result<bool, NetError> {
     let net = three(alloc)?;
     Ok(have_names(alloc, &net)? && have_links_and_ports(&net) && is_copied(&net)?)

@@ -22,7 +22,7 @@ fn no_rules_make_a_leaf(rt: HostRuntime) -> Result<(), Fail> {
     Ok(())
 }
 
-// The partition of a header where the policy has no row.
+// The partition of a header of a policy without rows.
 fn found(alloc: Global) -> Result<u32, Fail> {
     let policy = Policy::new(alloc, Vec::new(alloc))?;
     let rules = to_rules(alloc, &policy)?;

@@ -89,7 +89,7 @@ fn refuses_with_code_and_row(rt: HostRuntime) {
     assert_eq!(rt; other, Ok(None));
 }
 
-// 2000 rows, and what is behind them.
+// 2000 rows, and this text after them.
 fn many_rows(alloc: Global, behind: &str) -> Result<Vec<u8>, AllocError> {
     let mut rows = String::new(alloc);
     for priority in 0..2000u32 {
@@ -104,7 +104,7 @@ fn row_count(alloc: Global, text: &[u8]) -> Option<usize> {
     Some(read_policy(alloc, text).ok()?.rows().len())
 }
 
-// Whether 2000 rows are read, and a short one behind them is refused for their count.
+// Whether 2000 rows are read, and a short one after them is refused for their count.
 fn reads_most(alloc: Global) -> Result<bool, AllocError> {
     let most = many_rows(alloc, "")?;
     let more = many_rows(alloc, "short\n")?;
@@ -122,7 +122,7 @@ fn policy_of(alloc: Global, row: &str) -> Option<Policy> {
     read_policy(alloc, &text).ok()
 }
 
-// What the check answers on a row that names port 2, where there are these ports.
+// What the check returns for a row that names port 2, on a network with these ports.
 fn checked(alloc: Global, ports: u64) -> Option<Result<(), NoPort>> {
     let policy = policy_of(alloc, "1,any,any,any,any,any,out:2\n")?;
     Some(check_ports(&policy, ports))

@@ -3,7 +3,7 @@ use csv_records::{ByteRecord, Records, field, has_text};
 
 const TEXT: &[u8] = b"\xef\xbb\xbfa,\"b\"\"c\"\r\n\r\n\n1,,3";
 
-// Reads the next record, and tells whether there is one.
+// Reads the next record, and returns whether there is one.
 fn reads(records: &mut Records<'_>, record: &mut ByteRecord) -> Option<bool> {
     records.read_next(record).ok()
 }

@@ -1,4 +1,4 @@
-//! The tree over forty rules, beside the search through them.
+//! The tree over forty rules, compared with the search through them.
 ghost use Rattle.std.specs.Prelude.{◌<◌, ◌^◌, IfOk, length};
 
 use crate::packets::web_header;

@@ -126,7 +126,7 @@ fn reads_kinds(rt: HostRuntime) {
     assert!(rt; read_kind(b"linkup") == Some(Kind::LinkUp) && read_kind(b"link").is_none());
 }
 
-// The code and the row of the refusal of this text, with so many policies.
+// The code and the row of the refusal of this text, with this many policies.
 fn refused(alloc: Global, text: &[u8], files: u32) -> Option<(u32, u32)> {
     let Ok(net) = read_net(alloc, NETWORK) else {
         return None;

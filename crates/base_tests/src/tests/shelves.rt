@@ -28,7 +28,7 @@ fn gives(shelf: &mut impl Shelf, name: &str, limit: u64, content: &[u8]) -> bool
     }
 }
 
-// Whether a shelf in memory, whose first call fails, gives the one file or says why not.
+// Whether a shelf in memory, whose first call fails, returns the one file or says why not.
 fn gives_in_memory(alloc: Global) -> Result<bool, AllocError> {
     let mut shelf = MemShelf::new(alloc, one_file(alloc)?, vec![in alloc; 1]?);
     Ok(
@@ -44,7 +44,7 @@ fn reads_files_in_memory(rt: HostRuntime) {
     assert!(rt; gives_in_memory(rt.alloc()) == Ok(true));
 }
 
-// Whether a shelf without faults gives its file.
+// Whether a shelf without faults returns its file.
 fn gives_in_calm(alloc: Global) -> Result<bool, AllocError> {
     let mut calm = CalmShelf::new(alloc, one_file(alloc)?);
     Ok(gives(&mut calm, "policy", 5, b"first"))
@@ -55,7 +55,7 @@ fn reads_files_without_faults(rt: HostRuntime) {
     assert!(rt; gives_in_calm(rt.alloc()) == Ok(true));
 }
 
-// Whether a sink that takes ten bytes at once, and fails at the second write, has the first ten.
+// Whether a sink that accepts ten bytes at once, and fails at the second write, has the first ten.
 fn keeps_first(alloc: Global) -> Result<bool, AllocError> {
     let mut sink = MemSink::new(alloc, 10, vec![in alloc; 2]?);
     let written = write_whole(&mut sink, b"twenty-five bytes of text");
@@ -68,7 +68,7 @@ fn keeps_what_came_before_a_fault(rt: HostRuntime) {
     assert!(rt; keeps_first(rt.alloc()) == Ok(true));
 }
 
-// Whether so many bytes are written.
+// Whether this many bytes are written.
 fn takes(alloc: Global, count: usize) -> Result<bool, AllocError> {
     let bytes = vec![in alloc; 7u8; count]?;
     let mut calm = CalmSink::new(alloc);
@@ -112,7 +112,7 @@ fn tells_a_full_slice(rt: HostRuntime) {
     assert!(rt; written.err() == Some(SinkError::Failed) && room.as_slice() == b"fou".as_slice());
 }
 
-// What it takes is held back until the flush, which finds room for three bytes.
+// What it accepts is buffered until the flush, which finds room for three bytes.
 #[test]
 fn tells_a_failed_flush(rt: HostRuntime) -> Result<(), Fail> {
     let mut room = [0; 3];
@@ -128,7 +128,7 @@ struct Signalled {
     flushed: bool,
 }
 
-// Nothing, where it was done before, and else that a signal interrupted it.
+// `Ok` if it was done before; otherwise the error of a signal that interrupted it.
 fn once_interrupted(done: &mut bool) -> io::Result<()> {
     if *done {
         return Ok(());

@@ -2,7 +2,7 @@
 use std::alloc::{AllocError, Global};
 use ternary::Word;
 
-// The word of these numbers, or the one without bits where they are none.
+// The word of these numbers, or the word without bits if these numbers are no word.
 fn word(value: u128, mask: u128) -> Word {
     match Word::new(value, mask) {
         Some(word) => word,

@@ -1,4 +1,4 @@
-//! How much partitions were asked, and a better placement of them.
+//! How many packets asked partitions, and a better placement of them.
 use base::Failure;
 use journal::{Action, How, Item, Journal};
 use placement::{NoRoom, place};
@@ -63,7 +63,7 @@ fn authorities_of_the_current_version_weigh(rt: HostRuntime) {
     assert!(rt; weigh_by_version(rt.alloc()) == Ok(true));
 }
 
-// Whether each of the partitions is on this switch alone.
+// Whether each of the partitions is only on this switch.
 fn are_at(placement: &[Targets], switches: &[u32]) -> bool {
     for (partition, switch) in switches.iter().enumerate() {
         match placement.get(partition) {
@@ -90,7 +90,8 @@ fn a_spread_lowers_the_peak(rt: HostRuntime) -> Result<(), Fail> {
 
 #[test]
 fn a_refused_spread_keeps_the_old_placement(rt: HostRuntime) -> Result<(), Fail> {
-    // By weight two small partitions come first, one on each switch, and the great one finds none.
+    // By weight two small partitions come first, one on each switch, and no switch has room for
+    // the large one.
     let alloc = rt.alloc();
     let (sizes, weights, rooms) = ([2, 1, 1], [0, 1, 1], [2, 2]);
     let old = place(alloc, &sizes, &rooms, 0)?;

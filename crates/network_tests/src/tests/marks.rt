@@ -37,7 +37,7 @@ fn is_added(marks: &mut Marks) -> bool {
     }
 }
 
-// Whether no version is added, for so many that live, and the count stays.
+// Whether no version is added, for this many that aren't retired, and the count stays.
 fn is_refused(marks: &mut Marks) -> bool {
     marks.refusal() == Some(SubmitError::TooManyLive)
         && marks.submit().err() == Some(SubmitError::TooManyLive)
@@ -108,7 +108,7 @@ fn a_switch_comes_back(rt: HostRuntime) {
     assert!(rt; joins(&mut marks) == Some(true) && is_installed(&mut marks) == Some(true));
 }
 
-// Whether switch 0 joins at version 1 and is gone: version 2 is current without it.
+// Whether switch 0 joins at version 1 and is confirmed as down: version 2 is current without it.
 fn goes_on_without(marks: &mut Marks) -> Option<bool> {
     let is_second = is_added(marks);
     let is_over = over(marks, 0)?.taken && stands(marks, 0, Phase::Over, 1);

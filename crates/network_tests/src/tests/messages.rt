@@ -35,7 +35,7 @@ fn hello() -> Message
     }
 }
 
-// The boot and the version that the message of this number tells.
+// The boot and the version that the message of this number names.
 fn told(bag: &PostBag, number: u32) -> Result<Option<(Option<u32>, Option<u32>)>, Fail> {
     match bag.get(number)? {
         Some(message) => Ok(Some((message.body.boot(), message.body.version()))),
@@ -43,7 +43,7 @@ fn told(bag: &PostBag, number: u32) -> Result<Option<(Option<u32>, Option<u32>)>
     }
 }
 
-// Posts a message that isn't too long, where the bag isn't full.
+// Posts a message that isn't too long, if the bag isn't full.
 fn post(bag: &mut PostBag, alloc: Global, message: &Message) -> Result<u32, Fail>
     requires { HasSpelling message.now }
 {
@@ -63,7 +63,7 @@ fn deliver(bag: &mut PostBag, number: u32) -> bool {
     true
 }
 
-// Forgets the message, if it is there.
+// Forgets the message, if it exists.
 fn forget(bag: &mut PostBag, number: u32) -> bool {
     if !bag.may_be_delivered(number) {
         return false;
@@ -80,7 +80,7 @@ fn posted(alloc: Global, bag: &mut PostBag) -> Result<bool, Fail> {
     Ok(hello.body.is_for_controller() && first == 1 && second == 2 && bag.sent() == 2)
 }
 
-// Whether both wait, and the first one alone once the second is delivered.
+// Whether both wait, and only the first one once the second is delivered.
 fn wait(bag: &mut PostBag) -> Result<bool, Fail> {
     let are_there = told(bag, 0)?.is_none() && told(bag, 1)? == Some((Some(2), Some(3)));
     let is_delivered = deliver(bag, 2);
@@ -88,7 +88,7 @@ fn wait(bag: &mut PostBag) -> Result<bool, Fail> {
     Ok(are_there && is_delivered && first_waits)
 }
 
-// Whether the second is delivered again, and the first one is gone once it is forgotten.
+// Whether the second is delivered again, and the first one no longer exists once it is forgotten.
 fn go(bag: &mut PostBag) -> Result<bool, Fail> {
     let is_gone = deliver(bag, 2) && forget(bag, 1) && told(bag, 1)?.is_none();
     let is_kept = told(bag, 2)? == Some((Some(4), None));

@@ -33,7 +33,7 @@ pub fn header() -> Header
 /// A header as a row of a journal has it.
 pub const FIRST: &str = "1.2.3.4 10.2.0.1 5000 80 tcp";
 
-/// What becomes of the first packet where b has no row that decides it.
+/// What becomes of the first packet if b has no row that decides it.
 pub const DROPPED: &str = "  decided 1 v1 rule default drop authority b part 0\n\
     \x20 sent 1 a cache version 1 word 00000000000000000000000000/00000000000000000000000000 \
     rule default drop\n\

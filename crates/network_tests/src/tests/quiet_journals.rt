@@ -1,4 +1,4 @@
-//! Whether networks of one and of two switches are quiet behind small journals.
+//! Whether networks of one and of two switches are quiet after small journals.
 ghost use Rattle.std.specs.Prelude.{IfOk};
 ghost use Rattle.net_file.specs.Net.{IsNet};
 
@@ -24,11 +24,11 @@ fn two_switches(alloc: Global) -> Result<Net, Fail>
 // An item of a journal in short: the number of a message, and what it says.
 #[derive(Clone, Copy)]
 enum ShortItem {
-    /// The switch 0 is to install version 2, with so many partitions without rules.
+    /// The switch 0 is to install version 2, with this many partitions without rules.
     Install(u32, u32),
     /// The switch 0 is to stamp with this version, whose change touches all words or none.
     Stamp(u32, u32, bool),
-    /// The switch 0 is told the advert of this number that the switch 1 tells in its boot.
+    /// Switch 1's advert of this number, of its boot, is sent to switch 0.
     Advert(u32, u32),
     /// The switch 0 has booted.
     Hello(u32),
@@ -112,7 +112,7 @@ fn item(alloc: Global, line: &ShortItem) -> Result<Item, Fail> {
     }
 }
 
-// Whether the network is quiet behind the journal and these items, which are written to it.
+// Whether the network is quiet after the journal and these items, which are written to it.
 fn is_quiet_after(
     alloc: Global,
     net: &Net,
@@ -127,7 +127,7 @@ fn is_quiet_after(
     Ok(quiet(alloc, journal, net)?)
 }
 
-// Whether the network waits behind the first items, and is quiet behind the others.
+// Whether the network waits after the first items, and is quiet after the others.
 fn waits_until(
     alloc: Global,
     net: &Net,
@@ -189,7 +189,7 @@ const WAITING: [(&[ShortItem], &[ShortItem]); 5] = [
         ],
         &[ShortItem::Stamp(3, 3, true), ShortItem::Delivered(3)],
     ),
-    // a delivery that stands before the sending delivers nothing
+    // a delivery before the sending delivers nothing
     (
         &[ShortItem::Delivered(1), ShortItem::Hello(1)],
         &[ShortItem::Delivered(1)],

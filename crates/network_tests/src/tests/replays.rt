@@ -7,7 +7,7 @@ use replay::replay;
 use schedule::read_schedule;
 use std::test::Fail;
 
-/// The packet is dropped, since the policy has no row.
+/// The packet is dropped, because the policy has no row.
 const SCHEDULE: &str = "event,arguments\n\
     packet,a,1.2.3.4,10.2.0.1,5000,80,tcp\n\
     drain\n";

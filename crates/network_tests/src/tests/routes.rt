@@ -14,8 +14,9 @@ const fn advert(origin: u32, boot: u32, seq: u32, up: u64) -> Advert {
     }
 }
 
-// Adverts that are heard in turn, by origin, boot, seq and neighbours, each with whether it is
-// news: the boot counts before the seq, of equal ones the first stays, and there are 64 switches.
+// Adverts that are heard one after another, by origin, boot, seq and neighbours, each with whether
+// it is news: the boot counts before the seq, of equal ones the first stays, and there are 64
+// switches.
 const HEARD: [(u32, u32, u32, u64, bool); 5] = [
     (3, 1, 2, 0b1, true),
     (3, 1, 2, 0b10, false),
@@ -50,7 +51,7 @@ fn holds_newest_adverts(rt: HostRuntime) {
     assert!(rt; held(&other, &other).is_none() && Database::empty().get(64).is_none());
 }
 
-// Whether the link of 2 and 5 alone is in the set.
+// Whether only the link of 2 and 5 is in the set.
 fn has_one_link(down: &DownSet) -> bool {
     down.has(5, 2) && down.has(2, 5) && !down.has(2, 4) && !down.has(2, 77)
 }
@@ -173,7 +174,7 @@ fn finds_b_d_down(packet: &mut Tunnel) -> bool {
         && packet.down.has(3, 1)
 }
 
-// Whether it goes round that link, and keeps its route where it has no links.
+// Whether it goes round that link, and keeps its route if it has no links.
 fn goes_round(packet: &mut Tunnel) -> bool {
     turns(packet, 0b0001)
         && is_on(packet, &[1, 0, 2, 3], 0)

@@ -1,4 +1,4 @@
-//! The tables that a plan gives to switches, and what a controller sends.
+//! The tables that a plan gives switches, and what a controller sends.
 ghost use Rattle.std.specs.Prelude.{IfOk, IsTrue};
 ghost use Rattle.controller.specs.Sends.{NamesThere};
 ghost use Rattle.net_file.specs.Net.{IsNet};
@@ -64,7 +64,7 @@ fn own_partitions(alloc: Global, s: u32) -> Result<(u32, usize, Vec<u32>), Fail>
     Ok((tables.version, tables.parts.items().len(), numbers))
 }
 
-// Whether the tables of three partitions give these to the switch.
+// Whether the tables of three partitions give the switch these.
 fn owns(alloc: Global, s: u32, own: &[u32]) -> Result<bool, Fail> {
     let (version, named, numbers) = own_partitions(alloc, s)?;
     Ok(version == 5 && named == 3 && numbers.as_slice() == own)
@@ -76,8 +76,8 @@ fn a_switch_has_its_own_partitions(rt: HostRuntime) -> Result<(), Fail> {
     Ok(())
 }
 
-// An act in short: `=` or `-` with the version that is current or retired; else the letter of a
-// message, its switch, boot and version.
+// An act in short: `=` or `-` with the version that is current or retired; otherwise the letter of
+// a message, its switch, boot and version.
 type Seen = (char, u32, u32, u32);
 
 fn seen(act: &Act) -> Seen {
@@ -132,7 +132,7 @@ fn submitted(alloc: Global, controller: &mut Controller, plan: &Plan) -> Result<
     all_seen(alloc, &sends)
 }
 
-// Whether the controller has the switch and the version that the body names.
+// Whether the controller knows the switch and the version that the body names.
 fn are_there(controller: &Controller, body: &Body) -> bool
     ensures { IsTrue result → NamesThere body.now controller.now.marks }
 {
@@ -189,7 +189,7 @@ fn resent(
     all_seen(alloc, &sends)
 }
 
-// What a controller is told or asked: of a switch, then its boot, then a version.
+// A call of a controller: about a switch, then its boot, then a version.
 #[derive(Clone, Copy)]
 enum Call {
     Submit,
@@ -227,7 +227,7 @@ fn sent(
     heard(rt, alloc, controller, &body)
 }
 
-// Makes the calls in turn, and asks that just these acts follow each.
+// Makes the calls one after another, and asserts that just these acts follow each.
 fn follows(rt: &impl Abort, alloc: Global, calls: &[(Call, &[Seen])]) -> Result<(), Fail> {
     let (mut controller, plan) = two_switches(alloc)?;
     for (call, wanted) in calls {

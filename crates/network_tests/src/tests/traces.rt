@@ -31,7 +31,7 @@ const RETIRED: &str = "  retired 1\n";
 const GOOD: [&[&str]; 8] = [
     &[],
     &[ROW, ENTERED, DECIDED, LEFT, "meter port 3 notes 1\n"],
-    // retired behind the packet's entry
+    // retired after the packet's entry
     &[ROW, ENTERED, AGAIN, RETIRED, DECIDED, LEFT],
     &[
         ROW,
@@ -51,7 +51,7 @@ const GOOD: [&[&str]; 8] = [
 
 /// Such traces with the number of the first bad line.
 const BAD: [(&[&str], u32); 44] = [
-    // no header waits, or none any longer
+    // no header is pending, or none any longer
     (&[ENTERED], 1),
     (&[ROW, "row 2: hop 1\n", ENTERED], 3),
     (&[ROW, ENTERED, "  entered 2 s0\n"], 3),
@@ -61,7 +61,7 @@ const BAD: [(&[&str], u32); 44] = [
     ),
     // known already
     (&[ROW, ENTERED, ROW, ENTERED], 4),
-    // decided otherwise, twice, or by a version that isn't there or was retired at the entry
+    // decided otherwise, twice, or by a version that doesn't exist or was retired at the entry
     (
         &[ROW, ENTERED, "  decided 1 v1 rule 100 out:4 authority s0\n"],
         3,
@@ -94,7 +94,7 @@ const BAD: [(&[&str], u32); 44] = [
     (&[ROW, ENTERED, DECIDED, "  dropped 1\n"], 4),
     (&[ROW, ENTERED, DECIDED, "  out 1 port 4\n"], 4),
     (&[ROW, ENTERED, DECIDED, LEFT, LEFT], 5),
-    // versions out of order, and files that aren't there
+    // versions out of order, and files that don't exist
     (&["  submitted file 1 version 3\n"], 1),
     (&["  submitted file 0 version 2\n"], 1),
     (&["  submitted file 2 version 2\n"], 1),
@@ -137,7 +137,7 @@ const ONE: &str = "priority,src,dst,sport,dport,proto,action\n\
     300,10.0.0.0/16,any,any,53,udp,out:3\n\
     200,10.0.0.0/16,any,any,any,any,out:3\n";
 
-/// The same, but that the first row drops.
+/// The same, except that the first row drops.
 const TWO: &str = "priority,src,dst,sport,dport,proto,action\n\
     600,any,10.0.2.10/32,any,443,tcp,drop\n\
     500,10.0.1.0/24,10.0.2.0/24,1024-65535,22,tcp,out:2\n\
@@ -145,8 +145,8 @@ const TWO: &str = "priority,src,dst,sport,dport,proto,action\n\
     300,10.0.0.0/16,any,any,53,udp,out:3\n\
     200,10.0.0.0/16,any,any,any,any,out:3\n";
 
-/// What a replay of a day prints, without most hops and messages, which no audit reads: of the first
-/// packet behind its hop to b, of the second one, and as a link fails, ..
+/// What a replay of a day prints, without most hops and messages, which no audit reads: of the
+/// first packet after its hop to b, of the second one, and when a link fails, ..
 const MORNING: &str = "  decided 1 v1 rule 600 out:2 authority b part 0\n\
     \x20 sent 1 a cache version 1 word 000000000a00020a000001bb06/00000000ffffffff0000ffffff \
     rule 600 out:2\n\
@@ -167,14 +167,14 @@ const MORNING: &str = "  decided 1 v1 rule 600 out:2 authority b part 0\n\
     \x20 link b d down\n\
     \x20 sent 2 a advert b boot 1 seq 2 up a\n";
 
-/// .. of the third packet behind its hop, and in the row of the update, ..
+/// .. of the third packet after its hop, and in the row of the update, ..
 const FORENOON: &str = "  decided 3 v1 rule 300 out:3 authority b part 0\n\
     \x20 exit 3 via b a c d\n\
     row 9: hop 3\n\
     \x20 out 3 port 3\n\
     row 10: update 2\n";
 
-/// .. as the second policy is submitted, ..
+/// .. when the second policy is submitted, ..
 const SUBMITTED: &str = "  submitted file 2 version 2\n";
 
 /// .. until the first version is retired, ..
@@ -185,7 +185,7 @@ const NOON: &str = "  sent 15 a install boot 1 version 2\n\
     \x20 current 2\n\
     \x20 sent 23 a stamp boot 1 version 2\n";
 
-/// .. and of the fourth packet behind its hop.
+/// .. and of the fourth packet after its hop.
 const EVENING: &str = "  decided 4 v2 rule 600 drop authority b part 0\n\
     \x20 dropped 4\n\
     meter port 2 notes 2\n\
@@ -229,9 +229,9 @@ const CHANGES: [(&[&str], Option<u32>); 3] = [
         ],
         None,
     ),
-    // the change's row is gone from the newest version
+    // the newest version no longer has the change's row
     (&[SUBMITTED, "  submitted file 2 version 3\n"], Some(2)),
-    // a row that is removed decides no more
+    // a row that is removed no longer decides
     (
         &[
             SUBMITTED,

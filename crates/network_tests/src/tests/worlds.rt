@@ -11,7 +11,7 @@ use std::test::Fail;
 use steps::Step;
 use world::World;
 
-/// Behind the first packet, which b drops since the policy has no row: the rule of it is cached,
+/// After the first packet, which b drops because the policy has no row: its rule is cached,
 /// decides the second one, and times out; the third one is lost.
 const REST: &str = "row 3: deliver 1\n\
     \x20 delivered 1\n\

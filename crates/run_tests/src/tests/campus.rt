@@ -8,7 +8,7 @@ pub const CAMPUS: &str = "backups = 1\n\
     link = [{ ends = [\"a\", \"b\"] }, { ends = [\"a\", \"c\"] }, { ends = [\"b\", \"d\"] }, \
     { ends = [\"c\", \"d\"] }]\n";
 
-/// Servers behind d, and the way out.
+/// Servers attached to d, and the way out.
 pub const ONE: &str = "priority,src,dst,sport,dport,proto,action\n\
     600,any,10.0.2.10/32,any,443,tcp,out:2\n\
     500,10.0.1.0/24,10.0.2.0/24,1024-65535,22,tcp,out:2\n\
@@ -16,7 +16,7 @@ pub const ONE: &str = "priority,src,dst,sport,dport,proto,action\n\
     300,10.0.0.0/16,any,any,53,udp,out:3\n\
     200,10.0.0.0/16,any,any,any,any,out:3\n";
 
-/// The same, but that the first row drops.
+/// The same, except that the first row drops.
 pub const TWO: &str = "priority,src,dst,sport,dport,proto,action\n\
     600,any,10.0.2.10/32,any,443,tcp,drop\n\
     500,10.0.1.0/24,10.0.2.0/24,1024-65535,22,tcp,out:2\n\

@@ -7,11 +7,11 @@ use std::test::Fail;
 const POLICY: &str = "priority,src,dst,sport,dport,proto,action\n\
     100,10.0.0.0/8,any,any,80,tcp,out:3\n50,any,any,any,any,any,drop\n";
 
-/// Another row in the place of the first one.
+/// Another row that replaces the first one.
 const OTHER: &str = "op,priority,src,dst,sport,dport,proto,action\n\
     remove,100\nadd,90,10.0.0.0/8,any,any,443,tcp,out:4\n";
 
-/// And another in the place of that.
+/// And another that replaces that one.
 const THIRD: &str = "op,priority,src,dst,sport,dport,proto,action\n\
     remove,90\nadd,80,10.0.0.0/8,any,any,443,tcp,drop\n";
 
@@ -84,7 +84,7 @@ fn adding(alloc: Global) -> Result<String, AllocError> {
     Ok(text)
 }
 
-/// The codes of changes that don't fit are asked for in their order.
+/// The codes of changes that don't fit come in their order.
 #[test]
 fn refuses_changes(rt: HostRuntime) -> Result<(), Fail> {
     let alloc = rt.alloc();
@@ -100,7 +100,7 @@ const UPDATES: &str = "event,arguments\n\
     update,2\nupdate,3\nupdate,2\nupdate,1\nupdate,3\nupdate,2\n";
 
 /// No version but the first is current. Each change is applied to the newest one all the same, and
-/// what became of it before tells nothing: the third policy has no row 100, and the fourth, which
+/// what became of it before doesn't matter: the third policy has no row 100, and the fourth, which
 /// is the first file's again, has that but no row 90.
 const VERSIONS: &str = "row 1: update 2\n\
     \x20 submitted file 2 version 2\n\

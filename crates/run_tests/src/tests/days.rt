@@ -10,11 +10,11 @@ use std::test::Fail;
 enum Fault<'a> {
     /// This read fails.
     Read(u64),
-    /// This write of the output fails, or none at 0.
+    /// This write of the output fails, or none if 0.
     Write(u64),
-    /// The arguments are `replay` alone, and the line of errors isn't taken.
+    /// The only argument is `replay`, and the line of errors can't be written.
     Line,
-    /// The file of this name has only its first bytes, so many.
+    /// The file of this name has only this many of its first bytes.
     Cut(&'a str, usize),
 }
 
@@ -47,7 +47,7 @@ impl Fault<'_> {
         }
     }
 
-    /// What is there of the file of this name and text.
+    /// What the shelf has of the file of this name and text.
     fn front<'t>(&self, name: &str, text: &'t str) -> &'t str {
         match self {
             Fault::Cut(cut, bytes) if *cut == name => text.get(..*bytes).unwrap_or(text),
@@ -77,7 +77,7 @@ fn did_nothing(recorded: &Recorded, status: u8, line: &str) -> bool {
     *items == 0 && ended(ran, status, "", line)
 }
 
-/// What the day ends with, behind its journal.
+/// What the day ends with, after its journal.
 const DAY_END: &[u8] = b"meter port 2 notes 2\nmeter port 3 notes 1\nquiet yes\n";
 
 const READ_FAULT: &str = "difane: read fault\n";
@@ -122,7 +122,7 @@ fn was_cut_short(recorded: &Recorded, whole: &[u8]) -> bool {
         && errs.bytes() == b"difane: write fault\n".as_slice()
 }
 
-// The table, and then the first write fails, the second one, and so on, until none is left.
+// The table, and then the first write fails, the second one, and so on, until none fails.
 #[test]
 fn answers_each_fault_of_a_day(rt: HostRuntime) -> Result<(), Fail> {
     for (fault, status, line) in &REFUSED {

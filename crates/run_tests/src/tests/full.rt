@@ -1,4 +1,4 @@
-//! The hub of a star of 64 switches, which tells all again until no more fits.
+//! The hub of a star of 64 switches, which sends everything again until no more fits.
 use crate::files::DROP;
 use crate::runs::{Ran, calls, ended, metered, shelf_of};
 use shelf::MemSink;
@@ -21,8 +21,8 @@ fn star(alloc: Global) -> Result<String, Fail> {
     )?)
 }
 
-/// So many rows in which the hub tells all again; the write of this number fails, counted from 1,
-/// and none fails at 0.
+/// This many rows in which the hub sends everything again; the write of this number fails, counted
+/// from 1, or none if it is 0.
 fn told_again(alloc: Global, rows: u32, failing_write: u64) -> Result<Ran, Fail> {
     let mut schedule = String::from_str(alloc, "event,arguments\n")?;
     for _ in 0..rows {

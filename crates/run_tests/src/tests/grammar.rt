@@ -1,4 +1,4 @@
-//! Arguments off the grammar.
+//! Arguments that the grammar doesn't have.
 use crate::files::{NO_ROW, PAIR};
 use crate::runs::{ends, recorded};
 
@@ -6,7 +6,7 @@ const ONE_PACKET: &str = "event,arguments\npacket,b,10.1.1.1,9.9.9.9,5000,80,tcp
 
 const FILES: [(&str, &str); 3] = [("n.toml", PAIR), ("s.csv", ONE_PACKET), ("p.csv", NO_ROW)];
 
-/// Arguments off the grammar, whatever files there are.
+/// Arguments that the grammar doesn't have, whatever files there are.
 const OFF: [&[&str]; 24] = [
     &[],
     &["load"],

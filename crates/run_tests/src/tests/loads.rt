@@ -1,4 +1,4 @@
-//! Worked load cases: what is drawn, and what comes of the play.
+//! Worked load cases: what is generated, and the result of the play.
 use crate::runs::{ended, metered, recorded, shelf_of, sink};
 use journal::{How, Item};
 use policy_file::write_policy;

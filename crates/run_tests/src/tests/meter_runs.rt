@@ -38,7 +38,7 @@ fn recorders_tell_what_left(rt: HostRuntime) {
     assert!(rt; ends(recorded(alloc, &args, &files), 0, FIRST_LINES, ""));
 }
 
-/// Meters leave at their time, each of its own kind, and those that are gone have no line.
+/// Meters leave when they are complete, each of its own kind, and those that left have no line.
 #[test]
 fn meters_leave_at_their_time(rt: HostRuntime) -> Result<(), Fail> {
     let alloc = rt.alloc();
@@ -62,8 +62,9 @@ const FIRST_FLOW: &str = "flow port 3 10.1.1.1 9.9.9.9 5000 80 tcp packets ";
 
 const SECOND_FLOW: &str = "flow port 3 10.1.1.2 9.9.9.9 5000 80 tcp packets 1\n";
 
-/// Flow records are told of a meter that left, as it left, and of those that stayed: here one that
-/// leaves with its first header or its second, or none, and in front of those that stay behind it.
+/// Flow records are printed of a meter that left, as they were when it left, and of those that
+/// stayed: here one that is complete with its first header or its second, or none, and its records
+/// come before those of the meters that stay.
 #[test]
 fn flows_are_told(rt: HostRuntime) -> Result<(), Fail> {
     let alloc = rt.alloc();
@@ -95,8 +96,8 @@ fn flows_are_told(rt: HostRuntime) -> Result<(), Fail> {
     Ok(())
 }
 
-/// A meter of a port that the network lacks comes back where the arguments are off the grammar, and
-/// with a plan; it is dropped by a play and where a file of one is refused.
+/// A meter of a port that the network lacks comes back if the grammar doesn't have the arguments,
+/// and with a plan; it is dropped by a play, and if a file of a play is refused.
 #[test]
 fn meters_come_back_where_nothing_is_played(rt: HostRuntime) -> Result<(), Fail> {
     let alloc = rt.alloc();

@@ -20,9 +20,9 @@ const MATCHED: &str = "row 1: packet s0 10.1.1.1 9.9.9.9 5000 80 tcp\n\
     \x20 decided 1 v1 rule 100 out:3 authority s0 part 0\n\
     \x20 out 1 port 3\n";
 
-/// A run of `replay s.csv p.csv`, or of other arguments, with so many bytes of padding after the
-/// policy; the call of a number in `failing_read`, `failing_write` or `failing_line` fails, counted
-/// from 1, and none fails at 0.
+/// A run of `replay s.csv p.csv`, or of other arguments, with this many bytes of padding after the
+/// policy; the call of a number in `failing_read`, `failing_write` or `failing_line` fails,
+/// counted from 1, or none if it is 0.
 #[derive(Clone, Copy)]
 struct Trial<'a> {
     args: &'a [&'a str],
@@ -94,7 +94,7 @@ fn replays_on_one_switch(rt: HostRuntime) {
 
 const NO_PORT: &str = "priority,src,dst,sport,dport,proto,action\n7,any,any,any,any,any,out:64\n";
 
-/// With one policy there is file 1 alone.
+/// With one policy there is only file 1.
 const NO_FILE: &str = "difane: input s.csv code 7 row 1\n";
 
 /// Schedules and policies, the read that fails, and the line of errors. The schedule is checked
@@ -153,7 +153,7 @@ fn answers_each_fault(rt: HostRuntime) {
     }
 }
 
-/// A file that isn't there, and arguments off the grammar.
+/// A file that doesn't exist, and arguments that the grammar doesn't have.
 const ARGS: [(&[&str], u8, &str); 2] = [
     (
         &["replay", "s.csv", "none.csv"],
@@ -184,7 +184,7 @@ fn refuses_a_policy_too_long(rt: HostRuntime) {
     assert!(rt; ends(ran, 3, "", "difane: input p.csv code 20 row 0\n"));
 }
 
-// The status alone: a play that sends so many messages is long.
+// Only the status: a play that sends this many messages is long.
 #[test]
 fn tells_a_full_play(rt: HostRuntime) {
     let status = Status::Full { row: 247 };
@@ -202,8 +202,8 @@ fn stopped(ran: &Ran) -> bool {
         && b"difane: no memory\n".starts_with(told.bytes())
 }
 
-// For runs in which an allocation fails (`rt try --test --fail-alloc N`); the other tests ask for
-// memory enough.
+// For runs in which an allocation fails (`rt try --test --fail-alloc N`); the other tests assert
+// that there is enough memory.
 #[test]
 fn ends_whole_or_for_want_of_memory(rt: HostRuntime) {
     let Ok(ran) = played(rt.alloc(), &PLAIN) else {

@@ -17,7 +17,7 @@ const TWO_ROWS: &str = "priority,src,dst,sport,dport,proto,action\n\
     100,10.0.0.0/8,any,any,80,tcp,out:3\n\
     50,any,any,any,any,any,drop\n";
 
-/// One switch with room for so few rules.
+/// One switch with room for only this many rules.
 const ROOM_2: &str = "leaf_rules = 8\nswitch = [{ name = \"s0\", ports = [3], authority = 2 }]\n";
 
 const ROOM_3: &str = "leaf_rules = 8\nswitch = [{ name = \"s0\", ports = [3], authority = 3 }]\n";
@@ -100,7 +100,7 @@ fn plans_within_room(rt: HostRuntime) -> Result<(), Fail> {
     Ok(())
 }
 
-/// 513 rows, each of which is alone in a leaf of its own.
+/// 513 rows, each of which is alone in its leaf.
 fn hosts(alloc: Global) -> Result<String, Fail> {
     let mut text = String::from_str(alloc, "priority,src,dst,sport,dport,proto,action\n")?;
     for k in 1..514u32 {

@@ -18,7 +18,7 @@ const FILES: [(&str, &str); 4] = [
     ("wide.csv", WIDE),
 ];
 
-/// A run with these arguments; where a number isn't 0, the read of that number fails.
+/// A run with these arguments; if a number isn't 0, the read of that number fails.
 fn played(alloc: Global, args: &[&str], failing_read: u64) -> Result<Ran, AllocError> {
     let shelf = shelf_with_fault(alloc, &FILES, failing_read)?;
     ran(alloc, args, shelf)
@@ -73,7 +73,7 @@ fn reads_policies_in_order(rt: HostRuntime) {
     }
 }
 
-/// The arguments of a replay with so many policies.
+/// The arguments of a replay with this many policies.
 fn many(alloc: Global, count: u32) -> Result<Vec<&'static str>, AllocError> {
     let mut args = Vec::new(alloc);
     args.push("replay")?;
@@ -84,7 +84,7 @@ fn many(alloc: Global, count: u32) -> Result<Vec<&'static str>, AllocError> {
     Ok(args)
 }
 
-/// A replay with so many policies.
+/// A replay with this many policies.
 fn played_with(alloc: Global, count: u32) -> Result<Ran, AllocError> {
     let args = many(alloc, count)?;
     played(alloc, &args, 0)

@@ -20,7 +20,7 @@ fn frames(alloc: Global, message: &Message) -> Option<Frames>
     split(alloc, message).ok()
 }
 
-// Whether the message has this frame alone.
+// Whether this is the message's only frame.
 fn is_one(alloc: Global, frame: &[u8]) -> Option<bool> {
     let frames = frames(alloc, &collect())?;
     Some(frames.get(0) == Some(frame) && frames.get(1).is_none())

@@ -10,7 +10,7 @@ use std::test::*;
 use switch_table::Tables;
 use wire::encode;
 
-// Posts a message that isn't too long, where the bag isn't full.
+// Posts a message that isn't too long, if the bag isn't full.
 fn post(bag: &mut Bag, alloc: Global, message: &Message) -> Result<u32, Fail>
     requires { HasSpelling message.now }
 {
@@ -112,8 +112,8 @@ fn gives(bag: &Bag, number: u32, message: &Message) -> Result<bool, Fail> {
     }
 }
 
-// Installations: the number, the version, the switch, the boot, the default rows, and those beside
-// them. The same tables go to two switches in two boots, and tables of two frames under two
+// Installations: the number, the version, the switch, the boot, the default rows, and the other
+// rows. The same tables are sent to two switches in two boots, and tables of two frames under two
 // versions.
 const INSTALLATIONS: [(u32, u32, u32, u32, u32, u32); 9] = [
     (1, 1, 1, 1, 3, 2),

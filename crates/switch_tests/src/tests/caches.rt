@@ -17,7 +17,7 @@ fn entry(version: u32, address: u128, message: u32) -> Result<CacheEntry, Fail> 
     })
 }
 
-// Takes the entry in; nothing more is known of the cache.
+// Adds the entry; nothing more is known of the cache.
 fn accept(cache: &mut Cache, stamp: u32, entry: CacheEntry) -> Result<(), Fail> {
     cache.accept(stamp, entry)?;
     Ok(())
@@ -64,7 +64,7 @@ fn addresses(first: u128) -> Result<Word, Fail> {
     Ok(word)
 }
 
-// A cache of entries of versions 1, 1, 2 and 1 at version 2, which touches 10.4.0.0/16 alone.
+// A cache of entries of versions 1, 1, 2 and 1 at version 2, which touches only 10.4.0.0/16.
 fn carried(alloc: Global) -> Result<Cache, Fail> {
     let mut cache = Cache::new(alloc, 8);
     accept(&mut cache, 1, entry(1, 0x0a02_0000, 1)?)?;
@@ -128,7 +128,7 @@ fn host(address: u32, message: u32) -> Result<CacheEntry, Fail> {
     })
 }
 
-// A cache of so many entries for one address each, from 0 on.
+// A cache of this many entries for one address each, from 0 on.
 fn of_hosts(alloc: Global, count: u32) -> Result<Cache, Fail> {
     let mut cache = Cache::new(alloc, count);
     for address in 0..count {
@@ -170,7 +170,8 @@ fn pairs(alloc: Global, numbers: &[u128]) -> Result<Touched, Fail> {
     Ok(touched)
 }
 
-// A cache of the addresses 0 to 11, as it is carried to each version, which touches these pairs.
+// A cache of the addresses 0 to 11, after it is carried to each version, which touches these
+// pairs.
 fn carried_by(alloc: Global, versions: &[(u32, &[u128])]) -> Result<Cache, Fail> {
     let mut cache = of_hosts(alloc, 12)?;
     for (version, numbers) in versions {

@@ -1,4 +1,4 @@
-//! The messages that the tests spell.
+//! The messages that the tests encode.
 ghost use Rattle.std.specs.Prelude.{◌<◌, ◌^◌, length, IfOk};
 ghost use Rattle.wire.specs.Messages.{HasSpelling};
 
@@ -22,7 +22,7 @@ pub fn collect() -> Message
     }
 }
 
-/// A stamp whose change touches so many words.
+/// A stamp whose change touches this many words.
 pub fn stamp(alloc: Global, words: u32) -> Result<Message, Fail>
     ensures { IfOk result HasSpelling }
 {
@@ -91,7 +91,7 @@ fn rules(alloc: Global, defaults: u32, rows: u32) -> Result<Vec<Rule>, Fail>
     Ok(rules)
 }
 
-/// An installation of one partition: its tables are spelled in 52 bytes, and 38 or 42 for each
+/// An installation of one partition: its tables are encoded in 52 bytes, and 38 or 42 for each
 /// rule.
 pub fn install(alloc: Global, defaults: u32, rows: u32) -> Result<Message, Fail>
     ensures { IfOk result HasSpelling }

@@ -1,4 +1,4 @@
-//! Spellings byte by byte, and bytes that are none.
+//! Encodings byte by byte, and bytes that are none.
 ghost use Rattle.wire.specs.Messages.{HasSpelling};
 
 use crate::tests::messages::{cache_rule, collect, hello, install, stamp};
@@ -38,7 +38,7 @@ fn stamps_have_their_words(rt: HostRuntime) -> Result<(), Fail> {
     Ok(())
 }
 
-// Whether the bytes spell the Hello of the switch 0 in its second boot.
+// Whether the bytes encode the Hello of the switch 0 in its second boot.
 fn is_hello(alloc: Global, bytes: &[u8]) -> bool {
     match decode(alloc, bytes) {
         Ok(read) => {
@@ -53,7 +53,7 @@ fn a_spelling_is_read(rt: HostRuntime) {
     assert!(rt; is_hello(rt.alloc(), &[255, 7, 0, 0, 0, 0, 2]));
 }
 
-// Whether the spelling is read, and neither a part of it nor one with a byte more is.
+// Whether the encoding is decoded, and neither a part of it nor one with a byte more is.
 fn is_read_alone(alloc: Global, message: &Message) -> Result<bool, AllocError>
     requires { HasSpelling message.now }
 {

@@ -1,5 +1,5 @@
-//! One switch by its calls: a packet decided at an authority switch, a packet on its way to one and
-//! where its link is down, and a switch through two versions, a crash and a new boot.
+//! One switch by its calls: a packet decided at an authority switch, a packet on its way to one
+//! and at a link that is down, and a switch through two versions, a crash and a new boot.
 ghost use Rattle.std.specs.Prelude.{◌≡◌, [], ◌∷◌, None, IfOk, IsSomeAnd, IsTrue};
 ghost use Rattle.five_tuple.specs.declared.header.Header.{Header};
 ghost use Rattle.ternary.specs.Meets.{any_word};
@@ -112,14 +112,14 @@ fn seeking(version: u32) -> Result<Tunnel, Fail>
     Ok(Tunnel::begin(7, Header::pack(&FIELDS), 0, leg, to_b, route, down))
 }
 
-// Whether the packet stands at the switch.
+// Whether the packet is at the switch.
 fn is_at(packet: &Tunnel, switch: &Switch) -> bool
     ensures { IsTrue result → StandsAt switch.now packet.now.route packet.now.place }
 {
     packet.here() == switch.number()
 }
 
-// Whether it stands there at the end of its route.
+// Whether it is there at the end of its route.
 fn is_at_end(packet: &Tunnel, switch: &Switch) -> bool
     ensures here { IsTrue result → StandsAt switch.now packet.now.route packet.now.place }
     ensures last { IsTrue result → next packet.now ≡ None }
@@ -153,7 +153,7 @@ fn acknowledged(heard: &Heard) -> Option<(u32, u32)> {
     }
 }
 
-// Whether it takes tables of this version in.
+// Whether it accepts tables of this version.
 fn takes_in(alloc: Global, b: &mut Switch, boot: u32, version: u32) -> Result<bool, Fail> {
     let tables = authority_tables(alloc, version)?;
     let heard = b.hear(1, &Body::Install { boot, tables }, 0b101)?;
@@ -218,8 +218,8 @@ fn enters(b: &mut Switch, ports: &Ports, version: u32, how: How) -> bool {
     }
 }
 
-// Whether a packet that arrived is decided by the authority rule of this version, its rule goes to
-// the cache of a, and the packet to a, which has its port.
+// Whether a packet that arrived is decided by the authority rule of this version, its rule is sent
+// to the cache of a, and the packet to a, which has its port.
 fn is_decided(arrived: &Arrived, version: u32) -> bool {
     match arrived {
         Arrived::Decided {
@@ -244,7 +244,8 @@ fn is_decided(arrived: &Arrived, version: u32) -> bool {
     }
 }
 
-// Whether a packet that looks for version 1, which isn't there, is decided by version 2.
+// Whether a packet that looks for version 1, which the switch doesn't have, is decided by version
+// 2.
 fn arrives_anew(b: &mut Switch, ports: &Ports) -> Result<bool, Fail> {
     let packet = seeking(1)?;
     let is_held = b.holds_version(1);
@@ -317,7 +318,7 @@ fn a_packet_goes_on_or_is_stuck(rt: HostRuntime) -> Result<(), Fail> {
     Ok(())
 }
 
-// Whether b takes version 2 in and rises to it, with a rule of each version for its cache.
+// Whether b accepts version 2 and rises to it, with a rule of each version for its cache.
 fn rises(alloc: Global, b: &mut Switch) -> Result<bool, Fail> {
     let takes = takes_in(alloc, b, 1, 2)?;
     learns(b, 5, 1)?;
@@ -326,8 +327,8 @@ fn rises(alloc: Global, b: &mut Switch) -> Result<bool, Fail> {
     Ok(takes && rises)
 }
 
-// Whether it then decides by the cached rule of version 2 until that is gone, and by version 2
-// where version 1 is gone.
+// Whether it then decides by the cached rule of version 2 until that is removed, and by version 2
+// once version 1 is dropped.
 fn decides_anew(b: &mut Switch, ports: &Ports) -> Result<bool, Fail> {
     let is_cached = enters(b, ports, 2, How::Cached { message: 6 }) && b.expire(0) == Some(6);
     Ok(is_cached && drops_version_one(b)? && arrives_anew(b, ports)?)
@@ -370,7 +371,7 @@ const fn advert(origin: u32, seq: u32, up: u64) -> Advert {
     }
 }
 
-// How many messages follow where b hears this advert in a message of this number.
+// How many messages follow when b hears this advert in a message of this number.
 fn hears(b: &mut Switch, number: u32, advert: Advert) -> Result<usize, Fail> {
     let heard = b.hear(number, &Body::Advertise { advert }, 0b101)?;
     Ok(heard.replies.items().len())
