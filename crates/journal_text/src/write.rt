@@ -31,15 +31,11 @@ pub fn write_text<K: Sink>(journal: &Journal, net: &Net, sink: &mut K) -> Result
     }
     for item in items {
         if line.bytes().len() > ROOMY_BYTES {
-            match block.push(line.bytes(), sink) {
-                Ok(()) => line.clear(),
-                Err(error) => return Err(error),
-            }
+            block.push(line.bytes(), sink)?;
+            line.clear();
         }
         push_line(&mut line, net, item);
     }
-    match block.push(line.bytes(), sink) {
-        Ok(()) => block.finish(sink),
-        Err(error) => Err(error),
-    }
+    block.push(line.bytes(), sink)?;
+    block.finish(sink)
 }

@@ -6,11 +6,9 @@ ghost use Rattle.version_update.specs.declared.marks.SubmitError.TheVariants.{To
 
 use crate::ledger::Ledger;
 use crate::record::Phase;
+use base::MAX_VERSIONS;
 use std::marker::Model;
 use thiserror::Error;
-
-/// The most versions.
-const MAX_VERSIONS: u32 = 64;
 
 /// The most versions that are not retired.
 const MAX_LIVE: u32 = 8;

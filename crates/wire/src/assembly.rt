@@ -81,8 +81,5 @@ pub(crate) fn message_of(
     if frames.len() != count as usize {
         return Ok(None);
     }
-    match complete(alloc, frames) {
-        Ok(message) => Ok(Some(message)),
-        Err(error) => Err(error),
-    }
+    complete(alloc, frames).map(Some)
 }
