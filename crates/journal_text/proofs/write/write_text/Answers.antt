@@ -1,7 +1,7 @@
-use Rattle.std.proofs.Common.{◌≡◌, ◌∙◌, ◌∷◌, ◌++◌, [], take}
+use Rattle.std.proofs.Common.{◌≡◌, ◌∙◌, ◌∷◌, ◌++◌, [], refl, take}
 use Rattle.std.proofs.lemmas.Result.{err_from_is_err_and}
 use Rattle.journal_text.specs.Lines.{item_line, journal_text}
-use Rattle.journal_text.proofs.LineGains.{IsHeld, gathers_no_more, held_more, held_nothing, lines_more, some_items}
+use Rattle.journal_text.proofs.LineGains.{IsHeld, gathers_no_more, held_first, held_more, held_nothing, lines_more, some_items}
 use Rattle.journal_text.proofs.write.write_text.Goals.{then-bytes-gt-ROOMY_BYTES+in_ok-push, else-bytes-gt-ROOMY_BYTES}
 use Rattle.journal_text.proofs.write.write_text.Goals as goal
 
@@ -26,6 +26,14 @@ returns-in_err-push-2-clause-after g c =
     (g.K.Sink.state c.push-2.new.sink) _ c.items-items.ensures
     c.loop-item.invariant.held c.loop-item.invariant.faults c.bytes-2.ensures.held errs.part
     errs.faults errs.calm errs.failed errs.no_memory)
+
+pub loop-item-init : goal.loop-item-init
+loop-item-init g c = record {
+  held = held_first (g.K.Sink.state c.args.sink.now).bytes c.new-block.result c.new-line.result
+      c.new-block.ensures c.new-line.ensures;
+  told = c.new-told.ensures c.args.net.now;
+  faults = refl;
+}
 
 pub loop-item-preserved : goal.loop-item-preserved
 loop-item-preserved g c =
@@ -53,10 +61,11 @@ loop-item-preserved g c =
     ] in
     record {
       held = rw (
-        c.push_line.ensures,
+        c.push_line.ensures.text,
         lines_more net items c.loop-item.item-index item c.loop-item-test.true c.item-item.is,
       ) (held_more text (item_line net item ++ 10 ∷ []) first.bytes now.bytes
           c.if-bytes-gt-ROOMY_BYTES.block c.if-bytes-gt-ROOMY_BYTES.line kept.0);
+      told = c.push_line.ensures.told;
       faults = kept.1;
     }
 
