@@ -42,7 +42,7 @@ pub record KeepVersionsWhole (setting : Setting) (journal : List Item) : Type 0 
   pub touched : StampsSayTouched setting journal
   -- each cache rule says what its own version says of each header of its word
   pub rules : RulesAreRight setting journal
-  -- and an amendment takes from a cache none that it doesn't touch
+  -- and an amendment takes from a cache none that it doesn't touch: they stay, in their order
   pub untouched : UntouchedStay setting journal
   -- a header that an amendment doesn't touch is decided alike by the versions before and behind it
   pub alike : ChangesLeaveOthers setting journal

@@ -51,9 +51,11 @@ pub fn cache_rules_are_right()
     ensures { HoldsReached (λ setting journal. IsSetting setting → RulesAreRight setting journal) }
 {}
 
-/// An amendment takes from a cache no rule that it doesn't touch: as the stamp of a switch rises to
-/// the version that the amendment made, each rule of the version before whose word meets nothing
-/// that it touches is there under that version, and decides as its policy does.
+/// An amendment takes from a cache no rule that it doesn't touch: as a `Stamp` message raises a
+/// switch to the version that the amendment made, each entry of the version before whose word meets
+/// nothing that it touches stays, of the same message and in its place in the order, under that
+/// version; but where an entry of that version has its word already, this one stays in its stead.
+/// It then decides as the policy of that version does.
 pub fn untouched_rules_stay()
     ensures { HoldsReached (λ setting journal. IsSetting setting → UntouchedStay setting journal) }
 {}
