@@ -6,8 +6,7 @@ use Rattle.ctrl_msg.specs.declared.message.Body.TheVariants.{Stamp}
 use Rattle.five_tuple.specs.Header.{fields_of}
 use Rattle.five_tuple.specs.declared.header.Header.{Header}
 use Rattle.policy_rules.specs.Applied.{applied}
-use Rattle.policy_rules.specs.Policy.{row_matches}
-use Rattle.policy_rules.specs.Scan.{scan}
+use Rattle.policy_rules.specs.Policy.{IsFirstMatch, row_matches}
 use Rattle.policy_rules.specs.Touched.{touched_rows}
 use Rattle.policy_rules.specs.declared.amendment.Edit.{Edit}
 use Rattle.policy_rules.specs.declared.policy.Hit.{Hit}
@@ -44,7 +43,7 @@ pub record IsMatchUnder (setting : Setting) (journal : List Item) (version : ℕ
     (hit : Hit) : Type 0 where
   pub rows : List Row
   pub policy : policy_in setting journal version ≡ Some rows
-  pub first_match : scan rows header ≡ hit
+  pub first_match : IsFirstMatch rows header hit
 
 -- what a decision gives a packet
 abbrev pub hit_in : Decision → Hit
