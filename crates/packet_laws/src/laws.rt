@@ -8,8 +8,8 @@ ghost use Rattle.packet_laws.specs.Exports.{AllKept, AreEntered, AreResting, Cha
 
 use control_laws::{
     acknowledgements_hold, boots_are_known, installs_are_planned, items_have_causes,
-    marks_are_bounded, serving_is_known, serving_switches_hold, stamps_are_acked_first,
-    stamps_say_what_is_touched, switches_open_once, tables_are_planned,
+    marks_are_bounded, members_have_acknowledged, serving_is_known, serving_switches_hold,
+    stamps_are_acked_first, stamps_say_what_is_touched, switches_open_once, tables_are_planned,
 };
 use policy_rules::amendment_laws;
 
@@ -188,6 +188,7 @@ pub fn items_keep_versions_whole()
     acknowledgements_hold();
     stamps_are_acked_first();
     installs_are_planned();
+    members_have_acknowledged();
     tables_are_planned();
     marks_are_bounded();
     serving_switches_hold();
