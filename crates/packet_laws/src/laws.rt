@@ -7,9 +7,9 @@ ghost use Rattle.control_laws.specs.Always.{HoldsReached};
 ghost use Rattle.packet_laws.specs.Exports.{AllKept, AreEntered, AreResting, ChangesLeaveOthers, GoesOrStops, HoldsBetween, KeepVersionsWhole, PacketsArrive, PacketsTravel, RulesAreRight, UntouchedStay, StrongCause, PacketCause, detour_count, drain_left, exit_count, finding_count, hops_on_route, hops_taken, most_hops, most_routes, most_switches, routes_taken, rows_played, search_count, step_rows};
 
 use control_laws::{
-    acknowledgements_hold, boots_are_known, installs_are_planned, items_have_causes,
-    marks_are_bounded, members_have_acknowledged, serving_is_known, serving_switches_hold,
-    stamps_are_acked_first, stamps_say_what_is_touched, switches_open_once, tables_are_planned,
+    acknowledgements_hold, boots_are_known, items_have_causes, marks_are_bounded,
+    members_have_acknowledged, serving_is_known, serving_switches_hold, stamps_are_acked_first,
+    stamps_say_what_is_touched, switches_open_once, tables_are_planned,
 };
 use policy_rules::amendment_laws;
 
@@ -187,7 +187,6 @@ pub fn items_keep_versions_whole()
     serving_is_known();
     acknowledgements_hold();
     stamps_are_acked_first();
-    installs_are_planned();
     members_have_acknowledged();
     tables_are_planned();
     marks_are_bounded();
