@@ -13,7 +13,7 @@ use ternary::Word;
 /// its destination ports, the source block outermost, as in the list of rules.
 ///
 /// # Errors
-/// Only out of memory; a part of the words is added then.
+/// Only out of memory; what is added then isn't stated.
 pub fn push_row_words(words: &mut Vec<Word>, row: &Row) -> Result<(), AllocError>
     requires { IsSoundRow row.now }
     ensures { OnOk result (words.new.items ≡ words.old.items ++ words_of_row row.now) }

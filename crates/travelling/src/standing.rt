@@ -27,7 +27,7 @@ impl Standing {
     /// The link from the switch where it stands to this other one was found down.
     ///
     /// # Errors
-    /// Out of memory; nothing changes then.
+    /// Only out of memory; nothing changes then.
     pub fn mark_down(&mut self, alloc: Global, other: u32) -> Result<(), AllocError>
         requires different { other ≢ self.old.switch }
         requires here { self.old.switch < 64 }
@@ -59,7 +59,7 @@ impl Standing {
     /// The set of the links that it found down, shared.
     ///
     /// # Errors
-    /// Out of memory, which is taken only where it found none.
+    /// Only out of memory.
     pub fn into_links(self, alloc: Global) -> Result<SharedLinks, AllocError>
         ensures { IfOk result (λ links. links ≡ (standing_kept self).down) }
     {

@@ -332,7 +332,7 @@ fn put_body(out: &mut Vec<u8>, body: &Body) -> Result<(), AllocError>
 /// Writes the spelling of a message at the end.
 ///
 /// # Errors
-/// Only out of memory; a part of the spelling may be written then.
+/// Only out of memory; what is written then isn't stated.
 #[tactic(auto, unfolding(crate::specs::Messages::message))]
 pub fn append(out: &mut Vec<u8>, message: &Message) -> Result<(), AllocError>
     requires { HasSpelling message.now }
