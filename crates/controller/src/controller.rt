@@ -144,7 +144,8 @@ impl Controller {
     /// each version from the current one on is sent to the switch. A body that isn't for the
     /// controller causes no sends and no change.
     ///
-    /// # Errors Only out of memory; what the message said is recorded.
+    /// # Errors
+    /// Only out of memory; what the message said is recorded.
     pub fn hear(&mut self, body: &Body) -> Result<Sends, AllocError>
         requires { NamesThere body.now self.old.marks }
         ensures after { SettlesWith

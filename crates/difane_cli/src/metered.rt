@@ -58,7 +58,8 @@ fn at_each_port<M: Drop, F: Fn(u32) -> Result<M, AllocError>>(
 /// Does what the arguments ask, as `run` does, with a new meter at each port from 0 to 63: one
 /// that counts flows if the first argument is `flows`, and otherwise a recorder.
 ///
-/// # Errors Out of memory for the meters; then nothing is read or written.
+/// # Errors
+/// Out of memory for the meters; then nothing is read or written.
 pub fn run_metered<F: Shelf, K: Sink, E: Sink>(
     alloc: Global,
     words: &Vec<String>,

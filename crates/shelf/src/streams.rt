@@ -23,7 +23,8 @@ pub trait Reader {
 
     /// Adds all that is left to the content, or the first `most` bytes of it.
     ///
-    /// # Errors The reader's own, which is a fault, or out of memory, by its kind. Then the
+    /// # Errors
+    /// The reader's own, which is a fault, or out of memory, by its kind. Then the
     /// content has some of the bytes.
     fn read_front(&mut self, most: u64, content: &mut Vec<u8>) -> io::Result<()>
         ensures front { HasFront (state self.old).left most content.old.items content.new.items result }

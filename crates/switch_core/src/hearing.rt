@@ -30,7 +30,8 @@ impl Switch {
     ///
     /// `near` has a bit for each switch to which there is a usable link.
     ///
-    /// # Errors Only out of memory; then nothing changes, as if the message hadn't been delivered.
+    /// # Errors
+    /// Only out of memory; then nothing changes, as if the message hadn't been delivered.
     #[tactic(auto, unfolding(crate::specs::Hearing::with_message, crate::specs::Hearing::replies, crate::specs::Hearing::opening_stamp))]
     pub fn hear(&mut self, number: u32, body: &Body, near: u64) -> Result<Heard, AllocError>
         requires { IsSoundBody body.now }

@@ -331,7 +331,8 @@ fn put_body(out: &mut Vec<u8>, body: &Body) -> Result<(), AllocError>
 
 /// Writes the encoding of a message at the end.
 ///
-/// # Errors Only out of memory; then a part of the encoding may be written.
+/// # Errors
+/// Only out of memory; what is written then isn't stated.
 #[tactic(auto, unfolding(crate::specs::Messages::message))]
 pub fn append(out: &mut Vec<u8>, message: &Message) -> Result<(), AllocError>
     requires { HasSpelling message.now }

@@ -17,7 +17,8 @@ const INSTALL: u8 = 1;
 
 /// Writes at the end the front of an installation for this receiver and this boot.
 ///
-/// # Errors Only out of memory; then a part of it may be written.
+/// # Errors
+/// Only out of memory; then a part of it may be written.
 #[tactic(auto, unfolding(crate::specs::Messages::message_front))]
 pub fn append_front(out: &mut Vec<u8>, to: Place, boot: u32) -> Result<(), AllocError>
     requires { IsPlace to }
