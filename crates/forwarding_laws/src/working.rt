@@ -8,8 +8,8 @@ use crate::rollout::{
 };
 
 /// A play keeps its network working: where its schedule ends in recovery, the network has
-/// recovered; behind a second round nothing old is left; and where nothing fails no packet is
-/// dropped but by its decision, also in a play that stopped full.
+/// recovered; behind a second round nothing old is left; and where nothing fails no packet is lost
+/// but by its own row, or stuck but where it is cut off, also in a play that stopped full.
 pub fn plays_keep_working()
     ensures { PlaysKeepWorking }
 {
