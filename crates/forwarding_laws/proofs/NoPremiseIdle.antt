@@ -1,5 +1,5 @@
 -- No premise of recovery and of rollouts is idle: schedules of two switches that lack one, computed;
--- and two that recover, though their networks aren't quiet.
+-- and three that recover, though their networks aren't quiet.
 use Rattle.std.proofs.Common.{ℕ, ◌≡◌, ◌+◌, ◌∙◌, ◌⊎◌, inl, inr, Some, None, List, [], ◌∷◌, ◌++◌, zero, suc, true, false, Bool, take, drop, Contains, Option, option_map, map, refl, ap, sym, true≢false, append-nil, arith}
 use Rattle.std.specs.Prelude.{◌&&◌, ◌||◌, ◌==◌, IsTrue, Ok, codes, not}
 use Rattle.std.proofs.lemmas.Bool.{and_parts}
@@ -306,6 +306,40 @@ not_quiet_without_advert quiet =
     unreceived (λ later. is_to_b later.to && is_advert_of_a later.body) 1
     (to 1 (advert 0 1 3 2)) (advert_passes 1 3 2) (drop 5 advert_lost_journal) refl refl
     (quiet.messages.0 1 (omega arith) refl)
+
+-- or a itself went down, which alone could send it again
+abbrev origin_gone : List Step
+origin_gone = LinkDown 0 1 ∷ LinkUp 0 1 ∷ Forget 1 ∷ Crash 0 ∷ recipe
+
+abbrev origin_gone_front : List Item
+origin_gone_front = after_steps open_net [] (numbered 1 origin_gone)
+
+abbrev origin_gone_flush : List StepOfRow
+origin_gone_flush = flush 24 open_net 9 origin_gone_front
+
+abbrev origin_gone_journal : List Item
+origin_gone_journal = after_steps open_net [] (numbered 1 origin_gone ++ origin_gone_flush)
+
+with_origin_gone : Answers open_net (map One origin_gone ++ Flush ∷ []) origin_gone_journal
+unfolding left_by
+with_origin_gone = record {
+  steps = numbered 1 origin_gone ++ origin_gone_flush;
+  allowed = flushed open_net 1 origin_gone [] origin_gone_flush
+      (all_flushed 24 open_net 9 origin_gone_front refl);
+  written = refl;
+}
+
+recovered_without_origin : IsUpdated open_net origin_gone_journal
+recovered_without_origin =
+    recovered_updated open_net (map One origin_gone ++ Flush ∷ []) origin_gone_journal
+    (in_recovery (take 4 origin_gone)) with_origin_gone
+
+not_quiet_without_origin : IsQuiet open_net origin_gone_journal → ⊥
+unfolding left_by
+not_quiet_without_origin quiet =
+    unreceived (λ later. is_to_b later.to && is_advert_of_a later.body) 1
+    (to 1 (advert 0 1 3 2)) (advert_passes 1 3 2) (drop 5 origin_gone_journal) refl refl
+    (quiet.messages.0 1 (omega arith) (refl {a = true}))
 
 -- tables were delivered twice, and the second acknowledgement was lost
 abbrev answer_lost : List Step
