@@ -116,7 +116,8 @@ impl Controller {
     /// clone of a plan shares it. Each switch that is told to stamp with the version gets these
     /// words, which are what its change touches.
     ///
-    /// # Errors `TooManyLive` exactly if 8 versions are not retired; otherwise `TooManyVersions`
+    /// # Errors
+    /// `TooManyLive` exactly if 8 versions are not retired; otherwise `TooManyVersions`
     /// exactly if there are 64. Then nothing changed.
     pub fn submit(&mut self, plan: Plan, touched: Touched) -> Result<Sends, Failure<SubmitError>>
         ensures after { OnOk result

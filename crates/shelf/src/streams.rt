@@ -97,7 +97,8 @@ impl<R: Read + Drop> Reader for CountedReader<R> {
 /// All that this reader has left, if that is at most `limit` bytes. At most one byte beyond the
 /// limit is read.
 ///
-/// # Errors `TooLong` if the reader has more left. An error of the reader by its kind
+/// # Errors
+/// `TooLong` if the reader has more left. An error of the reader by its kind
 /// (`ShelfError::by_kind`): `NoMemory`, or `Failed`, exactly if the reader's count of faults rose.
 pub fn read_up_to<R: Reader>(
     alloc: Global,

@@ -141,7 +141,8 @@ impl Marks {
 
     /// One more version.
     ///
-    /// # Errors `TooManyLive` exactly if 8 versions are not retired; otherwise `TooManyVersions`
+    /// # Errors
+    /// `TooManyLive` exactly if 8 versions are not retired; otherwise `TooManyVersions`
     /// exactly if there are 64. Then nothing changed.
     pub fn submit(&mut self) -> Result<Settled, SubmitError>
         ensures settled { IfOk result (λ answer. Settles (with_version self.old) self.new answer) }

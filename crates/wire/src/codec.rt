@@ -359,7 +359,8 @@ pub fn encode(alloc: Global, message: &Message) -> Result<Vec<u8>, AllocError>
 
 /// The message that the bytes encode.
 ///
-/// # Errors `Malformed` exactly if they are the encoding of no message.
+/// # Errors
+/// `Malformed` exactly if they are the encoding of no message.
 #[tactic(auto, using(crate::proofs::MessageDecoding::found, crate::proofs::MessageDecoding::only, crate::proofs::MessageDecoding::malformed))]
 pub fn decode(alloc: Global, bytes: &[u8]) -> Result<Message, WireError>
     ensures found { IfOk result (λ message. IsSpelling message bytes.now) }

@@ -46,7 +46,8 @@ fn read(reader: &mut ByteReader) -> Result<(Place, u32), WireError>
 
 /// The receiver and the boot of an installation whose front these bytes are.
 ///
-/// # Errors `Malformed` exactly if they are the front of no installation.
+/// # Errors
+/// `Malformed` exactly if they are the front of no installation.
 #[tactic(auto, using(crate::proofs::InstallationFronts::front_found, crate::proofs::InstallationFronts::no_front))]
 pub fn decode_front(alloc: Global, bytes: &[u8]) -> Result<(Place, u32), WireError>
     ensures found { IfOk result (λ front. IsFront front.0 front.1 bytes.now) }
