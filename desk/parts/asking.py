@@ -140,13 +140,6 @@ def labels_of(folders):
     return labels or [""] * len(folders)
 
 
-def check_kind(path):
-    """That it is a file or a folder, which the program refuses; others may have no end."""
-    mode = os.stat(path).st_mode
-    if not (stat.S_ISREG(mode) or stat.S_ISDIR(mode)):
-        raise Mistake(f"{path} is no file but a pipe or a device; put a file in its place")
-
-
 def joined(places):
     """A folder that is there as long as the script runs, with links of these names to files."""
     folder = Path(tempfile.mkdtemp(prefix="difane-"))

@@ -1,23 +1,20 @@
 """Which rows of policies no header reaches, and a header that reaches each of the others."""
-from itertools import takewhile
-from pathlib import Path
-
 from .boxes import WHOLE, Ranked, places
 from .cover import cover, needed
 from .packets import HEADER
+from .places import policies_in
 from .policies import Change, read_policy
 from .script import Mistake
 from .story import header_text
 from .table import table
 from .words import PROTOCOLS, dotted
 
-MOST_FILES = 64
 
 
 def answer(case, *names):
     """For each policy file its rows, a change applied to the file before it; or those of one file."""
     paths = [case.folder / name for name in names]
-    paths = paths or [*takewhile(Path.is_file, map(case.policy_file, range(1, MOST_FILES + 1)))]
+    paths = paths or [case.folder / name for name in policies_in(case.folder)]
     if not paths or not paths[0].is_file():
         raise Mistake(f"there is no file {paths[0] if paths else case.policy_file(1)}")
     found, rows = [], None

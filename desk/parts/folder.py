@@ -2,17 +2,17 @@
 import sys
 import tomllib
 from collections import Counter
-from pathlib import Path
 
 from . import agreed
 from .journal import read_items
 from .network import CACHE, Network
 from .packets import Play
-from .places import EXAMPLES
+from .places import file_of, folder_of
 from .policies import Change, read_policy
 from .script import Mistake
 from .touched import EVERYTHING, touched_words
 
+JOURNAL = "journal.txt"
 SOLO = {"switch": [{"name": "s0", "ports": list(range(64)), "authority": 8192}]}
 
 
@@ -150,13 +150,5 @@ def case_of(name):
 
 def inputs_of(name):
     """The same, for questions that need no journal."""
-    path = Path(name)
-    if not path.exists() and (EXAMPLES / name).is_file():
-        path = EXAMPLES / name
-    if path.is_file():
-        return Case(path, str(path.parent))
-    own = path.is_dir() or "/" in name or not (EXAMPLES / name).is_dir()
-    folder = path if own else EXAMPLES / name
-    if not folder.is_dir():
-        raise Mistake(f"there is no folder, no journal and no example {name!r}")
-    return Case(folder / "journal.txt", name)
+    path = file_of(name)
+    return Case(path, str(path.parent)) if path.is_file() else Case(folder_of(name) / JOURNAL, name)
