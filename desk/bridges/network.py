@@ -15,9 +15,8 @@ from . import daemon, flows, tables
 from .told import Told
 from .wiring import Net, Wiring
 
-sys.path.insert(0, str(MODEL))
-import plan_model  # noqa: E402
-import slow_replay  # noqa: E402
+import plan_model
+import slow_replay
 
 TOO_FAR = "over more links than Open vSwitch takes"
 PATIENCE = 5.0  # seconds until the ports have counted what was sent

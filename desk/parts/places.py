@@ -1,4 +1,8 @@
 """Where the repository has what the scripts read, and where folders have their files."""
+import atexit
+import shutil
+import sys
+import tempfile
 from itertools import takewhile
 from pathlib import Path
 
@@ -7,6 +11,7 @@ from .script import Mistake
 TOP = Path(__file__).resolve().parents[2]
 EXAMPLES = TOP / "crates/examples/data"
 MODEL = TOP / "model"
+sys.path.append(str(MODEL))  # the modules of the slow model
 POLICIES = ["policy.csv", *(f"policy{number}.csv" for number in range(2, 65))]
 
 
@@ -39,3 +44,12 @@ def check_kind(path):
     """That it is a file or a folder, which the program refuses; others may have no end."""
     if path.exists() and not (path.is_file() or path.is_dir()):
         raise Mistake(f"{path} is no file but a pipe or a device; put a file in its place")
+
+
+def joined(places):
+    """A folder that is there as long as the script runs, with links of these names to files."""
+    folder = Path(tempfile.mkdtemp(prefix="difane-"))
+    atexit.register(shutil.rmtree, folder, ignore_errors=True)
+    for name, path in places.items():
+        (folder / name).symlink_to(path.resolve())
+    return folder

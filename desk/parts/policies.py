@@ -1,6 +1,7 @@
 """What a policy file states: the rows of a policy, or a change of one."""
 from typing import NamedTuple
 
+from . import fields
 from .records import records_of
 from .row_mistakes import CHANGE_HEADING, EDIT_FORMS, POLICY_HEADING
 from .script import Mistake
@@ -63,5 +64,8 @@ def is_edit(fields):
     return len(fields) == WIDTHS.get(fields[0])
 
 
-def rule_at(path, row, fields):
-    return Rule(fields[0], path.name, row.line, fields)
+def rule_at(path, row, texts):
+    """The rule of a row, whose fields have to be those of a policy."""
+    if fault := fields.first_fault(fields.OF_POLICY, texts):
+        raise Mistake(f"{path.name} line {row.line}: {fault}")
+    return Rule(texts[0], path.name, row.line, texts)

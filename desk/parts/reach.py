@@ -1,7 +1,8 @@
 """Who reaches whom: from each switch, the ports by which packets of a header leave."""
 from collections import Counter
 
-from .boxes import Ranked, checked_box
+from . import fields
+from .boxes import Ranked, box_of
 from .cover import cover
 from .dead import header_in
 from .packets import HEADER
@@ -18,7 +19,9 @@ def answer(case, *words):
     """For each switch and each header what becomes of its packet: over the network as it begins, or
     behind the schedule.
     """
-    box, is_behind = checked_box(words[:5], "the header"), words[5:] == ("behind",)
+    if fault := fields.first_fault(fields.OF_POLICY[1:], words[:5]):
+        raise Mistake(fault)
+    box, is_behind = box_of(words[:5]), words[5:] == ("behind",)
     names = [row["name"] for row in case.net()["switch"]]
     headers = headers_of(case, box, is_behind)
     if len(names) * len(headers) > MOST:
