@@ -2,7 +2,7 @@
 import re
 
 from . import runners
-from .mistakes import explain
+from .mistakes import mistake_of
 from .script import Mistake
 from .table import table
 from .words import spelled
@@ -38,8 +38,7 @@ def answer_for(case, file):
     found = runners.by_program(runners.PROVED, question) if runners.PROVED.is_file() else None
     found = found or runners.forecast(question)
     if found.status:
-        why = [line.strip() for line in explain(found.told, args, folder)]
-        raise Mistake(f"{case.name}: {found.told.removeprefix('difane: ')}: {'; '.join(why[:3])}")
+        raise mistake_of(case.name, found.told, args, folder)
     return runners.by_model(question) if found.by == "forecast" else found
 
 

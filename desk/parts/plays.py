@@ -1,19 +1,18 @@
 """Plays schedules over the policies and the network of a folder, by a program or the slow model."""
 import subprocess
 import sys
-import tempfile
-import tomllib
 from pathlib import Path
 
 from . import runners
 from .folder import Case
-from .mistakes import explain
-from .places import check_kind, folder_of, policies_in
+from .mistakes import mistake_of
+from .places import check_kind, folder_of, joined, policies_in
 from .records import lines_of, records_of
 from .row_mistakes import SCHEDULE_HEADING
 from .script import Mistake, Parser
 
-import refusals  # of model/, which runners put on the path
+import refusals
+import row_states
 import slow_replay
 
 SCHEDULE, NET, JOURNAL, MOST_ROWS = "schedule.csv", "net.toml", "journal.txt", 100_000
@@ -52,18 +51,9 @@ class Player:
         self.files = self.policies + [NET] * (self.source / NET).exists()
         for file in self.files:
             check_kind(self.source / file)
-        self.home = tempfile.TemporaryDirectory(prefix="difane-")
-        self.folder = Path(self.home.name)
-        for file in self.files:
-            (self.folder / file).symlink_to((self.source / file).resolve())
+        self.folder = joined({file: self.source / file for file in self.files})
         keep_plans()
         self.check([])
-
-    def __enter__(self):
-        return self
-
-    def __exit__(self, *_):
-        self.home.cleanup()
 
     def net(self):
         """What the network's file says, or the network of one switch."""
@@ -97,8 +87,7 @@ class Player:
         """What the program would refuse is told in one line."""
         told, _ = refusals.answer(self.arguments(), self.folder)
         if told:
-            why = [line.strip() for line in explain(told, self.arguments(), self.folder)][:2]
-            raise Mistake(f"{self.name}: {told.removeprefix('difane: ')}: {'; '.join(why)}")
+            raise mistake_of(self.name, told, self.arguments(), self.folder)
 
     def arguments(self):
         """Those of the program."""
@@ -124,9 +113,8 @@ class Player:
         return done.stdout
 
     def by_model(self, rows):
-        path = self.folder / NET
-        net = tomllib.loads(path.read_text("utf-8-sig")) if NET in self.files else slow_replay.SOLO
-        world = slow_replay.World(net, [self.folder / name for name in self.policies])
+        net = self.folder / NET if NET in self.files else None
+        world = row_states.world_of(net, [self.folder / name for name in self.policies])
         world.play(rows)
         if len(world.journal.messages) >= runners.MANY_MESSAGES:
             raise Mistake(f"{self.name}: too many messages for the slow model; take a program")

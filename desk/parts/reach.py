@@ -77,12 +77,11 @@ def played(case, probes, is_behind):
     """The packets of these probes, each drained, and who played them."""
     rows = [row for name, header in probes
             for row in (["packet", name, *(header[field] for field in HEADER)], ["drain"])]
-    with Player(str(case.folder), proved()) as player:
-        rows = (player.own_rows() if is_behind else []) + rows
-        player.check(rows)
-        packets = list(player.case(rows).play().packets.values())
-        by = "program" if player.program else "model"
-    return packets[len(packets) - len(probes) :], by
+    player = Player(str(case.folder), proved())
+    rows = (player.own_rows() if is_behind else []) + rows
+    player.check(rows)
+    packets = list(player.case(rows).play().packets.values())
+    return packets[len(packets) - len(probes) :], "program" if player.program else "model"
 
 
 def text(found):
