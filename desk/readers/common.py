@@ -7,7 +7,9 @@ from functools import lru_cache
 
 from parts.places import file_of
 from parts.script import Mistake as Refused
+from parts.words import dotted
 
+address_text = lru_cache(1 << 16)(dotted)
 SHOWN = 20  # reasons, and ranges of a reason, that a summary names
 ADDRESS = re.compile(r"(\d{1,3})\.(\d{1,3})\.(\d{1,3})\.(\d{1,3})", re.ASCII)
 NUMBERS = {
@@ -81,11 +83,6 @@ def address_of(text):
     found = ADDRESS.fullmatch(text)
     octets = [int(part) for part in found.groups()] if found else [256]
     return None if max(octets) > 255 else int.from_bytes(octets, "big")
-
-
-@lru_cache(maxsize=1 << 16)
-def address_text(address):
-    return ".".join(map(str, address.to_bytes(4, "big")))
 
 
 def prefix_of(text):
