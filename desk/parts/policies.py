@@ -10,6 +10,16 @@ HEADING, OF_CHANGE = POLICY_HEADING.split(","), CHANGE_HEADING.split(",")
 WIDTHS = {op: form.count(",") + 1 for op, form in EDIT_FORMS.items()}
 MOST_ROWS = 2000
 ABSENT, TAKEN, TOO_MANY = 24, 25, 26
+REFUSED = {  # why an update is refused while it plays, by its code
+    12: "the policy would have more than 4,096 words",
+    14: "the policy would have more than 512 partitions",
+    15: "too few switches have room for a partition",
+    16: "eight versions live",
+    17: "there are 64 versions",
+    ABSENT: "its change removes rows that the newest version hasn't",
+    TAKEN: "its change adds rows of priorities that the newest version has and keeps",
+    TOO_MANY: "with its change, the newest version would have more than 2,000 rows",
+}
 
 
 class Rule(NamedTuple):
