@@ -2,9 +2,9 @@
 """Runs the checks that need no proof, and tells which failed: `checks/all.py [BIN]`.
 
 With BIN, the program as it was built (`rt run` leaves it in crates/difane/out/difane), it also lets
-each allocation fail in turn, sends packets through Open vSwitch, opens pages in a browser, asks the
-program for each mistake, and plays random schedules by the program and by the model; these take
-minutes. What a check prints is shown where it failed. It ends with 1 where one did.
+each allocation, read and write fail in turn, sends packets through Open vSwitch, opens pages in a
+browser, asks the program for each mistake, and plays random schedules by the program and by the
+model; these take minutes. What a check prints is shown if it failed. It ends with 1 if one did.
 """
 import subprocess
 import sys
@@ -15,7 +15,7 @@ ARGS = {"map.py": ["--check"], "desk.py": ["5"], "desk_layout.py": ["40"], "desk
 HELPERS = {"crates.py", "browser.py", "desk_headers.py", "desk_kit.py", "journal_text.py",
            "list_reading.py", "stand_in.py", "view_parts.py"}
 NO_CHECKS = {"all.py", "gate.py"} | HELPERS
-DEAR = {"desk_out.py", "fail_alloc.py", "view_check.py"}
+DEAR = {"desk_out.py", "fail_alloc.py", "fail_calls.py", "view_check.py"}
 SEEDS = 100
 
 
@@ -26,6 +26,7 @@ def commands(program):
             yield f"checks/{path.name}", ARGS.get(path.name, [])
     if program:
         yield "checks/fail_alloc.py", [program]
+        yield "checks/fail_calls.py", [program]
         yield "checks/desk_out.py", []
         yield "checks/desk_layout.py", []
         yield "checks/desk_trace.py", ["10", program]

@@ -37,7 +37,7 @@ sys.path[:0] = [str(DESK), str(HOME / "model")]
 import fuzz
 import row_states
 import slow_replay
-from parts import compared, dead, journal, listed, now, page, plans, questions, reach, rest, words
+from parts import compared, dead, journal, listed, page, plans, questions, reach, rest, words
 from parts.folder import case_of
 from parts.network import Network
 from parts.packets import Play
@@ -59,7 +59,7 @@ def page_with_outputs(text):
 
     def block(match):
         out, errors, _ = ask(*match[1].split())
-        said = (out + errors).replace(now.SAYS["program"], now.SAYS["model"])
+        said = (out + errors).replace(plans.SAYS["program"], plans.SAYS["model"])
         lines = [f"    {line}".rstrip() for line in said.splitlines()]
         return f"    $ {match[1]}\n" + "".join(f"{line}\n" for line in lines)
 

@@ -56,9 +56,9 @@ FAULTS = {
     "rule 100 drop authority": ("rule 200 drop authority", 1),
 }
 SPOILT = {
-    "schedule.csv": ("packet,d", "packet,c", "the journal has other packets than schedule.csv"),
-    "net.toml": ('name = "c"', "name = c", "has a file that difane refuses: Invalid value"),
-    "policy.csv": ("any,443", "any,x", "has a file that difane refuses: invalid literal"),
+    "schedule.csv": ("packet,d", "packet,c", "row 5 of schedule.csv is 'packet,c,"),
+    "net.toml": ('name = "c"', "name = c", "input net.toml code 1 row 0: "),
+    "policy.csv": ("any,443", "any,x", "input policy.csv code 7 row 1: "),
     "show-b.txt": ("authority", "authorities", "show-b.txt line 2: a line `authority K` must"),
     "journal.txt": ("  dropped 3", "  down d", "no link or switch may fail, as in row 6: hop 3"),
 }
@@ -117,7 +117,7 @@ def interrupt_wrong():
     process.stdin.flush()
     process.send_signal(signal.SIGINT)
     told = process.communicate()
-    if told != ("", "desk/openvswitch: stopped\n") or process.returncode != -signal.SIGINT:
+    if told != ("", "desk/openvswitch: interrupted\n") or process.returncode != 130:
         yield f"Ctrl-C: {process.returncode} {told}"
 
 
@@ -220,7 +220,7 @@ def stopping_wrong(home):
         time.sleep(0.01)
     process.send_signal(signal.SIGINT)
     told = process.communicate()[0].decode()
-    if told != "desk/openvswitch: stopped\n" or list((home / "own").iterdir()):
+    if told != "desk/openvswitch: interrupted\n" or list((home / "own").iterdir()):
         yield f"Ctrl-C in a network: {told}, and it leaves {list((home / 'own').iterdir())}"
 
 

@@ -85,4 +85,5 @@ def main():
                 fail_each([program, *command.split()], folder, HOME / "examples/day", preload)
 
 
-main()
+if __name__ == "__main__":
+    main()

@@ -95,7 +95,7 @@ def doubled_numbers():
         if number >= LEAST:
             found[number, name.rpartition("_")[2]].add(f"{crate}::{name}")
     for (number, _), there in sorted(found.items()):
-        if len({name.partition(":")[0] for name in there}) > 1 and there not in LEFT:
+        if len({name.partition(":")[0] for name in there}) > 1:
             yield f"{number}: {', '.join(sorted(there))}"
 
 
@@ -143,17 +143,6 @@ def lines_for_a_line():
     return said / code
 
 
-# Still to be merged: a limit of `base` that crates of the data plane hold as another type.
-LEFT = (
-    {
-        "failover::SWITCHES",
-        "message_bag::SWITCHES",
-        "net_file::MAX_SWITCHES",
-        "rebalance::SWITCHES",
-        "version_update::MAX_SWITCHES",
-    },
-    {"trace_audit::MAX_VERSIONS", "version_update::MAX_VERSIONS"},
-)
 CHECKS = {
     "names of specs/ in two crates, but for those that say the same": doubled_definitions,
     "type names in two crates": doubled_types,

@@ -5,12 +5,12 @@ usage: model/fuzz.py BIN COUNT [START] [--jobs N]
 
 BIN is the program (`rt run` leaves it in crates/difane/out/difane). Each seed from START on (0
 where it isn't given) makes a network of two to five switches, a policy, two more policies or
-changes, and a schedule of 10 to 60 rows of all kinds. Of each case these are compared: the journal
-of `replay` with the answer of `--quiet`, the records of `flows`, the placement of `rebalance`, and
-the answers of `audit` to that journal and to three damaged ones. Each difference is told by its
-seed, its command and its first line; it stops at ten. At last it prints how many cases were alike,
-and how many both refused, since the first policy had no plan. It ends with 1 where there was a
-difference.
+changes, and a schedule of 10 to 60 rows of all kinds; every third ends in recovery, a `confirm` and
+a `resend` of each switch and a `flush`. These are compared in each case: the journal of `replay`
+with the answer of `--quiet`, the records of `flows`, the placement of `rebalance`, and the answers
+of `audit` to that journal and to three damaged ones. Each difference is printed with its seed, its
+command and its first line; it stops at ten. Finally it prints how many cases were alike, and how
+many both refused because the first policy had no plan. It ends with 1 if there was a difference.
 """
 import argparse
 import random
@@ -49,6 +49,7 @@ KINDS = {
     "expire": 2,
 }
 PRIORITIES = range(1, 11)
+ROUNDS = [1, 0, 0, 2, 0, 0]  # of recovery, behind the schedules of these seeds in turn
 NO_PLAN = 3
 MOST_DIFFERENCES = 10
 
@@ -127,8 +128,14 @@ def schedule_text(rng, names, links, kinds):
     return lines
 
 
-def write_case(seed, folder, kinds, change_share=0.0):
-    """The files of a case; of the policies behind the first this share are changes."""
+def recovery(names):
+    """The rows after which a network has recovered, whatever happened before."""
+    return [f"{kind},{name}" for kind in ("confirm", "resend") for name in names] + ["flush"]
+
+
+def write_case(seed, folder, kinds, change_share=0.0, rounds=0):
+    """The files of a case: this share of the further policies are changes, and at the end of the
+    schedule the network recovers so many times."""
     rng = random.Random(seed)
     names = "abcde"[: rng.randint(2, 5)]
     pairs = [(one, other) for one in names for other in names if one < other]
@@ -138,6 +145,7 @@ def write_case(seed, folder, kinds, change_share=0.0):
         is_change = file > 1 and rng.random() < change_share
         texts[f"p{file}.csv"] = (change_text if is_change else policy_text)(rng, len(names))
     texts["s.csv"] = schedule_text(rng, names, links, kinds)
+    texts["s.csv"] += recovery(names) * rounds
     for name, lines in texts.items():
         Path(folder, name).write_text("".join(line + "\n" for line in lines))
 
@@ -214,7 +222,7 @@ def play(case):
     """What came of a case: "alike", "refused" or "different", with what differs."""
     binary, seed = case
     with tempfile.TemporaryDirectory() as folder:
-        write_case(seed, folder, KINDS, change_share=0.5)
+        write_case(seed, folder, KINDS, 0.5, ROUNDS[seed % len(ROUNDS)])
         try:
             answered = [*answers(folder)]
         except SystemExit as end:

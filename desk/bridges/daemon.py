@@ -9,14 +9,18 @@ import tempfile
 import time
 from pathlib import Path
 
+from parts.script import Mistake
+
 TOOLS = "ovsdb-tool ovsdb-server ovs-vswitchd ovs-vsctl ovs-ofctl".split()
 SCHEMA = "/usr/share/openvswitch/vswitch.ovsschema"
 DUMMY = ("type=dummy",)
 PATIENCE = 60.0  # seconds until a daemon is there
 
 
-class Failed(Exception):
+class Failed(Mistake):
     """A tool of Open vSwitch failed, or isn't there; the message says which, and why."""
+
+    status = 3
 
 
 def missing_tool():

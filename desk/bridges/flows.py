@@ -1,5 +1,5 @@
 """Flows of Open vSwitch, as lines of `ovs-ofctl add-flows`."""
-from . import tables
+from parts.words import bits_of, dotted
 
 WITH_PORTS = {6: "tcp", 17: "udp", 132: "sctp"}
 NUMBERS = {"icmp": 1, "tcp": 6, "udp": 17}
@@ -18,24 +18,14 @@ def kind_of(cookie):
     return cookie - number, number
 
 
-def field(word, low, width):
-    """The value and the mask of a field of a word, whose lowest bit has this number."""
-    value, mask = tables.bits(word)
-    return value >> low & (1 << width) - 1, mask >> low & (1 << width) - 1
-
-
-def address(number):
-    return ".".join(map(str, number.to_bytes(4, "big")))
-
-
 def match_of(word):
     """What a packet of the word has, once the flows of `copying` have seen it."""
     match = ["ip"]
     for name, low in HOSTS.items():
-        value, mask = field(word, low, 32)
-        match += [f"{name}={address(value)}/{address(mask)}"] if mask else []
+        value, mask = bits_of(word, low, 32)
+        match += [f"{name}={dotted(value)}/{dotted(mask)}"] if mask else []
     for name, where in REGISTERS.items():
-        value, mask = field(word, *where)
+        value, mask = bits_of(word, *where)
         match += [f"{name}={value:#x}/{mask:#x}"] if mask else []
     return ",".join(match)
 

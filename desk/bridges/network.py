@@ -1,23 +1,17 @@
 """A network of bridges beside a journal: each packet goes through it from where it came in."""
-import csv
 import re
-import subprocess
-import sys
 import time
 from collections import Counter
-from itertools import takewhile
-from pathlib import Path
 from typing import NamedTuple
 
-from parts.places import MODEL
+from parts.folder import Case
+from parts.plays import Player
 
 from . import daemon, flows, tables
-from .told import Told
+from .told import told_of
 from .wiring import Net, Wiring
 
-sys.path.insert(0, str(MODEL))
-import plan_model  # noqa: E402
-import slow_replay  # noqa: E402
+import plan_model
 
 TOO_FAR = "over more links than Open vSwitch takes"
 PATIENCE = 5.0  # seconds until the ports have counted what was sent
@@ -123,57 +117,35 @@ def end_of(told, rule, at):
 # ---- the comparison
 
 
-def files_of(folder):
-    """The policies of a folder as they are there, and its network or none."""
-    later = (folder / f"policy{number}.csv" for number in range(2, 65))
-    policies = [folder / "policy.csv", *takewhile(Path.is_file, later)]
-    return policies, folder / "net.toml" if (folder / "net.toml").is_file() else None
+def case_in(folder):
+    """The folder's journal, or else that of the slow model; the program may not refuse a file."""
+    player = Player(str(folder), None)
+    rows = player.own_rows()
+    own = folder / "journal.txt"
+    return Case(own, folder.name) if own.is_file() else player.case(rows)
 
 
-def journal_of(folder, policies, net):
-    """The folder's journal, or else that of the slow model."""
-    if (folder / "journal.txt").is_file():
-        return (folder / "journal.txt").read_text()
-    command = [sys.executable, MODEL / "slow_replay.py", folder / "schedule.csv", *policies]
-    command += ["--net", net] if net else []
-    done = subprocess.run(command, capture_output=True, text=True)
-    if done.returncode:
-        last = (done.stderr.splitlines() or ["no plan"])[-1]
-        raise daemon.Failed(f"the slow model doesn't play {folder}: {last}")
-    return done.stdout
-
-
-def rows_of(folder, told):
-    """By version the rows of its policy; a change is applied to those of the version before it."""
-    rows, found = [], {}
-    policies, _ = files_of(folder)
-    for version in sorted(told.files):
-        stated = slow_replay.read_file(policies[int(told.files[version]) - 1])
-        try:
-            rows = found[version] = stated.of(rows)
-        except slow_replay.Refused as fault:
-            why = f"can't be applied to the one before (code {fault.code})"
-            raise tables.Refused(f"{folder}: the change of version {version} {why}") from fault
-    return found
-
-
-def tables_of(folder, name, version, rows, net):
+def tables_of(folder, name, version, rows):
     """The tables that a switch has for a version, whose policy has these rows."""
-    own = folder / f"show-{name}.txt"
+    own, net = folder / f"show-{name}.txt", folder / "net.toml"
     if version == 1 and own.is_file():
         return tables.read_file(own)
-    return tables.read_tables(plan_model.text_of(tuple(map(tuple, rows)), name, net))[0]
+    net = net if net.is_file() else None
+    return tables.read_tables(plan_model.text_of(rows, name, net))[0]
 
 
-def all_tables(folder, net, told, versions):
+def all_tables(folder, case, names, versions):
     """By version the tables of each switch."""
-    rows, (_, path) = rows_of(folder, told), files_of(folder)
-    return {
-        version: {
-            name: tables_of(folder, name, version, rows[version], path) for name in net.names
+    found = {}
+    for version in versions:
+        rules = case.policy(version)
+        if rules is None:
+            raise tables.Refused(f"{folder}: the journal has more policies than there are files")
+        rows = tuple(tuple(rule.fields) for rule in rules)
+        found[version.number] = {
+            name: tables_of(folder, name, version.number, rows) for name in names
         }
-        for version in versions
-    }
+    return found
 
 
 def differences(network, seen):
@@ -188,21 +160,6 @@ def differences(network, seen):
         yield f"ports: {dict(left)}, and not {dict(expected)}"
 
 
-def check_journal(folder, told, net, policies):
-    """Refuses a journal with failures, or one that isn't that of the folder's schedule."""
-    if told.failure:
-        raise tables.Refused(f"{folder}: no link or switch may fail, as in {told.failure}")
-    with open(folder / "schedule.csv", newline="") as file:
-        rows = [row[1:] for row in csv.reader(file) if row[:1] == ["packet"]]
-    if [[packet.at, *packet.header] for packet in told.packets.values()] != rows:
-        raise tables.Refused(f"{folder}: the journal has other packets than schedule.csv")
-    others = {row[0] for row in rows} - set(net.names)
-    if others:
-        raise tables.Refused(f"{folder}: packets come in at {others.pop()}, which isn't there")
-    if max(map(int, told.files.values())) > len(policies):
-        raise tables.Refused(f"{folder}: the journal has more policies than there are files")
-
-
 def play(network, packets):
     """What a network does with each packet that isn't left out, and why others are."""
     seen = [(packet, network.trace(packet)) for packet in packets if packet.left_out() is None]
@@ -213,15 +170,14 @@ def play(network, packets):
 
 def compare(folder):
     """Prints what a network made of a folder did with its packets; whether anything differs."""
-    policies, path = files_of(folder)
-    told = Told(journal_of(folder, policies, path).splitlines())
-    packets = list(told.packets.values())
-    try:
-        net = Net(path)
-        check_journal(folder, told, net, policies)
-        held = all_tables(folder, net, told, sorted({1, *(packet.version for packet in packets)}))
-    except (LookupError, TypeError, ValueError, SystemExit) as fault:
-        raise tables.Refused(f"{folder} has a file that difane refuses: {fault}") from fault
+    case = case_in(folder)
+    told, packets = told_of(case)
+    net = Net(case.net())
+    if strange := told.network.switches.keys() - {*net.names}:
+        raise tables.Refused(f"{folder}: the journal has a switch {min(strange)}, net.toml hasn't")
+    used = {1, *(packet.version for packet in packets)}
+    versions = [told.network.versions[number] for number in sorted(used)]
+    held = all_tables(folder, case, net.names, versions)
     with Network() as network:
         network.load(net, held)
         seen, reasons = play(network, packets)

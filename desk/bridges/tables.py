@@ -2,6 +2,8 @@
 import re
 from typing import NamedTuple
 
+from parts.script import Mistake
+
 NAME = r"[A-Za-z][\w-]{0,15}"
 WORD = r"[0-9a-f]{26}/[0-9a-f]{26}"
 ACTION = r"drop|out:(?:\d|[1-5]\d|6[0-3])"
@@ -19,7 +21,7 @@ SHAPES = {
 TITLE, OWN, BLOCK, RULE, ALL, REGION = SHAPES
 
 
-class Refused(Exception):
+class Refused(Mistake):
     """A text is not a whole text of `show`; the message says in which line, and why."""
 
 

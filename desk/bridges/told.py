@@ -1,19 +1,25 @@
-"""What a journal tells of packets."""
-from collections import defaultdict
+"""What a journal tells of packets, and the version by which each one came in."""
+from typing import NamedTuple
 
-from . import flows
+from . import flows, tables
 
 LOST, IN_FLIGHT = "lost or on their way", "looked up by another version"
 UNSEEN = "with ports that a switch doesn't see"
 
 
-class Packet:
-    """A packet of a journal: where it came in, and what became of it."""
+class Packet(NamedTuple):
+    """A packet of a journal: where and by which version it came in, and what became of it."""
 
-    def __init__(self, number, at, header, version):
-        self.number, self.at, self.header, self.version = number, at, header, version
-        self.way, self.end = [at], None
-        self.asked, self.decided_by, self.rule, self.cached = False, None, None, False
+    number: int
+    at: str
+    header: list
+    version: int
+    way: list
+    end: str | None
+    asked: bool
+    decided_by: int | None
+    rule: str | None
+    cached: bool
 
     def left_out(self):
         """Why the packet isn't sent, or none."""
@@ -29,45 +35,27 @@ class Packet:
         return same and (self.cached or self.way == seen.way)
 
 
-class Told:
-    """What a journal tells: its packets, each version's policy file, and the first failure."""
+def told_of(case):
+    """The play of a journal, in which nothing may fail, and its packets."""
+    play, versions, asked, row = case.start(), {}, set(), ""
+    for item in case.items():
+        play.follow(item)
+        if item.kind == "row":
+            row = item.text
+        elif item.kind == "entered":
+            versions[item.said["packet"]] = play.network.switch(item.said["switch"]).stamp
+        elif item.kind == "tunnelled":
+            asked.add(item.said["packet"])
+        elif item.kind == "down" or item.said.get("news") == "down":
+            raise tables.Refused(f"{case.folder}: no link or switch may fail, as in {row}")
+    packets = play.packets.values()
+    return play, [packet_of(one, versions[one.number], one.number in asked) for one in packets]
 
-    def __init__(self, journal):
-        self.packets, self.files, self.row, self.failure = {}, {1: "1"}, [], None
-        self.stamps, self.orders = defaultdict(lambda: 1), {}
-        for line in journal:
-            self.hear(line.split())
 
-    def hear(self, texts):
-        match texts:
-            case ["row", *_]:
-                self.row = texts
-            case ["link", *_, "down"] | ["down", _]:
-                self.failure = self.failure or " ".join(self.row)
-            case ["submitted", "file", file, "version", version]:
-                self.files[int(version)] = file
-            case ["sent", number, to, "stamp" | "open", _, _, _, version]:
-                self.orders[number] = to, int(version)
-            case ["delivered", number] if number in self.orders:
-                to, version = self.orders[number]
-                self.stamps[to] = max(version, self.stamps[to])
-            case ["entered", i, at]:
-                self.packets[i] = Packet(i, at, self.row[4:9], self.stamps[at])
-            case [_, i, *_] if i in self.packets:
-                self.hear_of(self.packets[i], texts)
-
-    def hear_of(self, packet, texts):
-        match texts:
-            case ["hopped", _, at]:
-                packet.way.append(at)
-            case ["tunnelled", *_]:
-                packet.asked = True
-            case ["decided", _, version, "rule", rule, _, source, *_]:
-                packet.decided_by, packet.rule = int(version.removeprefix("v")), rule
-                packet.cached = source == "cache"
-            case ["out", _, "port", port]:
-                packet.end = f"out by port {port}"
-            case ["dropped", _]:
-                packet.end = "dropped"
-            case ["stuck", _, at, _]:
-                packet.end = f"stuck at {at}"
+def packet_of(one, version, asked):
+    """The packet of a play."""
+    said = one.decision or {}
+    ends = {"out": f"out by port {one.port}", "dropped": "dropped", "stuck": f"stuck at {one.at}"}
+    return Packet(one.number, one.ingress, [*map(str, one.header.values())], version, one.stood,
+                  ends.get(one.end), asked, said.get("version"), said.get("rule"),
+                  said.get("by") == "cache")

@@ -1,17 +1,13 @@
 """The flows and ports of a network's bridges: one for each switch, with links and tags."""
-import tomllib
-
 from . import daemon, flows
 
-SOLO = {"switch": [{"name": "s0", "ports": range(64)}]}
 TO_AUTHORITY, TO_PORT = 0, 1  # the priority bits of a packet's tag
 
 
 class Net:
-    """The network's file. A switch is its number, which is that of its bridge too."""
+    """What the network's file says. A switch is its number, which is that of its bridge too."""
 
-    def __init__(self, path):
-        net = tomllib.loads(path.read_text("utf-8-sig")) if path else SOLO
+    def __init__(self, net):
         rows = net["switch"]
         self.names = [row["name"] for row in rows]
         self.owner = {port: at for at, row in enumerate(rows) for port in row.get("ports", [])}

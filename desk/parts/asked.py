@@ -3,31 +3,24 @@ import re
 import tomllib
 from difflib import get_close_matches
 
-from . import fields
+from . import fields, places  # places puts the model on the path
 from .cautions import network_cautions
 from .records import lines_of, record_at
 from .row_mistakes import CHANGE_HEADING, EDIT_FORMS, SCHEDULE_HEADING
 
+import refusals
+
 MOST_ROOM = 8192
-PLAYS = ("replay", "flows", "rebalance")
 
 
 class Asked:
     """The arguments of the program as files: names, their folder, and the network."""
 
     def __init__(self, args, folder):
-        rest = [arg for arg in args[1:] if arg != "--quiet"]
-        self.folder, self.net_name = folder, None
-        for at, arg in enumerate(rest):
-            if arg.startswith("--net"):
-                joined = arg.startswith("--net=")
-                self.net_name = arg.removeprefix("--net=") if joined else rest[at + 1]
-                del rest[at : at + 2 - joined]
-                break
-        self.names = rest
-        plays, several = args[0] in PLAYS, args[0] in (*PLAYS, "audit")
-        self.schedule = rest[0] if plays else None
-        self.policies = rest[1:] if several else rest[:1]
+        line = refusals.Line(args[1:])
+        self.folder, self.net_name, self.names = folder, line.net, line.names
+        self.schedule = self.names[0] if args[0] in refusals.PLAYS else None
+        self.policies = self.names[1:] if args[0] in refusals.SEVERAL else self.names[:1]
 
     def path(self, name):
         return self.folder / name

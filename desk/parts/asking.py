@@ -1,17 +1,10 @@
 """What desk/run is asked: its arguments, and the questions that they make of folders."""
-import atexit
-import os
-import shutil
-import stat
-import tempfile
 import tomllib
-from itertools import takewhile
 from pathlib import Path
 
-from . import runners
-from .places import EXAMPLES
+from . import places, runners
 from .runners import Question
-from .script import Mistake, say
+from .script import Mistake, Parser, say
 
 POLICY, SCHEDULE, NET, JOURNAL = "policy.csv", "schedule.csv", "net.toml", "journal.txt"
 FILES = {
@@ -31,21 +24,20 @@ FLAGS = ("--quiet", "--build", "--model", "--recover")
 class Options:
     """The arguments of desk/run: folders, commands, flags, and the path of a program."""
 
-    def __init__(self, words):
-        self.flags, self.folders, self.commands = set(), [], []
-        self.program = self.trace = None
-        left = list(words)
+    def __init__(self, words, text):
+        parser = Parser(text)
+        for flag in FLAGS:
+            parser.add_argument(flag, action="append_const", const=flag, dest="flags", default=[])
+        parser.add_argument("--program", type=Path)
+        parser.add_argument("--trace", type=trace_of)
+        parser.add_argument("words", nargs="*")
+        args = parser.parse_intermixed_args(words)
+        self.flags, self.trace = set(args.flags), args.trace
+        self.program = args.program and args.program.resolve()
+        self.folders, self.commands, left = [], [], args.words
         while left:
             word = left.pop(0)
-            if word in FLAGS:
-                self.flags.add(word)
-            elif word == "--program":
-                self.program = Path(self.next(left, "--program", "the path of a program")).resolve()
-            elif word == "--trace":
-                self.trace = trace_of(self.next(left, "--trace", "the file of a journal"))
-            elif word.startswith("-"):
-                raise Mistake(f"there is no option {word}; --help tells which there are")
-            elif word in COMMANDS and (word != "load" or not self.folders):
+            if word in COMMANDS and (word != "load" or not self.folders):
                 self.commands.append([word, *self.behind(word, left)])
             elif self.commands:
                 raise Mistake(f"{word!r} is behind a command: put folders in front")
@@ -79,7 +71,7 @@ class Options:
             raise Mistake("the name of a folder is empty; the current one is .")
 
     def next(self, left, word, what):
-        if not left or left[0].startswith("-"):
+        if not left:
             raise Mistake(f"{word} needs {what} behind it")
         return left.pop(0)
 
@@ -87,17 +79,16 @@ class Options:
 def names_in(folders):
     """The switches of the network in the first folder, in words."""
     try:
-        path = next(Path(base, folders[0], NET) for base in (".", EXAMPLES)
-                    if Path(base, folders[0]).is_dir())
-        names = [row["name"] for row in tomllib.loads(path.read_text())["switch"]]
+        text = (places.folder_of(*folders[:1]) / NET).read_text()
+        names = [row["name"] for row in tomllib.loads(text)["switch"]]
         return f": {', '.join(map(str, names[:20]))}"
-    except (OSError, ValueError, LookupError, TypeError, StopIteration):
+    except (OSError, ValueError, LookupError, TypeError, Mistake):
         return ""
 
 
 def trace_of(name):
     """The file at this path, or else that of the examples."""
-    path = Path(name) if Path(name).exists() else EXAMPLES / name
+    path = places.file_of(name)
     if not path.is_file():
         raise Mistake(f"there is no file {name}")
     return path.resolve()
@@ -105,28 +96,14 @@ def trace_of(name):
 
 def folder_of(name):
     """The folder at this path, or else the example of this name."""
-    try:
-        own, example = Path(name), EXAMPLES / name
-        is_named = example.is_dir() and example.resolve().parent == EXAMPLES
-        if own.is_dir():
-            if is_named and example.resolve() != own.resolve():
-                say(f"{name} is the folder here; the example is {example}")
-            return own
-    except (OSError, ValueError) as error:
-        raise Mistake(f"there is no folder {name[:80]!r}: {error}") from error
-    if is_named:
-        return example
-    raise Mistake(f"there is no folder and no example {name!r}; desk/run lists the examples")
+    folder, example = places.folder_of(name), places.example_of(name)
+    if example and example.resolve() != folder.resolve():
+        say(f"{name} is the folder here; the example is {example}")
+    return folder
 
 
 def is_example(folder):
-    return EXAMPLES in folder.resolve().parents
-
-
-def later_policies(folder):
-    """policy2.csv, policy3.csv and so on, as far as they are there."""
-    names = (f"policy{number}.csv" for number in range(2, 65))
-    return list(takewhile(lambda name: (folder / name).exists(), names))
+    return places.EXAMPLES in folder.resolve().parents
 
 
 def labels_of(folders):
@@ -140,35 +117,19 @@ def labels_of(folders):
     return labels or [""] * len(folders)
 
 
-def check_kind(path):
-    """That it is a file or a folder, which the program refuses; others may have no end."""
-    mode = os.stat(path).st_mode
-    if not (stat.S_ISREG(mode) or stat.S_ISDIR(mode)):
-        raise Mistake(f"{path} is no file but a pipe or a device; put a file in its place")
-
-
-def joined(places):
-    """A folder that is there as long as the script runs, with links of these names to files."""
-    folder = Path(tempfile.mkdtemp(prefix="difane-"))
-    atexit.register(shutil.rmtree, folder, ignore_errors=True)
-    for name, path in places.items():
-        (folder / name).symlink_to(path.resolve())
-    return folder
-
-
 def traced(question, trace):
     """The same audit, of another trace."""
     if trace is None:
         return question
-    places = {name: question.folder / name for name in question.files} | {trace.name: trace}
+    there = {name: question.folder / name for name in question.files} | {trace.name: trace}
     files = [trace.name, *question.files]
-    return question._replace(folder=joined(places), files=files, args=["audit", *files])
+    return question._replace(folder=places.joined(there), files=files, args=["audit", *files])
 
 
 def question_of(folder, label, command, options):
     """The question that a command asks about a folder."""
     (name, *rest), flags = command, options.flags
-    files = list(FILES[name]) + (later_policies(folder) if name in SEVERAL else [])
+    files = list(FILES[name]) + (places.policies_in(folder)[1:] if name in SEVERAL else [])
     files = [file for file in files if file != JOURNAL or options.trace is None]
     absent = [file for file in files if not (folder / file).exists()]
     if absent:
@@ -181,7 +142,7 @@ def question_of(folder, label, command, options):
         files.append(NET)
         args += ["--net", NET]
     for file in files:
-        check_kind(folder / file)
+        places.check_kind(folder / file)
     question = Question(folder, label, args, files, OUTPUTS[name].format(*rest), folder)
     return traced(question, options.trace)
 

@@ -1,12 +1,9 @@
 """Explains why `audit` says no: the first line that isn't good, and what is wrong with it."""
-import sys
 from itertools import islice
 
-from .places import MODEL
+from . import places  # it puts the model on the path
 from .records import quoted
 from .row_mistakes import is_utf16
-
-sys.path.append(str(MODEL))
 
 import slow_audit
 

@@ -7,18 +7,14 @@ from functools import lru_cache
 from itertools import accumulate
 from operator import or_
 
-from . import fields
-from .records import quoted
+from . import places  # it puts the model on the path
 from .script import Mistake
-from .touched import prefix, protocol
+
+import plan_model
 
 KEPT = 4096  # answers of a field, for ends that come again
 LASTS = (2**32 - 1, 2**32 - 1, 2**16 - 1, 2**16 - 1, 2**8 - 1)
 WHOLE = tuple((0, last) for last in LASTS)
-CHECKS = (
-    fields.prefix_fault, fields.prefix_fault, fields.range_fault, fields.range_fault,
-    fields.protocol_fault,
-)
 
 
 def block(value, mask, last):
@@ -31,31 +27,21 @@ def ports(text):
     return int(low), int(high or low)
 
 
+def protocol(text):
+    """The value and the mask of a protocol."""
+    return plan_model.PROTOCOLS.get(text) or (int(text), LASTS[-1])
+
+
 def box_of(texts):
     """Five fields as policies have them, each as its first and its last value."""
     src, dst, sport, dport, proto = texts
-    ends = [block(*prefix(text), LASTS[0]) for text in (src, dst)]
+    ends = [block(*plan_model.address(text), LASTS[0]) for text in (src, dst)]
     return *ends, ports(sport), ports(dport), block(*protocol(proto), LASTS[-1])
-
-
-def checked_box(texts, place):
-    """The box of the fields; a field that is none is a mistake, told with its place."""
-    for check, text in zip(CHECKS, texts):
-        if fault := check(text):
-            raise Mistake(f"{place}: {quoted(text)[:60]}: {fault}")
-    return box_of(texts)
-
-
-def box_of_rule(rule):
-    return checked_box(rule.fields[1:6], f"{rule.file} line {rule.line}")
 
 
 def point_of(header):
     """A packet's header as five numbers."""
-    addresses = [
-        sum(int(part) << 24 - 8 * at for at, part in enumerate(header[name].split(".")))
-        for name in ("src", "dst")
-    ]
+    addresses = (plan_model.address(header[name])[0] for name in ("src", "dst"))
     return *addresses, int(header["sport"]), int(header["dport"]), protocol(header["proto"])[0]
 
 
@@ -130,15 +116,12 @@ class Ranked(Boxes):
     """The rows of a policy, of which the first that has a header decides it: by falling priority."""
 
     def __init__(self, rules):
-        for rule in rules:
-            if fault := fields.priority_fault(rule.priority):
-                raise Mistake(f"{rule.file} line {rule.line}: the priority: {fault}")
         self.rules = sorted(rules, key=lambda rule: -int(rule.priority))
         for one, other in zip(self.rules, self.rules[1:]):
             if one.priority == other.priority:
                 raise Mistake(f"{other.file} line {other.line}: the priority {one.priority} is that "
                               f"of {one.file} line {one.line} too")
-        super().__init__([box_of_rule(rule) for rule in self.rules])
+        super().__init__([box_of(rule.fields[1:6]) for rule in self.rules])
 
     def row_for(self, point):
         """The row that decides this header, or None where the default does."""

@@ -4,6 +4,7 @@ import re
 import tomllib
 from difflib import get_close_matches
 
+from .policies import REFUSED
 from .records import header_line, key_line, lines_of, records_of
 
 KEYS = ["leaf_rules", "backups", "cache", "switch", "link"]
@@ -138,14 +139,6 @@ def folder_cautions(folder, schedule):
         yield from schedule_cautions(folder / schedule, schedule, network.is_file())
 
 
-REFUSED_CODES = {
-    12: "its rows have too many words", 14: "its tree has too many leaves",
-    15: "a partition finds no switch with room", 16: "eight versions live",
-    17: "there are 64 versions", 24: "its change removes a row that isn't there",
-    25: "its change adds a row whose priority is there", 26: "more than 2,000 rows would be there",
-}
-
-
 def played_cautions(text):
     """What a journal says of updates, and its status doesn't: refused ones, and one left alone."""
     row, waiting = "", ""
@@ -157,7 +150,7 @@ def played_cautions(text):
             waiting = row
         elif line.startswith("  refused "):
             _, _, file, _, code = line.split()
-            why = REFUSED_CODES.get(int(code), "its policy has no plan")
+            why = REFUSED.get(int(code), "its policy has no plan")
             yield f"{row}: the update to policy file {file} is refused, code {code}: {why}"
     if waiting:
         yield (f"{waiting}: no row flush stands behind this update: its messages are never "

@@ -2,10 +2,10 @@
 import re
 
 from . import fields
-from .policy_mistakes import POLICY, POLICY_FIELDS, absent_port
+from .policy_mistakes import POLICY, absent_port
 from .records import lines_of, quoted, record_at, records_of
 from .row_mistakes import CHANGE_HEADING, EDIT_FORMS, POLICY_HEADING
-from .row_mistakes import at_row, heading_fault, no_row_meant, said_field, said_record, wrong_width
+from .row_mistakes import at_row, heading_fault, no_row_meant, said_record, wrong_width
 
 CHANGE = {
     **{code: POLICY[code] for code in (3, 4, 5, 6, 7, 8, 9, 13)},
@@ -43,9 +43,7 @@ def explain_change(asked, name, code, row):
     elif code == 13:
         lines += absent_port(asked, record.fields[7])
     elif 3 <= code <= 9:
-        what, check = POLICY_FIELDS[code - 3]
-        text = record.fields[code - 2]
-        lines.append(said_field(what, text, fields.fault_of(check, text)))
+        lines.append(fields.first_fault(fields.OF_POLICY, record.fields[1:]))
     return lines
 
 

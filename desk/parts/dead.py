@@ -1,25 +1,28 @@
 """Which rows of policies no header reaches, and a header that reaches each of the others."""
-from itertools import takewhile
-from pathlib import Path
-
 from .boxes import WHOLE, Ranked, places
 from .cover import cover, needed
+from .mistakes import mistake_of
 from .packets import HEADER
+from .places import policies_in
 from .policies import Change, read_policy
 from .script import Mistake
 from .story import header_text
 from .table import table
+from .policy_mistakes import MOST_WORDS
 from .words import PROTOCOLS, dotted
 
-MOST_FILES = 64
+import plan_model
+import refusals
+
 
 
 def answer(case, *names):
     """For each policy file its rows, a change applied to the file before it; or those of one file."""
     paths = [case.folder / name for name in names]
-    paths = paths or [*takewhile(Path.is_file, map(case.policy_file, range(1, MOST_FILES + 1)))]
+    paths = paths or [case.folder / name for name in policies_in(case.folder)]
     if not paths or not paths[0].is_file():
         raise Mistake(f"there is no file {paths[0] if paths else case.policy_file(1)}")
+    check_files(case, [path.name for path in paths])
     found, rows = [], None
     for path in paths:
         stated = read_policy(path)
@@ -27,6 +30,25 @@ def answer(case, *names):
         rows = changed(path, stated, rows) if is_change else stated
         found.append({"policy": path.name, "is change": is_change, **reached(Ranked(rows))})
     return {"policies": found}
+
+
+def check_files(case, names):
+    """That the program doesn't refuse the files; whether there is room for rules isn't asked."""
+    net = ["net.toml"] * (case.folder / "net.toml").is_file()
+    files, told = refusals.Files(case.folder), ""
+    try:
+        network = files.network(*net or [None])
+        for name in names:
+            rows = files.policy(name, network, None)
+            if rows and len(rows[0]) == 7 and plan_model.rules_of(rows)[1] > MOST_WORDS:
+                raise refusals.Refusal(12)
+    except refusals.Refusal as refusal:
+        told = f"difane: input {files.name} code {refusal.code} row {refusal.row}"
+    except refusals.ReadFault:
+        told = "difane: read fault"
+    if told:
+        args = ["audit", "journal.txt", *names, *(["--net", *net] if net else [])]
+        raise mistake_of(case.name, told, args, case.folder)
 
 
 def changed(path, change, rows):

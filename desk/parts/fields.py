@@ -178,3 +178,32 @@ def fault_of(check, text):
     if bare != text and not check(bare):
         return f"{looks(text)}: write {bare}"
     return check(text)
+
+
+# Of an event, a policy or a packet.
+
+
+OF_POLICY = [
+    ("the priority", priority_fault), ("the source", prefix_fault),
+    ("the destination", prefix_fault), ("the source ports", range_fault),
+    ("the destination ports", range_fault), ("the protocol", protocol_fault),
+    ("the action", action_fault),
+]
+OF_PACKET = [
+    ("the source", address_fault), ("the destination", address_fault),
+    ("the source port", port_fault), ("the destination port", port_fault),
+    ("the protocol", proto_fault),
+]
+
+
+def said(what, text, fault):
+    """The field in quotes, and what is wrong with it."""
+    return f"{what} {quoted(text)[:80]}: {fault}"
+
+
+def first_fault(checks, texts):
+    """What is wrong with the first of these fields that the program doesn't read, or nothing."""
+    for (what, check), text in zip(checks, texts):
+        if fault := fault_of(check, text):
+            return said(what, text, fault)
+    return ""

@@ -1,35 +1,21 @@
 """The folder of a journal, and the files beside it."""
 import sys
-import tomllib
 from collections import Counter
-from pathlib import Path
 
 from . import agreed
 from .journal import read_items
+from .mistakes import mistake_of
 from .network import CACHE, Network
 from .packets import Play
-from .places import EXAMPLES
+from .places import file_of, folder_of
 from .policies import Change, read_policy
 from .script import Mistake
 from .touched import EVERYTHING, touched_words
 
+import refusals
+
+JOURNAL = "journal.txt"
 SOLO = {"switch": [{"name": "s0", "ports": list(range(64)), "authority": 8192}]}
-
-
-def is_network(net):
-    """Whether the document has switches with names, and links between them."""
-    try:
-        names = {row["name"] for row in net["switch"]}
-        numbers = [port for row in net["switch"] for port in row.get("ports", [])]
-        links = [link["ends"] for link in net.get("link", [])]
-        return (
-            len(names) > 0
-            and all(isinstance(name, str) for name in names)
-            and all(isinstance(number, int) for number in [net.get("cache", CACHE), *numbers])
-            and all(len(ends) == len(names & {*ends}) == 2 for ends in links)
-        )
-    except (KeyError, TypeError, AttributeError):
-        return False
 
 
 class Case:
@@ -70,11 +56,12 @@ class Case:
         if not path.is_file():
             return SOLO
         try:
-            net = tomllib.loads(path.read_text(encoding="utf-8-sig"))
-        except ValueError as error:
-            raise Mistake(f"{path}: {error}") from error
-        if not is_network(net):
-            raise Mistake(f"{path} is no network; difane compile says what is wrong")
+            net = refusals.document(path.read_bytes())
+            refusals.check_network(net)
+        except refusals.Refusal as why:
+            told = f"difane: input net.toml code {why.code} row {why.row}"
+            args = ["compile", "policy.csv", "--net", "net.toml"]
+            raise mistake_of(self.name, told, args, self.folder) from why
         return net
 
     def policy_file(self, file):
@@ -150,13 +137,5 @@ def case_of(name):
 
 def inputs_of(name):
     """The same, for questions that need no journal."""
-    path = Path(name)
-    if not path.exists() and (EXAMPLES / name).is_file():
-        path = EXAMPLES / name
-    if path.is_file():
-        return Case(path, str(path.parent))
-    own = path.is_dir() or "/" in name or not (EXAMPLES / name).is_dir()
-    folder = path if own else EXAMPLES / name
-    if not folder.is_dir():
-        raise Mistake(f"there is no folder, no journal and no example {name!r}")
-    return Case(folder / "journal.txt", name)
+    path = file_of(name)
+    return Case(path, str(path.parent)) if path.is_file() else Case(folder_of(name) / JOURNAL, name)

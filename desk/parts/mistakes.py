@@ -13,6 +13,7 @@ from .audit_mistakes import explain_audit
 from .change_mistakes import CHANGE, explain_change
 from .network_mistakes import NETWORK, explain_network
 from .policy_mistakes import POLICY, explain_policy
+from .script import Mistake
 from .schedule_mistakes import SCHEDULE, explain_schedule
 from .word_mistakes import explain_words
 
@@ -42,6 +43,12 @@ def explain(told, args, folder):
         lines = [STATUSES[told]] if told in STATUSES else []
         lines += unreadable(args, folder) if told == "difane: read fault" else []
     return ["  " + line for line in lines]
+
+
+def mistake_of(name, told, args, folder):
+    """The same as a mistake in one line, which says of what folder, and the first reasons."""
+    why = [line.strip() for line in explain(told, args, folder)][:3]
+    return Mistake(f"{name}: {told.removeprefix('difane: ')}: {'; '.join(why)}")
 
 
 def explain_refusal(asked, name, code, row):

@@ -1,12 +1,13 @@
 """The plan of a policy: which switch gets how many rules, and of which headers."""
 import re
 
-from .mistakes import explain
-from .now import SAYS, answer_now
+from . import runners
+from .mistakes import mistake_of
 from .script import Mistake
 from .table import table
 from .words import spelled
 
+SAYS = {"program": "by the program that was there", "model": "by the slow model"}
 PART = re.compile(r"part (\d+) region (\S+) rules \d+ targets (.+)")
 RULE = re.compile(r"  rank (\d+) rule (\S+) word (\S+) (\S+)")
 
@@ -31,12 +32,14 @@ def answer_for(case, file):
     """What the program prints of the plan, where it is there, or the model."""
     if not (case.folder / file).is_file():
         raise Mistake(f"there is no file {case.folder / file}")
-    found = answer_now(case.folder, "compile", [file])
+    net = ["net.toml"] * (case.folder / "net.toml").is_file()
+    args, folder = ["compile", file, *(["--net", *net] if net else [])], case.folder
+    question = runners.Question(folder, "", args, [file, *net], "", folder)
+    found = runners.by_program(runners.PROVED, question) if runners.PROVED.is_file() else None
+    found = found or runners.forecast(question)
     if found.status:
-        net = ["--net", "net.toml"] * (case.folder / "net.toml").is_file()
-        why = [line.strip() for line in explain(found.told, ["compile", file, *net], case.folder)]
-        raise Mistake(f"{case.name}: {found.told.removeprefix('difane: ')}: {'; '.join(why[:3])}")
-    return found
+        raise mistake_of(case.name, found.told, args, folder)
+    return runners.by_model(question) if found.by == "forecast" else found
 
 
 def parts_of(text):

@@ -1,49 +1,42 @@
 """Plays schedules over the policies and the network of a folder, by a program or the slow model."""
 import subprocess
 import sys
-import tempfile
-import tomllib
-from itertools import takewhile
 from pathlib import Path
 
 from . import runners
 from .folder import Case
-from .mistakes import explain
-from .places import EXAMPLES
+from .mistakes import mistake_of
+from .places import check_kind, folder_of, joined, policies_in
 from .records import lines_of, records_of
 from .row_mistakes import SCHEDULE_HEADING
-from .script import Mistake
+from .script import Mistake, Parser
 
-import refusals  # of model/, which runners put on the path
+import refusals
+import row_states
 import slow_replay
 
-POLICIES = ["policy.csv", *(f"policy{number}.csv" for number in range(2, 65))]
 SCHEDULE, NET, JOURNAL, MOST_ROWS = "schedule.csv", "net.toml", "journal.txt", 100_000
 SAYS = {True: "by the program", False: "by the slow model, of which nothing is proved"}
 
 
-def folder_of(name):
-    """The folder at this path, or else the example of this name."""
-    own, example = Path(name), EXAMPLES / name
-    if name and own.is_dir():
-        return own
-    if name and example.is_dir() and example.resolve().parent == EXAMPLES:
-        return example
-    raise Mistake(f"there is no folder and no example {name!r}; desk/run lists the examples")
+def parser_of(text):
+    """The parser of a script that plays: its folder, who plays, and the form of what it prints."""
+    parser = Parser(text, "FOLDER")
+    parser.add_argument("--program", type=Path)
+    for flag in ("--model", "--json"):
+        parser.add_argument(flag, action="store_true")
+    return parser
 
 
-def program_in(args):
-    """The program that is to play, or None for the slow model; its words are taken off."""
-    if "--program" in args:
-        at = args.index("--program")
-        path = Path(args[at + 1]).resolve() if args[at + 1 :] else None
-        if path is None or not path.is_file() or "--model" in args:
-            raise Mistake("behind --program stands the path of a program, and no --model")
-        del args[at : at + 2]
-        return path
-    if "--model" in args:
-        args.remove("--model")
-        return None
+def program_of(args):
+    """The program that is to play, or None for the slow model."""
+    if args.program and (args.model or not args.program.is_file()):
+        raise Mistake(f"{args.program} is no program, or --model is given too")
+    return args.program.resolve() if args.program else None if args.model else proved()
+
+
+def proved():
+    """The proved program where it is there, or None."""
     return runners.PROVED if runners.PROVED.is_file() else None
 
 
@@ -52,25 +45,15 @@ class Player:
 
     def __init__(self, name, program):
         self.name, self.source, self.program = name, folder_of(name), program
-        there = takewhile(lambda file: (self.source / file).is_file(), POLICIES)
-        self.policies = list(there)
+        self.policies = policies_in(self.source)
         if not self.policies:
-            raise Mistake(f"there is no file {self.source / POLICIES[0]}")
-        if (self.source / NET).exists() and not (self.source / NET).is_file():
-            raise Mistake(f"{self.source / NET} is no file")
-        self.files = self.policies + [NET] * (self.source / NET).is_file()
-        self.home = tempfile.TemporaryDirectory(prefix="difane-")
-        self.folder = Path(self.home.name)
+            raise Mistake(f"there is no file {self.source / 'policy.csv'}")
+        self.files = self.policies + [NET] * (self.source / NET).exists()
         for file in self.files:
-            (self.folder / file).symlink_to((self.source / file).resolve())
+            check_kind(self.source / file)
+        self.folder = joined({file: self.source / file for file in self.files})
         keep_plans()
         self.check([])
-
-    def __enter__(self):
-        return self
-
-    def __exit__(self, *_):
-        self.home.cleanup()
 
     def net(self):
         """What the network's file says, or the network of one switch."""
@@ -104,8 +87,7 @@ class Player:
         """What the program would refuse is told in one line."""
         told, _ = refusals.answer(self.arguments(), self.folder)
         if told:
-            why = [line.strip() for line in explain(told, self.arguments(), self.folder)][:2]
-            raise Mistake(f"{self.name}: {told.removeprefix('difane: ')}: {'; '.join(why)}")
+            raise mistake_of(self.name, told, self.arguments(), self.folder)
 
     def arguments(self):
         """Those of the program."""
@@ -131,9 +113,8 @@ class Player:
         return done.stdout
 
     def by_model(self, rows):
-        path = self.folder / NET
-        net = tomllib.loads(path.read_text("utf-8-sig")) if NET in self.files else slow_replay.SOLO
-        world = slow_replay.World(net, [self.folder / name for name in self.policies])
+        net = self.folder / NET if NET in self.files else None
+        world = row_states.world_of(net, [self.folder / name for name in self.policies])
         world.play(rows)
         if len(world.journal.messages) >= runners.MANY_MESSAGES:
             raise Mistake(f"{self.name}: too many messages for the slow model; take a program")

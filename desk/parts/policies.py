@@ -1,6 +1,7 @@
 """What a policy file states: the rows of a policy, or a change of one."""
 from typing import NamedTuple
 
+from . import fields
 from .records import records_of
 from .row_mistakes import CHANGE_HEADING, EDIT_FORMS, POLICY_HEADING
 from .script import Mistake
@@ -9,6 +10,16 @@ HEADING, OF_CHANGE = POLICY_HEADING.split(","), CHANGE_HEADING.split(",")
 WIDTHS = {op: form.count(",") + 1 for op, form in EDIT_FORMS.items()}
 MOST_ROWS = 2000
 ABSENT, TAKEN, TOO_MANY = 24, 25, 26
+REFUSED = {  # why an update is refused while it plays, by its code
+    12: "the policy would have more than 4,096 words",
+    14: "the policy would have more than 512 partitions",
+    15: "too few switches have room for a partition",
+    16: "eight versions live",
+    17: "there are 64 versions",
+    ABSENT: "its change removes rows that the newest version hasn't",
+    TAKEN: "its change adds rows of priorities that the newest version has and keeps",
+    TOO_MANY: "with its change, the newest version would have more than 2,000 rows",
+}
 
 
 class Rule(NamedTuple):
@@ -63,5 +74,8 @@ def is_edit(fields):
     return len(fields) == WIDTHS.get(fields[0])
 
 
-def rule_at(path, row, fields):
-    return Rule(fields[0], path.name, row.line, fields)
+def rule_at(path, row, texts):
+    """The rule of a row, whose fields have to be those of a policy."""
+    if fault := fields.first_fault(fields.OF_POLICY, texts):
+        raise Mistake(f"{path.name} line {row.line}: {fault}")
+    return Rule(texts[0], path.name, row.line, texts)

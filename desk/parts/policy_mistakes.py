@@ -1,14 +1,9 @@
 """Explains the codes of policies."""
-import sys
-
-from . import fields
+from . import fields, places  # places puts the model on the path
 from .asked import network_hints
-from .places import MODEL
 from .records import lines_of, records_of
 from .row_mistakes import CHANGE_HEADING, POLICY_HEADING
-from .row_mistakes import at_row, heading_fault, said_field, said_record, wrong_width
-
-sys.path.append(str(MODEL))
+from .row_mistakes import at_row, heading_fault, said_record, wrong_width
 
 import plan_model
 
@@ -30,12 +25,6 @@ POLICY = {
     14: f"the tree of the policy has more than {MOST_LEAVES} leaves",
     15: "fewer switches than are wanted have room for a partition",
 }
-POLICY_FIELDS = [
-    ("the priority", fields.priority_fault), ("the source", fields.prefix_fault),
-    ("the destination", fields.prefix_fault), ("the source ports", fields.range_fault),
-    ("the destination ports", fields.range_fault), ("the protocol", fields.protocol_fault),
-    ("the action", fields.action_fault),
-]
 
 
 def explain_policy(asked, name, code, row):
@@ -58,9 +47,7 @@ def explain_policy(asked, name, code, row):
     elif code == 13:
         lines += absent_port(asked, record.fields[6])
     elif 3 <= code <= 9:
-        what, check = POLICY_FIELDS[code - 3]
-        text = record.fields[code - 3]
-        lines.append(said_field(what, text, fields.fault_of(check, text)))
+        lines.append(fields.first_fault(fields.OF_POLICY, record.fields))
     return lines
 
 
@@ -90,22 +77,15 @@ def absent_port(asked, action):
     yield from network_hints(asked)
 
 
-def blocks_of(text):
-    """How many aligned blocks a range of ports has."""
-    low, _, high = (text if text != "any" else "0-65535").partition("-")
-    low, high, count = int(low), int(high or low), 0
-    while low <= high:
-        size = low & -low or 65536
-        while low + size - 1 > high:
-            size //= 2
-        low, count = low + size, count + 1
-    return count
+def words_of(row):
+    """How many words a row has: one for each pair of aligned blocks of its ports."""
+    return plan_model.rules_of([row])[1]
 
 
 def too_many_words(asked, name, code):
     """The rows with the most words."""
     found = [
-        (blocks_of(record.fields[3]) * blocks_of(record.fields[4]), record)
+        (words_of(record.fields), record)
         for record in records_of(lines_of(asked.path(name)))
         if record.row
     ]

@@ -3,22 +3,12 @@ from collections import Counter
 
 from .network import DOWN
 from .packets import ENDS, TRAVELLING
-from .policies import ABSENT, TAKEN, TOO_MANY, Change
+from .policies import REFUSED, Change
 from .script import Mistake
 from .story import story_of
 from .words import match_of
 
 UPDATE = "install installed stamp stamped collect".split()
-REFUSED = {
-    12: "the policy would have more than 4,096 words",
-    14: "the policy would have more than 512 partitions",
-    15: "too few switches have room for a partition",
-    16: "eight versions live",
-    17: "there are 64 versions",
-    ABSENT: "its change removes rows that version {newest} hasn't",
-    TAKEN: "its change adds rows of priorities that version {newest} has and keeps",
-    TOO_MANY: "with its change, version {newest} would have more than 2,000 rows",
-}
 
 
 def ends(case):
@@ -210,7 +200,7 @@ def change_of(case, version):
 def refusal_of(case, item, newest):
     """Why an update was refused, and the priorities at fault where the files are there."""
     code, change, rows = item.said["code"], case.stated(item.said["file"]), case.policy(newest)
-    why = REFUSED.get(code, f"code {code}").format(newest=newest.number)
+    why = REFUSED.get(code, f"code {code}")
     if rows is None or not isinstance(change, Change):
         return why
     found, priorities = change.fault(rows)

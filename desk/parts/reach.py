@@ -1,28 +1,27 @@
 """Who reaches whom: from each switch, the ports by which packets of a header leave."""
-import shutil
-import tempfile
 from collections import Counter
-from pathlib import Path
 
-from .boxes import Ranked, checked_box
+from . import fields
+from .boxes import Ranked, box_of
 from .cover import cover
 from .dead import header_in
-from .folder import Case
-from .now import SAYS, answer_now
 from .packets import HEADER
+from .plans import SAYS
+from .plays import Player, proved
 from .script import Mistake
 from .story import header_text
 from .table import table
 
 MOST = 5000  # packets of one question
-FRESH = "event,arguments\n"
 
 
 def answer(case, *words):
     """For each switch and each header what becomes of its packet: over the network as it begins, or
     behind the schedule.
     """
-    box, is_behind = checked_box(words[:5], "the header"), words[5:] == ("behind",)
+    if fault := fields.first_fault(fields.OF_POLICY[1:], words[:5]):
+        raise Mistake(fault)
+    box, is_behind = box_of(words[:5]), words[5:] == ("behind",)
     names = [row["name"] for row in case.net()["switch"]]
     headers = headers_of(case, box, is_behind)
     if len(names) * len(headers) > MOST:
@@ -76,30 +75,13 @@ def headers_in(ranked, box):
 
 def played(case, probes, is_behind):
     """The packets of these probes, each drained, and who played them."""
-    rows = "".join(
-        f"packet,{name},{','.join(header[field] for field in HEADER)}\ndrain\n"
-        for name, header in probes
-    )
-    with tempfile.TemporaryDirectory(prefix="difane-") as name:
-        folder, files = Path(name), ["schedule.csv", *policies_of(case, is_behind)]
-        before = (case.folder / "schedule.csv").read_text("utf-8-sig") if is_behind else FRESH
-        (folder / "schedule.csv").write_text(before.rstrip("\r\n") + "\n" + rows)
-        for file in [*files[1:], "net.toml"]:
-            if (case.folder / file).is_file():
-                shutil.copy(case.folder / file, folder / file)
-        found = answer_now(folder, "replay", files)
-        if found.status:
-            raise Mistake(f"{case.name}: {found.told}; desk/run {case.name} explains it")
-        (folder / "journal.txt").write_text(found.text)
-        packets = list(Case(folder / "journal.txt", name).play().packets.values())
-    return packets[len(packets) - len(probes) :], found.by
-
-
-def policies_of(case, is_behind):
-    """The policy files that are played: the first, or all that are there."""
-    names = [path.name for path in map(case.policy_file, range(1, 65))]
-    there = [name for name in names if (case.folder / name).is_file()]
-    return there if is_behind else there[:1]
+    rows = [row for name, header in probes
+            for row in (["packet", name, *(header[field] for field in HEADER)], ["drain"])]
+    player = Player(str(case.folder), proved())
+    rows = (player.own_rows() if is_behind else []) + rows
+    player.check(rows)
+    packets = list(player.case(rows).play().packets.values())
+    return packets[len(packets) - len(probes) :], "program" if player.program else "model"
 
 
 def text(found):

@@ -4,9 +4,10 @@ The rows are a `confirm` of each switch, a `resend` of each switch, and a `flush
 """
 import csv
 
-from .asking import SCHEDULE, joined
+from .asking import SCHEDULE
 from .folder import Case
 from .network import DOWN
+from .places import joined
 from .texts import table
 
 ROWS, JOURNAL = "recovered.csv", "recovered.txt"

@@ -32,11 +32,6 @@ def said_record(name, record):
     return f"{name}, {lines}: {text}"
 
 
-def said_field(what, text, fault):
-    """The field in quotes, and what is wrong with it."""
-    return f"{what} {quoted(text)[:80]}: {fault}"
-
-
 def at_row(asked, name, row):
     """The record of a row, and the lines that begin an explanation."""
     record = record_at(asked.path(name), row)

@@ -30,8 +30,6 @@ LARGE = 1 << 16  # bytes of a schedule from which on its journal may be too long
 LIMIT = 1 << 20  # bytes of output above which `rt try` gives none
 NO_ANSWER = -1
 
-sys.path.append(str(MODEL))
-
 import refusals
 
 

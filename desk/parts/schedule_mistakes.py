@@ -5,7 +5,7 @@ from . import fields
 from .asked import names_hint, network_hints
 from .records import quoted
 from .row_mistakes import FORMS, SCHEDULE_HEADING
-from .row_mistakes import at_row, heading_fault, no_row_meant, said_field, wrong_width
+from .row_mistakes import at_row, heading_fault, no_row_meant, wrong_width
 
 # How many fields behind a kind name switches.
 SWITCH_FIELDS = {kind: form.count("S,T") + 1 for kind, form in FORMS.items() if ",S" in form}
@@ -20,11 +20,6 @@ SCHEDULE = {
     8: "a schedule has at most 100,000 rows",
     9: "both are switches, and no link joins them",
 }
-HEADER_FIELDS = [
-    ("the source", fields.address_fault), ("the destination", fields.address_fault),
-    ("the source port", fields.port_fault), ("the destination port", fields.port_fault),
-    ("the protocol", fields.proto_fault),
-]
 
 
 def explain_schedule(asked, name, code, row):
@@ -47,9 +42,9 @@ def explain_schedule(asked, name, code, row):
         lines += names_hint(asked, absent)
     elif code == 5:
         fault = fields.fault_of(fields.count_fault, left[-1])
-        lines.append(said_field("the number", left[-1], fault))
+        lines.append(fields.said("the number", left[-1], fault))
     elif code == 6:
-        lines += wrong_header(left[1:])
+        lines.append(fields.first_fault(fields.OF_PACKET, left[1:]))
     elif code == 7:
         lines += wrong_file(asked, left[0])
     elif code == 8:
@@ -69,27 +64,18 @@ def unknown_kind(record):
     kind = record.fields[0]
     bare = kind.strip().lower()
     if kind != bare and bare in FORMS:
-        yield said_field("the kind", kind, f"{fields.looks(kind)}: write {bare}")
+        yield fields.said("the kind", kind, f"{fields.looks(kind)}: write {bare}")
         return
     near = get_close_matches(bare.replace("_", "").replace("-", ""), FORMS, 1)
     hint = f"perhaps {near[0]}" if near else f"the kinds are {', '.join(FORMS)}"
     yield f"the kind {quoted(kind)}: {no_row_meant(record) or hint}"
 
 
-def wrong_header(texts):
-    """The first field of a packet's header that isn't read."""
-    for (what, check), text in zip(HEADER_FIELDS, texts):
-        fault = fields.fault_of(check, text)
-        if fault:
-            yield said_field(what, text, fault)
-            return
-
-
 def wrong_file(asked, text):
     """The policy files that there are."""
     count = len(asked.policies)
     fault = fields.fault_of(lambda one: fields.number_fault(one, count, 1), text)
-    yield said_field("the file", text, fault)
+    yield fields.said("the file", text, fault)
     said = ", ".join(f"{number} is {name}" for number, name in enumerate(asked.policies, 1))
     yield f"the files are the policies of the command: {said}"
 

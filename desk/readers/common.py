@@ -1,11 +1,15 @@
-"""What `desk/traffic` and `desk/policy` share: refusals, what is left out, how they end."""
+"""What the scripts that make files share: what is left out, what they write, texts and numbers."""
 import argparse
 import io
-import os
 import re
 import sys
 from functools import lru_cache
 
+from parts.places import file_of
+from parts.script import Mistake as Refused
+from parts.words import dotted
+
+address_text = lru_cache(1 << 16)(dotted)
 SHOWN = 20  # reasons, and ranges of a reason, that a summary names
 ADDRESS = re.compile(r"(\d{1,3})\.(\d{1,3})\.(\d{1,3})\.(\d{1,3})", re.ASCII)
 NUMBERS = {
@@ -33,10 +37,6 @@ NUMBERS = {
 NAMES = {1: "icmp", 6: "tcp", 17: "udp"}
 
 
-class Refused(Exception):
-    """A file or an option that can't be read; the text says why."""
-
-
 class Unsaid(Exception):
     """A line or a packet that difane's files can't say; the text says why.
 
@@ -46,16 +46,6 @@ class Unsaid(Exception):
     def __init__(self, why, permits=None):
         super().__init__(why)
         self.permits = permits
-
-
-class Parser(argparse.ArgumentParser):
-    """A parser of arguments that refuses them in one line."""
-
-    def __init__(self, text):
-        super().__init__(description=text, formatter_class=argparse.RawDescriptionHelpFormatter)
-
-    def error(self, message):
-        raise Refused(message)
 
 
 class Named:
@@ -95,11 +85,6 @@ def address_of(text):
     return None if max(octets) > 255 else int.from_bytes(octets, "big")
 
 
-@lru_cache(maxsize=1 << 16)
-def address_text(address):
-    return ".".join(map(str, address.to_bytes(4, "big")))
-
-
 def prefix_of(text):
     """The address and the length of a prefix, or nothing; an address alone has the length 32."""
     address, slash, length = text.partition("/")
@@ -132,7 +117,7 @@ def number_from(least, most):
 
 
 def add_common(parser):
-    """The arguments of both scripts."""
+    """The arguments of all these scripts."""
     parser.add_argument("file", nargs="?", metavar="FILE")
     parser.add_argument("--strict", action="store_true")
     parser.add_argument("--all", action="store_true")
@@ -142,7 +127,7 @@ def opened(name):
     """The bytes of a file, or of standard input where no name or a dash is given."""
     if name is None and sys.stdin.isatty():
         raise Refused("no FILE is given; --help says what it is")
-    return sys.stdin.buffer if name in (None, "-") else open(name, "rb")
+    return sys.stdin.buffer if name in (None, "-") else open(file_of(name), "rb")
 
 
 def lines_of(data):
@@ -169,22 +154,3 @@ def finish(name, args, rows, told, left, *others):
     sys.stdout.write("".join(f"{row}\n" for row in rows))
     sys.stdout.flush()
     return 0
-
-
-def run(name, main):
-    """Ends with the status of `main`; a refusal, an interrupt and a closed pipe end it too."""
-    try:
-        if sys.stdout is None:
-            raise Refused("the output is closed")
-        sys.exit(main())
-    except BrokenPipeError:
-        os.dup2(os.open(os.devnull, os.O_WRONLY), sys.stdout.fileno())
-        sys.exit(141)
-    except (Refused, OSError) as why:
-        is_file = isinstance(why, OSError)
-        text = f"{why.filename or 'output'}: {why.strerror}" if is_file else why
-        print(f"desk/{name}: {text}", file=sys.stderr)
-        sys.exit(2)
-    except KeyboardInterrupt:
-        print(f"desk/{name}: stopped", file=sys.stderr)
-        sys.exit(130)

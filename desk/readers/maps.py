@@ -3,6 +3,7 @@ import csv
 import re
 import tomllib
 
+from parts.places import file_of
 from readers.common import Refused, address_text, prefix_of
 
 HEADING = ["prefix", "switch"]
@@ -51,7 +52,7 @@ class Map:
 
 def pairs_of(name, heading):
     """The two fields of each row of a CSV file with this heading, and where the row is."""
-    with open(name, newline="", encoding="utf-8-sig", errors="replace") as file:
+    with open(file_of(name), newline="", encoding="utf-8-sig", errors="replace") as file:
         reader = csv.reader(file)
         try:
             if [text.strip() for text in next(reader, [])] != heading:
@@ -76,18 +77,17 @@ def read_map(name):
 
 
 def read_toml(name):
+    """The document in a file, and the file's lines."""
     try:
-        with open(name, "rb") as file:
-            return tomllib.load(file)
-    except (tomllib.TOMLDecodeError, UnicodeDecodeError) as why:
+        text = file_of(name).read_text(encoding="utf-8")
+        return tomllib.loads(text), text.split("\n")
+    except ValueError as why:
         raise Refused(f"{name}: {why}") from why
 
 
 def toml_pairs(name):
     """Each prefix and its switch of a map whose keys are switches, and where the prefix is."""
-    document = read_toml(name)
-    with open(name, encoding="utf-8") as file:
-        lines, line = file.read().split("\n"), 1
+    (document, lines), line = read_toml(name), 1
     for switch, prefixes in document.items():
         line = line_with(lines, line, switch)
         for prefix in prefixes if isinstance(prefixes, list) else [prefixes]:
@@ -110,7 +110,7 @@ def line_with(lines, first, value):
 
 def names_of(name):
     """The names of the switches of a network's file."""
-    rows = read_toml(name).get("switch")
+    rows = read_toml(name)[0].get("switch")
     if not isinstance(rows, list):
         raise Refused(f"{name}: it has no switches")
     return {str(row.get("name")) for row in rows if isinstance(row, dict)}

@@ -1,8 +1,12 @@
 """A filter as rows of a policy say it: each field is a list of prefixes, ranges or protocols."""
 from itertools import product
+from math import prod
 from typing import NamedTuple
 
+from parts import places  # it puts the model on the path
 from readers.common import Unsaid, address_of, address_text, protocol_text
+
+import plan_model
 
 LAST_PORT = 65535
 NOTHING = "it matches no packet"
@@ -106,18 +110,6 @@ def but(ranges):
     return found + ([(free, LAST_PORT)] if free <= LAST_PORT else [])
 
 
-def blocks(low, high):
-    """How many aligned blocks of powers of two a range of ports has."""
-    count = 0
-    while low <= high:
-        size = low & -low or LAST_PORT + 1
-        while low + size - 1 > high:
-            size //= 2
-        low += size
-        count += 1
-    return count
-
-
 def prefix_text(prefix):
     address, length = prefix
     if length == 0:
@@ -141,4 +133,4 @@ def row_text(priority, fields, action):
 
 def words_of(fields):
     """How many words of a ternary memory a row takes."""
-    return blocks(*fields[2]) * blocks(*fields[3])
+    return prod(len(list(plan_model.blocks(range_text(ports)))) for ports in fields[2:4])

@@ -36,7 +36,8 @@ impl<T: Drop> Items<T> {
 
     /// Writes an item at the end.
     ///
-    /// # Errors Only out of memory; then the list is unchanged.
+    /// # Errors
+    /// Only out of memory; then the list is unchanged.
     #[inline(always)]
     pub fn push(&mut self, item: T) -> Result<(), AllocError>
         ensures pushed { OnOk result (self.new ≡ self.old ++ item ∷ []) }

@@ -1,5 +1,5 @@
-//! Why a call returns no value; lists and shared values for the other crates; and sets of small
-//! numbers.
+//! Why a call returns no value; lists and shared values for the other crates; sets of small
+//! numbers; and the limits of a network.
 //!
 //! `Failure` says what a call refuses, by a type of its own with its message, or out of memory;
 //! `?` makes one of a failure of memory. A reader of a text returns `InRow` of its refusals. A
@@ -20,6 +20,7 @@
 
 mod error;
 mod items;
+mod limits;
 mod masks;
 mod row;
 mod shared;
@@ -27,6 +28,7 @@ mod shared_list;
 
 pub use error::Failure;
 pub use items::Items;
+pub use limits::{MAX_SWITCHES, MAX_VERSIONS};
 pub use masks::{has, mask_laws, only_if, with};
 pub use row::InRow;
 pub use shared::Shared;

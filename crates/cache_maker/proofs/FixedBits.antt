@@ -432,6 +432,42 @@ new_is fixed reasons b stays without n set = elim (cases_eq n b) [
       inr (other, was.0, was.1)
 ]
 
+-- the closed bits have no reasons, so they stay with those that stay of the others
+pub without_open : {h closed fixed : ℕ} {earlier : List Rule} {reasons : List ℕ} {b kept : ℕ}
+    → AreFixed h closed earlier fixed reasons → closed < 2 ^ 104
+    → IsWithout (bit_xor fixed closed) reasons b kept
+    → IsWithout fixed reasons b (bit_or closed kept)
+without_open {h} {closed} {fixed} {earlier} {reasons} {b} {kept} are bound without = record {
+  small = or_lt 104 closed kept bound without.small;
+  gone = λ n one. elim (cases_eq (bit_at closed n) 1) [
+    | inl is ↦ (are.closed_stay n is, ap (λ x. bit_at x b) (are.no_reason n is) ∙ bit_at-zero b)
+    | inr other ↦
+        let small = bit_at-lt kept n in
+        let was = without.gone n (omega (
+          arith,
+          sym (bit_at_or closed kept n) ∙ one,
+          zero_of _ (bit_at-lt closed n) other,
+          small,
+        )) in (
+          omega (
+            arith,
+            sym (bit_at_xor fixed closed n) ∙ was.0,
+            zero_of _ (bit_at-lt closed n) other,
+            bit_at-lt fixed n,
+          ),
+          was.1,
+        )
+  ];
+  stay = λ n one none. elim (cases_eq (bit_at closed n) 1) [
+    | inl is ↦ or_left closed kept n is
+    | inr other ↦ or_right closed kept n (without.stay n (bit_at_xor fixed closed n
+        ∙ of_one _ _ one (zero_of _ (bit_at-lt closed n) other)) none)
+  ];
+}
+  where
+    of_one : (a c : ℕ) → a ≡ 1 → c ≡ 0 → (a + c) % 2 ≡ 1
+    of_one a c one none = omega (arith, one, none)
+
 pub fixed_next : (h closed fixed : ℕ) (earlier : List Rule) (reasons : List ℕ)
     (reason b stays : ℕ) → AreFixed h closed earlier fixed reasons
     → IsNewReason h fixed earlier reason b → IsWithout fixed reasons b stays

@@ -22,7 +22,7 @@ const HALF: u128 = 1 << 64;
 /// word is still covered by the region and by the rule and meets no earlier rule. So a bit stays
 /// fixed if the region or the rule fixes it, or if it is the highest bit by which an earlier rule
 /// differs from the header, and none of the bits below by which it does stays fixed: that rule is
-/// the bit's reason.
+/// the bit's reason. Of the fixed bits, those with reasons are few, and only they are looked at.
 ///
 /// As long as the word of the fixed bits meets an earlier rule, the highest bit by which that rule
 /// differs is fixed too, and the bits whose reasons have it no longer are. Each time the bits come
@@ -52,7 +52,7 @@ pub fn widen(h: &Header, region: &Word, rules: &[Rule], index: u32) -> Word
     while let Some(place) = next_met(number, fixed, earlier, from) {
         let reason = differing(number, &earlier[place].word);
         let bit = reason.ilog2();
-        fixed = without(fixed, &reasons, bit) | 1 << bit;
+        fixed = closed | without(fixed ^ closed, &reasons, bit) | 1 << bit;
         reasons[bit as usize] = reason;
         from = place;
     }

@@ -19,7 +19,7 @@ pub use advert_laws::{
 pub use version_laws::{
     acknowledgements_hold, bodies_name_what_is_there, boots_are_known, current_rises_rightly,
     installs_are_planned, items_have_causes, marks_are_bounded, marks_settle,
-    other_steps_leave_controller, retired_stays_behind, serving_is_known, serving_switches_hold,
-    stamps_are_acked_first, stamps_say_what_is_touched, switches_open_once, tables_are_planned,
-    versions_are_numbered, versions_are_planned,
+    members_have_acknowledged, other_steps_leave_controller, retired_stays_behind,
+    serving_is_known, serving_switches_hold, stamps_are_acked_first, stamps_say_what_is_touched,
+    switches_open_once, tables_are_planned, versions_are_numbered, versions_are_planned,
 };

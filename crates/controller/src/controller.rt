@@ -116,7 +116,8 @@ impl Controller {
     /// clone of a plan shares it. Each switch that is told to stamp with the version gets these
     /// words, which are what its change touches.
     ///
-    /// # Errors `TooManyLive` exactly if 8 versions are not retired; otherwise `TooManyVersions`
+    /// # Errors
+    /// `TooManyLive` exactly if 8 versions are not retired; otherwise `TooManyVersions`
     /// exactly if there are 64. Then nothing changed.
     pub fn submit(&mut self, plan: Plan, touched: Touched) -> Result<Sends, Failure<SubmitError>>
         ensures after { OnOk result
@@ -144,7 +145,8 @@ impl Controller {
     /// each version from the current one on is sent to the switch. A body that isn't for the
     /// controller causes no sends and no change.
     ///
-    /// # Errors Only out of memory; what the message said is recorded.
+    /// # Errors
+    /// Only out of memory; what the message said is recorded.
     pub fn hear(&mut self, body: &Body) -> Result<Sends, AllocError>
         requires { NamesThere body.now self.old.marks }
         ensures after { SettlesWith

@@ -16,7 +16,8 @@ use std::alloc::{AllocError, Global};
 /// The plan of a policy on a network: the partitions of its tree with the network's leaves, hosted
 /// by the switches. From each switch its tables lead each header to the policy's first match.
 ///
-/// # Errors `TooManyWords` if its rows have more than 4,096 words; otherwise `TooManyLeaves` if
+/// # Errors
+/// `TooManyWords` if its rows have more than 4,096 words; otherwise `TooManyLeaves` if
 /// its tree has more than 512 leaves; otherwise `NoRoom` with the first partition, by falling size
 /// and then by number, that finds too few switches.
 pub fn compile(alloc: Global, policy: &Policy, net: &Net) -> Result<Plan, PlanError>

@@ -42,7 +42,8 @@ impl News {
 /// The marks settled with this result: adds what is then sent, and drops the versions before the
 /// current one.
 ///
-/// # Errors Only out of memory; the versions are dropped.
+/// # Errors
+/// Only out of memory; the versions are dropped.
 pub fn settle(
     acts: &mut Vec<Act>,
     versions: &mut Vec<Version>,
@@ -88,7 +89,8 @@ fn tell_current(
 /// The marks settled with this result: only what is then sent. The versions before the current one
 /// are dropped.
 ///
-/// # Errors Only out of memory; the versions are dropped.
+/// # Errors
+/// Only out of memory; the versions are dropped.
 pub fn settled_sends(
     alloc: Global,
     versions: &mut Vec<Version>,

@@ -42,7 +42,8 @@ impl<'a> Records<'a> {
 
     /// Reads the next record into `fields`, and returns whether there was one.
     ///
-    /// # Errors Only out of memory; then no record remains.
+    /// # Errors
+    /// Only out of memory; then no record remains.
     pub fn read_next(&mut self, fields: &mut ByteRecord) -> Result<bool, AllocError>
         ensures takes { IfOk result (λ found.
             TakesRecord self.old found (fields_of fields.new) self.new) }

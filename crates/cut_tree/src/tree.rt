@@ -38,7 +38,8 @@ pub struct TooManyLeaves;
 /// The tree of these rules: its root has them all, each side of a cut those of its half, and no
 /// leaf has more than the cap.
 ///
-/// # Errors `TooManyLeaves` exactly if that tree has more than 512 leaves; then no more of it is
+/// # Errors
+/// `TooManyLeaves` exactly if that tree has more than 512 leaves; then no more of it is
 /// built.
 pub fn build(alloc: Global, rules: &[Rule], cap: u32) -> Result<Tree, Failure<TooManyLeaves>>
     requires cap { 0 < cap }

@@ -1,5 +1,5 @@
 -- Which names a refusal names.
-use Rattle.std.specs.Prelude.{unwrap_or}
+use Rattle.std.specs.Prelude.{IfErr, unwrap_or}
 use Rattle.std.proofs.Common.{ℕ, ◌≡◌, ◌<◌, Result, Ok, Err, List, [], ◌∷◌, ◌++◌, arith, inl, inr, length, refl, subst, sym, zero, suc, get_or}
 use Rattle.net_file.specs.declared.net.Net.{Net}
 use Rattle.partition.specs.Plan.{Hosted, plan_of}
@@ -9,7 +9,7 @@ use Rattle.policy_rules.specs.declared.file.PolicyFile.{PolicyFile}
 use Rattle.policy_rules.specs.declared.policy.Row.{Row}
 use Rattle.update_machine.specs.Pieces.{plan_code}
 use Rattle.world.specs.Files.{first_policy}
-use Rattle.difane_cli.specs.Ending.{IsOneOf, NamesOneOf, StopsCheck, status_of}
+use Rattle.difane_cli.specs.Ending.{IsOneOf, NamesOneOf, StopNamesOneOf, StopsCheck, status_of}
 use Rattle.difane_cli.specs.Inputs.{first_plan, plan_from, plan_on, refused_whole}
 use Rattle.difane_cli.specs.declared.status.Refusal.{Refusal}
 use Rattle.difane_cli.specs.declared.status.Status.{Status}
@@ -47,10 +47,16 @@ by_check name read (stop.Refused refusal) own is =
 by_check name read stop.ReadFault own is = tt
 by_check name read stop.NoMemory own is = tt
 
-pub plan_check : (name : List ℕ) (net : Net) (rows : List Row) (why : Stop)
+plan_check : (name : List ℕ) (net : Net) (rows : List Row) (why : Stop)
     → StopsCheck (plan_on name net rows) why → NamesOneOf (name ∷ []) (status_of why)
 plan_check name net rows why is =
     by_check name (plan_on name net rows) why (own_plan name net rows) is
+
+-- so it is where a plan is made, or there is none
+pub plan_read : {V : Type 0} (name : List ℕ) (net : Net) (rows : List Row) (read : Result V Stop)
+    → IfErr read (StopsCheck (plan_on name net rows)) → StopNamesOneOf (name ∷ []) read
+plan_read name net rows (Ok value) is = tt
+plan_read name net rows (Err why) is = plan_check name net rows why is
 
 -- ---- several names
 

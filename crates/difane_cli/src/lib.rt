@@ -7,16 +7,16 @@
 //! and is a run of the abstract machine for, and its items have their causes; if the files are
 //! known, these are the inputs that the files state. The output gained the journal's text, then a
 //! line for each meter that stayed and has a note, then with `--quiet` the line that says whether
-//! the network is quiet, and nothing else; the meters are those that stay in the journal. If it
-//! returns `Full`, the same is true up to the row that it names, without the lines after the
-//! journal's. All this is true of `flows` too, except that the output gained the lines of the flow
-//! records of the meters that left, and then of those that stayed, and nothing if it returns
-//! `Full`. It is true of `rebalance` without meters, which are given back; there the output gained
-//! the placement that is proposed from how many packets asked each partition. It is true of a load
-//! case, with the case of its number as inputs; there the output gained the counts of the journal
-//! instead. A plan and tables are the defined ones, and so are their lines. The verdict of an
-//! audit is the defined one, and it is yes for each text that a replay prints. Each status but
-//! running out of memory has its cause in a clause.
+//! the network is quiet, and nothing else; the meters that stayed are given back. If it returns
+//! `Full`, the same is true up to the row that it names, without the lines after the journal's. All
+//! this is true of `flows` too, except that the output gained the flow records of the meters that
+//! left, and then of those that stayed, and nothing if it returns `Full`. `rebalance` plays with no
+//! meters, and gives back those that it got; the output gained the placement that is proposed from
+//! how many packets asked each partition. It is true of `load` for the case of its number; there
+//! the output gained the eleven counts of the journal instead of its text. A plan and tables are
+//! the defined ones, and so are their lines. The verdict of an audit is the defined one, and it is
+//! yes for each text that a replay printed whole. Each status but running out of memory has its
+//! cause in a clause.
 #![tactic(auto)]
 
 mod auditing;

@@ -15,10 +15,7 @@ pub fn write_meters<M: Meter, K: Sink>(meters: &[M], out: &mut K) -> Result<(), 
     ensures no_lines { meter_lines (map M.seen meters.now) ≡ [] → out.new ≡ out.old }
 {
     for meter in meters {
-        match write_meter(meter, out) {
-            Ok(()) => {}
-            Err(error) => return Err(error),
-        }
+        write_meter(meter, out)?;
     }
     Ok(())
 }

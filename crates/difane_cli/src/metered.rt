@@ -6,7 +6,7 @@ ghost use Rattle.shelf.specs.Sink.{Rose};
 ghost use Rattle.shelf.specs.Shelf.{IsAfterReads};
 ghost use Rattle.command_line.specs.Grammar.{command_of};
 ghost use Rattle.command_line.specs.Commands.{argument_texts};
-ghost use Rattle.difane_cli.specs.Exports.{Accounts, IsAccepted, MayFollowFault, NamesOneOf, NeedsReadFault, RanOut, WritesLine, known_task, most_reads, names_in, status_line};
+ghost use Rattle.difane_cli.specs.Exports.{Accounts, IsAccepted, MayFollowFault, NamesOneOf, NeedsReadFault, RanOut, ReadsNothing, WritesLine, known_task, most_reads, names_in, status_line};
 ghost use Rattle.difane_cli.specs.declared.status.Status.TheVariants as status;
 ghost use Rattle.difane_cli.specs.Metered.{MeteredOutcome, TellsFlows};
 ghost use Rattle.difane_cli.specs.NewMeters.{asks_flows, new_meter};
@@ -58,7 +58,8 @@ fn at_each_port<M: Drop, F: Fn(u32) -> Result<M, AllocError>>(
 /// Does what the arguments ask, as `run` does, with a new meter at each port from 0 to 63: one
 /// that counts flows if the first argument is `flows`, and otherwise a recorder.
 ///
-/// # Errors Out of memory for the meters; then nothing is read or written.
+/// # Errors
+/// Out of memory for the meters; then nothing is read or written.
 pub fn run_metered<F: Shelf, K: Sink, E: Sink>(
     alloc: Global,
     words: &Vec<String>,
@@ -66,8 +67,8 @@ pub fn run_metered<F: Shelf, K: Sink, E: Sink>(
     out: &mut K,
     errs: &mut E,
 ) -> Result<CommandEnd, AllocError>
-    // If `flows` succeeds, it wrote the records of the packets that left in the journal, and their
-    // counts are right: those of each meter that stayed and, if no meter left, all of them.
+    // If `flows` succeeds, it wrote the records of the packets that left in the journal, and the
+    // counts of each meter that stayed are right; if no meter left, there are no others.
     ensures flows { IfOk result (λ ending. IsTrue (asks_flows (argument_texts words.now))
         → ending.status ≡ status.Ok
         → TellsFlows (argument_texts words.now) (F.state shelf.old).files ending.journal
@@ -110,6 +111,8 @@ pub fn run_metered<F: Shelf, K: Sink, E: Sink>(
     ensures shelf { IfOk result (λ ending. IsAfterReads
         (most_reads (F.state shelf.old).files (command_of (argument_texts words.now)))
         (F.state shelf.old) (F.state shelf.new)) }
+    ensures unread { IfOk result (λ ending. ReadsNothing (command_of (argument_texts words.now))
+        → F.state shelf.new ≡ F.state shelf.old) }
     ensures untouched { OnErr result
         ((shelf.new ≡ shelf.old) × (out.new ≡ out.old) × (errs.new ≡ errs.old)) }
 {

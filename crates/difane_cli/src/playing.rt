@@ -171,12 +171,10 @@ fn write_played<M: Meter, K: Sink>(
     ensures no_lines { replay_text net.now played.now.journal played.now.full
         (map M.seen played.now.meters.items) answer ≡ [] → out.new ≡ out.old }
 {
-    match write_text(&played.journal, net, out) {
-        Ok(()) => match played.full {
-            None => write_last(&played.meters, answer, out),
-            Some(_) => Ok(()),
-        },
-        Err(error) => Err(error),
+    write_text(&played.journal, net, out)?;
+    match played.full {
+        None => write_last(&played.meters, answer, out),
+        Some(_) => Ok(()),
     }
 }
 
@@ -190,8 +188,6 @@ fn write_last<M: Meter, K: Sink>(
         (K.state out.old) (K.state out.new) result }
     ensures no_lines { last_lines (map M.seen meters.now) answer ≡ [] → out.new ≡ out.old }
 {
-    match write_meters(meters, out) {
-        Ok(()) => write_answer(answer, out),
-        Err(error) => Err(error),
-    }
+    write_meters(meters, out)?;
+    write_answer(answer, out)
 }

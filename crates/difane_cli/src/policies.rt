@@ -26,7 +26,7 @@ use policy_file::{PolicyError, check_file_ports, check_ports, is_change, read_fi
 use policy_rules::{Policy, PolicyFile};
 use std::alloc::{AllocError, Global};
 use world::World;
-use world::codes::{NO_ROOM, TOO_MANY_LEAVES, TOO_MANY_WORDS};
+use world::codes::code_of;
 
 /// The code of a row that names a port that the network lacks.
 pub const NO_PORT: u32 = 13;
@@ -98,11 +98,13 @@ fn no_plan(alloc: Global, name: &str, error: PlanError) -> Stop
     ensures { (rows : List Row) (net : Net) → RefusesPlan rows net error
         → StopsCheck (plan_on name.now net rows) result }
 {
-    match error {
-        PlanError::TooManyWords { .. } => refused(alloc, name, TOO_MANY_WORDS, 0),
-        PlanError::TooManyLeaves => refused(alloc, name, TOO_MANY_LEAVES, 0),
-        PlanError::NoRoom { partition } => refused(alloc, name, NO_ROOM, partition),
-        PlanError::NoMemory => Stop::NoMemory,
+    let row = match error {
+        PlanError::NoRoom { partition } => partition,
+        _ => 0,
+    };
+    match code_of(error) {
+        Some(code) => refused(alloc, name, code, row),
+        None => Stop::NoMemory,
     }
 }
 
@@ -128,13 +130,10 @@ pub fn begin_world(
         (StopsCheck (first_plan (names_seen names.now) net.now files.items)) }
 {
     port_laws();
-    match World::begin(alloc, net, files) {
-        Ok(world) => {
-            world.refines();
-            Ok(world)
-        }
-        Err(error) => Err(no_plan(alloc, names[0], error)),
-    }
+    let name = names[0];
+    let world = World::begin(alloc, net, files).map_err(|error| no_plan(alloc, name, error))?;
+    world.refines();
+    Ok(world)
 }
 
 /// The plan of the policy of this file on the network.
@@ -148,8 +147,5 @@ pub fn plan_policy(alloc: Global, name: &str, policy: &Policy, net: &Net) -> Res
     ensures stopped { IfErr result (StopsCheck (plan_on name.now net.now policy.now)) }
     ensures stops { StopNamesOneOf (name.now ∷ []) result }
 {
-    match compile(alloc, policy, net) {
-        Ok(plan) => Ok(plan),
-        Err(error) => Err(no_plan(alloc, name, error)),
-    }
+    compile(alloc, policy, net).map_err(|error| no_plan(alloc, name, error))
 }

@@ -24,7 +24,8 @@ pub fn asks_quiet(report: Report) -> bool
 
 /// Whether the network is quiet, if this is asked for and the play didn't stop full.
 ///
-/// # Errors Only out of memory, and only if this is asked for and the play didn't stop full.
+/// # Errors
+/// Only out of memory, and only if this is asked for and the play didn't stop full.
 pub fn judge<M: Meter>(
     alloc: Global,
     asked: bool,

@@ -2,12 +2,12 @@ ghost use Rattle.std.specs.Prelude.{◌≡◌, ◌<◌, map, ◌↔◌, slice_se
 ghost use Rattle.std.specs.Bool.{OnTrue};
 ghost use Rattle.failover.specs.Exports.{IsIsolated, IsRoute, IsRouteList, after_hearing, first_adverts, first_of, held_advert, is_isolated, is_news, known_links, neighbours_named, no_adverts, route_of};
 
-use crate::SWITCHES;
 use crate::advert::Advert;
 use crate::down_set::DownSet;
 use crate::links::is_linkless;
 use crate::path::Route;
 use crate::search::first_route;
+use base::MAX_SWITCHES;
 use policy_rules::Targets;
 use std::marker::Model;
 
@@ -43,7 +43,7 @@ impl Database {
         ensures { result ≡ first_adverts near.now switches }
     {
         let mut adverts = [None; 64];
-        for origin in 0..SWITCHES {
+        for origin in 0..MAX_SWITCHES {
             adverts[origin as usize] = first_advert(near, switches, origin);
         }
         Database::of(adverts)
@@ -65,8 +65,7 @@ impl Database {
         Database { adverts, named }
     }
 
-    /// Keeps the advert and returns true exactly if it is news: its origin is below 64, and there
-    /// is none of that origin or this one is newer. Otherwise nothing changes.
+    /// Keeps the advert and returns true exactly if it is news. Otherwise nothing changes.
     pub fn hear(&mut self, advert: &Advert) -> bool
         ensures news { result ≡ is_news self.old advert.now }
         ensures after { self.new ≡ after_hearing self.old advert.now }
@@ -79,12 +78,14 @@ impl Database {
         true
     }
 
+    /// Whether the advert is news: its origin is below 64, and none of that origin is held or this
+    /// one is newer.
     #[tactic(auto, unfolding(crate::specs::Adverts::is_news))]
-    fn is_news(&self, advert: &Advert) -> bool
+    pub fn is_news(&self, advert: &Advert) -> bool
         ensures news { result ≡ is_news self.now advert.now }
         ensures switch { OnTrue result (advert.now.origin < 64) }
     {
-        advert.origin < SWITCHES
+        advert.origin < MAX_SWITCHES
             && match &self.adverts[advert.origin as usize] {
                 None => true,
                 Some(held) => advert.is_newer(held),
@@ -97,7 +98,7 @@ impl Database {
         ensures origin { IfSome result (λ advert. advert.origin ≡ origin) }
         ensures by_origin { AreByOrigin self.now }
     {
-        if origin < SWITCHES {
+        if origin < MAX_SWITCHES {
             self.adverts[origin as usize]
         } else {
             None
@@ -140,7 +141,7 @@ impl Database {
 fn set_own(neighbours: &mut [u64; 64], at: u32, near: u64)
     ensures { neighbours.new ≡ slice_set neighbours.old at near }
 {
-    if at < SWITCHES {
+    if at < MAX_SWITCHES {
         neighbours[at as usize] = near;
     }
 }

@@ -1,8 +1,7 @@
 ghost use Rattle.std.specs.Prelude.{◌≡◌, ◌≢◌, ◌<◌, ◌||◌, ℕ, false};
 ghost use Rattle.failover.specs.Exports.{has_link, is_link_of, no_links, with_link};
 
-use crate::SWITCHES;
-use base::{has, only_if};
+use base::{MAX_SWITCHES, has, only_if};
 use std::marker::Model;
 
 /// A set of links between two different switches below 64, as a packet finds them down on its way.
@@ -60,7 +59,7 @@ impl DownSet {
         ensures set { IsLinkSet self.now }
     {
         let masks = &self.masks;
-        if one >= SWITCHES || two >= SWITCHES {
+        if one >= MAX_SWITCHES || two >= MAX_SWITCHES {
             return false;
         }
         // The mask of the higher number doesn't have the lower: to look is less than to order them.

@@ -25,6 +25,3 @@ pub use database::Database;
 pub use down_set::DownSet;
 pub use laws::{advert_laws, link_laws, link_set_laws, route_laws};
 pub use path::Route;
-
-// The numbers of switches, and the bits of a mask of them.
-const SWITCHES: u32 = 64;

@@ -2,9 +2,8 @@ ghost use Rattle.std.specs.Prelude.{◌≡◌, ◌<◌, ◌==◌, bit_and, slice
 ghost use Rattle.base.specs.Masks.{has};
 ghost use Rattle.failover.specs.Links.{is_link, links_at};
 
-use crate::SWITCHES;
 use crate::down_set::DownSet;
-use base::{has, only_if};
+use base::{MAX_SWITCHES, has, only_if};
 
 /// Those of the switches in `within` to which this one has a link: each names the other, and the
 /// link isn't down. Only the links to these switches are looked at.
@@ -37,5 +36,5 @@ fn is_link_to(neighbours: &[u64; 64], down: &DownSet, one: u32, other: u32) -> b
 pub fn is_linkless(neighbours: &[u64; 64], down: &DownSet, one: u32) -> bool
     ensures { result ≡ (links_at neighbours.now down.now one == 0) }
 {
-    one >= SWITCHES || links_within(neighbours, down, one, u64::MAX) == 0
+    one >= MAX_SWITCHES || links_within(neighbours, down, one, u64::MAX) == 0
 }

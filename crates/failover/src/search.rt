@@ -1,11 +1,10 @@
 ghost use Rattle.std.specs.Prelude.{◌≡◌, ◌<◌, ◌∷◌, IfSome, IfNone};
 ghost use Rattle.failover.specs.Exports.{AreBalls, IsAway, IsEdge, IsOutOfReach, IsRouteList, path_by_balls, first_route, links_of_each, route_to, grown_ball};
 
-use crate::SWITCHES;
 use crate::down_set::DownSet;
 use crate::links::links_within;
 use crate::path::Route;
-use base::{has, only_if};
+use base::{MAX_SWITCHES, has, only_if};
 
 // A switch's links are found when the search comes to it, so switches that it doesn't reach cost
 // nothing.
@@ -32,7 +31,7 @@ pub fn first_route(
 fn route_to(neighbours: &[u64; 64], down: &DownSet, from: u32, target: u32) -> Option<Route>
     ensures { result ≡ route_to (links_of_each neighbours.now down.now) from target }
 {
-    if from >= SWITCHES || target >= SWITCHES {
+    if from >= MAX_SWITCHES || target >= MAX_SWITCHES {
         return None;
     }
     let mut balls = [0; 64];

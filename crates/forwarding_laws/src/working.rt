@@ -8,8 +8,8 @@ use crate::rollout::{
 };
 
 /// A play keeps its network working: if its schedule ends in recovery, the network has recovered;
-/// after a second round nothing old is left; and if nothing fails, each packet that is dropped is
-/// dropped by its decision, also in a play that stopped full.
+/// after a second round nothing old is left; and if nothing fails, no packet is lost except by its
+/// own row, or stuck unless it is cut off, also in a play that stopped full.
 pub fn plays_keep_working()
     ensures { PlaysKeepWorking }
 {

@@ -1,3 +1,4 @@
 pub mod LineGains
 pub mod MaskLemmas
+mod ToldTexts
 pub mod LineLengths

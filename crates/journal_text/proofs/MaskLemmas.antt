@@ -1,74 +1,56 @@
--- The names of a mask's switches, one switch more at a time.
-use Rattle.std.proofs.Common.{ℕ, zero, suc, ◌≡◌, ◌+◌, ◌-◌, ◌^◌, ◌<◌, ◌≤◌, ◌*◌, ◌==◌, Bool, true, false, List, [], ◌∷◌, ◌++◌, refl, ap, sym, ◌∙◌, arith, append-nil}
-use Rattle.std.specs.Prelude.{codes, filter, if◌then◌else◌}
-use Rattle.std.specs.Int.{leading_zeros, trailing_zeros, w64}
-use Rattle.std.specs.Int.Count.{count_leading_zeros}
+-- The switches of a mask, the least one first.
+use Rattle.std.proofs.Common.{ℕ, zero, suc, ◌≡◌, ◌≢◌, ◌+◌, ◌^◌, ◌<◌, ◌≤◌, Bool, true, false, [], ◌∷◌, sym, inl, inr, arith, refl}
+use Rattle.std.specs.Prelude.{filter}
+use Rattle.std.specs.Int.Bits.{bit_xor}
 use Rattle.std.specs.List.{range_with_len}
-use Rattle.std.proofs.lemmas.Grind.{flat_map-append}
-use Rattle.std.proofs.lemmas.Nat.{leading_length}
-use Rattle.std.proofs.lemmas.Nat.Bits.{bit_at_above}
+use Rattle.std.proofs.lemmas.Bool.{cases_eq}
 use Rattle.base.specs.Masks.{has, switches}
 use Rattle.base.specs.ComputedMasks.{least_in}
-use Rattle.base.proofs.CallerLemmas.{least_below}
-use Rattle.base.proofs.ListsOfRanges.{filter_more}
-use Rattle.net_file.specs.Net.{name_of, names_text}
-use Rattle.net_file.specs.declared.net.Net.{Net}
+use Rattle.base.proofs.CallerLemmas.{has-xor_other, has-zero, least_below, least_lt}
+use Rattle.failover.proofs.RowLoop.{first_left, has_less-same}
 
-pub names_more : (net : Net) (mask s : ℕ)
-    → names_text net (filter (has mask) (range_with_len 0 (s + 1)))
-    ≡ names_text net (filter (has mask) (range_with_len 0 s))
-    ++ (if has mask s then codes " " ++ name_of net s else [])
-names_more net mask s =
-    ap (names_text net) (filter_more (has mask) s)
-    ∙ flat_map-append (λ x. codes " " ++ name_of net x) (filter (has mask) (range_with_len 0 s))
-    (if has mask s then s ∷ [] else [])
-    ∙ ap (λ ys. names_text net (filter (has mask) (range_with_len 0 s)) ++ ys)
-    (by_test (has mask s))
+-- tests that agree on a range pick the same of it
+picks_agree : (p q : ℕ → Bool) (a n : ℕ) → ((j : ℕ) → a ≤ j → p j ≡ q j)
+    → filter p (range_with_len a n) ≡ filter q (range_with_len a n)
+picks_agree p q a zero same = refl
+picks_agree p q a (suc n) same =
+    let rest = picks_agree p q (a + 1) n (λ j from. same j (omega (arith, from))) in
+    rw (same a (omega arith), rest) refl
+
+-- a test that leaves out but the first number that another one picks
+picks_first : (p q : ℕ → Bool) (a n s : ℕ) → a ≤ s → s < a + n → p s ≡ true → q s ≡ false
+    → ((j : ℕ) → j < s → p j ≡ false) → ((j : ℕ) → j ≢ s → q j ≡ p j)
+    → filter p (range_with_len a n) ≡ s ∷ filter q (range_with_len a n)
+picks_first p q a zero s from below is gone least others = absurd (omega arith)
+picks_first p q a (suc n) s from below is gone least others = elim (cases_eq a s) [
+  | inl here ↦
+      let apart : (j : ℕ) → a + 1 ≤ j → j ≢ s = λ j above e. omega (arith, above, here, e) in
+      let rest = picks_agree p q (a + 1) n (λ j above. sym (others j (apart j above))) in
+      rw (here, is, gone, sym here, rest) refl
+  | inr apart ↦
+      let before : p a ≡ false = least a (omega (arith, from, apart)) in
+      rw (others a apart, before)
+      (picks_first p q (a + 1) n s (omega (arith, from, apart)) (omega (arith, below)) is gone least
+      others)
+]
+
+-- the least switch of a mask, and then those of the rest
+pub least_first : (mask : ℕ) → mask < 2 ^ 64 → (mask ≡ 0 → ⊥)
+    → filter (has mask) switches
+    ≡ least_in mask ∷ filter (has (bit_xor mask (2 ^ least_in mask))) switches
+unfolding switches
+least_first mask fits some =
+    let least = least_in mask in
+    let there = first_left mask fits some in
+    picks_first (has mask) (has (bit_xor mask (2 ^ least))) 0 64 least (omega arith)
+    (least_lt mask (omega arith) fits) there (has_less-same mask least there)
+    (least_below mask (omega arith) fits) (λ j apart. has-xor_other mask least j apart)
+
+-- no switch
+pub none_left : (mask : ℕ) → mask ≡ 0 → filter (has mask) switches ≡ []
+unfolding switches
+none_left mask none = rw none (all_out 0 64)
   where
-    by_test : (b : Bool) → names_text net (if b then s ∷ [] else [])
-        ≡ (if b then codes " " ++ name_of net s else [])
-    by_test true = append-nil (codes " " ++ name_of net s)
-    by_test false = refl
-
--- none more, where the mask has none of the next switches
-names_same : (net : Net) (mask n k : ℕ) → ((j : ℕ) → n ≤ j → j < n + k → has mask j ≡ false)
-    → names_text net (filter (has mask) (range_with_len 0 (n + k)))
-    ≡ names_text net (filter (has mask) (range_with_len 0 n))
-names_same net mask n zero none =
-    let same : n + 0 ≡ n = omega arith in
-    ap (λ i. names_text net (filter (has mask) (range_with_len 0 i))) same
-names_same net mask n (suc k) none =
-    let front : List ℕ = names_text net (filter (has mask) (range_with_len 0 (n + k))) in
-    let next : n + suc k ≡ n + k + 1 = omega arith in
-    ap (λ i. names_text net (filter (has mask) (range_with_len 0 i))) next
-    ∙ names_more net mask (n + k)
-    ∙ ap (λ (b : Bool). front ++ (if b then codes " " ++ name_of net (n + k) else []))
-    (none (n + k) (omega arith) (omega arith))
-    ∙ append-nil front
-    ∙ names_same net mask n k (λ j from below. none j from (omega arith))
-
--- none stands before the least one
-pub names_none : (net : Net) (mask : ℕ) → 0 < mask → mask < 2 ^ 64
-    → names_text net (filter (has mask) (range_with_len 0 (trailing_zeros w64 mask))) ≡ []
-unfolding least_in
-names_none net mask some fits =
-    let least : ℕ = trailing_zeros w64 mask in
-    let here : least ≡ 0 + least = omega arith in
-    ap (λ i. names_text net (filter (has mask) (range_with_len 0 i))) here
-    ∙ names_same net mask 0 least
-    (λ j from below. least_below mask some fits j (omega (arith, below)))
-
--- and none behind the greatest one
-pub names_all : (net : Net) (mask s : ℕ) → mask < 2 ^ 64 → 64 - leading_zeros w64 mask ≤ s
-    → names_text net (filter (has mask) (range_with_len 0 s))
-    ≡ names_text net (filter (has mask) switches)
-unfolding has switches
-names_all net mask s fits past =
-    let long : ((m : ℕ) × (count_leading_zeros 64 mask + m ≡ 64) × (mask < 2 ^ m)
-    × (2 ^ m ≤ 2 * mask + 1)) = leading_length 64 mask fits in
-    let names : ℕ → List ℕ = λ i. names_text net (filter (has mask) (range_with_len 0 i)) in
-    let same : (i : ℕ) → long.0 ≤ i → names i ≡ names long.0 = λ i from.
-    let here : i ≡ long.0 + (i - long.0) = omega (arith, from) in
-    ap names here ∙ names_same net mask long.0 (i - long.0)
-    (λ j above below. ap (λ d. d == 1) (bit_at_above mask long.0 j long.2 above)) in
-    same s (omega (arith, long.1, past)) ∙ sym (same 64 (omega (arith, long.1)))
+    all_out : (a n : ℕ) → filter (has 0) (range_with_len a n) ≡ []
+    all_out a zero = refl
+    all_out a (suc n) = rw (has-zero a) (all_out (a + 1) n)

@@ -10,6 +10,7 @@ mod laws;
 mod messages;
 mod names;
 mod rows;
+mod told;
 mod write;
 
 pub use items::text;

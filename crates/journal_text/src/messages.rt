@@ -2,11 +2,13 @@ ghost use Rattle.std.specs.Prelude.{◌≡◌};
 ghost use Rattle.ctrl_msg.specs.declared.message.Body.TheVariants.{CacheRule};
 ghost use Rattle.journal_text.specs.Lines.{advert_text, body_text, boot_text, cache_text, with_name, receiver_text, ruled_text, version_text};
 ghost use Rattle.journal_text.specs.Sizes.{IsBodyOfType};
+ghost use Rattle.journal_text.specs.Told.{AreTold};
 ghost use Rattle.lines.specs.Sizes.{IsAction, IsNumber, IsRule};
 ghost use Rattle.lines.specs.Pushes.{line_with};
 
 use crate::names::push_mask;
 use crate::rows::{push_named_number, push_numbered};
+use crate::told::ToldAdverts;
 use ctrl_msg::{Body, Place};
 use failover::Advert;
 use lines::{Line, push_action, push_name, push_rule, push_word};
@@ -82,8 +84,9 @@ fn push_cache(line: &mut Line, version: u32, word: &Word, rule: Option<u32>, act
     push_ruled(line, rule, action);
 }
 
+/// Adds what an advert says.
 #[tactic(auto, using(lines::proofs::CallerLemmas::pushed_append))]
-fn push_advert(line: &mut Line, net: &Net, advert: &Advert)
+pub(crate) fn push_advert(line: &mut Line, net: &Net, advert: &Advert)
     ensures text { line.new ≡ line_with line.old (advert_text net.now advert.now) }
     ensures of_type { IsNumber advert.now.boot × IsNumber advert.now.seq }
 {
@@ -101,9 +104,11 @@ fn push_advert(line: &mut Line, net: &Net, advert: &Advert)
 }
 
 /// Adds what a message says.
-pub(crate) fn push_body(line: &mut Line, net: &Net, body: &Body)
+pub(crate) fn push_body(line: &mut Line, net: &Net, told: &mut ToldAdverts, body: &Body)
+    requires { AreTold net.now told.old }
     ensures text { line.new ≡ line_with line.old (body_text net.now body.now) }
     ensures of_type { IsBodyOfType body.now }
+    ensures told { AreTold net.now told.new }
 {
     match body {
         Body::Install { boot, tables } => {
@@ -118,7 +123,7 @@ pub(crate) fn push_body(line: &mut Line, net: &Net, body: &Body)
             rule,
             action,
         } => push_cache(line, *version, word, *rule, *action),
-        Body::Advertise { advert } => push_advert(line, net, advert),
+        Body::Advertise { advert } => told.push(line, net, advert),
         Body::Hello { switch, boot } => push_booted(line, net, "hello", *switch, *boot),
         Body::Installed {
             switch,

@@ -4,6 +4,7 @@ ghost use Rattle.journal_text.specs.Lines.{journal_text};
 ghost use Rattle.shelf.specs.SinkWrites.{IsAfterWrite};
 
 use crate::items::push_line;
+use crate::told::ToldAdverts;
 use journal::Journal;
 use lines::Line;
 use net_file::Net;
@@ -24,6 +25,7 @@ pub fn write_text<K: Sink>(journal: &Journal, net: &Net, sink: &mut K) -> Result
     ensures no_text { journal_text net.now journal.now ≡ [] → sink.new ≡ sink.old }
 {
     let mut line = Line::new();
+    let mut told = ToldAdverts::new();
     let mut block = Block::new();
     let items = journal.items();
     if items.is_empty() {
@@ -31,15 +33,11 @@ pub fn write_text<K: Sink>(journal: &Journal, net: &Net, sink: &mut K) -> Result
     }
     for item in items {
         if line.bytes().len() > ROOMY_BYTES {
-            match block.push(line.bytes(), sink) {
-                Ok(()) => line.clear(),
-                Err(error) => return Err(error),
-            }
+            block.push(line.bytes(), sink)?;
+            line.clear();
         }
-        push_line(&mut line, net, item);
+        push_line(&mut line, net, &mut told, item);
     }
-    match block.push(line.bytes(), sink) {
-        Ok(()) => block.finish(sink),
-        Err(error) => Err(error),
-    }
+    block.push(line.bytes(), sink)?;
+    block.finish(sink)
 }

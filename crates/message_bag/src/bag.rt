@@ -54,7 +54,8 @@ impl Bag {
 
     /// Posts a message, and returns its number: one more than there were messages.
     ///
-    /// # Errors Only out of memory; then nothing changes.
+    /// # Errors
+    /// Only out of memory; then nothing changes.
     pub fn post(&mut self, message: &Message) -> Result<u32, AllocError>
         requires spelling { HasSpelling message.now }
         requires short { length (form.spell message.now) < 2 ^ 40 }

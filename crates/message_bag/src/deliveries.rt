@@ -73,7 +73,8 @@ impl Deliveries {
 
     /// One more message waits.
     ///
-    /// # Errors Only out of memory; then nothing changes.
+    /// # Errors
+    /// Only out of memory; then nothing changes.
     pub fn add(&mut self) -> Result<(), AllocError>
         requires { length self.old < 2 ^ 32 - 1 }
         ensures added { OnOk result (self.new ≡ self.old ++ waiting_status ∷ []) }

@@ -58,7 +58,8 @@ impl Firsts {
 
     /// One more, at the end.
     ///
-    /// # Errors Only out of memory; then nothing changes.
+    /// # Errors
+    /// Only out of memory; then nothing changes.
     pub fn push(&mut self, frame: &[u8], tables: Option<usize>) -> Result<(), AllocError>
         ensures pushed { OnOk result (self.new ≡ self.old ++ (frame.now, tables) ∷ []) }
         ensures unchanged { OnErr result (self.new ≡ self.old) }

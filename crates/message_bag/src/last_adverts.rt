@@ -1,12 +1,9 @@
 //! Adverts that were sent before: a repeat of one is shared with it, so that it takes few bytes.
 ghost use Rattle.std.specs.Prelude.{◌≡◌, ◌<◌, length, IfOk, IfSome, IsTrue, OnOk};
 
-use base::Shared;
+use base::{MAX_SWITCHES, Shared};
 use ctrl_msg::{Body, Message, Place};
 use std::alloc::{AllocError, Global};
-
-/// How many switches there are at most.
-const SWITCHES: u32 = 64;
 
 /// For each receiver and each switch, the switch's last advert that was sent to the receiver.
 #[derive(Drop)]
@@ -50,7 +47,7 @@ fn place_of(message: &Message) -> Option<usize>
 {
     match (message.to, &message.body) {
         (Place::Switch(to), Body::Advertise { advert }) => {
-            let place = to % SWITCHES * SWITCHES + advert.origin % SWITCHES;
+            let place = to % MAX_SWITCHES * MAX_SWITCHES + advert.origin % MAX_SWITCHES;
             Some(place as usize)
         }
         _ => None,

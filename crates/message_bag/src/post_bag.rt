@@ -47,7 +47,8 @@ impl PostBag {
 
     /// Posts a message, and returns its number: one more than there were messages.
     ///
-    /// # Errors Only out of memory; then nothing changes.
+    /// # Errors
+    /// Only out of memory; then nothing changes.
     pub fn post(&mut self, message: &Message) -> Result<u32, AllocError>
         requires spelling { HasShortSpelling message.now }
         requires few { length self.old < 2 ^ 32 - 1 }
@@ -68,7 +69,8 @@ impl PostBag {
     /// Posts a message as `post` does, and returns the message too, to be shared. An advert that
     /// says the same as its switch's last one to its receiver is shared with that one.
     ///
-    /// # Errors Only out of memory; then nothing changes.
+    /// # Errors
+    /// Only out of memory; then nothing changes.
     pub fn post_shared(
         &mut self,
         alloc: Global,

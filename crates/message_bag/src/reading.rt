@@ -1,10 +1,8 @@
 //! Messages that are made out of their frames again.
-ghost use Rattle.std.specs.Prelude.{◌≡◌, ◌∷◌, ◌↔◌, ℕ, [], true, None, drop, IfOk, IfSome, IsNone, IsSome, OnOk};
+ghost use Rattle.std.specs.Prelude.{◌≡◌, ◌∷◌, ◌↔◌, ℕ, [], None, drop, IfOk, IfSome, IsNone, IsSome, OnOk};
 ghost use Rattle.ctrl_msg.specs.declared.message.Body.TheVariants.{Install};
 ghost use Rattle.ctrl_msg.specs.declared.message.Place.{Place};
-ghost use Rattle.message_bag.specs.Installing.{table_frames};
 ghost use Rattle.wire.specs.Assembly.{AreAllHeld, IsRefusedFrame, with_frame};
-ghost use Rattle.wire.specs.Fields as fields;
 ghost use Rattle.wire.specs.Frames.{AreFrames, count_in_frame};
 ghost use Rattle.wire.specs.Messages.{IsFront};
 ghost use Rattle.message_bag.specs.KeptFrames.{AreOfInstall, AreOfMessage, CarryTables, tables_version};
@@ -91,8 +89,11 @@ pub fn tables_in(alloc: Global, frames: &Frames) -> Result<SharedTables, AllocEr
     }
 }
 
-// The receiver and the boot of an installation.
-fn front_of(alloc: Global, front: &[u8]) -> Result<(Place, u32), AllocError>
+/// The receiver and the boot of an installation.
+///
+/// # Errors
+/// Only out of memory.
+pub fn front_of(alloc: Global, front: &[u8]) -> Result<(Place, u32), AllocError>
     requires { (to : Place) × (boot : ℕ) × IsFront to boot front.now }
     ensures { IfOk result (λ read. IsFront read.0 read.1 front.now) }
 {
@@ -101,22 +102,4 @@ fn front_of(alloc: Global, front: &[u8]) -> Result<(Place, u32), AllocError>
         Err(WireError::Refused(_)) => unreachable!(),
         Err(WireError::NoMemory) => Err(AllocError),
     }
-}
-
-/// The message of this first frame and the frames of these tables, which it shares.
-///
-/// # Errors
-/// Only out of memory.
-pub fn shared(alloc: Global, first: &[u8], tables: &SharedTables) -> Result<Message, AllocError>
-    requires fits { fields.tables.fits tables.now ≡ true }
-    requires are { AreOfMessage (first.now ∷ table_frames tables.now) }
-    ensures { IfOk result (λ message.
-        AreFrames message (first.now ∷ table_frames tables.now)) }
-{
-    let (to, boot) = front_of(alloc, &first[HEADER_LEN..])?;
-    let tables = tables.clone()?;
-    Ok(Message {
-        to,
-        body: Body::Install { boot, tables },
-    })
 }

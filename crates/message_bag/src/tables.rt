@@ -7,8 +7,8 @@ ghost use Rattle.wire.specs.Messages.{HasSpelling, IsPlace, message_front, messa
 ghost use Rattle.message_bag.specs.KeptFrames.{AreOfMessage, IsGrown, IsInstallOf, CarryRows, CarryTables, frames_in};
 
 use crate::digest::digest_of;
-use crate::reading::{shared, tables_in};
-use ctrl_msg::{Message, Place, SharedTables, are_same_tables, have_same_rows};
+use crate::reading::{front_of, tables_in};
+use ctrl_msg::{Body, Message, Place, SharedTables, are_same_tables, have_same_rows};
 use std::alloc::{AllocError, Global};
 use std::marker::Model;
 use switch_table::{PartRow, Tables};
@@ -111,7 +111,12 @@ impl TableFrames {
         ensures { IfOk result (λ message.
             AreFrames message (first.now ∷ drop 1 self.now)) }
     {
-        shared(alloc, first, &self.said)
+        let tables = self.said.clone()?;
+        let (to, boot) = front_of(alloc, &first[HEADER_LEN..])?;
+        Ok(Message {
+            to,
+            body: Body::Install { boot, tables },
+        })
     }
 }
 
@@ -198,23 +203,6 @@ fn keep(
     }
 }
 
-// Writes at the end the first frame of an installation of the tables of this number.
-fn put_first_of(
-    kept: &[TableFrames],
-    number: usize,
-    out: &mut Vec<u8>,
-    to: Place,
-    boot: u32,
-) -> Result<(), AllocError>
-    requires there { number < length kept.now }
-    requires switch { IsPlace to }
-    ensures fits { OnOk result (message_front.fits (to, (1, boot)) ≡ true) }
-    ensures put { OnOk result (out.new.items
-        ≡ out.old.items ++ frame 0 (length (get_or kept.now number [])) (spelled_front to boot)) }
-{
-    kept[number].put_first(out, to, boot)
-}
-
 /// Encodes an installation: its first frame, which replaces what was in the buffer, and the number
 /// of the kept frames for the others. These are encoded only if none of the same rows and
 /// partitions are kept.
@@ -240,6 +228,6 @@ pub fn spell(
 {
     let number = keep(kept, alloc, message, tables.tables())?;
     first.clear();
-    put_first_of(kept, number, first, message.to, boot)?;
+    kept[number].put_first(first, message.to, boot)?;
     Ok(number)
 }

@@ -9,12 +9,9 @@ ghost use Rattle.base.specs.Refusals.{IsRefusal, in_row};
 use crate::error::{NetError, NetRefusal};
 use crate::keys::{array_in, setting_of, table_in, text_in, value_at, within};
 use crate::net::{Name, SwitchRow};
-use base::{InRow, has, with};
+use base::{InRow, MAX_SWITCHES, has, with};
 use std::alloc::Global;
 use toml::{Table, Value};
-
-/// The most switches of a network.
-const MAX_SWITCHES: usize = 64;
 
 /// The most rules that a switch has room for.
 const MAX_ROOM: u32 = 8192;
@@ -31,7 +28,7 @@ pub fn switch_array(table: &Table) -> Result<&[Value], NetRefusal>
         return Err(NetRefusal::MissingKey);
     };
     let values = array_in(value)?;
-    if values.len() > MAX_SWITCHES {
+    if values.len() > MAX_SWITCHES as usize {
         return Err(NetRefusal::TooMany);
     }
     if values.is_empty() {

@@ -55,6 +55,7 @@ use Rattle.packet_laws.proofs.RestingPackets.{IsAsked, IsWayItem, Past, numbered
 use Rattle.packet_laws.proofs.ServedPackets.{packet_more}
 use Rattle.packet_laws.proofs.PacketPieceCauses.{step_now}
 use Rattle.packet_laws.proofs.CarriedRules.{carried_right}
+use Rattle.packet_laws.proofs.VersionMatches.{first_match_by_scan}
 use Rattle.ternary.specs.Word.{WordValue}
 
 -- ---- steps that were asked for
@@ -283,9 +284,12 @@ told_right setting before message known tells =
     record {
       known = omega (arith, rules.not_retired);
       current = rules.current;
-      decides = cache_rule_right setting (policy_at setting before version)
+      decides = λ other sound held.
+          first_match_by_scan (policy_at setting before version) other
+          (record { rule = own.rule.rule; action = own.rule.action })
+          (cache_rule_right setting (policy_at setting before version)
           (plan_at setting before version) header rules.hosted rules.finds rules.planned
-          here.under.sound;
+          here.under.sound other sound held);
     } in
     subst (λ (m : Message). BringsRight setting before m.body) (sym tells.says)
     (subst (λ h. IsRightRule setting before version

@@ -10,7 +10,7 @@ use Rattle.control_laws.specs.BootLaws.{BootsAreKnown, OpensAtOneVersion, Servin
 use Rattle.control_laws.specs.ItemCauses.{HasItemCause}
 use Rattle.control_laws.specs.Acknowledged.{IsAckedFirst, MembersAcknowledged}
 use Rattle.control_laws.specs.Bounds.{MarksAreBounded}
-use Rattle.control_laws.specs.Heard.{AcksHold, InstallsArePlanned}
+use Rattle.control_laws.specs.Heard.{AcksHold}
 use Rattle.control_laws.specs.Serving.{ServingHold}
 use Rattle.control_laws.specs.Planned.{TablesArePlanned}
 use Rattle.control_laws.specs.Touched.{StampsSayTouched}
@@ -45,7 +45,6 @@ pub record Laws : Type 0 where
   pub acknowledged : HoldsAlways (λ setting journal.
       HaveCauses (IsAckedFirst setting) [] journal)
   pub opened : HoldsAlways (λ setting journal. OpensAtOneVersion journal)
-  pub sent : HoldsAlways (λ setting journal. InstallsArePlanned setting journal)
   pub tables : HoldsAlways (λ setting journal. TablesArePlanned setting journal)
   pub members : HoldsAlways (λ setting journal. MembersAcknowledged setting journal)
   pub marks : HoldsAlways (λ setting journal. MarksAreBounded setting journal)
@@ -67,7 +66,6 @@ module _ (laws : Laws) (setting : Setting) (journal : List Item) where
     heard = laws.heard.caused setting journal causes;
     acknowledged = laws.acknowledged.caused setting journal causes;
     opened = laws.opened.caused setting journal causes;
-    sent = laws.sent.caused setting journal causes;
     tables = laws.tables.caused setting journal causes;
     members = laws.members.caused setting journal causes;
     marks = laws.marks.caused setting journal causes;

@@ -12,6 +12,7 @@ use Rattle.policy_rules.specs.SoundPolicies.{IsPolicy}
 use Rattle.policy_rules.specs.declared.packet.How.{How}
 use Rattle.policy_rules.specs.declared.policy.Action.{Action}
 use Rattle.policy_rules.specs.declared.policy.Row.{Row}
+use Rattle.policy_rules.proofs.CallerLemmas.{first_match-scan}
 use Rattle.journal.specs.declared.item.Item.{Item}
 use Rattle.journal.specs.declared.item.Item.TheVariants as item
 use Rattle.update_machine.specs.Causes.{HaveCauses}
@@ -28,6 +29,7 @@ use Rattle.packet_laws.specs.Stages.{stage_of}
 use Rattle.packet_laws.specs.PacketCauses.{IsDecided, PacketCause}
 use Rattle.packet_laws.proofs.AllKept.{Before, kept_before, known_before, knows}
 use Rattle.packet_laws.proofs.GrowingFacts.{Grows, grows}
+use Rattle.packet_laws.proofs.VersionMatches.{first_match_by_scan}
 use Rattle.packet_laws.proofs.PacketsHere.{IsHere, here_of}
 use Rattle.packet_laws.proofs.KeptFacts.{IsDecidedNow, Knows, decided_now}
 use Rattle.packet_laws.proofs.RestingPackets.{IsWayItem, Past, switches_of_all}
@@ -185,8 +187,16 @@ module _ (laws : AmendmentLaws) (setting : Setting) (journal : List Item) (is : 
       ] in
       record {
         hit = scan old header;
-        before = record { rows = old; policy = leaves.policy; first_match = refl };
-        after = record { rows = new; policy = leaves.next; first_match = same };
+        before = record {
+          rows = old;
+          policy = leaves.policy;
+          first_match = first_match-scan old header;
+        };
+        after = record {
+          rows = new;
+          policy = leaves.next;
+          first_match = first_match_by_scan new header (scan old header) same;
+        };
         decided = λ packet decision entered decided under.
             sym (all_right setting journal is have packet header decision entered decided).first_match
             ∙ either decision.version under;

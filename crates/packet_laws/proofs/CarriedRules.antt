@@ -13,6 +13,7 @@ use Rattle.update_machine.specs.Touched.{touched_by}
 use Rattle.update_machine.specs.Versions.{HasPlan, policy_at}
 use Rattle.update_machine.proofs.CallerLemmas.{touched_apart}
 use Rattle.packet_laws.specs.Rules.{IsRightEntry}
+use Rattle.packet_laws.proofs.VersionMatches.{first_match_by_scan, scan_of_version}
 use Rattle.policy_rules.specs.Scan.{scan}
 use Rattle.ternary.specs.Word.{WordValue}
 
@@ -43,10 +44,14 @@ module _ (setting : Setting) (before : List Item) (version : ℕ) (cache : Cache
         known = omega (arith, went.before);
         current = current;
         decides = λ header sound held.
-            subst (λ v. scan (policy_at setting before v) header
+            first_match_by_scan (policy_at setting before version) header
+            (record { rule = old.rule; action = old.action })
+            (subst (λ v. scan (policy_at setting before v) header
             ≡ scan (policy_at setting before old.version) header) next
             (touched_apart setting before old.version old.word header is policy apart sound held)
-            ∙ right.decides header sound held;
+            ∙ scan_of_version setting before old.version header
+            (record { rule = old.rule; action = old.action }) is
+            (right.decides header sound held));
       })
 
   each : (entry : CacheEntry)

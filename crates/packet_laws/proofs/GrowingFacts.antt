@@ -1,6 +1,7 @@
 -- What is known of packets and of cache rules is known behind one more item, too.
-use Rattle.std.proofs.Common.{ℕ, ◌≡◌, ◌≤◌, Option, List, [], ◌∷◌, ◌++◌, ap, ◌∙◌, arith}
+use Rattle.std.proofs.Common.{ℕ, ◌≡◌, ◌≤◌, Option, List, [], ◌∷◌, ◌++◌, ap, sym, subst, ◌∙◌, arith}
 use Rattle.five_tuple.specs.declared.header.Header.{Header}
+use Rattle.policy_rules.specs.Policy.{IsFirstMatch}
 use Rattle.policy_rules.specs.Scan.{scan}
 use Rattle.policy_rules.specs.declared.packet.Leg.{Leg}
 use Rattle.policy_rules.specs.declared.packet.Leg.TheVariants.{Seek, Exit}
@@ -58,8 +59,8 @@ right_on setting before after version word rule action grow right = record {
   known = right.known;
   current = omega (arith, right.current, grow.current);
   decides = λ header sound held.
-      ap (λ rows. scan rows header) (grow.policy version right.known right.current)
-      ∙ right.decides header sound held;
+      subst (λ rows. IsFirstMatch rows header (record { rule = rule; action = action }))
+      (sym (grow.policy version right.known right.current)) (right.decides header sound held);
 }
 
 part_on : (setting : Setting) (before after : List Item) (header : Header)

@@ -54,6 +54,7 @@ use Rattle.packet_laws.proofs.HeaderLookups.{FindsTargets, redirect_found}
 use Rattle.packet_laws.proofs.PacketBlocks.{WhenDecided}
 use Rattle.packet_laws.proofs.PlanLookups.{scan_named}
 use Rattle.packet_laws.proofs.KnownRoutes.{IsWay, route_way}
+use Rattle.packet_laws.proofs.VersionMatches.{scan_of_version}
 
 -- what is known of the journal before an item, and kept of its packet
 pub record Knows (setting : Setting) (before : List Item) (i : ℕ) (stage : Option Stage) : Type 0
@@ -463,11 +464,11 @@ has_cached setting before s header entry answer =
     }
 
 cache_decides : (setting : Setting) (before : List Item) (i s version : ℕ) (rule : Option ℕ)
-    (act : Action) (message : ℕ) → (here : IsHere setting before i s)
+    (act : Action) (message : ℕ) → IsSetting setting → (here : IsHere setting before i s)
     → All (IsRightEntry setting before) (cache_of setting before s).entries
     → CacheDecides setting before i s version rule act message
     → DecidesRightly setting before (what_is_known before i) here.under.header version rule act
-cache_decides setting before i s version rule act message here right by =
+cache_decides setting before i s version rule act message is here right by =
     let entry : CacheEntry = by.entry in
     let header : Header = here.under.header in
     let cached : HasCached setting before s header entry =
@@ -480,7 +481,9 @@ cache_decides setting before i s version rule act message here right by =
     let match : scan (policy_at setting before version) header
     ≡ record { rule = rule; action = act } =
     ap (λ v. scan (policy_at setting before v) header) by.of_version
-    ∙ own.decides header here.under.sound cached.held
+    ∙ scan_of_version setting before entry.version header
+    (record { rule = entry.rule; action = entry.action }) is
+    (own.decides header here.under.sound cached.held)
     ∙ ap (λ r. record { rule = r; action = entry.action }) (sym by.by_rule)
     ∙ ap (λ a. record { rule = rule; action = a }) (sym by.says) in
     record {
@@ -545,7 +548,8 @@ decided_now setting before i s version rule act (how.Cached message) knows here 
         decides.of_version
             ∙ (has_cached setting before s (header_at before i) decides.entry decides.answer).stamp,
       );
-      rightly = cache_decides setting before i s version rule act message here right decides;
+      rightly = cache_decides setting before i s version rule act message knows.is here right
+          decides;
     }
 decided_now setting before i s version rule act (how.Authority home partition) knows here right
     decides =

@@ -5,6 +5,7 @@ pub mod OtherBlocks
 pub mod PacketPieceCauses
 pub mod PlanLookups
 pub mod CacheRules
+pub mod VersionMatches
 pub mod DonePackets
 pub mod SparedPackets
 pub mod ServedPackets

@@ -9,8 +9,7 @@ use Rattle.update_machine.specs.Full.{IsPlay}
 use Rattle.update_machine.specs.Machine.{IsRun}
 use Rattle.update_machine.specs.Marks.{AreSettled, most_versions}
 use Rattle.update_machine.specs.Setting.{IsSetting, Setting}
-use Rattle.control_laws.specs.Always.{AreEvents, HoldsAlways, HoldsAtEnds, HoldsReached}
-use Rattle.control_laws.specs.Rises.{RisesRightly}
+use Rattle.control_laws.specs.Always.{AreEvents, HoldsAtEnds, HoldsReached}
 use Rattle.packet_laws.specs.Between.{HoldsBetween, steps_played}
 use Rattle.packet_laws.specs.Hops.{detour_count, exit_count, hops_taken, most_hops, most_switches, routes_taken, search_count}
 use Rattle.packet_laws.specs.OnTheWay.{EndsStep, HeldOnTheWay, HoldsSoFar, IsKeptBehind}
@@ -20,7 +19,7 @@ use Rattle.packet_laws.specs.Travelling.{PacketsTravel}
 use Rattle.packet_laws.specs.Whole.{KeepVersionsWhole}
 use Rattle.packet_laws.proofs.StepEnds.{ends_at}
 use Rattle.packet_laws.proofs.StepsOfPlays.{play_begins}
-use Rattle.packet_laws.proofs.AlwaysReached.{OfReached, always_reached}
+use Rattle.packet_laws.proofs.AlwaysReached.{OfReached}
 
 -- the laws of journals that may end within a step
 pub record Laws : Type 0 where
@@ -28,7 +27,6 @@ pub record Laws : Type 0 where
   pub causes : OfReached (λ setting journal. HaveCauses (HasCause setting) [] journal)
   pub strong : OfReached (λ setting journal. HaveCauses (StrongCause setting) [] journal)
   pub versions : OfReached KeepVersionsWhole
-  pub rises : HoldsAlways (λ setting journal. HaveCauses (RisesRightly setting) [] journal)
   pub searches : OfReached (λ setting journal. (i : ℕ) → search_count journal i ≤ most_versions)
   pub exits : OfReached (λ setting journal. (i : ℕ) → exit_count journal i ≤ 1)
   pub detours : OfReached (λ setting journal.
@@ -46,7 +44,6 @@ all_so_far laws setting journal is give = record {
   causes = give _ laws.causes is;
   strong = give _ laws.strong is;
   versions = give _ laws.versions is;
-  rises = give _ (always_reached _ laws.rises);
   few = λ i. record {
     searches = give _ laws.searches is i;
     exits = give _ laws.exits is i;

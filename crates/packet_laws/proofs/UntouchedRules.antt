@@ -1,10 +1,12 @@
 -- A rule that a change doesn't touch outlives it.
-use Rattle.std.proofs.Common.{ℕ, ◌≡◌, ◌<◌, ◌∙◌, true, if◌then◌else◌, nat_lt, List, [], ◌∷◌, ◌++◌, All, Any, ap, sym, subst, arith}
+use Rattle.std.proofs.Common.{ℕ, ◌≡◌, ◌<◌, ◌+◌, ◌∙◌, Bool, true, false, cond, leb, ◌||◌, if◌then◌else◌, nat_lt, Some, None, List, [], ◌∷◌, ◌++◌, All, Any, Contains, filter, filter_map, map, refl, ap, sym, subst, arith}
+use Rattle.std.specs.List.{cons_option}
 use Rattle.std.specs.Option.{option_map_or}
+use Rattle.std.specs.Prelude.{IsFalse}
 use Rattle.std.proofs.lemmas.Bool.Decides.{nat_tests}
 use Rattle.std.proofs.lemmas.List.Elements.{All-contains}
 use Rattle.switch_table.specs.Cache.{CacheValue}
-use Rattle.switch_table.specs.Carried.{after_carry}
+use Rattle.switch_table.specs.Carried.{after_carry, carried_entry, is_carried, meets_any, under}
 use Rattle.switch_table.specs.declared.cache.CacheEntry.{CacheEntry}
 use Rattle.switch_table.proofs.CarryLemmas.{untouched_stays}
 use Rattle.ternary.specs.Word.{WordValue}
@@ -17,10 +19,42 @@ use Rattle.update_machine.specs.Touched.{touched_by}
 use Rattle.update_machine.specs.Versions.{stamp_of}
 use Rattle.update_machine.proofs.CallerLemmas.{folded_append}
 use Rattle.packet_laws.specs.Rules.{IsRightEntry}
-use Rattle.packet_laws.specs.Amended.{IsToldStamp, UntouchedStay}
+use Rattle.packet_laws.specs.Amended.{HasUnder, IsToldStamp, UntouchedStay, at_least, outlives}
 use Rattle.packet_laws.proofs.AllKept.{Before, all_kept, cached_on}
 use Rattle.packet_laws.proofs.GrowingFacts.{grows}
 use Rattle.packet_laws.proofs.RestingPackets.{IsWayItem, switches_of_all}
+
+-- ---- what is left, in order
+
+-- entries that go over are those that outlive it
+left_in_order : (version : ℕ) (touched : List WordValue) (entries rest : List CacheEntry)
+    → filter_map (carried_entry version touched entries) rest
+    ≡ map (at_least version) (filter (outlives version touched entries) rest)
+left_in_order version touched entries [] = refl
+left_in_order version touched entries (entry ∷ rest) =
+    by_case (leb version entry.version) (is_carried version touched entries entry) refl
+    (left_in_order version touched entries rest)
+  where
+    over : CacheEntry
+    over = under version entry
+
+    left : List CacheEntry
+    left = filter_map (carried_entry version touched entries) rest
+
+    kept : List CacheEntry
+    kept = filter (outlives version touched entries) rest
+
+    by_case : (stays goes : Bool) → leb version entry.version ≡ stays
+        → left ≡ map (at_least version) kept
+        → cons_option (cond stays (Some entry) (cond goes (Some over) None)) left
+        ≡ map (at_least version) (cond (stays || goes) (entry ∷ kept) kept)
+    by_case true goes le same = ap (λ es. entry ∷ es) same
+        ∙ ap (λ e. e ∷ map (at_least version) kept) (sym (ap (λ b. cond b entry over) le))
+    by_case false true le same = ap (λ es. over ∷ es) same
+        ∙ ap (λ e. e ∷ map (at_least version) kept) (sym (ap (λ b. cond b entry over) le))
+    by_case false false le same = same
+
+-- ---- a stamp that rises
 
 -- a stamp that rises carries the cache
 stamped_cache : (setting : Setting) (before : List Item) (s number boot version : ℕ)
@@ -42,10 +76,17 @@ stamped_cache setting before s number boot version touched said rises =
     ∙ ap (λ b. if b then after_carry version (touched_by setting before version) cache else cache)
     test
 
-pub untouched_stay : (setting : Setting) (before : List Item) → IsSetting setting
-    → HaveCauses (IsWayItem setting) [] before → UntouchedStay setting before
-untouched_stay setting before is have s number boot version touched entry said rises there
-    previous apart =
+-- each that isn't touched has its word there, by a rule that is right
+under_it : (setting : Setting) (before : List Item) (s number boot version : ℕ)
+    (touched : List WordValue) (entry : CacheEntry) → IsSetting setting
+    → HaveCauses (IsWayItem setting) [] before
+    → IsToldStamp before s number boot version touched
+    → stamp_of before s < version → Contains (cache_of setting before s).entries entry
+    → entry.version + 1 ≡ version
+    → IsFalse (meets_any (touched_by setting before version) entry.word)
+    → HasUnder setting (before ++ item.Delivered number ∷ []) s version entry
+under_it setting before s number boot version touched entry is have said rises there previous
+    apart =
     let next : Item = item.Delivered number in
     let now : List Item = before ++ next ∷ [] in
     let cache : CacheValue = cache_of setting before s in
@@ -75,3 +116,15 @@ untouched_stay setting before is have s number boot version touched entry said r
         ),
       ),
     )
+
+pub untouched_stay : (setting : Setting) (before : List Item) → IsSetting setting
+    → HaveCauses (IsWayItem setting) [] before → UntouchedStay setting before
+untouched_stay setting before is have s number boot version touched said rises =
+    let cache : CacheValue = cache_of setting before s in
+    record {
+      in_order = ap (λ (c : CacheValue). c.entries)
+          (stamped_cache setting before s number boot version touched said rises)
+          ∙ left_in_order version (touched_by setting before version) cache.entries cache.entries;
+      untouched = λ entry there previous apart. under_it setting before s number boot version
+          touched entry is have said rises there previous apart;
+    }

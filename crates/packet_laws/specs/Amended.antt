@@ -1,18 +1,17 @@
 -- An amendment changes only what it touches: a header that none of its rows matches keeps its
 -- first match, and each packet with that header is decided by it, under the version before or the
 -- new one. It removes from a cache no rule that it doesn't touch.
-use Rattle.std.specs.Prelude.{ℕ, ◌≡◌, ◌+◌, ◌⊎◌, Some, Ok, List, All, IsFalse, ◌<◌, [], ◌∷◌, ◌++◌, Any, Contains}
+use Rattle.std.specs.Prelude.{ℕ, ◌≡◌, ◌+◌, ◌⊎◌, Bool, ◌||◌, nat_le, if◌then◌else◌, Some, Ok, List, All, IsFalse, ◌<◌, [], ◌∷◌, ◌++◌, Any, Contains, filter, map}
 use Rattle.ctrl_msg.specs.declared.message.Body.TheVariants.{Stamp}
 use Rattle.five_tuple.specs.Header.{fields_of}
 use Rattle.five_tuple.specs.declared.header.Header.{Header}
 use Rattle.policy_rules.specs.Applied.{applied}
-use Rattle.policy_rules.specs.Policy.{row_matches}
-use Rattle.policy_rules.specs.Scan.{scan}
+use Rattle.policy_rules.specs.Policy.{IsFirstMatch, row_matches}
 use Rattle.policy_rules.specs.Touched.{touched_rows}
 use Rattle.policy_rules.specs.declared.amendment.Edit.{Edit}
 use Rattle.policy_rules.specs.declared.policy.Hit.{Hit}
 use Rattle.policy_rules.specs.declared.policy.Row.{Row}
-use Rattle.switch_table.specs.Carried.{meets_any}
+use Rattle.switch_table.specs.Carried.{is_carried, meets_any, under}
 use Rattle.switch_table.specs.declared.cache.CacheEntry.{CacheEntry}
 use Rattle.ternary.specs.Word.{WordValue}
 use Rattle.journal.specs.declared.item.Item.{Item}
@@ -44,7 +43,7 @@ pub record IsMatchUnder (setting : Setting) (journal : List Item) (version : ℕ
     (hit : Hit) : Type 0 where
   pub rows : List Row
   pub policy : policy_in setting journal version ≡ Some rows
-  pub first_match : scan rows header ≡ hit
+  pub first_match : IsFirstMatch rows header hit
 
 -- the rule and the action of a decision
 abbrev pub hit_in : Decision → Hit
@@ -82,14 +81,38 @@ abbrev pub IsToldStamp : List Item → ℕ → ℕ → ℕ → ℕ → List Word
 IsToldStamp before s number boot version touched =
     body_to_switch before s number ≡ Some (Stamp boot version touched)
 
--- when the stamp of a switch rises to a version, because it is told to, it keeps, under that
--- version, each rule of the version before whose word meets no word that the version's change
--- touches
+-- when the cache moves to a version, the entry outlives it: it is of this version or a later one;
+-- or of the version before, if its word meets no touched word and no entry of the version has it
+abbrev pub outlives : ℕ → List WordValue → List CacheEntry → CacheEntry → Bool
+outlives version touched entries entry =
+    nat_le version entry.version || is_carried version touched entries entry
+
+-- the same entry, of the same message, under the version, unless it is of a later one
+abbrev pub at_least : ℕ → CacheEntry → CacheEntry
+at_least version entry = if nat_le version entry.version then entry else under version entry
+
+-- the entries that outlive it are left, each the same one, in their order, and no others
+abbrev pub StayInOrder : ℕ → List WordValue → (before after : List CacheEntry) → Type 0
+StayInOrder version touched before after =
+    after ≡ map (at_least version) (filter (outlives version touched before) before)
+
+-- when the stamp of a switch rises to a version, because it is told to, the entries of its cache
+-- stay in their order, except those of earlier versions that don't outlive the rise; and for each
+-- entry of the version before whose word meets no word that the version's change touches there is
+-- one under that version then: itself, or the one that had its word before
+pub record OutliveRise (setting : Setting) (before : List Item) (s number version : ℕ)
+    : Type 0 where
+  pub in_order : StayInOrder version (touched_by setting before version)
+      (cache_of setting before s).entries
+      (cache_of setting (before ++ item.Delivered number ∷ []) s).entries
+  pub untouched : (entry : CacheEntry) → Contains (cache_of setting before s).entries entry
+      → entry.version + 1 ≡ version
+      → IsFalse (meets_any (touched_by setting before version) entry.word)
+      → HasUnder setting (before ++ item.Delivered number ∷ []) s version entry
+
 abbrev pub UntouchedStay : Setting → List Item → Type 0
 UntouchedStay setting before =
-    (s number boot version : ℕ) (touched : List WordValue) (entry : CacheEntry)
+    (s number boot version : ℕ) (touched : List WordValue)
     → IsToldStamp before s number boot version touched
-    → stamp_of before s < version → Contains (cache_of setting before s).entries entry
-    → entry.version + 1 ≡ version
-    → IsFalse (meets_any (touched_by setting before version) entry.word)
-    → HasUnder setting (before ++ item.Delivered number ∷ []) s version entry
+    → stamp_of before s < version
+    → OutliveRise setting before s number version

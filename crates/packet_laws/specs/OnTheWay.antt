@@ -6,7 +6,6 @@ use Rattle.update_machine.specs.Causes.{HasCause, HaveCauses}
 use Rattle.update_machine.specs.Machine.{IsRun}
 use Rattle.update_machine.specs.Marks.{AreSettled}
 use Rattle.update_machine.specs.Setting.{Setting}
-use Rattle.control_laws.specs.Rises.{RisesRightly}
 use Rattle.packet_laws.specs.Hops.{detour_count, exit_count, hops_taken, most_hops, most_switches, routes_taken, search_count}
 use Rattle.packet_laws.specs.Routes.{hops_on_route, most_routes}
 use Rattle.packet_laws.specs.StrongCauses.{StrongCause}
@@ -24,14 +23,12 @@ pub record TakesFew (journal : List Item) (i : ℕ) : Type 0 where
   pub hops : hops_taken journal i ≤ most_hops
 
 -- the journal, which may end within a step, is a run of the machine; its ends have their causes,
--- and its items the strong ones; the versions are whole; the current mark rose only when each
--- member had acknowledged all versions up to it; and each packet took few routes and hops
+-- and its items the strong ones; the versions are whole; and each packet took few routes and hops
 pub record HoldsSoFar (setting : Setting) (journal : List Item) : Type 0 where
   pub run : IsRun setting journal
   pub causes : HaveCauses (HasCause setting) [] journal
   pub strong : HaveCauses (StrongCause setting) [] journal
   pub versions : KeepVersionsWhole setting journal
-  pub rises : HaveCauses (RisesRightly setting) [] journal
   pub few : (i : ℕ) → TakesFew journal i
 
 -- after a step each packet that travels is on its way to a target of its own version, or to its

@@ -8,7 +8,7 @@ use Rattle.control_laws.specs.BootLaws.{BootsAreKnown, OpensAtOneVersion, Servin
 use Rattle.control_laws.specs.ItemCauses.{HasItemCause}
 use Rattle.control_laws.specs.Acknowledged.{IsAckedFirst, MembersAcknowledged}
 use Rattle.control_laws.specs.Bounds.{MarksAreBounded}
-use Rattle.control_laws.specs.Heard.{AcksHold, InstallsArePlanned}
+use Rattle.control_laws.specs.Heard.{AcksHold}
 use Rattle.control_laws.specs.Serving.{ServingHold}
 use Rattle.control_laws.specs.Planned.{TablesArePlanned}
 use Rattle.control_laws.specs.Touched.{StampsSayTouched}
@@ -17,7 +17,8 @@ use Rattle.packet_laws.specs.Travelling.{RulesAreRight}
 
 pub record KeepVersionsWhole (setting : Setting) (journal : List Item) : Type 0 where
   -- each item of switches and of the controller was written for its cause: what is sent for a boot
-  -- was sent while that boot was known and the switch wasn't over
+  -- was sent while that boot was known and the switch wasn't over; and the current mark rose only
+  -- when each member had acknowledged all versions up to it
   pub causes : HaveCauses (HasItemCause setting) [] journal
   -- the known boot of a switch is at most its own, and no message carries a greater one
   pub boots : BootsAreKnown journal
@@ -29,9 +30,8 @@ pub record KeepVersionsWhole (setting : Setting) (journal : List Item) : Type 0 
   -- boot
   pub acknowledged : HaveCauses (IsAckedFirst setting) [] journal
   pub opened : OpensAtOneVersion journal
-  -- the tables that are sent are those that their version's plan gives the switch
-  pub sent : InstallsArePlanned setting journal
-  -- and stay so however the journal continues; so are those that it heard
+  -- the tables that are sent are those that their version's plan gives the switch, and stay so
+  -- however the journal continues; so are those that it heard
   pub tables : TablesArePlanned setting journal
   -- members acknowledged each version from the one at which they were opened to the current one
   pub members : MembersAcknowledged setting journal
@@ -44,7 +44,7 @@ pub record KeepVersionsWhole (setting : Setting) (journal : List Item) : Type 0 
   pub touched : StampsSayTouched setting journal
   -- each cache rule says what its own version says of each header of its word
   pub rules : RulesAreRight setting journal
-  -- and an amendment removes from a cache none that it doesn't touch
+  -- and an amendment removes from a cache none that it doesn't touch: they stay, in their order
   pub untouched : UntouchedStay setting journal
   -- a header that an amendment doesn't touch is decided alike by the versions before and after it
   pub alike : ChangesLeaveOthers setting journal

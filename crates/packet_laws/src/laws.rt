@@ -7,8 +7,8 @@ ghost use Rattle.control_laws.specs.Always.{HoldsReached};
 ghost use Rattle.packet_laws.specs.Exports.{AllKept, AreEntered, AreResting, ChangesLeaveOthers, GoesOrStops, HoldsBetween, KeepVersionsWhole, PacketsArrive, PacketsTravel, RulesAreRight, UntouchedStay, StrongCause, PacketCause, detour_count, drain_left, exit_count, finding_count, hops_on_route, hops_taken, most_hops, most_routes, most_switches, routes_taken, rows_played, search_count, step_rows};
 
 use control_laws::{
-    acknowledgements_hold, boots_are_known, installs_are_planned, items_have_causes,
-    marks_are_bounded, serving_is_known, serving_switches_hold, stamps_are_acked_first,
+    acknowledgements_hold, boots_are_known, items_have_causes, marks_are_bounded,
+    members_have_acknowledged, serving_is_known, serving_switches_hold, stamps_are_acked_first,
     stamps_say_what_is_touched, switches_open_once, tables_are_planned,
 };
 use policy_rules::amendment_laws;
@@ -51,9 +51,11 @@ pub fn cache_rules_are_right()
     ensures { HoldsReached (λ setting journal. IsSetting setting → RulesAreRight setting journal) }
 {}
 
-/// An amendment removes from a cache no rule that it doesn't touch: when a switch's stamp rises to
-/// the version that the amendment made, each rule of the version before whose word meets no
-/// touched word is kept under the new version, and decides as its policy does.
+/// An amendment removes from a cache no rule that it doesn't touch: when a `Stamp` message raises a
+/// switch to the version that the amendment made, each entry of the version before whose word meets
+/// no touched word stays, of the same message and in its place in the order, under the new version;
+/// if an entry of that version has its word already, that one stays instead. It then decides as the
+/// policy of that version does.
 pub fn untouched_rules_stay()
     ensures { HoldsReached (λ setting journal. IsSetting setting → UntouchedStay setting journal) }
 {}
@@ -187,7 +189,7 @@ pub fn items_keep_versions_whole()
     serving_is_known();
     acknowledgements_hold();
     stamps_are_acked_first();
-    installs_are_planned();
+    members_have_acknowledged();
     tables_are_planned();
     marks_are_bounded();
     serving_switches_hold();

@@ -8,11 +8,10 @@ use crate::laws::{
     answers_are_runs, causes_are_strong, ends_have_causes, items_keep_versions_whole,
     packets_take_few_hops, packets_take_few_routes, packets_travel,
 };
-use control_laws::{current_rises_rightly, marks_settle};
+use control_laws::marks_settle;
 
-/// At each moment, within a step too, the journal is a run of the machine whose ends and items
-/// have their causes, the versions are whole, the current mark rose only as allowed, and each
-/// packet took few routes and hops.
+/// At each moment, within a step too, the journal is a run of the machine whose ends and items have
+/// their causes, the versions are whole, and each packet took few routes and hops.
 pub fn journals_hold_so_far()
     ensures { HoldsReached (λ setting journal. IsSetting setting → HoldsSoFar setting journal) }
 {
@@ -20,7 +19,6 @@ pub fn journals_hold_so_far()
     ends_have_causes();
     causes_are_strong();
     items_keep_versions_whole();
-    current_rises_rightly();
     packets_take_few_routes();
     packets_take_few_hops();
 }

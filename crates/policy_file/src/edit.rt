@@ -27,7 +27,8 @@ pub fn is_change_heading(fields: &ByteRecord) -> bool
 /// The edit that the record states: after `remove` the priority of a row, and after `add` the
 /// fields of one.
 ///
-/// # Errors `Op` if the first field is another one, `Width` if another number of fields follows
+/// # Errors
+/// `Op` if the first field is another one, `Width` if another number of fields follows
 /// it; otherwise the first field that is none of its kind.
 #[tactic(auto, using(crate::proofs::EditFields::edits))]
 pub fn read_edit(fields: &ByteRecord) -> Result<Edit, PolicyRefusal>

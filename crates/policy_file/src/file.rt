@@ -69,7 +69,8 @@ pub fn read_change(alloc: Global, bytes: &[u8]) -> Result<Amendment, PolicyError
 
 /// What the text states: a change if its first record is the heading of one, otherwise a policy.
 ///
-/// # Errors Those of `read_change` or of `read_policy`: `Header` exactly if the first record is
+/// # Errors
+/// Those of `read_change` or of `read_policy`: `Header` exactly if the first record is
 /// absent or neither of the two headings.
 #[tactic(auto, unfolding(crate::specs::Changes::policy_file_of))]
 pub fn read_file(alloc: Global, bytes: &[u8]) -> Result<PolicyFile, PolicyError>

@@ -62,7 +62,8 @@ pub fn read_priority(text: &[u8]) -> Option<u32>
 
 /// The row that the record's fields from this place on state.
 ///
-/// # Errors `Width` if there aren't seven fields from there on; otherwise the first field that is
+/// # Errors
+/// `Width` if there aren't seven fields from there on; otherwise the first field that is
 /// none of its kind.
 #[tactic(auto, using(crate::proofs::RowFields::sevens))]
 pub fn read_row(fields: &ByteRecord, from: usize) -> Result<Row, PolicyRefusal>

@@ -56,7 +56,8 @@ impl Model for Amendment {
 impl Amendment {
     /// The amendment that removes the rows of these priorities and then adds these rows.
     ///
-    /// # Errors `Repeated` exactly if a priority occurs twice in one of the lists. The count of
+    /// # Errors
+    /// `Repeated` exactly if a priority occurs twice in one of the lists. The count of
     /// edits runs over the removed priorities and then over the added rows: a number greater than
     /// the count of removed priorities names an added row.
     pub fn new(
@@ -83,7 +84,8 @@ impl Amendment {
 
     /// The amendment of these edits.
     ///
-    /// # Errors `Repeated` exactly if an edit repeats an earlier one.
+    /// # Errors
+    /// `Repeated` exactly if an edit repeats an earlier one.
     pub fn of_edits(alloc: Global, edits: Vec<Edit>) -> Result<Amendment, Failure<Repeated>>
         requires { vec_len edits < 2 ^ 32 }
         ensures edits { IfOk result (λ change. change ≡ edits.items) }

@@ -46,7 +46,8 @@ pub type ApplyError = Failure<Inapplicable>;
 /// The policy with the change applied to it: its rows whose priorities aren't removed, in order,
 /// and then the added ones.
 ///
-/// # Errors The first of these: `Absent` exactly if a removed priority is that of no row, `Taken`
+/// # Errors
+/// The first of these: `Absent` exactly if a removed priority is that of no row, `Taken`
 /// exactly if an added row has the priority of one that stays, `TooManyRows` exactly if there
 /// would be more than 2,000 rows.
 pub fn apply(alloc: Global, policy: &Policy, change: &Amendment) -> Result<Policy, ApplyError>

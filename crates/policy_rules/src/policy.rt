@@ -101,7 +101,8 @@ impl Hit {
 impl Policy {
     /// The policy of these rows.
     ///
-    /// # Errors `SamePriority` exactly if two rows have the same priority.
+    /// # Errors
+    /// `SamePriority` exactly if two rows have the same priority.
     pub fn new(alloc: Global, rows: Vec<Row>) -> Result<Policy, Failure<SamePriority>>
         requires { vec_len rows < 2 ^ 32 }
         ensures rows { IfOk result (λ policy. policy ≡ rows.items) }

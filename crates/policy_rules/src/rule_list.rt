@@ -30,7 +30,8 @@ pub struct TooManyWords {
 /// source ports and one of its destination ports, the source block outermost; last the default,
 /// whose word holds each header.
 ///
-/// # Errors `TooManyWords` exactly if the rows have more than 4,096 words together, however little
+/// # Errors
+/// `TooManyWords` exactly if the rows have more than 4,096 words together, however little
 /// memory there is.
 pub fn to_rules(alloc: Global, policy: &Policy) -> Result<Vec<Rule>, Failure<TooManyWords>>
     ensures rules { IfOk result (λ rules. rules.items ≡ rules_of policy.now) }

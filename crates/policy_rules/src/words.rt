@@ -12,7 +12,8 @@ use ternary::Word;
 /// Adds the words of a row at the end: one for each pair of a block of its source ports and one of
 /// its destination ports, the source block outermost, as in the list of rules.
 ///
-/// # Errors Only out of memory; then a part of the words is added.
+/// # Errors
+/// Only out of memory; what is added then isn't stated.
 pub fn push_row_words(words: &mut Vec<Word>, row: &Row) -> Result<(), AllocError>
     requires { IsSoundRow row.now }
     ensures { OnOk result (words.new.items ≡ words.old.items ++ words_of_row row.now) }

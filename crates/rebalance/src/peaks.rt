@@ -2,10 +2,8 @@ ghost use Rattle.std.specs.Prelude.{ℕ, ◌≡◌, ◌+◌, ◌<◌, ◌^◌, l
 ghost use Rattle.std.specs.List.{list_any};
 ghost use Rattle.rebalance.specs.Loads.{bound, greatest, peak, traffic, usable_rooms};
 
+use base::MAX_SWITCHES;
 use policy_rules::Targets;
-
-/// There are at most this many switches.
-const SWITCHES: usize = 64;
 
 /// The greatest traffic of a switch, if partitions of these weights have these targets. It
 /// allocates nothing.
@@ -14,7 +12,7 @@ pub fn peak(weights: &[u64], targets: &[Targets]) -> u64
     requires small { sum weights.now < 2 ^ 64 }
     ensures { result ≡ peak weights.now targets.now }
 {
-    let mut carried = [0; SWITCHES];
+    let mut carried = [0; MAX_SWITCHES as usize];
     carry(&mut carried, weights, targets);
     greatest(&carried)
 }

@@ -18,7 +18,8 @@ use world::{StepError, World};
 /// with the least number that waits, until none waits, those that are sent meanwhile included.
 /// After each step the meters record the packets that left in it.
 ///
-/// # Errors `Full` if a step would begin with a full journal; then the journal has the steps
+/// # Errors
+/// `Full` if a step would begin with a full journal; then the journal has the steps
 /// before it, and the world can go on. Otherwise only out of memory; then the journal has the
 /// first steps of the event and a part of the next one.
 pub fn take_steps<M: Meter>(

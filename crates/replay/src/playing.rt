@@ -50,7 +50,8 @@ pub struct Played<M> {
 /// record the packets that left; meters of no port of the network are dropped, and so are those
 /// that leave.
 ///
-/// # Errors `Plan` exactly if the first policy has no plan on the network, unless memory runs out.
+/// # Errors
+/// `Plan` exactly if the first policy has no plan on the network, unless memory runs out.
 pub fn replay<M: Meter>(
     alloc: Global,
     net: &Net,

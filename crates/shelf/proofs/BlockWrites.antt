@@ -48,10 +48,12 @@ part_if_failed (Ok x) text before now later waiting is part = tt
 part_if_failed (Err e) text before now later waiting is part =
     part_written text before now later waiting is part
 
--- a part of a text is one of a longer text
-pub part_longer : (text piece : List ℕ) (before now : Option (List ℕ))
-    → GainedPart before text now → GainedPart before (text ++ piece) now
-part_longer text piece before now part =
+-- a part of a text, of which not all was written, is one of a longer text
+pub part_longer : {T E : Type 0} (r : Result T E) (text piece : List ℕ)
+    (before now : Option (List ℕ)) → GainedPart before text now
+    → OnErr r (GainedPart before (text ++ piece) now)
+part_longer (Ok x) text piece before now part = tt
+part_longer (Err e) text piece before now part =
     let n = part.0 in
     let fewer = part.1 in (
       n,

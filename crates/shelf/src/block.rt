@@ -77,14 +77,10 @@ impl Block {
             self.put(piece);
             return Ok(());
         }
-        match write_whole(sink, self.bytes()) {
-            Ok(()) => {
-                self.len = 0;
-                self.put(piece);
-                Ok(())
-            }
-            Err(error) => Err(error),
-        }
+        write_whole(sink, self.bytes())?;
+        self.len = 0;
+        self.put(piece);
+        Ok(())
     }
 
     /// Writes the end of a text, which waits.

@@ -23,7 +23,8 @@ pub trait Reader {
 
     /// Adds all that is left to the content, or the first `most` bytes of it.
     ///
-    /// # Errors The reader's own, which is a fault, or out of memory, by its kind. Then the
+    /// # Errors
+    /// The reader's own, which is a fault, or out of memory, by its kind. Then the
     /// content has some of the bytes.
     fn read_front(&mut self, most: u64, content: &mut Vec<u8>) -> io::Result<()>
         ensures front { HasFront (state self.old).left most content.old.items content.new.items result }
@@ -96,7 +97,8 @@ impl<R: Read + Drop> Reader for CountedReader<R> {
 /// All that this reader has left, if that is at most `limit` bytes. At most one byte beyond the
 /// limit is read.
 ///
-/// # Errors `TooLong` if the reader has more left. An error of the reader by its kind
+/// # Errors
+/// `TooLong` if the reader has more left. An error of the reader by its kind
 /// (`ShelfError::by_kind`): `NoMemory`, or `Failed`, exactly if the reader's count of faults rose.
 pub fn read_up_to<R: Reader>(
     alloc: Global,

@@ -30,7 +30,8 @@ impl Switch {
     ///
     /// `near` has a bit for each switch to which there is a usable link.
     ///
-    /// # Errors Only out of memory; then nothing changes, as if the message hadn't been delivered.
+    /// # Errors
+    /// Only out of memory; then nothing changes, as if the message hadn't been delivered.
     #[tactic(auto, unfolding(crate::specs::Hearing::with_message, crate::specs::Hearing::replies, crate::specs::Hearing::opening_stamp))]
     pub fn hear(&mut self, number: u32, body: &Body, near: u64) -> Result<Heard, AllocError>
         requires { IsSoundBody body.now }
@@ -201,18 +202,12 @@ impl Switch {
         }
     }
 
-    // Whether the advert is of another switch, and newer than the one that the database has of
-    // that switch, if any.
-    #[tactic(auto, unfolding(crate::specs::Hearing::is_news_here, failover::specs::Adverts::is_news))]
+    // Whether the advert is of another switch, and news to the database.
+    #[tactic(auto, unfolding(crate::specs::Hearing::is_news_here))]
     fn is_news(&self, advert: &Advert) -> bool
         ensures { result ≡ is_news_here self.now advert.now }
     {
-        advert.origin < 64
-            && advert.origin != self.number
-            && match self.database.database().get(advert.origin) {
-                Some(held) => advert.is_newer(&held),
-                None => true,
-            }
+        advert.origin != self.number && self.database.database().is_news(advert)
     }
 }
 

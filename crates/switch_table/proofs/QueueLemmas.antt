@@ -244,11 +244,12 @@ none_before (x ∷ before) entry rest distinct =
 -- ---- what a queue keeps
 
 pub queue_of : (masks : Option (List WordValue)) (shift newest : ℕ) (pairs : List Pair)
-    (entries : List CacheEntry) → shift ≤ 2 ^ 32 → HaveVersions shift pairs
-    → kept_entries shift pairs ≡ entries → AreUpTo newest entries → AreMasked masks entries
-    → IsQueue masks shift newest pairs
-queue_of masks shift newest pairs entries fits versions are up_to masked = record {
+    (entries : List CacheEntry) → shift ≤ 2 ^ 32 → 2 ^ 32 ≤ shift + newest
+    → HaveVersions shift pairs → kept_entries shift pairs ≡ entries → AreUpTo newest entries
+    → AreMasked masks entries → IsQueue masks shift newest pairs
+queue_of masks shift newest pairs entries fits falls versions are up_to masked = record {
   fits = fits;
+  falls = falls;
   versions = versions;
   up_to = subst (AreUpTo newest) (sym are) up_to;
   masked = subst (AreMasked masks) (sym are) masked;
@@ -259,6 +260,7 @@ pub queue_removed : (masks : Option (List WordValue)) (shift newest place : ℕ)
     → IsQueue masks shift newest new
 queue_removed masks shift newest place pairs new is made =
     queue_of masks shift newest new (remove (kept_entries shift pairs) place) is.fits
+    is.falls
     (subst (HaveVersions shift) (sym made) (All-remove (HasVersion shift) pairs place is.versions))
     (ap (kept_entries shift) made ∙ entries_removed shift pairs place)
     (All-remove (λ (entry : CacheEntry). entry.version ≤ newest) (kept_entries shift pairs) place
@@ -274,6 +276,7 @@ queue_from masks shift newest version pairs new is made =
     let kept = λ (entry : CacheEntry). leb version entry.version in
     let test = λ (pair : Pair). leb (version + shift) pair.0.number in
     queue_of masks shift newest new (filter kept (kept_entries shift pairs)) is.fits
+    is.falls
     (subst (HaveVersions shift) (sym made) (All-filter test (HasVersion shift) pairs is.versions))
     (ap (kept_entries shift) made ∙ entries_from shift version pairs is.versions)
     (All-filter kept (λ (entry : CacheEntry). entry.version ≤ newest) (kept_entries shift pairs)

@@ -1,9 +1,8 @@
 -- Where the live slots stand, and what is left once one of them is dead or only some are kept.
 use Rattle.std.proofs.Common.{ℕ, zero, suc, ◌≡◌, ◌∙◌, ◌+◌, ◌*◌, ◌<◌, ◌≤◌, Bool, true, false, cond, ◌&&◌, ◌⊎◌, Option, Some, None, option_map, List, [], ◌∷◌, length, length-set, filter, map, get_or, take, drop, set, remove, replicate, refl, ap, slice_get, sym, subst, inl, inr, arith, All}
 use Rattle.std.specs.Bool.{IsFalse}
-use Rattle.std.specs.List.{cons_option, list_all}
-use Rattle.std.specs.Map.{keys_of, values_of}
-use Rattle.std.proofs.lemmas.Bool.{and_parts}
+use Rattle.std.specs.List.{cons_option}
+use Rattle.std.specs.Map.{values_of}
 use Rattle.std.proofs.lemmas.List.{take-map}
 use Rattle.std.proofs.lemmas.List.Elements.{All-cons, All-head, All-nil, All-tail}
 use Rattle.std.proofs.lemmas.List.Sums.{sum_by-cons, sum_by-take-drop, sum_by-take-le}
@@ -265,26 +264,6 @@ module _ (test : CacheKey → Bool) where
         dead = All-nil IsDead;
         counted = subst (AreCounts live) flags counted;
       }
-
-  -- where all keys pass, nothing goes
-  pub all_kept : (slots : List SlotPair) → list_all test (keys_of slots) ≡ true →
-      filter (λ pair. test pair.0) (live_pairs slots) ≡ live_pairs slots
-  all_kept [] all = refl
-  all_kept (x ∷ xs) all =
-      let parts = and_parts (test x.0) (list_all test (keys_of xs)) all in
-      by_case (is_live x) parts.0 (all_kept xs parts.1)
-    where
-      first : Pair
-      first = (x.0, x.1.learnt)
-
-      by_case : (a : Bool) → test x.0 ≡ true →
-          filter passes (live_pairs xs) ≡ live_pairs xs →
-          filter passes (cons_option (cond a (Some first) None) (live_pairs xs))
-          ≡ cons_option (cond a (Some first) None) (live_pairs xs)
-      by_case true there same =
-          ap (λ b. cond b (first ∷ filter passes (live_pairs xs)) (filter passes (live_pairs xs)))
-          there ∙ ap (λ ps. first ∷ ps) same
-      by_case false there same = same
 
 -- the slots past the dead ones at the front have all that live
 pub past_dead : (first : ℕ) (slots : List SlotPair) → All IsDead (take first slots) →

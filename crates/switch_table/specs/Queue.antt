@@ -18,10 +18,12 @@ AreUpTo newest entries = All (λ entry. entry.version ≤ newest) entries
 abbrev pub AreMasked : Option (List WordValue) → List CacheEntry → Type 0
 AreMasked masks entries = All (λ entry. HasMaskOf masks entry.word) entries
 
--- the pairs are those of entries of no later version, and the masks are theirs
+-- the pairs are those of entries of no later version, and the masks are theirs; the shift fell no
+-- more often than the newest version rose
 pub record IsQueue (masks : Option (List WordValue)) (shift newest : ℕ) (pairs : List Pair)
     : Type 0 where
   pub fits : shift ≤ 2 ^ 32
+  pub falls : 2 ^ 32 ≤ shift + newest
   pub versions : HaveVersions shift pairs
   pub up_to : AreUpTo newest (kept_entries shift pairs)
   pub masked : AreMasked masks (kept_entries shift pairs)

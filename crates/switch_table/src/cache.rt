@@ -107,7 +107,8 @@ impl Cache {
     /// evicted. Nothing changes if its version is below the stamp, or if there is an entry of its
     /// version and word.
     ///
-    /// # Errors Only out of memory; then nothing changes.
+    /// # Errors
+    /// Only out of memory; then nothing changes.
     pub fn accept(&mut self, stamp: u32, entry: CacheEntry) -> Result<(), AllocError>
         ensures ok { OnOk result (self.new ≡ after_accept stamp entry self.old) }
         ensures err { OnErr result (self.new ≡ self.old) }
@@ -148,7 +149,8 @@ impl Cache {
     /// version and all of earlier ones are removed, and so is one whose word an entry of the
     /// version has.
     ///
-    /// # Errors Only out of memory; then nothing changes.
+    /// # Errors
+    /// Only out of memory; then nothing changes.
     pub fn carry(&mut self, version: u32, touched: &Touched) -> Result<(), AllocError>
         ensures ok { OnOk result (self.new ≡ after_carry version touched.now self.old) }
         ensures err { OnErr result (self.new ≡ self.old) }

@@ -12,7 +12,6 @@
 #![tactic(auto)]
 
 mod cache;
-mod carried;
 mod items;
 mod key;
 mod live;

@@ -35,7 +35,8 @@ impl LiveCounts {
 
     /// Makes room for this many places.
     ///
-    /// # Errors Only out of memory; then the counts are those of the same places.
+    /// # Errors
+    /// Only out of memory; then the counts are those of the same places.
     pub fn make_room(&mut self, places: usize) -> Result<(), AllocError>
         ensures kept { (flags : List Bool) → AreCounts self.old flags → AreCounts self.new flags }
         ensures room { OnOk result (CountPlaces self.new places) }

@@ -119,10 +119,10 @@ impl EntryQueue {
             (self.new ≡ filter_map (carried_entry version touched.now self.old) self.old) }
         ensures err { OnErr result (self.new ≡ self.old) }
     {
-        if self.shift > 0 && self.newest < version {
+        if self.newest < version {
             self.shift -= 1;
             self.slots
-                .keep_carried(u64::from(version) + self.shift, touched.words());
+                .keep_carried(u64::from(version) + self.shift, touched);
             self.masks.wait_for(self.slots.len());
             self.newest = version;
             return Ok(());

@@ -5,10 +5,10 @@ ghost use Rattle.switch_table.specs.Keys.{HaveOwnKeys, equal_keys, has_key, is_h
 ghost use Rattle.switch_table.specs.Live.{AreCounts, IsNthSet, count_set};
 ghost use Rattle.switch_table.specs.Slots.{AreSlots, SlotPair, flags_of, is_live, killed, live_pairs};
 
-use crate::carried::{are_carried, is_over};
 use crate::items::SlotItems;
 use crate::key::{CacheKey, Learnt, Slot};
 use crate::live::{BLOCK, LiveCounts};
+use crate::touched::Touched;
 use indexmap::IndexMap;
 use indexmap::map::Slice;
 use std::alloc::{AllocError, Global};
@@ -128,18 +128,15 @@ impl Slots {
         self.first = 0;
     }
 
-    /// Keeps those of this number whose words meet none of these. If that is true of all, no slot
-    /// is written.
-    pub fn keep_carried(&mut self, number: u64, touched: &[Word])
+    /// Keeps those of this number whose words meet none of the touched ones.
+    pub fn keep_carried(&mut self, number: u64, touched: &Touched)
         ensures { self.new ≡ filter (λ pair. is_carried_key number touched.now pair.0) self.old }
     {
-        let slots = from_first(&self.map, self.first);
-        if !are_carried(slots.keys().as_slice(), number, touched) {
-            self.map
-                .retain(|key, slot| slot.is_live && is_over(key, number, touched));
-            self.live.fill(self.map.len());
-            self.first = 0;
-        }
+        self.map.retain(|key, slot| {
+            slot.is_live && key.number == number && !touched.meets(&key.word)
+        });
+        self.live.fill(self.map.len());
+        self.first = 0;
     }
 
     /// A copy of each, in order.

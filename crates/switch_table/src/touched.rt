@@ -1,6 +1,5 @@
 ghost use Rattle.std.specs.Prelude.{◌≡◌, ◌≤◌, ◌<◌, ◌↔◌, length, vec_len, IfSome, IsNone};
 ghost use Rattle.switch_table.specs.Carried.{all_touched, meets_any};
-ghost use Rattle.ternary.specs.Meets.{meets};
 
 use std::alloc::AllocError;
 use std::marker::Model;
@@ -73,23 +72,8 @@ impl Touched {
     pub fn meets(&self, word: &Word) -> bool
         ensures { result ≡ meets_any self.now word.now }
     {
-        meets_any(self.words(), word)
+        self.words().iter().any(|one| word.meets(one))
     }
-}
-
-/// Whether the word meets one of these.
-pub(crate) fn meets_any(touched: &[Word], word: &Word) -> bool
-    ensures { result ≡ meets_any touched.now word.now }
-{
-    touched.iter().any(|one| meets(word, one))
-}
-
-// Whether a header is in both words.
-#[tactic(auto, using(ternary::proofs::CallerLemmas::meet_is_some))]
-pub(crate) fn meets(a: &Word, b: &Word) -> bool
-    ensures { result ≡ meets a.now b.now }
-{
-    a.meet(b).is_some()
 }
 
 impl Clone for Touched {

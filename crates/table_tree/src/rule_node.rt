@@ -62,8 +62,8 @@ pub fn grow(alloc: Global, node: Node, cuts: u32) -> Result<RuleNode, AllocError
     let high = grow(alloc, high, cuts - 1)?;
     Ok(RuleNode::Cut {
         bit: cost.bit,
-        low: boxed(alloc, low)?,
-        high: boxed(alloc, high)?,
+        low: Box::new(alloc, low)?,
+        high: Box::new(alloc, high)?,
     })
 }
 
@@ -100,11 +100,4 @@ fn places_of(alloc: Global, rules: &[Rule]) -> Result<Vec<u32>, AllocError>
         places.push(rule.rank)?;
     }
     Ok(places)
-}
-
-fn boxed(alloc: Global, tree: RuleNode) -> Result<Box<RuleNode>, AllocError>
-    ensures { IfOk result (λ boxed. boxed.value ≡ tree) }
-{
-    let boxed = Box::new(alloc, tree)?;
-    Ok(boxed)
 }

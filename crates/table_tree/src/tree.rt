@@ -62,14 +62,7 @@ pub fn grow(alloc: Global, node: PartNode) -> Result<PartTree, AllocError>
     let high = grow(alloc, high)?;
     Ok(PartTree::Cut {
         bit,
-        low: boxed(alloc, low)?,
-        high: boxed(alloc, high)?,
+        low: Box::new(alloc, low)?,
+        high: Box::new(alloc, high)?,
     })
-}
-
-fn boxed(alloc: Global, tree: PartTree) -> Result<Box<PartTree>, AllocError>
-    ensures { IfOk result (λ boxed. boxed.value ≡ tree) }
-{
-    let boxed = Box::new(alloc, tree)?;
-    Ok(boxed)
 }

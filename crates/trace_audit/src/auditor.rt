@@ -12,11 +12,9 @@ use crate::index::IndexedPolicy;
 use crate::packets::{Packets, TracePacket};
 use crate::printed::is_printed;
 use crate::told::{End, LineMeaning};
+use base::MAX_VERSIONS;
 use policy_rules::{Action, Amendment, ApplyError, Header, Policy, PolicyFile, apply};
 use std::alloc::{AllocError, Global};
-
-/// At most this many versions are submitted.
-const MAX_VERSIONS: u32 = 64;
 
 /// What a reader of a trace knows after the lines that it read: the policies of the versions, the
 /// mark, the packets, and the pending header of a packet's row.

@@ -26,7 +26,8 @@ pub struct Standing {
 impl Standing {
     /// The link from the switch where it is to this other one was found down.
     ///
-    /// # Errors Only out of memory; then nothing changes.
+    /// # Errors
+    /// Only out of memory; then nothing changes.
     pub fn mark_down(&mut self, alloc: Global, other: u32) -> Result<(), AllocError>
         requires different { other ≢ self.old.switch }
         requires here { self.old.switch < 64 }
@@ -57,7 +58,8 @@ impl Standing {
 
     /// The set of the links that it found down, shared.
     ///
-    /// # Errors Only out of memory, and only if it found none.
+    /// # Errors
+    /// Only out of memory.
     pub fn into_links(self, alloc: Global) -> Result<SharedLinks, AllocError>
         ensures { IfOk result (λ links. links ≡ (standing_kept self).down) }
     {

@@ -6,10 +6,8 @@ ghost use Rattle.version_update.specs.Settling.{Names, rises_to, RisesTo, Settle
 use crate::marks::Settled;
 use crate::record::SwitchRecord;
 use crate::switches;
+use base::MAX_SWITCHES;
 use std::marker::Model;
-
-/// The most switches.
-const MAX_SWITCHES: usize = 64;
 
 /// The marks, settled or not.
 #[derive(Drop)]
@@ -22,7 +20,7 @@ pub struct Ledger {
     pub retired: u32,
     /// How many switches there are; beyond them the records say nothing.
     number: usize,
-    switches: [SwitchRecord; MAX_SWITCHES],
+    switches: [SwitchRecord; MAX_SWITCHES as usize],
 }
 
 impl Model for Ledger {
@@ -150,10 +148,10 @@ impl Ledger {
     }
 }
 
-fn first_records() -> [SwitchRecord; MAX_SWITCHES]
+fn first_records() -> [SwitchRecord; MAX_SWITCHES as usize]
     ensures { result ≡ replicate 64 first_record }
 {
-    [SwitchRecord::first(); MAX_SWITCHES]
+    [SwitchRecord::first(); MAX_SWITCHES as usize]
 }
 
 // The new number, if it rose.

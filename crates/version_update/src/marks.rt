@@ -6,11 +6,9 @@ ghost use Rattle.version_update.specs.declared.marks.SubmitError.TheVariants.{To
 
 use crate::ledger::Ledger;
 use crate::record::Phase;
+use base::MAX_VERSIONS;
 use std::marker::Model;
 use thiserror::Error;
-
-/// The most versions.
-const MAX_VERSIONS: u32 = 64;
 
 /// The most versions that are not retired.
 const MAX_LIVE: u32 = 8;
@@ -143,7 +141,8 @@ impl Marks {
 
     /// One more version.
     ///
-    /// # Errors `TooManyLive` exactly if 8 versions are not retired; otherwise `TooManyVersions`
+    /// # Errors
+    /// `TooManyLive` exactly if 8 versions are not retired; otherwise `TooManyVersions`
     /// exactly if there are 64. Then nothing changed.
     pub fn submit(&mut self) -> Result<Settled, SubmitError>
         ensures settled { IfOk result (λ answer. Settles (with_version self.old) self.new answer) }

@@ -44,7 +44,8 @@ impl Assembler {
     /// Takes a frame, and returns the message once it has all of its frames; a frame may come
     /// again, and in any order.
     ///
-    /// # Errors `Malformed` if the frame isn't of 9 to 16,384 bytes, its place isn't below its
+    /// # Errors
+    /// `Malformed` if the frame isn't of 9 to 16,384 bytes, its place isn't below its
     /// count, an earlier frame has another count, another frame has its place, or all frames have
     /// come and are those of no message. An error changes nothing.
     pub fn feed(&mut self, frame: &[u8]) -> Result<Option<Message>, WireError>

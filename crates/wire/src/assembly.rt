@@ -69,7 +69,8 @@ fn complete(alloc: Global, frames: &[Frame]) -> Result<Message, WireError>
 
 /// The message of these frames, if there are as many as each says; their places rise.
 ///
-/// # Errors `Malformed` exactly if there are as many, and they are the frames of no message.
+/// # Errors
+/// `Malformed` exactly if there are as many, and they are the frames of no message.
 pub(crate) fn message_of(
     alloc: Global,
     count: u32,
@@ -81,8 +82,5 @@ pub(crate) fn message_of(
     if frames.len() != count as usize {
         return Ok(None);
     }
-    match complete(alloc, frames) {
-        Ok(message) => Ok(Some(message)),
-        Err(error) => Err(error),
-    }
+    complete(alloc, frames).map(Some)
 }

@@ -331,7 +331,8 @@ fn put_body(out: &mut Vec<u8>, body: &Body) -> Result<(), AllocError>
 
 /// Writes the encoding of a message at the end.
 ///
-/// # Errors Only out of memory; then a part of the encoding may be written.
+/// # Errors
+/// Only out of memory; what is written then isn't stated.
 #[tactic(auto, unfolding(crate::specs::Messages::message))]
 pub fn append(out: &mut Vec<u8>, message: &Message) -> Result<(), AllocError>
     requires { HasSpelling message.now }
@@ -358,7 +359,8 @@ pub fn encode(alloc: Global, message: &Message) -> Result<Vec<u8>, AllocError>
 
 /// The message that the bytes encode.
 ///
-/// # Errors `Malformed` exactly if they are the encoding of no message.
+/// # Errors
+/// `Malformed` exactly if they are the encoding of no message.
 #[tactic(auto, using(crate::proofs::MessageDecoding::found, crate::proofs::MessageDecoding::only, crate::proofs::MessageDecoding::malformed))]
 pub fn decode(alloc: Global, bytes: &[u8]) -> Result<Message, WireError>
     ensures found { IfOk result (λ message. IsSpelling message bytes.now) }

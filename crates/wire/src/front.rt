@@ -17,7 +17,8 @@ const INSTALL: u8 = 1;
 
 /// Writes at the end the front of an installation for this receiver and this boot.
 ///
-/// # Errors Only out of memory; then a part of it may be written.
+/// # Errors
+/// Only out of memory; then a part of it may be written.
 #[tactic(auto, unfolding(crate::specs::Messages::message_front))]
 pub fn append_front(out: &mut Vec<u8>, to: Place, boot: u32) -> Result<(), AllocError>
     requires { IsPlace to }
@@ -45,7 +46,8 @@ fn read(reader: &mut ByteReader) -> Result<(Place, u32), WireError>
 
 /// The receiver and the boot of an installation whose front these bytes are.
 ///
-/// # Errors `Malformed` exactly if they are the front of no installation.
+/// # Errors
+/// `Malformed` exactly if they are the front of no installation.
 #[tactic(auto, using(crate::proofs::InstallationFronts::front_found, crate::proofs::InstallationFronts::no_front))]
 pub fn decode_front(alloc: Global, bytes: &[u8]) -> Result<(Place, u32), WireError>
     ensures found { IfOk result (λ front. IsFront front.0 front.1 bytes.now) }

@@ -7,9 +7,12 @@ use Rattle.policy_rules.specs.declared.applying.Inapplicable.{Inapplicable}
 use Rattle.policy_rules.specs.declared.file.PolicyFile.{PolicyFile}
 use Rattle.policy_rules.specs.declared.file.PolicyFile.TheVariants.{Whole, Change}
 use Rattle.policy_rules.specs.declared.policy.Row.{Row}
+use Rattle.policy_rules.specs.Hosted as no_plan
 use Rattle.policy_rules.specs.Hosted.{NoPlan}
 use Rattle.update_machine.specs.Pieces.{apply_code, plan_code}
 use Rattle.controller.specs.Plan.{PlanValue}
+use Rattle.controller.specs.declared.plan_error.PlanError.{PlanError}
+use Rattle.controller.specs.declared.plan_error.PlanError.TheVariants as plan_error
 use Rattle.ternary.specs.Word.{WordValue}
 use Rattle.update_machine.specs.Setting.{made_by}
 use Rattle.update_machine.specs.Touched.{touched_of}
@@ -47,6 +50,13 @@ made_from file newest =
 -- what the file at a place makes of the newest policy
 abbrev pub made_at : List PolicyFile → List Row → ℕ → Making
 made_at files newest place = made_from (file_or_none files place) newest
+
+-- the code of why rows have no plan; none if memory ran out
+abbrev pub code_of : PlanError → Option ℕ
+code_of (plan_error.TooManyWords words) = Some (plan_code (no_plan.TooManyWords words))
+code_of plan_error.TooManyLeaves = Some (plan_code no_plan.TooManyLeaves)
+code_of (plan_error.NoRoom partition) = Some (plan_code (no_plan.NoRoom partition))
+code_of plan_error.NoMemory = None
 
 -- these rows have no plan, for the reason with this code
 pub record HasNoPlan (net : Net) (rows : List Row) (code : ℕ) : Type 0 where

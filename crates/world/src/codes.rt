@@ -1,13 +1,17 @@
 //! The codes by which a policy or a change of one is refused, in a journal's item as for a command.
+ghost use Rattle.std.specs.Prelude.{◌≡◌};
+ghost use Rattle.world.specs.Files.{code_of};
+
+use controller::PlanError;
 
 /// Its rows have too many words.
-pub const TOO_MANY_WORDS: u32 = 12;
+const TOO_MANY_WORDS: u32 = 12;
 
 /// Its tree has too many leaves.
-pub const TOO_MANY_LEAVES: u32 = 14;
+const TOO_MANY_LEAVES: u32 = 14;
 
 /// Too few switches have room for one of its partitions.
-pub const NO_ROOM: u32 = 15;
+const NO_ROOM: u32 = 15;
 
 /// It has a plan, but no more versions may be unretired.
 pub const TOO_MANY_LIVE: u32 = 16;
@@ -23,3 +27,15 @@ pub const TAKEN: u32 = 25;
 
 /// The change would leave too many rows.
 pub const TOO_MANY_ROWS: u32 = 26;
+
+/// The code of why a policy has no plan; `None` exactly where memory ran out.
+pub fn code_of(error: PlanError) -> Option<u32>
+    ensures { result ≡ code_of error }
+{
+    match error {
+        PlanError::TooManyWords { .. } => Some(TOO_MANY_WORDS),
+        PlanError::TooManyLeaves => Some(TOO_MANY_LEAVES),
+        PlanError::NoRoom { .. } => Some(NO_ROOM),
+        PlanError::NoMemory => None,
+    }
+}

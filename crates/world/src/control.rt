@@ -19,7 +19,8 @@ impl Parts {
     /// The policy of the file, or the one that it makes of the newest version's, becomes the newest
     /// version, unless there is none, or it has no plan, or the controller refuses it.
     ///
-    /// # Errors Only out of memory; then a part of the items is written.
+    /// # Errors
+    /// Only out of memory; then a part of the items is written.
     pub fn update(&mut self, alloc: Global, file: u32) -> Result<(), AllocError>
         requires { HasBegun (UpdateStep file) self.old }
         ensures { Plays (UpdateStep file) result self.old self.new }
@@ -48,7 +49,8 @@ impl Parts {
     /// The controller is told that the switch is down, and no longer waits for it. Nothing happens
     /// if the switch is up.
     ///
-    /// # Errors Only out of memory; then a part of the items is written.
+    /// # Errors
+    /// Only out of memory; then a part of the items is written.
     pub fn confirm(&mut self, alloc: Global, switch: u32) -> Result<(), AllocError>
         requires { HasBegun (ConfirmStep switch) self.old }
         ensures { Plays (ConfirmStep switch) result self.old self.new }
@@ -65,7 +67,8 @@ impl Parts {
     /// its neighbours; then the controller sends again what the switch didn't acknowledge. Nothing
     /// happens if there is nothing to send.
     ///
-    /// # Errors Only out of memory; then a part of the items is written.
+    /// # Errors
+    /// Only out of memory; then a part of the items is written.
     pub fn resend(&mut self, alloc: Global, switch: u32) -> Result<(), AllocError>
         requires { HasBegun (ResendStep switch) self.old }
         ensures { Plays (ResendStep switch) result self.old self.new }

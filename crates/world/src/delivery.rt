@@ -19,7 +19,8 @@ impl Parts {
     /// A message is delivered: its switch or the controller hears it, and sends its replies. A
     /// switch that opens changes which links are usable.
     ///
-    /// # Errors Only out of memory; then a part of the items is written.
+    /// # Errors
+    /// Only out of memory; then a part of the items is written.
     pub fn deliver(&mut self, alloc: Global, number: u32) -> Result<(), AllocError>
         requires { HasBegun (DeliverStep number) self.old }
         ensures { Plays (DeliverStep number) result self.old self.new }
@@ -55,7 +56,8 @@ impl Parts {
     /// Links came back or failed, or switches began or ceased to serve: the switches whose usable
     /// links changed tell their neighbours.
     ///
-    /// # Errors Only out of memory; then a part of the items is written.
+    /// # Errors
+    /// Only out of memory; then a part of the items is written.
     pub fn change_links(&mut self, alloc: Global) -> Result<(), AllocError>
         requires many { length self.old.switches.items ≤ 64 }
         requires next { All (λ switch. switch.seq < 2 ^ 32 - 1) self.old.switches.items }

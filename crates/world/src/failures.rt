@@ -13,7 +13,8 @@ impl Parts {
     /// The switch goes down, unless it is down already: it loses what it learnt, and the packets
     /// that are there are lost. The other ends of its usable links tell their neighbours.
     ///
-    /// # Errors Only out of memory; then a part of the items is written.
+    /// # Errors
+    /// Only out of memory; then a part of the items is written.
     pub fn crash(&mut self, alloc: Global, switch: u32) -> Result<(), AllocError>
         requires { HasBegun (CrashStep switch) self.old }
         ensures { Plays (CrashStep switch) result self.old self.new }
@@ -30,7 +31,8 @@ impl Parts {
     /// The switch comes up again, closed, in its next boot, and sends the controller its boot.
     /// Nothing happens if it is up.
     ///
-    /// # Errors Only out of memory; then a part of the items is written.
+    /// # Errors
+    /// Only out of memory; then a part of the items is written.
     pub fn restart(&mut self, alloc: Global, switch: u32) -> Result<(), AllocError>
         requires { HasBegun (RestartStep switch) self.old }
         ensures { Plays (RestartStep switch) result self.old self.new }
@@ -48,7 +50,8 @@ impl Parts {
     /// usable links changed tell their neighbours. Nothing happens if the link is in that state
     /// already.
     ///
-    /// # Errors Only out of memory; then a part of the items is written.
+    /// # Errors
+    /// Only out of memory; then a part of the items is written.
     pub fn set_link(
         &mut self,
         alloc: Global,

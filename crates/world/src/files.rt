@@ -7,8 +7,8 @@ ghost use Rattle.switch_table.specs.Carried.{all_touched};
 ghost use Rattle.world.specs.Files.{IsMade, KeepsWhole, first_policy, made_at, made_from};
 ghost use Rattle.world.specs.declared.files.Compiled.TheVariants.{Planned};
 
-use crate::codes::{ABSENT, NO_ROOM, TAKEN, TOO_MANY_LEAVES, TOO_MANY_ROWS, TOO_MANY_WORDS};
-use controller::{Plan, PlanError, compile, touched};
+use crate::codes::{ABSENT, TAKEN, TOO_MANY_ROWS, code_of};
+use controller::{Plan, compile, touched};
 use net_file::Net;
 use policy_rules::{Amendment, ApplyError, Inapplicable, Policy, PolicyFile, apply};
 use std::alloc::{AllocError, Global};
@@ -173,14 +173,13 @@ fn plan_or_code(
     requires { IsNet net.now }
     ensures { IfOk result (IsMade net.now (Ok policy.now, touched)) }
 {
-    let code = match compile(alloc, policy, net) {
-        Ok(plan) => return Ok(Compiled::Planned(plan, touched)),
-        Err(PlanError::TooManyWords { .. }) => TOO_MANY_WORDS,
-        Err(PlanError::TooManyLeaves) => TOO_MANY_LEAVES,
-        Err(PlanError::NoRoom { .. }) => NO_ROOM,
-        Err(PlanError::NoMemory) => return Err(AllocError),
-    };
-    Ok(Compiled::Refused { code })
+    match compile(alloc, policy, net) {
+        Ok(plan) => Ok(Compiled::Planned(plan, touched)),
+        Err(error) => match code_of(error) {
+            Some(code) => Ok(Compiled::Refused { code }),
+            None => Err(AllocError),
+        },
+    }
 }
 
 // The plan of the policy that the change makes of this one, or the code of its refusal.

@@ -31,7 +31,8 @@ pub struct Parts {
 impl Parts {
     /// Takes the step of this row, and writes what happens.
     ///
-    /// # Errors Only out of memory; then a part of the items is written.
+    /// # Errors
+    /// Only out of memory; then a part of the items is written.
     pub fn play(&mut self, alloc: Global, row: u32, step: &Step) -> Result<(), AllocError>
         requires { IsReadyForStep self.old.log.journal step.now self.old }
         ensures { Goes result self.old.log.journal row step.now self.old self.new }

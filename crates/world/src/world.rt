@@ -104,7 +104,8 @@ impl World {
     /// there is no room for a step, the step may be any, as a flush that calls this with a great
     /// number needs.
     ///
-    /// # Errors `Full` exactly if so many messages were sent that no step begins; then nothing
+    /// # Errors
+    /// `Full` exactly if so many messages were sent that no step begins; then nothing
     /// changes. Otherwise only out of memory: then the journal has a part of the step's items, and
     /// each further step returns the same at once, full or not, and changes nothing.
     pub fn step(&mut self, row: u32, step: &Step) -> Result<(), StepError>

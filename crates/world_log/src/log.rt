@@ -23,7 +23,8 @@ pub struct Log {
 impl Log {
     /// The message is sent, under the next number.
     ///
-    /// # Errors Only out of memory; then nothing is written.
+    /// # Errors
+    /// Only out of memory; then nothing is written.
     pub fn send(&mut self, alloc: Global, message: Message) -> Result<(), AllocError>
         requires spelling { HasShortSpelling message }
         requires few { length self.old.bag < 2 ^ 32 - 1 }

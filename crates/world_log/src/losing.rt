@@ -12,7 +12,8 @@ use std::alloc::AllocError;
 impl Log {
     /// The packet is lost. It leaves the table once that is written.
     ///
-    /// # Errors Only out of memory; then nothing changes.
+    /// # Errors
+    /// Only out of memory; then nothing changes.
     pub fn lose(&mut self, packet: u32) -> Result<(), AllocError>
         ensures written { OnOk result (self.new.journal
             ≡ self.old.journal ++ LostItem packet ∷ []) }
@@ -29,7 +30,8 @@ impl Log {
     /// loss is written. The search for the next continues after each of them, and reads no other
     /// packet.
     ///
-    /// # Errors Only out of memory. Then a part of the items is written, and only the packets of
+    /// # Errors
+    /// Only out of memory. Then a part of the items is written, and only the packets of
     /// these have left the table.
     pub fn lose_at(&mut self, switch: u32) -> Result<(), AllocError>
         ensures written { OnOk result (self.new.journal ≡ self.old.journal

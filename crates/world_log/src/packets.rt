@@ -21,7 +21,8 @@ use travelling::{Standing, StoredFlight};
 impl Log {
     /// A packet comes in at the switch, which is asked what becomes of it there.
     ///
-    /// # Errors Only out of memory; then a part of the items is written.
+    /// # Errors
+    /// Only out of memory; then a part of the items is written.
     pub fn enter(
         &mut self,
         alloc: Global,
@@ -78,7 +79,8 @@ impl Log {
     ///
     /// A move over a usable link allocates only the journal's memory.
     ///
-    /// # Errors Only out of memory; then a part of the items is written.
+    /// # Errors
+    /// Only out of memory; then a part of the items is written.
     pub fn hop(
         &mut self,
         alloc: Global,

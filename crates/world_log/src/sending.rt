@@ -15,7 +15,8 @@ use std::alloc::{AllocError, Global};
 impl Log {
     /// The messages are sent, each under the next number.
     ///
-    /// # Errors Only out of memory; then a part of the items is written.
+    /// # Errors
+    /// Only out of memory; then a part of the items is written.
     pub fn send_all(&mut self, alloc: Global, messages: Vec<Message>) -> Result<(), AllocError>
         requires { MaySend self.old.bag messages.items }
         ensures written { OnOk result (self.new.journal
@@ -31,7 +32,8 @@ impl Log {
 
     /// The controller does this, one after another.
     ///
-    /// # Errors Only out of memory; then a part of the items is written.
+    /// # Errors
+    /// Only out of memory; then a part of the items is written.
     pub fn note_acts(&mut self, alloc: Global, acts: Vec<Act>) -> Result<(), AllocError>
         requires { MayNote self.old.bag acts.items }
         ensures { HasNoted result acts.items self.old self.new }
@@ -41,7 +43,8 @@ impl Log {
 
     /// The messages are sent, and then the controller does this.
     ///
-    /// # Errors Only out of memory; then a part of the items is written.
+    /// # Errors
+    /// Only out of memory; then a part of the items is written.
     pub fn send_and_note(
         &mut self,
         alloc: Global,

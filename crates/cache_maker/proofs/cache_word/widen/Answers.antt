@@ -1,16 +1,17 @@
 use Rattle.std.proofs.Common.{◌≡◌, ◌≢◌, ◌∙◌, ◌^◌, ◌<◌, arith, ap, get_or, refl, subst, set, sym, take}
-use Rattle.std.specs.Prelude.{IfSome, IsTrue, bit_and, bit_or}
+use Rattle.std.specs.Prelude.{IfSome, IsTrue, bit_and, bit_or, bit_xor}
 use Rattle.std.proofs.lemmas.List.{length-take}
 use Rattle.std.proofs.lemmas.List.Quantifiers.{position-Some}
-use Rattle.std.proofs.lemmas.Nat.{one_shl, or_lt}
+use Rattle.std.proofs.lemmas.Nat.{one_shl, or_lt, xor_lt}
 use Rattle.five_tuple.specs.Header.{number_of}
 use Rattle.policy_rules.specs.Rules.{is_held}
 use Rattle.ternary.specs.Word.{WordValue, holds}
 use Rattle.ternary.specs.WordBits.{IsWord}
 use Rattle.ternary.specs.Meets.{exact_word, free_of, is_fixed_of}
+use Rattle.cache_maker.specs.Differing.{IsWithout}
 use Rattle.cache_maker.specs.Independent.{IsIndependent, widen, widening_of}
 use Rattle.cache_maker.proofs.IndependentWords.{exact_independent}
-use Rattle.cache_maker.proofs.FixedBits.{AreFixed, IsGiven, IsNewReason, closes_both, differs_somewhere, fixed_at_first, fixed_next, independent_at, is_new_reason, left_less, left_over, word_at_last, word_is_sound}
+use Rattle.cache_maker.proofs.FixedBits.{AreFixed, IsGiven, IsNewReason, closes_both, differs_somewhere, fixed_at_first, fixed_next, independent_at, is_new_reason, left_less, left_over, without_open, word_at_last, word_is_sound}
 use Rattle.cache_maker.proofs.WidenedWords.{widened_holds, widest}
 use Rattle.cache_maker.proofs.cache_word.widen.Goals as goal
 
@@ -70,6 +71,20 @@ new_reason c = is_new_reason c.loop-place.invariant.given c.loop-place.fixed c.i
     c.index-earlier-place.result c.differing-reason.result c.ilog2-bit.result c.in-Some.ensures.met
     c.differing-reason.ensures c.ilog2-bit.ensures.power_le c.ilog2-bit.ensures.next_power_gt
 
+closed_bound : (c : goal.After-without) → bit_or c.mask.result c.mask-2.result < 2 ^ 104
+closed_bound c =
+    or_lt 104 c.mask.result c.mask-2.result c.mask.ensures.bound c.mask-2.ensures.bound
+
+-- what stays of all fixed bits
+stays : (c : goal.After-without) → IsWithout c.loop-place.fixed c.loop-place.reasons
+    c.ilog2-bit.result (bit_or (bit_or c.mask.result c.mask-2.result) c.without.result)
+stays c = without_open c.loop-place.invariant.are (closed_bound c) c.without.ensures
+
+pub without-requires-clause-fixed : goal.without-requires-clause-fixed
+without-requires-clause-fixed c = xor_lt 104 c.loop-place.fixed
+    (bit_or c.mask.result c.mask-2.result) c.loop-place.invariant.are.small
+    (or_lt 104 c.mask.result c.mask-2.result c.mask.ensures.bound c.mask-2.ensures.bound)
+
 pub without-requires-clause-bit : goal.without-requires-clause-bit
 without-requires-clause-bit c = (new_reason c).within
 
@@ -85,10 +100,10 @@ loop-place-smaller c =
     let new = is_new_reason c.loop-place.invariant.given c.loop-place.fixed c.in-Some.place
     c.index-earlier-place.result c.differing-reason.result b c.in-Some.ensures.met
     c.differing-reason.ensures c.ilog2-bit.ensures.power_le c.ilog2-bit.ensures.next_power_gt in
-    subst (λ x. left_over (bit_or c.without.result x) < left_over c.loop-place.fixed)
+    let all = bit_or (bit_or c.mask.result c.mask-2.result) c.without.result in
+    subst (λ x. left_over (bit_or all x) < left_over c.loop-place.fixed)
     (sym (one_shl b 128 (omega (arith, new.within))))
-    (left_less _ _ _ _ _ c.differing-reason.result b c.without.result c.loop-place.invariant.are new
-    c.without.ensures)
+    (left_less _ _ _ _ _ c.differing-reason.result b all c.loop-place.invariant.are new (stays c))
 
 pub loop-place-preserved : goal.loop-place-preserved
 loop-place-preserved c =
@@ -96,14 +111,15 @@ loop-place-preserved c =
     let new = is_new_reason c.loop-place.invariant.given c.loop-place.fixed c.in-Some.place
     c.index-earlier-place.result c.differing-reason.result b c.in-Some.ensures.met
     c.differing-reason.ensures c.ilog2-bit.ensures.power_le c.ilog2-bit.ensures.next_power_gt in
+    let all = bit_or (bit_or c.mask.result c.mask-2.result) c.without.result in
     record {
       given = c.loop-place.invariant.given;
       are = subst (λ x. AreFixed c.number-number.result (bit_or c.mask.result c.mask-2.result)
-          (take c.args.index c.args.rules.now) (bit_or c.without.result x)
+          (take c.args.index c.args.rules.now) (bit_or all x)
           (set c.loop-place.reasons b c.differing-reason.result))
           (sym (one_shl b 128 (omega (arith, new.within))))
-          (fixed_next _ _ _ _ _ c.differing-reason.result b c.without.result
-          c.loop-place.invariant.are new c.without.ensures);
+          (fixed_next _ _ _ _ _ c.differing-reason.result b all c.loop-place.invariant.are new
+          (stays c));
       from = omega (arith, (c.in-Some.ensures.met).0);
     }
 

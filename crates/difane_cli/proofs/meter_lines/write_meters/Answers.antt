@@ -1,5 +1,6 @@
 use Rattle.std.proofs.Common.{◌≡◌, ◌∙◌, ap, arith, drop, get_or, suc, sym, take}
 use Rattle.std.proofs.lemmas.List.{take_all}
+use Rattle.std.proofs.lemmas.Result.{err_from_is_err_and}
 use Rattle.std.specs.List.{flat_map}
 use Rattle.base.proofs.ListsJoined.{flat_map-one, flat_map-there, middle_none}
 use Rattle.shelf.specs.Sink.{with_gained}
@@ -17,15 +18,15 @@ loop-meter-preserved g c =
     let line = λ (meter : g.row.M.Denot). meter_line (g.M.Meter.seen meter) in
     let before = (g.K.Sink.state c.args.out.now).bytes in
     let so_far = c.loop-meter.invariant in record {
-      written = c.in-Ok.ensures.after.whole
+      written = c.in_ok-write_meter.ensures.after.whole
           ∙ ap (λ bytes. with_gained bytes (line item)) so_far.written
           ∙ gained-gained before (flat_map line (take i meters)) _
           ∙ ap (with_gained before) (flat_map-one line meters i item c.loop-meter-test.true own);
-      untouched = λ none. c.in-Ok.ensures.no_line
+      untouched = λ none. c.in_ok-write_meter.ensures.no_line
           (middle_none (flat_map line (take i meters)) _ (flat_map line (drop (suc i) meters))
           (flat_map-there line meters i item c.loop-meter-test.true own
           ∙ lines_of g.M.Meter.seen meters ∙ none)) ∙ so_far.untouched none;
-      faults = c.in-Ok.ensures.after.calm (λ is. absurd (cc is)) ∙ so_far.faults;
+      faults = c.in_ok-write_meter.ensures.after.calm (λ is. absurd (cc is)) ∙ so_far.faults;
     }
 
 pub returns-clause-after : goal.returns-clause-after
@@ -44,27 +45,28 @@ returns-clause-after g c =
       no_memory = λ is. absurd (cc is);
     }
 
-pub returns-in-Err-clause-after : goal.returns-in-Err-clause-after
-returns-in-Err-clause-after g c =
+pub returns-in_err-write_meter-clause-after : goal.returns-in_err-write_meter-clause-after
+returns-in_err-write_meter-clause-after g c =
     let meters = c.args.meters.now in
     let i = c.loop-meter.meter-index in
     let item = c.meter-item.result in
     let line = λ (meter : g.row.M.Denot). meter_line (g.M.Meter.seen meter) in
-    piece_cut (g.K.Sink.state c.args.out.now) (g.K.Sink.state c.loop-meter.out)
+    let given = err_from_is_err_and c.from_residual.result c.from_residual.ensures.1 in
+    rw (given.1, given.2) (piece_cut (g.K.Sink.state c.args.out.now) (g.K.Sink.state c.loop-meter.out)
     (g.K.Sink.state c.write_meter.new.out) (flat_map line (take i meters)) _
     (flat_map line (drop (suc i) meters)) _ g.K.Sink.takes_memory _
-    c.loop-meter.invariant.written c.loop-meter.invariant.faults c.in-Err.ensures.after
+    c.loop-meter.invariant.written c.loop-meter.invariant.faults c.in_err-write_meter.ensures.after
     (flat_map-there line meters i item c.loop-meter-test.true (sym c.meter-item.is)
-    ∙ lines_of g.M.Meter.seen meters)
+    ∙ lines_of g.M.Meter.seen meters))
 
-pub returns-in-Err-clause-no_lines : goal.returns-in-Err-clause-no_lines
-returns-in-Err-clause-no_lines g c = λ none.
+pub returns-in_err-write_meter-clause-no_lines : goal.returns-in_err-write_meter-clause-no_lines
+returns-in_err-write_meter-clause-no_lines g c = λ none.
     let meters = c.args.meters.now in
     let i = c.loop-meter.meter-index in
     let item = c.meter-item.result in
     let own : get_or meters i item ≡ item = sym c.meter-item.is in
     let line = λ (meter : g.row.M.Denot). meter_line (g.M.Meter.seen meter) in
-    c.in-Err.ensures.no_line
+    c.in_err-write_meter.ensures.no_line
     (middle_none (flat_map line (take i meters)) _ (flat_map line (drop (suc i) meters))
     (flat_map-there line meters i item c.loop-meter-test.true own ∙ lines_of g.M.Meter.seen meters ∙ none))
     ∙ c.loop-meter.invariant.untouched none

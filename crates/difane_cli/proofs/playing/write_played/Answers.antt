@@ -1,4 +1,5 @@
 use Rattle.std.proofs.Common.{ℕ, ◌∙◌, ◌++◌, List, ap, map, subst}
+use Rattle.std.proofs.lemmas.Result.{err_from_is_err_and}
 use Rattle.journal_text.specs.Lines.{journal_text}
 use Rattle.shelf.specs.SinkWrites.{IsAfterWrite}
 use Rattle.difane_cli.specs.Texts.{last_lines}
@@ -19,8 +20,8 @@ returns-in-None-clause-after g c =
     ++ last_lines (map g.M.Meter.seen meters) c.args.answer) c.deref.ensures.value
     ∙ text_whole net journal c.args.played.now.full _ c.args.answer c.in-None.is)
     (both_written before middle now (journal_text net journal) lines g.K.Sink.takes_memory
-    c.write_last.result c.in-Ok.ensures.after.whole
-    (c.in-Ok.ensures.after.calm (λ is. absurd (cc is)))
+    c.write_last.result c.in_ok-write_text.ensures.after.whole
+    (c.in_ok-write_text.ensures.after.calm (λ is. absurd (cc is)))
     c.write_last.ensures.after)
 
 pub returns-in-None-clause-no_lines : goal.returns-in-None-clause-no_lines
@@ -32,17 +33,19 @@ returns-in-None-clause-no_lines g c = λ none.
     ++ last_lines (map g.M.Meter.seen meters) c.args.answer) c.deref.ensures.value
     ∙ text_whole net journal c.args.played.now.full _ c.args.answer c.in-None.is ∙ none in
     c.write_last.ensures.no_lines (none_right (journal_text net journal) lines both)
-    ∙ c.in-Ok.ensures.no_text (none_left (journal_text net journal) lines both)
+    ∙ c.in_ok-write_text.ensures.no_text (none_left (journal_text net journal) lines both)
 
-pub returns-in-Err-clause-after : goal.returns-in-Err-clause-after
-returns-in-Err-clause-after g c =
+pub returns-in_err-write_text-clause-after : goal.returns-in_err-write_text-clause-after
+returns-in_err-write_text-clause-after g c =
+    let given = err_from_is_err_and c.from_residual.result c.from_residual.ensures.1 in
+    rw (given.1, given.2) (
     cut_short c.args.net.now c.args.played.now.journal c.args.played.now.full
     (map g.M.Meter.seen c.args.played.now.meters.items) c.args.answer
     (g.K.Sink.state c.args.out.now) (g.K.Sink.state c.write_text.new.sink) g.K.Sink.takes_memory
-    c.in-Err.error c.in-Err.ensures.after
+    _ c.in_err-write_text.ensures.after)
 
-pub returns-in-Err-clause-no_lines : goal.returns-in-Err-clause-no_lines
-returns-in-Err-clause-no_lines g c = λ none.
-    c.in-Err.ensures.no_text
+pub returns-in_err-write_text-clause-no_lines : goal.returns-in_err-write_text-clause-no_lines
+returns-in_err-write_text-clause-no_lines g c = λ none.
+    c.in_err-write_text.ensures.no_text
     (none_of_text c.args.net.now c.args.played.now.journal c.args.played.now.full _
     c.args.answer none)

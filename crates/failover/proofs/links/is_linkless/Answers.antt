@@ -5,10 +5,10 @@ use Rattle.failover.proofs.KnownLinkRows.{no_row_past}
 use Rattle.failover.proofs.RowLoop.{and_all}
 use Rattle.failover.proofs.links.is_linkless.Goals as goal
 
-pub returns-then-one-ge-SWITCHES : goal.returns-then-one-ge-SWITCHES
-returns-then-one-ge-SWITCHES c = no_row_past _ _ _ c.told-neighbours c.if-one-ge-SWITCHES.true
+pub returns-then-one-ge-MAX_SWITCHES : goal.returns-then-one-ge-MAX_SWITCHES
+returns-then-one-ge-MAX_SWITCHES c = no_row_past _ _ _ c.told-neighbours c.if-one-ge-MAX_SWITCHES.true
 
-pub returns-else-one-ge-SWITCHES : goal.returns-else-one-ge-SWITCHES
-returns-else-one-ge-SWITCHES c = ap (λ row. row == 0) (c.links_within.ensures
+pub returns-else-one-ge-MAX_SWITCHES : goal.returns-else-one-ge-MAX_SWITCHES
+returns-else-one-ge-MAX_SWITCHES c = ap (λ row. row == 0) (c.links_within.ensures
     ∙ and_all (links_at c.args.neighbours.now c.args.down.now c.args.one)
     (mask_of_lt (is_link c.args.neighbours.now c.args.down.now c.args.one)))

@@ -6,8 +6,8 @@ use Rattle.journal_text.proofs.LineGains.{held_whole}
 use Rattle.journal_text.proofs.LineLengths.{line_within}
 use Rattle.journal_text.proofs.items.push_line.Goals as goal
 
-pub returns : goal.returns
-returns c =
+pub returns-clause-text : goal.returns-clause-text
+returns-clause-text c =
     let net = c.args.net.now in
     let line = c.args.line.now in
     let own : List ℕ = item_line net c.args.item.now in

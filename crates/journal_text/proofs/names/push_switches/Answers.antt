@@ -1,36 +1,38 @@
-use Rattle.std.proofs.Common.{ℕ, ◌≤◌, ◌++◌, Bool, List, [], length, ap, sym, ◌∙◌}
-use Rattle.std.specs.Prelude.{codes, filter, if◌then◌else◌}
-use Rattle.std.specs.List.{range_with_len}
-use Rattle.base.specs.Masks.{has}
+use Rattle.std.proofs.Common.{ℕ, ◌++◌, ◌^◌, List, ap, refl, sym, ◌∙◌, arith}
+use Rattle.std.specs.Prelude.{codes, filter}
+use Rattle.std.specs.Int.Bits.{bit_xor}
+use Rattle.base.specs.Masks.{has, switches}
+use Rattle.base.specs.ComputedMasks.{least_in}
+use Rattle.failover.proofs.RowLoop.{fewer_left}
 use Rattle.net_file.specs.Net.{name_of, names_text}
-use Rattle.lines.proofs.CallerLemmas.{pushed_append, pushed_nothing}
+use Rattle.lines.proofs.CallerLemmas.{pushed_append}
 use Rattle.lines.specs.Pushes.{line_with}
-use Rattle.journal_text.proofs.MaskLemmas.{names_all, names_more, names_none}
+use Rattle.journal_text.proofs.MaskLemmas.{least_first}
 use Rattle.journal_text.proofs.names.push_switches.Goals as goal
 
-pub loop-s-preserved : goal.loop-s-preserved
-loop-s-preserved c =
-    let named : Bool → List ℕ = λ b. if b then codes " " ++ name_of c.args.net.now c.loop-s.s else
-    [] in
-    let before : List ℕ = names_text c.args.net.now
-    (filter (has c.args.mask) (range_with_len 0 c.loop-s.s)) in
-    c.push_if.ensures
-    ∙ ap (λ b. line_with c.loop-s.line (named b)) c.has.ensures.has
-    ∙ ap (λ t. line_with t (named (has c.args.mask c.loop-s.s))) c.loop-s.invariant
-    ∙ pushed_append c.args.line.now before (named (has c.args.mask c.loop-s.s))
-    ∙ ap (line_with c.args.line.now) (sym (names_more c.args.net.now c.args.mask c.loop-s.s))
+pub loop-rest-preserved : goal.loop-rest-preserved
+unfolding least_in
+loop-rest-preserved c =
+    let net = c.args.net.now in
+    let rest = c.loop-rest.rest in
+    let line = c.loop-rest.line in
+    let is = c.loop-rest.invariant in
+    let next = bit_xor rest (2 ^ least_in rest) in
+    let own : List ℕ = codes " " ++ name_of net (least_in rest) in
+    let left : List ℕ = names_text net (filter (has next) switches) in
+    let fewer = fewer_left rest (2 ^ least_in rest) is.fits c.loop-rest-test.true refl in
+    record {
+      fits = omega (arith, ap (bit_xor rest) c.only_if-rest.ensures, fewer, is.fits);
+      text = ap (λ m. line_with c.push_behind_blank.new.line
+          (names_text net (filter (has (bit_xor rest m)) switches))) c.only_if-rest.ensures
+          ∙ ap (λ l. line_with l left) c.push_behind_blank.ensures
+          ∙ pushed_append line own left
+          ∙ ap (λ list. line_with line (names_text net list))
+          (sym (least_first rest is.fits c.loop-rest-test.true))
+          ∙ is.text;
+    }
 
-pub loop-s-init : goal.loop-s-init
-loop-s-init c =
-    let fits : length c.args.line.now ≤ 2048 =
-    rw (sym c.bytes-within.ensures.held) c.bytes-within.ensures.within in
-    sym (ap (line_with c.args.line.now)
-    (names_none c.args.net.now c.args.mask c.requires c.ranges.mask.fits)
-    ∙ pushed_nothing c.args.line.now fits)
-
-pub returns : goal.returns
-returns c =
-    c.loop-s.invariant
-    ∙ ap (line_with c.args.line.now) (names_all c.args.net.now c.args.mask c.loop-s.s
-    c.ranges.mask.fits
-    c.loop-s-test.false)
+pub loop-rest-smaller : goal.loop-rest-smaller
+unfolding least_in
+loop-rest-smaller c =
+    fewer_left _ _ c.loop-rest.invariant.fits c.loop-rest-test.true c.only_if-rest.ensures

@@ -1,11 +1,16 @@
-use Rattle.std.proofs.Common.{◌≡◌}
+use Rattle.std.proofs.Common.{◌≡◌, ◌<◌, ◌^◌}
 use Rattle.std.specs.Prelude.{filter}
-use Rattle.std.specs.List.{range_with_len}
-use Rattle.base.specs.Masks.{has}
+use Rattle.base.specs.Masks.{has, switches}
 use Rattle.net_file.specs.Net.{names_text}
 use Rattle.lines.specs.Pushes.{line_with}
 use Rattle.journal_text.proofs.names.push_switches.Given as goal
 
-abbrev pub invariant-loop-s : goal.invariant-loop-s
-invariant-loop-s l = l.line ≡ line_with l.initial.line
-    (names_text l.net (filter (has l.mask) (range_with_len 0 l.s)))
+abbrev pub invariant-loop-rest : goal.invariant-loop-rest
+invariant-loop-rest l = record {
+  fits : l.rest < 2 ^ 64;
+  text : line_with l.line (names_text l.net (filter (has l.rest) switches))
+      ≡ line_with l.initial.line (names_text l.net (filter (has l.mask) switches));
+}
+
+abbrev pub decreases-loop-rest : goal.decreases-loop-rest
+decreases-loop-rest l = l.rest

@@ -1,27 +1,39 @@
-use Rattle.std.proofs.Common.{◌≡◌, ◌∙◌, ◌∷◌, ◌++◌, [], take}
+use Rattle.std.proofs.Common.{◌≡◌, ◌∙◌, ◌∷◌, ◌++◌, [], refl, take}
+use Rattle.std.proofs.lemmas.Result.{err_from_is_err_and}
 use Rattle.journal_text.specs.Lines.{item_line, journal_text}
-use Rattle.journal_text.proofs.LineGains.{IsHeld, gathers_no_more, held_more, held_nothing, lines_more, some_items}
-use Rattle.journal_text.proofs.write.write_text.Goals.{then-bytes-gt-ROOMY_BYTES+in-Ok, else-bytes-gt-ROOMY_BYTES}
+use Rattle.journal_text.proofs.LineGains.{IsHeld, gathers_no_more, held_first, held_more, held_nothing, lines_more, some_items}
+use Rattle.journal_text.proofs.write.write_text.Goals.{then-bytes-gt-ROOMY_BYTES+in_ok-push, else-bytes-gt-ROOMY_BYTES}
 use Rattle.journal_text.proofs.write.write_text.Goals as goal
 
-pub returns-in-Err-clause-after : goal.returns-in-Err-clause-after
-returns-in-Err-clause-after g c =
-    let errs = c.in-Err.ensures in
-    gathers_no_more c.args.net.now c.loop-item.item-index g.K.Sink.takes_memory
+pub returns-in_err-push-clause-after : goal.returns-in_err-push-clause-after
+returns-in_err-push-clause-after g c =
+    let errs = c.in_err-push.ensures in
+    let given = err_from_is_err_and c.from_residual.result c.from_residual.ensures.1 in
+    rw (given.1, given.2) (gathers_no_more c.args.net.now c.loop-item.item-index g.K.Sink.takes_memory
     (g.K.Sink.state c.args.sink.now) (g.K.Sink.state c.loop-item.sink)
-    (g.K.Sink.state c.push.new.sink) c.in-Err.error c.items-items.ensures
+    (g.K.Sink.state c.push.new.sink) _ c.items-items.ensures
     c.loop-item.invariant.held c.loop-item.invariant.faults
     c.bytes-then-bytes-gt-ROOMY_BYTES.ensures.held errs.part errs.faults errs.calm errs.failed
-    errs.no_memory
+    errs.no_memory)
 
-pub returns-in-Err-push-clause-after : goal.returns-in-Err-push-clause-after
-returns-in-Err-push-clause-after g c =
-    let errs = c.in-Err-push.ensures in
-    gathers_no_more c.args.net.now c.loop-item.item-index g.K.Sink.takes_memory
+pub returns-in_err-push-2-clause-after : goal.returns-in_err-push-2-clause-after
+returns-in_err-push-2-clause-after g c =
+    let errs = c.in_err-push-2.ensures in
+    let given = err_from_is_err_and c.from_residual-in_err-push-2.result
+    c.from_residual-in_err-push-2.ensures.1 in
+    rw (given.1, given.2) (gathers_no_more c.args.net.now c.loop-item.item-index g.K.Sink.takes_memory
     (g.K.Sink.state c.args.sink.now) (g.K.Sink.state c.loop-item.sink)
-    (g.K.Sink.state c.push-2.new.sink) c.in-Err-push.error c.items-items.ensures
+    (g.K.Sink.state c.push-2.new.sink) _ c.items-items.ensures
     c.loop-item.invariant.held c.loop-item.invariant.faults c.bytes-2.ensures.held errs.part
-    errs.faults errs.calm errs.failed errs.no_memory
+    errs.faults errs.calm errs.failed errs.no_memory)
+
+pub loop-item-init : goal.loop-item-init
+loop-item-init g c = record {
+  held = held_first (g.K.Sink.state c.args.sink.now).bytes c.new-block.result c.new-line.result
+      c.new-block.ensures c.new-line.ensures;
+  told = c.new-told.ensures c.args.net.now;
+  faults = refl;
+}
 
 pub loop-item-preserved : goal.loop-item-preserved
 loop-item-preserved g c =
@@ -36,34 +48,35 @@ loop-item-preserved g c =
     let kept : IsHeld text first.bytes now.bytes c.if-bytes-gt-ROOMY_BYTES.block
     c.if-bytes-gt-ROOMY_BYTES.line × (now.faults ≡ first.faults) =
     elim c.if-bytes-gt-ROOMY_BYTES.branch [
-      | then-bytes-gt-ROOMY_BYTES+in-Ok w ↦ rw (w.sink-is, w.block-is, w.line-is, w.clear.ensures) (
+      | then-bytes-gt-ROOMY_BYTES+in_ok-push w ↦ rw (w.sink-is, w.block-is, w.line-is, w.clear.ensures) (
         held_nothing text first.bytes old.bytes (g.K.Sink.state w.push.new.sink).bytes
             c.loop-item.block c.loop-item.line w.push.new.self
             w.bytes-then-bytes-gt-ROOMY_BYTES.result.now is.held
             w.bytes-then-bytes-gt-ROOMY_BYTES.ensures.held
-            (w.in-Ok.ensures.gathered is.held.front first.bytes is.held.gathered),
-        w.in-Ok.ensures.calm (λ e. cc) ∙ is.faults,
+            (w.in_ok-push.ensures.gathered is.held.front first.bytes is.held.gathered),
+        w.in_ok-push.ensures.calm (λ e. cc) ∙ is.faults,
       )
       | else-bytes-gt-ROOMY_BYTES w ↦
           rw (w.sink-is, w.block-is, w.line-is) (is.held, is.faults)
     ] in
     record {
       held = rw (
-        c.push_line.ensures,
+        c.push_line.ensures.text,
         lines_more net items c.loop-item.item-index item c.loop-item-test.true c.item-item.is,
       ) (held_more text (item_line net item ++ 10 ∷ []) first.bytes now.bytes
           c.if-bytes-gt-ROOMY_BYTES.block c.if-bytes-gt-ROOMY_BYTES.line kept.0);
+      told = c.push_line.ensures.told;
       faults = kept.1;
     }
 
-pub returns-in-Err-clause-no_text : goal.returns-in-Err-clause-no_text
-returns-in-Err-clause-no_text g c = λ none.
+pub returns-in_err-push-clause-no_text : goal.returns-in_err-push-clause-no_text
+returns-in_err-push-clause-no_text g c = λ none.
     absurd (some_items c.args.net.now c.items-items.ensures c.is_empty.ensures c.if-is_empty.false none)
 
-pub returns-in-Ok-push-clause-no_text : goal.returns-in-Ok-push-clause-no_text
-returns-in-Ok-push-clause-no_text g c = λ none.
+pub returns-clause-no_text : goal.returns-clause-no_text
+returns-clause-no_text g c = λ none.
     absurd (some_items c.args.net.now c.items-items.ensures c.is_empty.ensures c.if-is_empty.false none)
 
-pub returns-in-Err-push-clause-no_text : goal.returns-in-Err-push-clause-no_text
-returns-in-Err-push-clause-no_text g c = λ none.
+pub returns-in_err-push-2-clause-no_text : goal.returns-in_err-push-2-clause-no_text
+returns-in_err-push-2-clause-no_text g c = λ none.
     absurd (some_items c.args.net.now c.items-items.ensures c.is_empty.ensures c.if-is_empty.false none)

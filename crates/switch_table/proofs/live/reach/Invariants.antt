@@ -1,4 +1,4 @@
-use Rattle.std.proofs.Common.{ℕ, ◌-◌, Bool, List, length}
+use Rattle.std.proofs.Common.{◌-◌, Bool, List, length}
 use Rattle.switch_table.specs.Live.{AreBlocks}
 use Rattle.switch_table.proofs.live.reach.Given as goal
 

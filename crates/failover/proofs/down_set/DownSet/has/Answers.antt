@@ -1,14 +1,14 @@
 use Rattle.std.proofs.Common.{◌∙◌, arith, sym}
 use Rattle.failover.proofs.LinkSets.{has_link-first, has_link-second, has_link-above}
 use Rattle.failover.proofs.down_set.DownSet.has.Goals as goal
-use Rattle.failover.proofs.down_set.DownSet.has.Goals.{then-one-ge-SWITCHES-via-then-one-ge-SWITCHES, then-one-ge-SWITCHES-via-else-one-ge-SWITCHES+then-two-ge-SWITCHES}
+use Rattle.failover.proofs.down_set.DownSet.has.Goals.{then-one-ge-MAX_SWITCHES-via-then-one-ge-MAX_SWITCHES, then-one-ge-MAX_SWITCHES-via-else-one-ge-MAX_SWITCHES+then-two-ge-MAX_SWITCHES}
 
-pub returns-then-one-ge-SWITCHES-clause-link : goal.returns-then-one-ge-SWITCHES-clause-link
-returns-then-one-ge-SWITCHES-clause-link c = rw (← c.self.view_is)
-    (elim c.then-one-ge-SWITCHES.branch [
-      | then-one-ge-SWITCHES-via-then-one-ge-SWITCHES w ↦
+pub returns-then-one-ge-MAX_SWITCHES-clause-link : goal.returns-then-one-ge-MAX_SWITCHES-clause-link
+returns-then-one-ge-MAX_SWITCHES-clause-link c = rw (← c.self.view_is)
+    (elim c.then-one-ge-MAX_SWITCHES.branch [
+      | then-one-ge-MAX_SWITCHES-via-then-one-ge-MAX_SWITCHES w ↦
           has_link-above c.self.inside.masks c.args.one c.args.two c.self.invariant (omega arith)
-      | then-one-ge-SWITCHES-via-else-one-ge-SWITCHES+then-two-ge-SWITCHES w ↦
+      | then-one-ge-MAX_SWITCHES-via-else-one-ge-MAX_SWITCHES+then-two-ge-MAX_SWITCHES w ↦
           has_link-above c.self.inside.masks c.args.one c.args.two c.self.invariant (omega arith)
     ])
 

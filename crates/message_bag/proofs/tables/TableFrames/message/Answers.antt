@@ -1,18 +1,49 @@
-use Rattle.std.proofs.Common.{◌∷◌, List, ℕ, drop, ap, sym, subst, ◌∙◌}
-use Rattle.std.specs.Prelude.{IfOk}
-use Rattle.wire.specs.Frames.{AreFrames}
+use Rattle.std.proofs.Common.{◌≡◌, ◌∷◌, List, ℕ, arith, drop, ap, sym, subst, ◌∙◌}
+use Rattle.ctrl_msg.specs.declared.message.Body.TheVariants.{Install}
+use Rattle.switch_table.specs.declared.tables.Tables.{Tables}
+use Rattle.message_bag.specs.Installing.{table_frames}
 use Rattle.message_bag.specs.KeptFrames.{AreOfMessage}
+use Rattle.message_bag.proofs.ComingOut.{rest_is}
+use Rattle.message_bag.proofs.InstallationFrames.{again_installed, has_front, long_installed}
+use Rattle.wire.specs.Frames.{AreFrames}
 use Rattle.message_bag.proofs.tables.TableFrames.message.Goals as goal
+use Rattle.message_bag.proofs.tables.TableFrames.message.Goals.{In_ok-tables}
 
-pub shared-requires-clause-fits : goal.shared-requires-clause-fits
-shared-requires-clause-fits c = c.self.invariant.behind.fits
+-- the other frames are those of the tables
+others : (c : In_ok-tables) → drop 1 c.args.self.now ≡ table_frames c.self.inside.said
+others c = ap (drop 1) (sym c.self.view_is) ∙ c.self.invariant.behind.are
 
-pub shared-requires-clause-are : goal.shared-requires-clause-are
-shared-requires-clause-are c =
-    subst (λ (others : List (List ℕ)). AreOfMessage (c.args.first.now ∷ others))
-    (ap (drop 1) (sym c.self.view_is) ∙ c.self.invariant.behind.are) c.requires
+are : (c : In_ok-tables) → AreOfMessage (c.args.first.now ∷ table_frames c.self.inside.said)
+are c = subst (λ (frames : List (List ℕ)). AreOfMessage (c.args.first.now ∷ frames))
+    (others c) c.requires
+
+pub slice_bounds-front_of-count : goal.slice_bounds-front_of-count
+slice_bounds-front_of-count c =
+    let start = (goal.at.slice_bounds-front_of-count c).In_ok-tables in
+    omega (arith, long_installed c.args.first.now c.self.inside.said (are start))
+
+pub slice_bounds-front_of-start : goal.slice_bounds-front_of-start
+slice_bounds-front_of-start c =
+    let start = (goal.at.slice_bounds-front_of-start c).In_ok-tables in
+    omega (arith, long_installed c.args.first.now c.self.inside.said (are start))
+
+pub front_of-requires : goal.front_of-requires
+front_of-requires c =
+    let start = (goal.at.front_of-requires c).In_ok-tables in
+    has_front c.args.first.now _ c.self.inside.said (are start) (rest_is c.args.first.now)
 
 pub returns : goal.returns
 returns c =
-    subst (λ (others : List (List ℕ)). IfOk c.shared.result (λ m. AreFrames m (c.args.first.now ∷ others)))
-    (sym (ap (drop 1) (sym c.self.view_is) ∙ c.self.invariant.behind.are)) c.shared.ensures
+    let start = (goal.at.returns c).In_ok-tables in
+    let first = c.args.first.now in
+    let t = c.self.inside.said in
+    subst (λ (frames : List (List ℕ)). AreFrames (record {
+      to = c.in_ok-to.to;
+      body = Install c.in_ok-to.boot c.in_ok-tables.tables;
+    }) (first ∷ frames)) (sym (others start))
+    (subst (λ (u : Tables). AreFrames (record {
+      to = c.in_ok-to.to;
+      body = Install c.in_ok-to.boot u;
+    }) (first ∷ table_frames t)) (sym c.in_ok-tables.ensures.cases)
+    (again_installed first _ t c.in_ok-to.to c.in_ok-to.boot (are start) c.self.invariant.behind.fits
+    (rest_is first) c.in_ok-to.ensures))

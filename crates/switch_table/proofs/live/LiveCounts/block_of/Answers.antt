@@ -1,4 +1,4 @@
-use Rattle.std.proofs.Common.{get_or, length, subst, sym, ◌<◌}
+use Rattle.std.proofs.Common.{subst, sym}
 use Rattle.switch_table.specs.Live.{AreBlocks}
 use Rattle.switch_table.proofs.LiveLemmas.{block_holds}
 use Rattle.switch_table.proofs.live.LiveCounts.block_of.Goals as goal

@@ -1,4 +1,4 @@
-use Rattle.std.proofs.Common.{◌≡◌, ◌∙◌, ◌+◌, ◌-◌, All, ap, arith, filter, filter_map, subst, sym}
+use Rattle.std.proofs.Common.{◌≡◌, ◌∙◌, ◌+◌, ◌-◌, ◌<◌, All, ap, arith, filter, filter_map, subst, sym}
 use Rattle.switch_table.specs.Carried.{carried_entry}
 use Rattle.switch_table.specs.Keys.{Pair, kept_entries, is_carried_key}
 use Rattle.switch_table.specs.Queue.{AreMasked, AreUpTo, HaveVersions, IsQueue}
@@ -12,8 +12,13 @@ kept : (c : After-keep_carried) → c.keep_carried.new.self
 kept c =
     let lower = c.self.inside.shift - 1 in
     c.keep_carried.ensures
-    ∙ (λ i. filter (λ (pair : Pair). is_carried_key (c.from.ensures i + lower) (c.words.ensures.words i)
+    ∙ (λ i. filter (λ (pair : Pair). is_carried_key (c.from.ensures i + lower) c.args.touched.now
     pair.0) c.self.inside.slots)
+
+-- the shift isn't 0
+some : (c : After-keep_carried) → 0 < c.self.inside.shift
+some c = omega
+    (arith, c.self.invariant.falls, c.if-self-version.true, c.ranges.version.fits)
 
 gone_over : (c : After-keep_carried)
     → kept_entries (c.self.inside.shift - 1) c.keep_carried.new.self
@@ -28,7 +33,7 @@ gone_over c =
     c.self.invariant.up_to in
     ap (kept_entries (shift - 1)) (kept c)
     ∙ carried_pairs shift version touched entries c.self.inside.slots
-    (omega (arith, c.if-self-gt0.true)) c.self.invariant.versions below below
+    (some c) c.self.invariant.versions below below
     ∙ (λ i. filter_map (carried_entry version touched (c.self.view_is i)) (c.self.view_is i))
 
 pub invariant_of-self : goal.invariant_of-self
@@ -41,8 +46,9 @@ invariant_of-self c =
     (sym c.wait_for.ensures)
     (queue_of c.self.inside.masks (shift - 1) version c.keep_carried.new.self _
     (omega (arith, c.self.invariant.fits))
+    (omega (arith, c.self.invariant.falls, c.if-self-version.true, c.ranges.version.fits))
     (subst (HaveVersions (shift - 1)) (sym (kept here))
-    (versions_over shift version touched c.self.inside.slots (omega (arith, c.if-self-gt0.true))
+    (versions_over shift version touched c.self.inside.slots (some here)
     (omega (arith, c.ranges.version.fits)))) (gone_over here)
     (up_to_carried version c.self.inside.newest version touched c.args.self.now
     (subst (AreUpTo c.self.inside.newest) c.self.view_is c.self.invariant.up_to)
@@ -67,6 +73,7 @@ invariant_of-self-2 c =
     (omega (arith, c.max-self-inside.ensures)) (omega (arith, c.max-self-inside.ensures)) in
     queue_of c.self.inside.masks shift newest c.in_ok-self-inside.field-0 after
     c.self.invariant.fits
+    (omega (arith, c.self.invariant.falls, c.max-self-inside.ensures))
     (subst (HaveVersions shift) (sym c.in_ok-self-inside.ensures)
     (versions_of_pairs shift newest after c.max-self-inside.type_inv up_to))
     (ap (kept_entries shift) c.in_ok-self-inside.ensures ∙ entries_of_pairs shift after) up_to

@@ -1,0 +1,21 @@
+-- Adverts that were written before, each with its text as far as a line holds it.
+use Rattle.std.specs.Prelude.{⊤, ◌≡◌, ◌≤◌, All, Option, Some, None, [], take}
+use Rattle.net_file.specs.declared.net.Net.{Net}
+use Rattle.journal_text.specs.Lines.{advert_text}
+use Rattle.journal_text.specs.declared.told.AdvertText.{AdvertText}
+use Rattle.journal_text.specs.declared.told.ToldAdverts.{ToldAdverts}
+use Rattle.lines.specs.Sizes.{IsNumber}
+use Rattle.lines.specs.Pushes.{line_with}
+
+pub record IsKeptText (net : Net) (kept : AdvertText) : Type 0 where
+  pub within : kept.len ≤ 256
+  pub boot : IsNumber kept.advert.boot
+  pub seq : IsNumber kept.advert.seq
+  pub text : take kept.len kept.bytes ≡ line_with [] (advert_text net kept.advert)
+
+abbrev pub IsKept : Net → Option AdvertText → Type 0
+IsKept net None = ⊤
+IsKept net (Some kept) = IsKeptText net kept
+
+abbrev pub AreTold : Net → ToldAdverts → Type 0
+AreTold net told = All (IsKept net) told.kept

@@ -1,0 +1,109 @@
+//! Adverts that were written before: the text of one that is told again is copied.
+ghost use Rattle.std.specs.Prelude.{◌≡◌, ◌≤◌, [], IfSome, length, take};
+ghost use Rattle.net_file.specs.declared.net.Net.{Net};
+ghost use Rattle.journal_text.specs.Lines.{advert_text};
+ghost use Rattle.journal_text.specs.Told.{AreTold, IsKeptText};
+ghost use Rattle.lines.specs.Sizes.{IsNumber};
+ghost use Rattle.lines.specs.Pushes.{line_with};
+
+use crate::messages::push_advert;
+use failover::Advert;
+use lines::Line;
+use net_file::Net;
+
+/// How many bytes the text of an advert that is kept has at most.
+const KEPT_BYTES: usize = 256;
+
+/// How many switches there are at most.
+const SWITCHES: u32 = 64;
+
+/// An advert and its text.
+#[derive(Clone, Copy)]
+pub(crate) struct AdvertText {
+    advert: Advert,
+    bytes: [u8; 256],
+    len: usize,
+}
+
+impl AdvertText {
+    fn new(advert: &Advert, text: &[u8]) -> AdvertText
+        requires { length text.now ≤ 256 }
+        ensures advert { result.advert ≡ advert.now }
+        ensures text { take result.len result.bytes ≡ text.now }
+        ensures within { result.len ≤ 256 }
+    {
+        let mut bytes = [0; 256];
+        bytes[..text.len()].copy_from_slice(text);
+        AdvertText {
+            advert: *advert,
+            bytes,
+            len: text.len(),
+        }
+    }
+}
+
+/// Of each switch the advert that was written last, with its text where that is short.
+#[derive(Drop)]
+pub(crate) struct ToldAdverts {
+    kept: [Option<AdvertText>; 64],
+    // The text that is written now.
+    own: Line,
+}
+
+impl ToldAdverts {
+    /// None was written.
+    pub fn new() -> ToldAdverts
+        ensures { (net : Net) → AreTold net result }
+    {
+        ToldAdverts {
+            kept: [None; 64],
+            own: Line::new(),
+        }
+    }
+
+    /// Adds the text of an advert.
+    pub fn push(&mut self, line: &mut Line, net: &Net, advert: &Advert)
+        requires { AreTold net.now self.old }
+        ensures text { line.new ≡ line_with line.old (advert_text net.now advert.now) }
+        ensures of_type { IsNumber advert.now.boot × IsNumber advert.now.seq }
+        ensures told { AreTold net.now self.new }
+    {
+        match self.find(advert) {
+            Some(kept) => line.push_bytes(&kept.bytes[..kept.len]),
+            None => {
+                self.write(net, advert);
+                line.push_bytes(self.own.bytes());
+            }
+        }
+    }
+
+    // The advert with its text, if it is the last one of its switch that was written.
+    fn find(&self, advert: &Advert) -> Option<&AdvertText>
+        ensures advert { IfSome result (λ kept. kept.now.advert ≡ advert.now) }
+        ensures text { IfSome result (λ kept.
+            (net : Net) → AreTold net self.now → IsKeptText net kept.now) }
+    {
+        let kept = self.kept[(advert.origin % SWITCHES) as usize].as_ref()?;
+        if kept.advert == *advert {
+            Some(kept)
+        } else {
+            None
+        }
+    }
+
+    // Writes the text of an advert, and keeps it if it is short.
+    fn write(&mut self, net: &Net, advert: &Advert)
+        requires { AreTold net.now self.old }
+        ensures own { self.new.own ≡ line_with [] (advert_text net.now advert.now) }
+        ensures of_type { IsNumber advert.now.boot × IsNumber advert.now.seq }
+        ensures told { AreTold net.now self.new }
+    {
+        self.own.clear();
+        push_advert(&mut self.own, net, advert);
+        let text = self.own.bytes();
+        if text.len() <= KEPT_BYTES {
+            let place = (advert.origin % SWITCHES) as usize;
+            self.kept[place] = Some(AdvertText::new(advert, text));
+        }
+    }
+}
