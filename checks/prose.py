@@ -24,14 +24,11 @@ DIALECT = {
     r"so does no other": "no other does",
     r"[Tt]ests alone": "only tests",
     r"alone[.,;:]": "only",
-    r"off the grammar": "the grammar doesn't have",
-    r"(?:None|false|no|exactly|Exactly)`? where": "if",
     r"less (?:those|all|the links)": "except, without",
     r"as (?:it|the packet|a packet) came in": "when it came in",
     r"in the midst": "in the middle, half-way",
     r"however the journal goes on": "however the journal continues",
-    r"[Bb]ehind (?:recovery|each step|steps|(?:the|this|its) journal|an update|a flush|a blank)":
-        "after",
+    r"[Bb]ehind (?:recovery|each step|steps|(?:the|this|its) journal|an update|a flush)": "after",
     r"holds? (?:of|behind) (?:a|an|all|any|each|every|its|it|the|these|those|this|which)": "true of",
     r"to be told|is to tell|was told so|what (?:it|they) tells?": "sent, printed, reported",
     r"(?:can|can't) be used": "usable, isn't usable",
@@ -43,6 +40,9 @@ DIALECT = {
     r"(?:it|they) stands? (?:behind|before|beside|there|still|for)": "is, follows, means",
 }
 PAGES_ONLY = {  # words that comments may have
+    r"off the grammar": "the grammar doesn't have",
+    r"(?:None|false|no|exactly|Exactly)`? where": "if",
+    r"behind a blank": "after a blank",
     r"by turns": "one after another",
     r"less those": "except those",
     r"counts? nowhere": "doesn't count",
