@@ -37,9 +37,9 @@ mod touching;
 mod version;
 
 pub use controller::Controller;
-pub use plan::Plan;
+pub use plan::{Plan, parts_of};
 pub use plan_error::PlanError;
-pub use planning::{compile, rooms_of};
+pub use planning::{compile, rooms_of, sizes_of};
 pub use sends::{Act, Sends};
 pub use tables::tables_of;
 pub use touching::touched;

@@ -139,8 +139,14 @@ fn host_each(
     parts.into_iter().zip(targets).collect(alloc)
 }
 
-// The partitions without their targets.
-fn parts_of(alloc: Global, hosted: &[(Partition, Targets)]) -> Result<Vec<Partition>, AllocError>
+/// The partitions without their targets: each shares its rules.
+///
+/// # Errors
+/// Only out of memory.
+pub fn parts_of(
+    alloc: Global,
+    hosted: &[(Partition, Targets)],
+) -> Result<Vec<Partition>, AllocError>
     ensures { IfOk result (λ parts. parts.items ≡ map part_of hosted.now) }
 {
     let mut parts = Vec::with_capacity(alloc, hosted.len())?;

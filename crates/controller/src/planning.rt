@@ -40,8 +40,11 @@ pub fn compile(alloc: Global, policy: &Policy, net: &Net) -> Result<Plan, PlanEr
     Ok(plan)
 }
 
-// How many rules each partition has.
-fn sizes_of(alloc: Global, parts: &[Partition]) -> Result<Vec<u32>, AllocError>
+/// How many rules each partition has.
+///
+/// # Errors
+/// Only out of memory.
+pub fn sizes_of(alloc: Global, parts: &[Partition]) -> Result<Vec<u32>, AllocError>
     requires { All (λ part. length part.rules < 2 ^ 32) parts.now }
     ensures { IfOk result (λ sizes. sizes.items ≡ sizes_of parts.now) }
 {

@@ -42,7 +42,7 @@ use Rattle.difane_cli.specs.Proposals.{IsAfterProposal, IsFoundFor, IsProposedFo
 
 -- ---- the plan
 
-sizes_are : (plan : List Hosted) → sizes_of (map part_of plan) ≡ sizes_in plan
+pub sizes_are : (plan : List Hosted) → sizes_of (map part_of plan) ≡ sizes_in plan
 sizes_are [] = refl
 sizes_are (hosted ∷ plan) = ap (λ sizes. length hosted.0.rules ∷ sizes) (sizes_are plan)
 

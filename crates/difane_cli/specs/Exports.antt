@@ -9,7 +9,7 @@ pub use Rattle.difane_cli.specs.Laws.{AnswerLaws}
 pub use Rattle.difane_cli.specs.Prints.{IsAfterText, IsPrintingOf, IsSwitchOf, PrintOutcome, printing_text}
 pub use Rattle.difane_cli.specs.Run.{IsAnswer, IsPlayOf, IsReplayOf, Outcome, PlayOutcome, is_made}
 pub use Rattle.difane_cli.specs.Proposed.{ProposalOutcome}
-pub use Rattle.difane_cli.specs.Proposals.{IsAfterProposal, IsFoundFor, sizes_in, targets_by_partition}
+pub use Rattle.difane_cli.specs.Proposals.{IsAfterProposal, IsFoundFor, targets_by_partition}
 pub use Rattle.difane_cli.specs.Tasks.{Audit, IsNetOf, Play, Print, Task}
 pub use Rattle.difane_cli.specs.Texts.{input_line, last_lines, numbered_line, play_text, quiet_line, replay_text, status_line}
 pub use Rattle.difane_cli.specs.Verdict.{IsWhetherQuiet, asks_quiet, is_asked}

@@ -1,5 +1,5 @@
 //! A placement of the partitions that a play asked, with a lower peak if one is found.
-ghost use Rattle.std.specs.Prelude.{◌≡◌, ◌<◌, ◌≤◌, ◌^◌, ◌⊎◌, All, IfOk, IsTrue, Ok, Option, Some, length, sum};
+ghost use Rattle.std.specs.Prelude.{◌≡◌, ◌<◌, ◌≤◌, ◌^◌, ◌⊎◌, IfOk, IsTrue, Ok, Option, Some, length, sum};
 ghost use Rattle.std.specs.Option.{ForSome};
 ghost use Rattle.net_file.specs.Net.{IsNet};
 ghost use Rattle.partition.specs.Plan.{IsPlan};
@@ -7,14 +7,14 @@ ghost use Rattle.rebalance.specs.Spread.{IsProposal};
 ghost use Rattle.shelf.specs.Shelf.{Files};
 ghost use Rattle.command_line.specs.Commands as grammar;
 ghost use Rattle.command_line.specs.Commands.{ReplayCommand};
-ghost use Rattle.difane_cli.specs.Exports.{AreReadyToPlay, EndsWork, IsAfterProposal, IsAnswer, IsFoundFor, IsPlayOf, Play, ProposalOutcome, inputs_stated, known_task, sizes_in, targets_by_partition};
+ghost use Rattle.difane_cli.specs.Exports.{AreReadyToPlay, EndsWork, IsAfterProposal, IsAnswer, IsFoundFor, IsPlayOf, Play, ProposalOutcome, inputs_stated, known_task, targets_by_partition};
 ghost use Rattle.difane_cli.specs.declared.status.Status.TheVariants as status;
 
 use crate::inputs::PlayInputs;
 use crate::playing::answer_laws;
 use crate::status::{Ended, Status, write_pieces};
 use base::Failure;
-use controller::{Plan, rooms_of};
+use controller::{Plan, parts_of, rooms_of, sizes_of};
 use itoa::Buffer;
 use journal::Journal;
 use meters::Meter;
@@ -145,7 +145,8 @@ fn find_proposal(
     spread_laws();
     let hosted = plan.hosted();
     let weights = weights(alloc, journal, hosted.len() as u32)?;
-    let sizes = sizes_of(alloc, hosted)?;
+    let parts = parts_of(alloc, hosted)?;
+    let sizes = sizes_of(alloc, &parts)?;
     let rooms = rooms_of(alloc, net)?;
     let old = targets_of(alloc, hosted)?;
     let old_peak = peak(&weights, &old);
@@ -184,18 +185,6 @@ fn proposed_targets(
         Err(Failure::Refused(_)) => Ok(proposed(weights, None, old)),
         Err(Failure::NoMemory) => Err(AllocError),
     }
-}
-
-// How many rules each partition has.
-fn sizes_of(alloc: Global, hosted: &[(Partition, Targets)]) -> Result<Vec<u32>, AllocError>
-    requires { All (λ host. length host.0.rules < 2 ^ 32) hosted.now }
-    ensures { IfOk result (λ sizes. sizes.items ≡ sizes_in hosted.now) }
-{
-    let mut sizes = Vec::with_capacity(alloc, hosted.len())?;
-    for (part, _) in hosted {
-        sizes.push(part.rules.items().len() as u32)?;
-    }
-    Ok(sizes)
 }
 
 // The targets of each partition.

@@ -1,10 +1,13 @@
 -- What the lists that were made say, and so what the proposal is.
-use Rattle.std.proofs.Common.{◌≡◌, ◌∙◌, List, length, ap, arith}
-use Rattle.partition.specs.Plan.{Hosted}
+use Rattle.std.proofs.Common.{◌≡◌, ◌<◌, ◌^◌, ◌∙◌, List, length, map, ap, arith}
+use Rattle.std.proofs.lemmas.List.Elements.{All-map}
+use Rattle.partition.specs.Plan.{Hosted, sizes_of}
+use Rattle.switch_table.specs.Tables.{part_of}
+use Rattle.policy_rules.specs.declared.rules.Partition.{Partition}
 use Rattle.rebalance.specs.Loads.{weights_of}
 use Rattle.rebalance.specs.Spread.{IsProposal}
-use Rattle.difane_cli.specs.Proposals.{sizes_in, targets_by_partition}
-use Rattle.difane_cli.proofs.ProposedPlans.{AreMeasured, as_many_asked, as_many_sizes, as_many_targets, few_rooms, found_for, proposal_number}
+use Rattle.difane_cli.specs.Proposals.{targets_by_partition}
+use Rattle.difane_cli.proofs.ProposedPlans.{AreMeasured, as_many_asked, as_many_sizes, as_many_targets, few_rooms, found_for, proposal_number, sizes_are}
 use Rattle.difane_cli.proofs.proposing.find_proposal.Goals as goal
 use Rattle.difane_cli.proofs.proposing.find_proposal.Goals.{In_ok-new, In_ok-old}
 
@@ -12,7 +15,9 @@ measured : (c : In_ok-old)
     → AreMeasured c.args.plan.hosted c.args.net.now c.args.journal.now c.in_ok-sizes.sizes.items
     c.in_ok-weights.weights.items c.in_ok-rooms.rooms.items c.in_ok-old.old.items
 measured c = record {
-  sizes_are = c.in_ok-sizes.ensures ∙ ap sizes_in c.hosted-hosted.ensures.hosted;
+  sizes_are = c.in_ok-sizes.ensures
+      ∙ ap sizes_of (c.deref.ensures.value ∙ c.in_ok-parts.ensures
+      ∙ ap (map part_of) c.hosted-hosted.ensures.hosted) ∙ sizes_are c.args.plan.hosted;
   weights_are = c.in_ok-weights.ensures.weights
       ∙ ap (λ (hosts : List Hosted). weights_of c.args.journal.now (length hosts))
       c.hosted-hosted.ensures.hosted;
@@ -25,7 +30,7 @@ chosen : (c : In_ok-new)
     → IsProposal c.in_ok-sizes.sizes.items c.in_ok-weights.weights.items
     c.in_ok-rooms.rooms.items c.args.net.now.backups c.in_ok-old.old.items c.in_ok-new.new.items
 chosen c =
-    rw (c.deref-3.ensures.value, c.deref-4.ensures.value, c.deref-5.ensures.value)
+    rw (c.deref-4.ensures.value, c.deref-5.ensures.value, c.deref-6.ensures.value)
     at c.in_ok-new.ensures
 
 new_number : (c : In_ok-new)
@@ -37,17 +42,20 @@ new_number c each =
     each (chosen c)
 
 pub sizes_of-requires : goal.sizes_of-requires
-sizes_of-requires c = rw c.hosted-hosted.ensures.hosted c.hosted-hosted.ensures.sound.few_rules
+sizes_of-requires c =
+    rw (c.deref.ensures.value, c.in_ok-parts.ensures, c.hosted-hosted.ensures.hosted)
+    (All-map (λ (part : Partition). length part.rules < 2 ^ 32) part_of c.args.plan.hosted
+    c.hosted-hosted.ensures.sound.few_rules)
 
 pub peak-old_peak-requires-clause-each : goal.peak-old_peak-requires-clause-each
 peak-old_peak-requires-clause-each c =
-    rw (c.deref.ensures.value, c.deref-2.ensures.value)
+    rw (c.deref-2.ensures.value, c.deref-3.ensures.value)
     (as_many_targets _ _ _ _ _ _ _
     (measured (goal.at.peak-old_peak-requires-clause-each c).In_ok-old))
 
 pub proposed_targets-requires-clause-each : goal.proposed_targets-requires-clause-each
 proposed_targets-requires-clause-each c =
-    rw (c.deref-3.ensures.value, c.deref-4.ensures.value)
+    rw (c.deref-4.ensures.value, c.deref-5.ensures.value)
     (as_many_sizes _ _ _ _ _ _ _
     (measured (goal.at.proposed_targets-requires-clause-each c).In_ok-old))
 
@@ -55,7 +63,7 @@ pub proposed_targets-requires-clause-partitions : goal.proposed_targets-requires
 proposed_targets-requires-clause-partitions c =
     omega (
       arith,
-      ap length c.deref-4.ensures.value,
+      ap length c.deref-5.ensures.value,
       as_many_asked _ _ _ _ _ _ _
           (measured (goal.at.proposed_targets-requires-clause-partitions c).In_ok-old),
       c.requires.plan.few,
@@ -63,17 +71,17 @@ proposed_targets-requires-clause-partitions c =
 
 pub proposed_targets-requires-clause-switches : goal.proposed_targets-requires-clause-switches
 proposed_targets-requires-clause-switches c =
-    rw (c.deref-5.ensures.value, c.in_ok-rooms.ensures) (few_rooms c.args.net.now c.requires.net)
+    rw (c.deref-6.ensures.value, c.in_ok-rooms.ensures) (few_rooms c.args.net.now c.requires.net)
 
 pub proposed_targets-requires-clause-old : goal.proposed_targets-requires-clause-old
 proposed_targets-requires-clause-old c =
-    rw c.deref-4.ensures.value
+    rw c.deref-5.ensures.value
     (as_many_targets _ _ _ _ _ _ _
     (measured (goal.at.proposed_targets-requires-clause-old c).In_ok-old))
 
 pub peak-new_peak-requires-clause-each : goal.peak-new_peak-requires-clause-each
 peak-new_peak-requires-clause-each c =
-    rw (c.deref-6.ensures.value, c.deref-7.ensures.value)
+    rw (c.deref-7.ensures.value, c.deref-8.ensures.value)
     (new_number (goal.at.peak-new_peak-requires-clause-each c).In_ok-new
     (as_many_targets _ _ _ _ _ _ _
     (measured (goal.at.peak-new_peak-requires-clause-each c).In_ok-old)))
@@ -98,6 +106,6 @@ returns c =
     c.requires.plan (measured (goal.at.returns c).In_ok-old)
     (chosen (goal.at.returns c).In_ok-new) c.in_ok-plan.ensures.policy
     c.in_ok-plan.ensures.hosted c.in_ok-plan.ensures.leads
-    (rw (c.deref.ensures.value, c.deref-2.ensures.value) at c.peak-old_peak.ensures)
-    (rw (c.deref-6.ensures.value, c.deref-7.ensures.value) at c.peak-new_peak.ensures)
-    (rw (c.deref-8.ensures.value, c.deref-9.ensures.value) at c.bound-bound.ensures)
+    (rw (c.deref-2.ensures.value, c.deref-3.ensures.value) at c.peak-old_peak.ensures)
+    (rw (c.deref-7.ensures.value, c.deref-8.ensures.value) at c.peak-new_peak.ensures)
+    (rw (c.deref-9.ensures.value, c.deref-10.ensures.value) at c.bound-bound.ensures)
