@@ -8,7 +8,7 @@ use Rattle.lines.specs.Sizes.{IsNumber}
 use Rattle.lines.specs.Pushes.{line_with}
 
 pub record IsKeptText (net : Net) (kept : AdvertText) : Type 0 where
-  pub within : kept.len ≤ 256
+  pub within : kept.len ≤ 512
   pub boot : IsNumber kept.advert.boot
   pub seq : IsNumber kept.advert.seq
   pub text : take kept.len kept.bytes ≡ line_with [] (advert_text net kept.advert)

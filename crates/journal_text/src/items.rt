@@ -191,7 +191,8 @@ fn push_sent(
     ensures told { AreTold net.now told.new }
 {
     let message = message.get();
-    push_numbered(line, "  sent", number);
+    line.push("  sent ");
+    line.push_number(u64::from(number));
     line.push(" ");
     push_receiver(line, net, message.to);
     line.push(" ");

@@ -12,7 +12,7 @@ use lines::Line;
 use net_file::Net;
 
 /// How many bytes the text of an advert that is kept has at most.
-const KEPT_BYTES: usize = 256;
+const KEPT_BYTES: usize = 512;
 
 /// How many switches there are at most.
 const SWITCHES: u32 = 64;
@@ -21,18 +21,18 @@ const SWITCHES: u32 = 64;
 #[derive(Clone, Copy)]
 pub(crate) struct AdvertText {
     advert: Advert,
-    bytes: [u8; 256],
+    bytes: [u8; 512],
     len: usize,
 }
 
 impl AdvertText {
     fn new(advert: &Advert, text: &[u8]) -> AdvertText
-        requires { length text.now ≤ 256 }
+        requires { length text.now ≤ 512 }
         ensures advert { result.advert ≡ advert.now }
         ensures text { take result.len result.bytes ≡ text.now }
-        ensures within { result.len ≤ 256 }
+        ensures within { result.len ≤ 512 }
     {
-        let mut bytes = [0; 256];
+        let mut bytes = [0; 512];
         bytes[..text.len()].copy_from_slice(text);
         AdvertText {
             advert: *advert,
