@@ -36,6 +36,7 @@ pub fn text(alloc: Global, journal: &Journal, net: &Net) -> Result<Vec<u8>, Allo
 }
 
 /// Adds the line of the item, with its line feed. Behind 800 bytes there is room for each.
+#[inline(always)]
 pub(crate) fn push_line(line: &mut Line, net: &Net, told: &mut ToldAdverts, item: &Item)
     requires net { IsNet net.now }
     requires room { length line.old ≤ 800 }

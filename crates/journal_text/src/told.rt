@@ -92,6 +92,7 @@ impl ToldAdverts {
     }
 
     // Writes the text of an advert, and keeps it if it is short.
+    #[inline(never)]
     fn write(&mut self, net: &Net, advert: &Advert)
         requires { AreTold net.now self.old }
         ensures own { self.new.own ≡ line_with [] (advert_text net.now advert.now) }
