@@ -60,6 +60,7 @@ impl Firsts {
     ///
     /// # Errors
     /// Only out of memory; then nothing changes.
+    #[inline(always)]
     pub fn push(&mut self, frame: &[u8], tables: Option<usize>) -> Result<(), AllocError>
         ensures pushed { OnOk result (self.new ≡ self.old ++ (frame.now, tables) ∷ []) }
         ensures unchanged { OnErr result (self.new ≡ self.old) }
