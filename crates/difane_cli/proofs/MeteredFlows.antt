@@ -50,7 +50,7 @@ told_by args files journal given before now is played =
           (subst (λ (r : Report).
           Wrote (play_text r net journal None (gone_by net journal meters) given played.answer)
           before now) told played.written);
-      counted = subst (λ (all : List Seen). AreCounted net journal meters all) played.kept
+      counted = subst (AreCounted journal) played.kept
           (played.counted most_headers (are_new (range_with_len 0 64)));
     }
 

@@ -1,12 +1,10 @@
 -- What comes of a play, by what became of its text.
 use Rattle.std.specs.Prelude.{⊤, is_some}
 use Rattle.std.proofs.Common.{ℕ, ◌≡◌, ◌⊎◌, ◌++◌, All, IsTrue, arith, inl, inr, length, refl, subst, sym, Bool, Option, Some, None, Result, Ok, Err, List}
-use Rattle.std.specs.List.{flat_map}
 use Rattle.std.proofs.lemmas.List.{take_all}
 use Rattle.std.specs.Option.{ForSome}
 use Rattle.journal.specs.declared.item.Item.{Item}
-use Rattle.flow_export.specs.Counted.{FlowLaws, IsCounted}
-use Rattle.meters.specs.Meters.{flow_records_of}
+use Rattle.flow_export.specs.Counted.{FlowLaws}
 use Rattle.meters.specs.Seen.{Seen}
 use Rattle.net_file.specs.Owners.{port_mask}
 use Rattle.net_file.specs.declared.net.Net.{Net}
@@ -18,7 +16,7 @@ use Rattle.shelf.specs.Shelf.{Files}
 use Rattle.shelf.specs.Sink.{SinkState}
 use Rattle.shelf.specs.declared.output.SinkError.{SinkError}
 use Rattle.shelf.specs.declared.output.SinkError.TheVariants as sink
-use Rattle.difane_cli.specs.FlowLines.{CountFlows, gone_by}
+use Rattle.difane_cli.specs.FlowLines.{AreCounted, CountFlows, gone_by}
 use Rattle.difane_cli.specs.Texts.{play_text}
 use Rattle.difane_cli.specs.Verdict.{IsWhetherQuiet, IsVerdict, asks_quiet, is_asked}
 use Rattle.difane_cli.specs.Inputs.{known_task}
@@ -87,18 +85,10 @@ unjudged command files takes_memory inputs journal full taken given now answer k
 
 -- flow meters that held nothing count so
 counted_so : FlowLaws → (net : Net) (journal : List Item) (taken given : List Seen)
-    → given ≡ kept_by net journal taken → CountFlows net journal taken given
+    → given ≡ kept_by net journal taken → CountFlows journal taken given
 counted_so laws net journal taken given kept = λ most new.
-    let ports = port_mask net.switches in
-    let left = left_in journal in
-    record {
-      stayed = subst (λ (meters : List Seen). All (IsCounted left) (flat_map flow_records_of meters))
-          (sym kept) (laws.stayed most ports left taken new);
-      all = λ none.
-          subst (λ (meters : List Seen).
-          All (IsCounted left) (gone_by net journal taken ++ flat_map flow_records_of meters))
-          (sym kept) (laws.counted most ports left taken new none);
-    }
+    subst (AreCounted journal) (sym kept)
+    (laws.stayed most (port_mask net.switches) (left_in journal) taken new)
 
 -- a journal that was played, and what is to be told of it that was written, or not
 pub told : AnswerLaws → (command : Command) (files : Option Files) (inputs : Inputs)

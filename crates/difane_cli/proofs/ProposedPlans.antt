@@ -4,6 +4,7 @@ use Rattle.std.specs.List.{concat, range_with_len}
 use Rattle.std.specs.Prelude.{⊤, codes, decimal}
 use Rattle.std.proofs.lemmas.List.{get_or_default, length-append, length-map}
 use Rattle.std.proofs.lemmas.List.FromFn.{length-range_with_len}
+use Rattle.std.proofs.lemmas.Slice.Zip.{firsts-zip}
 use Rattle.controller.specs.Leads.{LeadEveryHeader}
 use Rattle.controller.specs.Plan.{PlanValue}
 use Rattle.journal.specs.declared.item.Item.{Item}
@@ -14,6 +15,7 @@ use Rattle.placement.specs.Placement.{IsPlacement}
 use Rattle.policy_rules.specs.Partitions.{LastCovers}
 use Rattle.policy_rules.specs.declared.policy.Row.{Row}
 use Rattle.policy_rules.specs.declared.rules.Partition.{Partition}
+use Rattle.policy_rules.proofs.CallerLemmas.{first_match-scan}
 use Rattle.rebalance.specs.Loads.{Fits, bound, peak, weight}
 use Rattle.rebalance.specs.Spread.{AreWeighed, IsProposal, SpreadLaws}
 use Rattle.replay.specs.InForce.{IsPlanInForce}
@@ -133,12 +135,21 @@ proposed_for rows plan net journal placement laws sound is proposal leads =
     (subst (λ s. IsPlacement s rooms net.backups (targets_by_partition plan)) (sizes_are plan) is.placement)
     in
     let fits = all.proposed (targets_by_partition plan) placement old proposal in
+    let count : length placement ≡ length (map part_of plan) = omega (
+      arith,
+      fits.number,
+      length-map plan (λ (hosted : Hosted). length hosted.0.rules),
+      length-map plan part_of,
+    ) in
     record {
       proposal = proposal;
       fits = fits;
       lower = all.never_higher (targets_by_partition plan) placement proposal;
       bounded = all.bounded placement fits;
+      parts = is;
+      same_parts = firsts-zip (map part_of plan) placement count;
       leads = leads (some_targets sizes rooms net.backups placement fits);
+      first_match = first_match-scan rows;
     }
 
 pub few_rooms : (net : Net) → IsNet net → length (rooms_of net) ≤ 64

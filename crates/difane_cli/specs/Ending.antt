@@ -146,6 +146,12 @@ abbrev pub ReadsFor : {V : Type 0} → Command → (old new : ShelfState) → Re
 ReadsFor command old new result =
     ReadsFiles (names_in (Some command)) (most_reads old.files (Some command)) old new result
 
+-- no file is read: arguments off the grammar name none that is, and a load case has none
+abbrev pub ReadsNothing : Option Command → Type 0
+ReadsNothing None = ⊤
+ReadsNothing (Some (asked.Load n)) = ⊤
+ReadsNothing _ = ⊥
+
 -- ---- what is wanted, and what is given back
 
 -- behind its play a command may want memory; to write the lines of a journal it wants none

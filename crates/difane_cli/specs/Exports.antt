@@ -2,7 +2,7 @@
 -- to its status, passed on from the files that define them.
 pub use Rattle.difane_cli.specs.Audits.{AuditOutcome, IsAuditingOf}
 pub use Rattle.difane_cli.specs.Commands.{AreReadyToPlay, IsReadyTask, IsTaskOf, auditing_stated, inputs_stated, printing_stated, task_stated}
-pub use Rattle.difane_cli.specs.Ending.{Accounts, EndsRead, EndsWork, GivesBack, MayFollowFault, NamesOneOf, NeedsReadFault, RanOut, ReadsFiles, ReadsFor, RefusesInput, StopNamesOneOf, StopsCheck, names_in, status_after, status_number, status_of}
+pub use Rattle.difane_cli.specs.Ending.{Accounts, EndsRead, EndsWork, GivesBack, MayFollowFault, NamesOneOf, NeedsReadFault, RanOut, ReadsFiles, ReadsFor, ReadsNothing, RefusesInput, StopNamesOneOf, StopsCheck, names_in, status_after, status_number, status_of}
 pub use Rattle.difane_cli.specs.FlowLines.{flow_text, flows_text}
 pub use Rattle.difane_cli.specs.Inputs.{IsAccepted, auditing_of, case_inputs, content_of, content_within, file_reads, inputs_of, known_task, load_inputs, load_name, most_reads, net_reads, net_stated, printing_of, read_file, read_files, read_net, read_policy, read_schedule, schedule_in, switch_on}
 pub use Rattle.difane_cli.specs.Laws.{AnswerLaws}

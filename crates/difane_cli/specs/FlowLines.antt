@@ -2,7 +2,7 @@
 -- what these count.
 use Rattle.std.specs.Prelude.{ℕ, All, Option, Some, None, List, [], ◌++◌}
 use Rattle.std.specs.List.{flat_map}
-use Rattle.flow_export.specs.Counted.{IsCounted, IsNewMeter, NoneLeaves}
+use Rattle.flow_export.specs.Counted.{IsCounted, IsNewMeter}
 use Rattle.flow_export.specs.Lines.{flow_lines}
 use Rattle.journal.specs.declared.item.Item.{Item}
 use Rattle.meters.specs.Gone.{gone_records}
@@ -28,14 +28,12 @@ flows_text (Some row) gone meters = []
 
 -- ---- counts
 
--- each record of a meter that stayed counts all packets that left by its port with its header; and
--- where none of the meters at ports of the network left, each record that there is does
-pub record AreCounted (net : Net) (journal : List Item) (taken given : List Seen) : Type 0 where
-  pub stayed : All (IsCounted (left_in journal)) (flat_map flow_records_of given)
-  pub all : NoneLeaves (port_mask net.switches) (left_in journal) taken
-      → All (IsCounted (left_in journal)) (gone_by net journal taken ++ flat_map flow_records_of given)
+-- each record of a meter that stayed counts all packets that left by its port with its header; where
+-- no meter left there is no other record (`flow_laws`)
+abbrev pub AreCounted : List Item → (given : List Seen) → Type 0
+AreCounted journal given = All (IsCounted (left_in journal)) (flat_map flow_records_of given)
 
 -- so it is where the meters that were taken are flow meters that held nothing
-abbrev pub CountFlows : Net → List Item → (taken given : List Seen) → Type 0
-CountFlows net journal taken given =
-    (most : ℕ) → All (IsNewMeter most) taken → AreCounted net journal taken given
+abbrev pub CountFlows : List Item → (taken given : List Seen) → Type 0
+CountFlows journal taken given =
+    (most : ℕ) → All (IsNewMeter most) taken → AreCounted journal given

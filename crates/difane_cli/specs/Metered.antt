@@ -24,11 +24,11 @@ MeteredOutcome texts files takes_memory status journal before now =
 
 -- the output gained the lines of the flow records of the new meters that left while the packets of
 -- this journal left the network, and then of those that stayed. Each record of one that stayed
--- counts all packets that left by its port with its header, and where none left, each record does
+-- counts all packets that left by its port with its header
 pub record WritesCounts (net : Net) (journal : List Item) (before now : SinkState) : Type 0 where
   pub written : Wrote (flow_text (gone_by net journal (new_meters true))
       (kept_by net journal (new_meters true))) before now
-  pub counted : AreCounted net journal (new_meters true) (kept_by net journal (new_meters true))
+  pub counted : AreCounted journal (kept_by net journal (new_meters true))
 
 -- the arguments are a command, and the journal is that of its play; and so are the flows
 pub record TellsFlows (texts : List (List ℕ)) (files : Option Files) (journal : List Item)

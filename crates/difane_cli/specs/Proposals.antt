@@ -4,7 +4,10 @@ use Rattle.std.specs.List.{concat, zip}
 use Rattle.controller.specs.Leads.{LeadEveryHeader}
 use Rattle.journal.specs.declared.item.Item.{Item}
 use Rattle.net_file.specs.declared.net.Net.{Net}
-use Rattle.partition.specs.Plan.{Hosted, rooms_of}
+use Rattle.partition.specs.Plan.{Hosted, IsPlan, rooms_of}
+use Rattle.five_tuple.specs.declared.header.Header.{Header}
+use Rattle.policy_rules.specs.Policy.{IsFirstMatch}
+use Rattle.policy_rules.specs.Scan.{scan}
 use Rattle.policy_rules.specs.declared.policy.Row.{Row}
 use Rattle.rebalance.specs.Loads.{Fits, bound, peak, weights_of}
 use Rattle.rebalance.specs.Spread.{IsProposal}
@@ -40,8 +43,9 @@ with_targets plan placement = zip (map part_of plan) placement
 -- ---- the proposal
 
 -- the placement is proposed in place of the plan's own, by how much its partitions were asked; it
--- fits, its peak is at least the bound and not higher than the plan's, and with it the tables still
--- lead each header to the policy's first match
+-- fits, and its peak is at least the bound and not higher than the plan's. The plan's partitions are
+-- the leaves of the tree that is defined for the policy's rules, and each stays; and with the new
+-- targets too the tables lead each header to what a scan of the policy finds, the first match
 pub record IsProposedFor (rows : List Row) (plan : List Hosted) (net : Net) (journal : List Item)
     (placement : List (List ℕ)) : Type 0 where
   pub proposal : IsProposal (sizes_in plan) (weights_in journal plan) (rooms_of net) net.backups
@@ -51,7 +55,10 @@ pub record IsProposedFor (rows : List Row) (plan : List Hosted) (net : Net) (jou
       ≤ peak (weights_in journal plan) (targets_by_partition plan)
   pub bounded : bound (weights_in journal plan) (rooms_of net)
       ≤ peak (weights_in journal plan) placement
+  pub parts : IsPlan rows net plan
+  pub same_parts : map part_of (with_targets plan placement) ≡ map part_of plan
   pub leads : LeadEveryHeader rows (with_targets plan placement)
+  pub first_match : (header : Header) → IsFirstMatch rows header (scan rows header)
 
 -- the peaks of the old and the new placement, the bound, and the plan with the new one
 abbrev pub placement_text : List Row → List Hosted → Net → List Item → List (List ℕ) → List ℕ

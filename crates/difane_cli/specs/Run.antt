@@ -105,7 +105,7 @@ pub record Played (command : Command) (files : Option Files) (full : Option ℕ)
   pub inputs : Inputs
   pub played : IsAnswer command files inputs journal full
   pub kept : given ≡ kept_by inputs.setting.net journal taken
-  pub counted : CountFlows inputs.setting.net journal taken given
+  pub counted : CountFlows journal taken given
   pub answer : Option Bool
   pub verdict : IsVerdict (asks_quiet inputs.report) inputs.setting journal full answer
   pub written : Wrote (play_text inputs.report inputs.setting.net journal full

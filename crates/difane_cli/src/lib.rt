@@ -3,20 +3,20 @@
 //! proposed. It plans a policy for a network, and writes the plan or a switch's tables. It checks a
 //! printed trace; or it draws a load case, plays it and writes its summary.
 //!
-//! `run` carries the headline. Where a replay answers `Ok` there are inputs that its journal
-//! answers, is a run of the abstract machine for, and whose items have their causes; where files
-//! are known, these are the inputs that the files state. The output gained the journal's text, then
-//! a line for each meter that still is there and has a note, then with `--quiet` the line that says
-//! whether the network is quiet, and nothing else; the meters are those that stay in the journal.
-//! Where it answers `Full`, the same holds up to the row that it names, without the lines behind
-//! the journal's. Of `flows` all this holds too, but that the output gained the lines of the flow
-//! records of the meters that left, and then of those that stayed, and nothing where it answers
-//! `Full`. Of `rebalance` it holds with no meters, which are given back, and the output gained the
-//! placement that is proposed by how much each partition was asked. Of a load case it holds of the
-//! case of its number, and the output gained the counts of the journal in their place. A plan and
-//! tables are the defined ones, and so are their lines. Of an audit the verdict is the defined one,
-//! and it says yes of each text that a replay prints. Each
-//! status but running out of memory has its cause in a clause.
+//! `run` carries the headline. Where a replay ends with `Ok`, there are inputs whose answer its
+//! journal is; it is a run of the abstract machine for them, and its items have their causes. Where
+//! files are known, these are the inputs that the files state. The output gained the journal's text,
+//! then a line for each meter that stayed and has a note, then with `--quiet` the line that says
+//! whether the network is quiet, and nothing else; the meters that stayed are given back. Where it
+//! ends with `Full`, the same holds up to the row that it names, without the lines behind the
+//! journal's. Of `flows` all this holds too, but the output gained the flow records of the meters
+//! that left, and then of those that stayed, and nothing where it ends with `Full`. `rebalance`
+//! plays with no meters, and gives back those that it got; the output gained the placement that is
+//! proposed by how much each partition was asked. Of `load` it holds for the case of its number, and
+//! the output gained the eleven counts of the journal in place of its text. A plan and tables are
+//! the defined ones, and so are their lines. Of an audit the verdict is the defined one, and it is
+//! yes of each text that a replay printed whole. Each status but running out of memory has its cause
+//! in a clause.
 #![tactic(auto)]
 
 mod auditing;

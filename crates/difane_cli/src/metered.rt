@@ -6,7 +6,7 @@ ghost use Rattle.shelf.specs.Sink.{Rose};
 ghost use Rattle.shelf.specs.Shelf.{IsAfterReads};
 ghost use Rattle.command_line.specs.Grammar.{command_of};
 ghost use Rattle.command_line.specs.Commands.{argument_texts};
-ghost use Rattle.difane_cli.specs.Exports.{Accounts, IsAccepted, MayFollowFault, NamesOneOf, NeedsReadFault, RanOut, WritesLine, known_task, most_reads, names_in, status_line};
+ghost use Rattle.difane_cli.specs.Exports.{Accounts, IsAccepted, MayFollowFault, NamesOneOf, NeedsReadFault, RanOut, ReadsNothing, WritesLine, known_task, most_reads, names_in, status_line};
 ghost use Rattle.difane_cli.specs.declared.status.Status.TheVariants as status;
 ghost use Rattle.difane_cli.specs.Metered.{MeteredOutcome, TellsFlows};
 ghost use Rattle.difane_cli.specs.NewMeters.{asks_flows, new_meter};
@@ -68,7 +68,7 @@ pub fn run_metered<F: Shelf, K: Sink, E: Sink>(
     errs: &mut E,
 ) -> Result<CommandEnd, AllocError>
     // Where `flows` ends well, it wrote the records of the packets that left in the journal, and
-    // their counts are right: of each meter that stayed, and where none left, all of them.
+    // the counts are right of each meter that stayed; where none left, these are all.
     ensures flows { IfOk result (λ ending. IsTrue (asks_flows (argument_texts words.now))
         → ending.status ≡ status.Ok
         → TellsFlows (argument_texts words.now) (F.state shelf.old).files ending.journal
@@ -111,6 +111,8 @@ pub fn run_metered<F: Shelf, K: Sink, E: Sink>(
     ensures shelf { IfOk result (λ ending. IsAfterReads
         (most_reads (F.state shelf.old).files (command_of (argument_texts words.now)))
         (F.state shelf.old) (F.state shelf.new)) }
+    ensures unread { IfOk result (λ ending. ReadsNothing (command_of (argument_texts words.now))
+        → F.state shelf.new ≡ F.state shelf.old) }
     ensures untouched { OnErr result
         ((shelf.new ≡ shelf.old) × (out.new ≡ out.old) × (errs.new ≡ errs.old)) }
 {

@@ -2,7 +2,7 @@
 ghost use Rattle.std.specs.Prelude.{◌≡◌, Ok, Option, Some, IfOk, Result, [], map};
 ghost use Rattle.std.specs.Option.{ForSome};
 ghost use Rattle.shelf.specs.Shelf.{Files};
-ghost use Rattle.difane_cli.specs.Exports.{Accounts, EndsRead, EndsWork, IsReadyTask, IsTaskOf, Outcome, GivesBack, RanOut, ReadsFor, Task as Stated, known_task, task_stated};
+ghost use Rattle.difane_cli.specs.Exports.{Accounts, EndsRead, EndsWork, IsReadyTask, IsTaskOf, Outcome, GivesBack, RanOut, ReadsFor, ReadsNothing, Task as Stated, known_task, task_stated};
 ghost use Rattle.difane_cli.specs.declared.status.Refusal.{Refusal};
 ghost use Rattle.command_line.specs.Named.{NamesPolicies, command_named};
 ghost use Rattle.command_line.specs.Commands as grammar;
@@ -42,6 +42,8 @@ pub fn read_task<F: Shelf>(
         task_stated (F.state shelf.old) (F.state shelf.new) result }
     ensures shelf { ReadsFor (command_named command.now)
         (F.state shelf.old) (F.state shelf.new) result }
+    ensures unread { ReadsNothing (Some (command_named command.now))
+        → F.state shelf.new ≡ F.state shelf.old }
     ensures ready { IfOk result IsReadyTask }
     ensures asked { IfOk result (λ task.
         IsTaskOf (command_named command.now) (task_stated task)) }

@@ -3,7 +3,7 @@ ghost use Rattle.std.specs.Prelude.{◌≡◌, ◌≢◌, ◌≤◌, ◌⊎◌, 
 ghost use Rattle.std.specs.Option.{ForSome};
 ghost use Rattle.shelf.specs.Sink.{Rose};
 ghost use Rattle.shelf.specs.Shelf.{IsAfterReads};
-ghost use Rattle.difane_cli.specs.Exports.{Accounts, GivesBack, IsAccepted, MayFollowFault, NamesOneOf, NeedsReadFault, Outcome, RanOut, WritesLine, known_task, most_reads, names_in, status_line};
+ghost use Rattle.difane_cli.specs.Exports.{Accounts, GivesBack, IsAccepted, MayFollowFault, NamesOneOf, NeedsReadFault, Outcome, RanOut, ReadsNothing, WritesLine, known_task, most_reads, names_in, status_line};
 ghost use Rattle.command_line.specs.Grammar.{command_of};
 ghost use Rattle.command_line.specs.Commands.{argument_texts};
 ghost use Rattle.difane_cli.specs.declared.status.Status.TheVariants as status;
@@ -100,6 +100,9 @@ pub fn run<F: Shelf, K: Sink, E: Sink>(
     ensures shelf { IsAfterReads
         (most_reads (F.state shelf.old).files (command_of (argument_texts words.now)))
         (F.state shelf.old) (F.state shelf.new) }
+    // Where no file is read, as of a load case, no fault is counted, whatever the status.
+    ensures unread { ReadsNothing (command_of (argument_texts words.now))
+        → F.state shelf.new ≡ F.state shelf.old }
     ensures faults { (K.state out.old).faults ≤ (K.state out.new).faults }
 {
     match read_command(alloc, words) {
