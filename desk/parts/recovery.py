@@ -8,7 +8,7 @@ from .asking import SCHEDULE
 from .folder import Case
 from .network import DOWN
 from .places import joined
-from .texts import table
+from .table import plural, table
 
 ROWS, JOURNAL = "recovered.csv", "recovered.txt"
 BODIES = {
@@ -83,8 +83,7 @@ class Report:
     def lines(self):
         """The report: what was lost, the version, the links and the switches."""
         network = self.play.network
-        plural = "" if len(self.lost) == 1 else "s"
-        yield f"lost before the recovery rows: {len(self.lost)} message{plural}"
+        yield f"lost before the recovery rows: {plural(len(self.lost), 'message')}"
         if self.lost:
             yield from table(["message", "sent in row", "what it said", "lost"], self.lost)
         yield ""
