@@ -42,11 +42,11 @@ def difference_of(left, right):
     return {
         "packet": left.number,
         "switch": left.ingress,
-        "header": left.header,
         "here": fate_of(left),
         "rule here": row_of(left),
         "there": fate_of(right),
         "rule there": row_of(right),
+        "header": left.header,
     }
 
 
@@ -68,11 +68,7 @@ def text(found):
         rows = [(one["packets"], one["here"], one["there"]) for one in found["changes"]]
         yield from table(["packets", "here", "there"], rows)
         yield ""
-        rows = [
-            (one["packet"], one["switch"], one["here"], one["rule here"], one["there"],
-             one["rule there"], header_text(one["header"]))
-            for one in found["differ"]
-        ]
+        rows = [[*one.values()][:-1] + [header_text(one["header"])] for one in found["differ"]]
         heading = ["packet", "switch", "here", "rule", "there", "rule", "header"]
         yield from table(heading, rows)
         yield ""

@@ -2,12 +2,11 @@
 
 The rows are a `confirm` of each switch, a `resend` of each switch, and a `flush`.
 """
-import csv
-
 from .asking import SCHEDULE
 from .folder import Case
 from .network import DOWN
 from .places import joined
+from .records import lines_of, records_of
 from .table import plural, table
 
 ROWS, JOURNAL = "recovered.csv", "recovered.txt"
@@ -46,8 +45,7 @@ class Report:
         (question.folder / JOURNAL).write_text(text)
         self.case = Case(question.folder / JOURNAL, question.home.name)
         self.play, self.lost, self.quiet = self.case.start(), [], ""
-        with open(question.folder / ROWS, newline="", encoding="utf-8-sig") as file:
-            rows = sum(1 for row in csv.reader(file) if row) - 1
+        rows = len(list(records_of(lines_of(question.folder / ROWS)))) - 1
         names = self.play.network.switches
         self.last = rows - 2 * len(names) - 1
         for item in self.case.items():
