@@ -119,7 +119,7 @@ def no_room(asked, part):
     with_room = [f"{name} for {room}" for name, room in rooms if room]
     yield to_place(asked, wanted)
     switches = plural(wanted, "switch")
-    yield f"look at {asked.said_network()}: room for each partition's rules at {switches} is wanted"
+    yield f"look at {asked.said_network()}: {switches} must have room for each partition's rules"
     if not with_room:
         yield "no switch has room: an authority has a key such as authority = 1000"
     elif len(with_room) < wanted:
