@@ -2,7 +2,8 @@
 """Looks for prose that is hard to read: `checks/prose.py [FILE..]`.
 
 Without a file it looks at all pages: README.md, those of docs/ and desk/, and the README of bench,
-model and of each example; and at the comments of the sources for the words of DIALECT.
+model and of each example; and at the comments of the sources and definitions for the words of
+DIALECT.
 
 It ends with 1 where a sentence or a cell of a table has more than 40 words, or a line that is no
 row of a table, no link and no code more than 100 columns; where a page or a comment has a word of
@@ -16,14 +17,32 @@ from pathlib import Path
 HOME = Path(__file__).resolve().parent.parent
 LONGEST, COLUMNS = 40, 100
 DIALECT = {
-    r"wants? of memory": "out of memory, running out of memory",
-    r"wants? memory": "allocates, runs out of memory",
+    r"wants?(?: of memory)?": "out of memory, running out of memory, needs",
+    r"takes? (?:no |any )?memory(?! of)": "allocates nothing, allocates",
     r"(?:laws?|facts?) (?:of|on) the (?:definitions?|texts) alone": "about the definitions only",
     r"than which": "at least as, at most as",
     r"so does no other": "no other does",
     r"[Tt]ests alone": "only tests",
+    r"alone[.,;:]": "only",
+    r"less (?:those|all|the links)": "except, without",
+    r"as (?:it|the packet|a packet) came in": "when it came in",
+    r"in the midst": "in the middle, half-way",
+    r"however the journal goes on": "however the journal continues",
+    r"[Bb]ehind (?:recovery|each step|steps|(?:the|this|its) journal|an update|a flush)": "after",
+    r"holds? (?:of|behind) (?:a|an|all|any|each|every|its|it|the|these|those|this|which)": "true of",
+    r"to be told|is to tell|was told so|what (?:it|they) tells?": "sent, printed, reported",
+    r"(?:can|can't) be used": "usable, isn't usable",
+    r"go(?:es)? over to": "is carried to",
+    r"[Ww]hoever (?:is told|sends|asks|stamps)": "a switch that, code that",
+    r"sees to it": "makes sure",
+    r"answers? `": "returns",
+    r"so it is (?:with|of|for)": "the same is true of",
+    r"(?:it|they) stands? (?:behind|before|beside|there|still|for)": "is, follows, means",
 }
 PAGES_ONLY = {  # words that comments may have
+    r"off the grammar": "the grammar doesn't have",
+    r"(?:None|false|no|exactly|Exactly)`? where": "if",
+    r"behind a blank": "after a blank",
     r"by turns": "one after another",
     r"less those": "except those",
     r"counts? nowhere": "doesn't count",
@@ -73,10 +92,11 @@ def dialect(lines, refused):
 
 
 def comments():
-    """The comments of each source, and blanks in the place of its other lines."""
-    for path in sorted((HOME / "crates").glob("*/src/**/*.rt")):
+    """The comments of each source and definition, and blanks instead of its other lines."""
+    crates = HOME / "crates"
+    for path in sorted((*crates.glob("*/src/**/*.rt"), *crates.glob("*/specs/**/*.antt"))):
         lines = path.read_text().splitlines()
-        yield path, [line if re.match(r"\s*//", line) else "" for line in lines]
+        yield path, [line if re.match(r"\s*(//|--)", line) else "" for line in lines]
 
 
 def main():
