@@ -1,7 +1,8 @@
-use Rattle.std.proofs.Common.{◌≡◌, ◌∙◌, ◌<◌, ◌^◌, None, Result, Ok, Err, subst, sym}
+use Rattle.std.proofs.Common.{◌≡◌, ◌∙◌, ◌<◌, ◌^◌, None, subst, sym}
 use Rattle.std.specs.Prelude.{OnOk}
 use Rattle.std.proofs.lemmas.Option.{same_Some}
 use Rattle.base.proofs.ListLemmas.{none_from_not_some}
+use Rattle.base.proofs.ResultsMade.{both_ok}
 use Rattle.indexmap.specs.IndexMap.{get}
 use Rattle.switch_table.specs.Keys.{equal_keys}
 use Rattle.switch_table.specs.Slots.{SlotPair}
@@ -31,10 +32,6 @@ vacate-requires-clause-old c = λ pair at.
     (subst (λ (key : CacheKey). key.number < 2 ^ 33)
     (equal_keys_same c.args.key.now place.pair.0 place.passes) c.requires.fits)
 
-on_ok : {T E P Q : Type 0} (r : Result T E) → (P → Q) → OnOk r P → OnOk r Q
-on_ok (Ok x) f is = f is
-on_ok (Err e) f is = tt
-
 pub returns-clause-slots : goal.returns-clause-slots
 returns-clause-slots c = λ live first are.
     same_flags live first _ _ c.vacate.ensures.flags c.vacate.ensures.named are
@@ -44,4 +41,5 @@ returns-clause-gone c =
     let place = found (goal.at.returns-clause-gone c).In-Some in
     subst (λ (key : CacheKey). OnOk c.vacate.result (get equal_keys c.vacate.new.map key ≡ None))
     (sym (equal_keys_same c.args.key.now place.pair.0 place.passes))
-    (on_ok c.vacate.result (λ gone. gone place.pair place.at) c.vacate.ensures.gone)
+    (both_ok c.vacate.result (λ gone again. gone place.pair place.at) c.vacate.ensures.gone
+    c.vacate.ensures.gone)
