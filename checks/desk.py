@@ -421,7 +421,10 @@ def picture_faults():
 
 def faults_of_picture(svg, lines):
     """Each line has its number twice, over all arrows; curves have heads; the key says what is."""
-    shapes = [(one.tag.rpartition("}")[2], one) for one in ElementTree.fromstring(svg)]
+    root = ElementTree.fromstring(svg)
+    if root.get("viewBox") != f"0 0 {root.get('width')} {root.get('height')}":
+        yield "the picture can't be scaled"
+    shapes = [(one.tag.rpartition("}")[2], one) for one in root]
     kinds = [kind for kind, _ in shapes]
     texts = [one.text or "" for kind, one in shapes if kind == "text"]
     wanted = sorted(str(number) for number in range(1, len(lines) + 1)) * 2

@@ -1,7 +1,7 @@
 #!/usr/bin/env python3
 """Checks what `desk/policy` makes of chains of iptables: `checks/desk_chains.py [SEED]`.
 
-Random chains that jump to others, and those of the samples, are compared with their policies: for
+Random chains that jump to others and may end with RETURN, and those of the samples, are compared with their policies: for
 1,000 headers each, the rule that decides as iptables goes through the chains, evaluated here, is
 that of the row which decides, and its action is the row's.
 
@@ -72,6 +72,8 @@ def decided(rules, chain, said, header):
     """The line and the action by which a chain decides a header, or nothing."""
     for at, words in rules[chain]:
         target = words[words.index("-j") + 1]
+        if target == "RETURN" and rule_fits(words, header):
+            return None
         if target in rules and rule_fits(words, header):
             if found := decided(rules, target, said, header):
                 return found
@@ -125,6 +127,8 @@ def drawn_chains(rng):
                 target = "DROP"
             lines.append(f"-A {chain} {match} -j {target}".replace("  ", " "))
             said |= {len(lines)} if sayable and target not in jumps else set()
+        for _ in range(rng.randrange(3)):
+            lines.append(f"-A {chain} {drawn_match(rng)[0]} -j RETURN".replace("  ", " "))
     return "".join(f"{line}\n" for line in [*lines, "COMMIT"]), said
 
 

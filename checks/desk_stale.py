@@ -14,6 +14,8 @@ from pathlib import Path
 
 import desk
 
+import refusals
+
 HOME = Path(__file__).resolve().parent.parent
 ASK, EXAMPLES = HOME / "desk/ask", HOME / "examples"
 HEADING = desk.POLICY_HEADING
@@ -69,6 +71,8 @@ WRONG_POLICIES = [
     "1,10.0.0.0/40,any,any,any,any,drop", "x,any,any,any,any,any,drop",
     "1,any,any,9-3,any,any,drop", "1,any,any,any,any,sctp,drop",
     "1,any,any,any,any,any,drop\n1,any,any,any,any,tcp,drop", "1,any,any",
+    "1,any,any,any,any,any,out:99", "".join(f"{k},any,any,1-65534,1-65534,6,drop\n" for k in range(9)),
+    "".join(f"{k},any,any,any,any,{k % 256},drop\n" for k in range(2001)),
 ]
 
 
@@ -80,7 +84,10 @@ def wrong_word_faults():
         for row in WRONG_POLICIES:
             Path(name, "policy.csv").write_text(f"{HEADING}\n{row}\n")
             for question in (["dead"], ["plan"], ["reach", "any", "any", "any", "any", "tcp"]):
-                yield from desk.refusal_faults(row, "ask", name, *question)
+                yield from desk.refusal_faults(row[:99], "ask", name, *question)
+            said = refusals.answer(["compile", "policy.csv"], Path(name))[0].removeprefix("difane: ")
+            if said == "" or said not in asked(name, "dead")[1]:
+                yield f"dead rows are told of {row[:99]}: {said}"
 
 
 def asked(folder, *words):

@@ -224,7 +224,7 @@ def wrong_words_are_one_line(desk):
         ["load"], ["load", "5", "compile"], ["campus", "compile", "--quiet"],
         ["campus", "--program"], ["leaves"], ["campus", "--program", "nowhere"],
         ["campus", "show", "--model"], ["campus", "--model", "--program", "x"], ["a" * 999],
-        ["campus", "compile", "--recover"], ["campus", "--model", "--build"],
+        ["campus", "compile", "--recover"], ["campus", "--model", "--build"], ["campus", "frob"],
     ):
         out, errors, status = desk.run(*words)
         assert out == "" and errors.count("\n") == 1 and status == 2, errors

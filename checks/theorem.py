@@ -72,6 +72,7 @@ STOPS = {
     "MayFollowFault": "faults",
     "most_reads": "reads",
     "IsAfterReads": "reads",
+    "ReadsNothing": "reads",
 }
 CORE = ("IsRun", "HasCause", "AreEntered")
 HELD = ("HeldOnTheWay",)

@@ -42,7 +42,7 @@ _difane_desk() {
         mapfile -t -O "${#COMPREPLY[@]}" COMPREPLY < <(compgen -f -- "$word")
     fi
 }
-_difane_here=$(cd "$(dirname "${BASH_SOURCE[0]}")" && pwd)
+_difane_here=$(dirname "$(readlink -f "${BASH_SOURCE[0]}")")
 _difane_examples=$_difane_here/../crates/examples/data
 for _difane_script in "$_difane_here"/*; do
     if [[ -f $_difane_script && -x $_difane_script ]]; then

@@ -2,21 +2,18 @@
 import re
 from collections import Counter
 
+from parts.journal import said_by
+
 from . import daemon, flows, tables
 
 TUNNEL = "to-"
-LINE = re.compile(
-    r"row [1-9]\d*: \S.*|meter port \d+ notes \d+|quiet (yes|no)"
-    rf"|  sent \d+ \S+ cache version \d+ word {tables.WORD} rule \S+ ({tables.ACTION})"
-    r"|  (?!sent \d+ \S+ cache )[a-z]+( \S+)*"
-)
 
 
 def read_text(text):
     """The tables of a switch, and the lines of the journal that stands behind them, if any."""
     held, journal = tables.read_tables(text)
     for number, line in enumerate(journal, text.count("\n") - len(journal) + 1):
-        if not LINE.fullmatch(line):
+        if said_by(line.removeprefix("  ")) is None:
             raise tables.Refused(f"line {number}: no line of a journal stands here: {line[:60]!r}")
     return held, journal
 

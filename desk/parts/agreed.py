@@ -92,7 +92,8 @@ def check_network(case, play):
     owners = {port: row["name"] for row in net["switch"] for port in row.get("ports", [])}
     links = {frozenset(link["ends"]) for link in net.get("link", [])}
     names = {row["name"] for row in net["switch"]}
-    strange = [f"a switch {name}" for name in play.network.switches if name not in names]
+    stood = {name for packet in play.packets.values() for name in packet.stood}
+    strange = [f"a switch {name}" for name in {*play.network.switches} | stood if name not in names]
     for packet in play.packets.values():
         hops = zip(packet.stood, packet.stood[1:])
         strange += [f"a link {one} {other}" for one, other in hops if {one, other} not in links]

@@ -94,9 +94,12 @@ def trace_of(name):
     return path.resolve()
 
 
-def folder_of(name):
-    """The folder at this path, or else the example of this name."""
-    folder, example = places.folder_of(name), places.example_of(name)
+def folder_of(name, at):
+    """The folder at this path, or else the example of this name; a later one may be a command."""
+    example = places.example_of(name)
+    if at and not (example or Path(name).is_dir()):
+        raise Mistake(f"{name!r} is no folder, no example and no command: {', '.join(COMMANDS)}")
+    folder = places.folder_of(name)
     if example and example.resolve() != folder.resolve():
         say(f"{name} is the folder here; the example is {example}")
     return folder
@@ -151,7 +154,7 @@ def questions_of(options):
     """Each command over each folder."""
     if options.commands[0][0] == "load":
         return [Question(runners.TOP, "", options.commands[0], [], "", runners.TOP)]
-    folders = [folder_of(name) for name in options.folders]
+    folders = [folder_of(name, at) for at, name in enumerate(options.folders)]
     if not folders:
         raise Mistake("put a folder, or the name of an example, in front of the commands")
     return [

@@ -4,7 +4,7 @@ from collections import Counter
 from .folder import case_of
 from .script import Mistake
 from .story import header_text
-from .table import table
+from .table import plural, table
 
 
 def answer(case, name):
@@ -42,11 +42,11 @@ def difference_of(left, right):
     return {
         "packet": left.number,
         "switch": left.ingress,
-        "header": left.header,
         "here": fate_of(left),
         "rule here": row_of(left),
         "there": fate_of(right),
         "rule there": row_of(right),
+        "header": left.header,
     }
 
 
@@ -63,18 +63,13 @@ def fate_of(packet):
 
 def text(found):
     """The changed fates first, with headers."""
-    yield f"{len(found['differ'])} of {found['packets']} packets have another fate"
+    yield f"with another fate: {len(found['differ'])} of {plural(found['packets'], 'packet')}"
     if found["changes"]:
         rows = [(one["packets"], one["here"], one["there"]) for one in found["changes"]]
         yield from table(["packets", "here", "there"], rows)
         yield ""
-        rows = [
-            (one["packet"], one["switch"], one["here"], one["rule here"], one["there"],
-             one["rule there"], header_text(one["header"]))
-            for one in found["differ"]
-        ]
+        rows = [[*one.values()][:-1] + [header_text(one["header"])] for one in found["differ"]]
         heading = ["packet", "switch", "here", "rule", "there", "rule", "header"]
         yield from table(heading, rows)
         yield ""
-    yield (f"{found['same fate']} have the same fate, "
-           f"{found['by another row']} of them by another row")
+    yield f"with the same fate: {found['same fate']}, by another row {found['by another row']}"

@@ -7,7 +7,7 @@ from .places import policies_in
 from .policies import Change, read_policy
 from .script import Mistake
 from .story import header_text
-from .table import table
+from .table import plural, table
 from .policy_mistakes import MOST_WORDS
 from .words import PROTOCOLS, dotted
 
@@ -99,7 +99,7 @@ def text(found):
     """Of each policy the dead rows first."""
     for one in found["policies"]:
         is_change = ", a change of the file before it" if one["is change"] else ""
-        yield f"{one['policy']}{is_change}: {one['rows']} rows, {len(one['dead'])} of them dead"
+        yield f"{one['policy']}{is_change}: {plural(one['rows'], 'row')}, {len(one['dead'])} dead"
         if one["dead"]:
             rows = [(*place(row), covers(row), row["says"]) for row in one["dead"]]
             yield from table(["dead", "file", "line", "covered by", "says"], rows)

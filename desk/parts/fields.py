@@ -4,19 +4,16 @@ A function `*_fault` gives an empty text where the program reads the field.
 """
 import re
 
+from readers.common import NUMBERS
+from readers.services import SERVICES as PORTS
+
 from .records import quoted
 
 MOST_PRIORITY, MOST_NUMBER, MOST_PORT = 4294967295, 999999999, 63
 MOST_DIGITS = 10  # a number of more is too large for any field
-PROTOCOLS = {
-    "igmp": 2, "gre": 47, "esp": 50, "ah": 51, "icmp6": 58, "icmpv6": 58, "ipv6-icmp": 58,
-    "ospf": 89, "vrrp": 112, "sctp": 132,
-}
+PROTOCOLS = NUMBERS | dict.fromkeys(("icmp6", "icmpv6", "ipv6-icmp"), 58)
 DROPS = ("deny", "block", "reject", "discard")
-SERVICES = {
-    "ftp": 21, "ssh": 22, "telnet": 23, "smtp": 25, "dns": 53, "domain": 53, "http": 80, "www": 80,
-    "ntp": 123, "snmp": 161, "bgp": 179, "https": 443,
-}
+SERVICES = {**PORTS, "dns": 53, "http": 80}
 QUOTES = re.compile("[\"'`]")
 PERMITS = ("permit", "allow", "accept", "forward", "pass", "out")
 

@@ -6,7 +6,7 @@ import re
 from .packets import ENDS, HEADER
 from .script import Mistake
 from .story import header_text
-from .table import table
+from .table import plural, table
 
 FILTERS = {
     "version": "[0-9]{1,2}",
@@ -71,7 +71,7 @@ def fits(row, wanted):
 
 def text(found):
     names = ["packet", "came", "switch", "version", "rule", "action", "by", "decided", "end"]
-    yield f"{len(found['found'])} of {found['packets']} packets"
+    yield f"{len(found['found'])} of {plural(found['packets'], 'packet')}"
     if found["found"]:
         rows = [
             [*("-" if one[name] is None else one[name] for name in names), header_text(one)]

@@ -10,6 +10,8 @@ from .cautions import network_cautions
 from .records import header_line, key_line, lines_of, quoted
 from .row_mistakes import HEADINGS, is_utf16
 
+import refusals
+
 LINK_ROWS = 100
 NETWORK = {
     1: "the file is no TOML document in UTF-8",
@@ -34,7 +36,6 @@ TYPES = {
     bool: "a boolean", int: "an integer", float: "a float", str: "a text", list: "an array",
     dict: "a table",
 }
-SETTINGS = {"leaf_rules": (1, 8192), "backups": (0, 3), "cache": (0, 65536)}
 
 
 def explain_network(asked, name, code, row):
@@ -123,7 +124,7 @@ def document_fault(net, name, lines, code):
     """Of the document's own keys."""
     place = Place(name, lines, 1)
     if code in (3, 4):
-        for key, (least, most) in SETTINGS.items():
+        for key, (least, most) in refusals.KEYS.items():
             fault = number_said(net[key], least, most) if key in net else ""
             if fault:
                 yield f"{place.of(key)}: {fault}"

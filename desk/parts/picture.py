@@ -34,6 +34,9 @@ class Picture:
         self.width, self.height = max(580, width * WIDER + 2 * LEFT), height * HIGHER + TOP
         self.half, self.lines = half_wide(names), lines_of(self.at, self.links)
 
+    def joins(self, one, two):
+        return (one, two) in self.lines or (two, one) in self.lines
+
     def way(self, one, two):
         """The points of the link from one switch to another."""
         return self.lines.get((one, two)) or self.lines[two, one][::-1]

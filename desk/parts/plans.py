@@ -4,7 +4,7 @@ import re
 from . import runners
 from .mistakes import mistake_of
 from .script import Mistake
-from .table import table
+from .table import plural, table
 from .words import spelled
 
 SAYS = {"program": "by the program that was there", "model": "by the slow model"}
@@ -70,9 +70,8 @@ def text(found):
     """The switches, the parts, and then the rules of each part."""
     parts = found["parts"]
     rules = sum(len(part["rules"]) for part in parts)
-    many = "s" * (len(parts) > 1)
-    yield (f"{found['policy']}: {found['words']} words, {rules} rules in {len(parts)} part{many}, "
-           f"{SAYS[found['by']]}")
+    yield (f"{found['policy']}: {plural(found['words'], 'word')}, {plural(rules, 'rule')} in "
+           f"{plural(len(parts), 'part')}, {SAYS[found['by']]}")
     names = ["switch", "room", "rules", "first", "parts", "first of"]
     yield from table(names, [[one[name] for name in names] for one in found["switches"]])
     yield ""

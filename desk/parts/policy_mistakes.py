@@ -4,6 +4,7 @@ from .asked import network_hints
 from .records import lines_of, records_of
 from .row_mistakes import CHANGE_HEADING, POLICY_HEADING
 from .row_mistakes import at_row, heading_fault, said_record, wrong_width
+from .table import plural
 
 import plan_model
 
@@ -106,7 +107,8 @@ def to_place(asked, wanted):
     count = sum(len(held) for _, held in parts)
     copies = f", {wanted} times: {wanted * count} in all" if wanted > 1 else ""
     room = sum(row.get("authority", 0) for row in asked.switches())
-    return f"to place: {count} rules, in {len(parts)} part{'s' * (len(parts) > 1)}{copies}; there is room for {room}"
+    rules, held = plural(count, "rule"), plural(len(parts), "part")
+    return f"to place: {rules}, in {held}{copies}; there is room for {room}"
 
 
 def no_room(asked, part):
@@ -116,7 +118,7 @@ def no_room(asked, part):
     rooms = [(row["name"], row.get("authority", 0)) for row in asked.switches()]
     with_room = [f"{name} for {room}" for name, room in rooms if room]
     yield to_place(asked, wanted)
-    switches = f"{wanted} switch{'es' * (wanted > 1)}"
+    switches = plural(wanted, "switch")
     yield f"look at {asked.said_network()}: {switches} must have room for each partition's rules"
     if not with_room:
         yield "no switch has room: an authority has a key such as authority = 1000"

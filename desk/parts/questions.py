@@ -4,6 +4,7 @@ from collections import Counter
 from .network import DOWN
 from .packets import ENDS, TRAVELLING
 from .policies import REFUSED, Change
+from .rest import fate
 from .script import Mistake
 from .story import story_of
 from .words import match_of
@@ -222,9 +223,8 @@ def messages_of(network, version, done):
 
 def pending_text(message):
     """A message that didn't come, in words."""
-    fate = "waits" if message.forgotten is None else f"forgotten in row {message.forgotten}"
     ends = f"from {message.switch}" if message.to == "controller" else f"to {message.switch}"
-    return f"message {message.number}, {message.body} {ends}, {fate}"
+    return f"message {message.number}, {message.body} {ends}, {fate(message.forgotten)}"
 
 
 def losses(case):

@@ -2,13 +2,12 @@
 
 The rows are a `confirm` of each switch, a `resend` of each switch, and a `flush`.
 """
-import csv
-
 from .asking import SCHEDULE
 from .folder import Case
 from .network import DOWN
 from .places import joined
-from .texts import table
+from .records import lines_of, records_of
+from .table import plural, table
 
 ROWS, JOURNAL = "recovered.csv", "recovered.txt"
 BODIES = {
@@ -46,8 +45,7 @@ class Report:
         (question.folder / JOURNAL).write_text(text)
         self.case = Case(question.folder / JOURNAL, question.home.name)
         self.play, self.lost, self.quiet = self.case.start(), [], ""
-        with open(question.folder / ROWS, newline="", encoding="utf-8-sig") as file:
-            rows = sum(1 for row in csv.reader(file) if row) - 1
+        rows = len(list(records_of(lines_of(question.folder / ROWS)))) - 1
         names = self.play.network.switches
         self.last = rows - 2 * len(names) - 1
         for item in self.case.items():
@@ -83,8 +81,7 @@ class Report:
     def lines(self):
         """The report: what was lost, the version, the links and the switches."""
         network = self.play.network
-        plural = "" if len(self.lost) == 1 else "s"
-        yield f"lost before the recovery rows: {len(self.lost)} message{plural}"
+        yield f"lost before the recovery rows: {plural(len(self.lost), 'message')}"
         if self.lost:
             yield from table(["message", "sent in row", "what it said", "lost"], self.lost)
         yield ""

@@ -1,5 +1,5 @@
 """One packet's story: its lines of the journal, each in words."""
-from .packets import HEADER
+from .packets import HEADER, OF_MESSAGE
 from .words import spelled
 
 
@@ -19,28 +19,39 @@ def rule_text(said):
     return "the default" if said["rule"] == "default" else f"row {said['rule']}"
 
 
+TEXTS = {
+    "entered": "it comes in at {switch} as packet {packet}",
+    "closed": "{switch} takes no packets: {cause}",
+    "tunnelled": "{first} has no rule for it: it is sent to {last}, an authority of part {part} of "
+                 "version {version}, by {way}",
+    "hopped": "it moves on to {switch}",
+    "sent": "message {message} takes this to the cache of {to}: {match} {action}",
+    "delivered": "message {message} reaches {to}",
+    "forgotten": "message {message} is forgotten, and reaches no switch from now on",
+    "expired": "the cache rule of message {message} times out at {switch}",
+    "exit": "it is sent to {bound}, by {way}",
+    "out": "it leaves by port {port} of {at}",
+    "dropped": "it is dropped at {at}",
+    "lost": "it is lost at {at}, bound for {bound}: {cause}",
+    "stuck": "it is stuck at {at}, bound for {bound}: {cause} ({unusable})",
+}
+
+
+def facts_of(item, play):
+    """What the texts name of a line."""
+    route, word = item.said.get("route", [""]), item.said.get("word")
+    facts = {**item.said, "first": route[0], "last": route[-1], "way": way(route)}
+    if item.kind in OF_MESSAGE:
+        return {**facts, "to": play.network.message(item).switch, "match": word and spelled(word)}
+    packet = play.packet(item)
+    unusable = ", ".join(packet.unusable) or "no link joins them"
+    return {**facts, "at": packet.at, "bound": packet.bound_for(), "cause": packet.cause,
+            "unusable": unusable}
+
+
 def tell_row(item, play):
     said = item.said
     return f"{header_text(said)} comes to {said['switch']}"
-
-
-def tell_entered(item, play):
-    return f"it comes in at {item.said['switch']} as packet {item.said['packet']}"
-
-
-def tell_closed(item, play):
-    return f"{item.said['switch']} takes no packets: {play.packet(item).cause}"
-
-
-def tell_tunnelled(item, play):
-    said = item.said
-    route = said["route"]
-    return (f"{route[0]} has no rule for it: it sets out to {route[-1]}, an authority of part "
-            f"{said['part']} of version {said['version']}, by {way(route)}")
-
-
-def tell_hopped(item, play):
-    return f"it moves on to {item.said['switch']}"
 
 
 def tell_found(item, play):
@@ -66,50 +77,13 @@ def tell_decided(item, play):
     return f"{by}; found in the cache of {at}, for {spelled(rule.said['word'])} ({brought})"
 
 
-def tell_sent(item, play):
-    said = item.said
-    return (f"message {said['message']} takes this to the cache of {said['switch']}: "
-            f"{spelled(said['word'])} {said['action']}")
+TELLERS = {"row": tell_row, "found": tell_found, "rerouted": tell_rerouted, "decided": tell_decided}
 
 
-def tell_delivered(item, play):
-    rule = play.network.message(item)
-    return f"message {rule.number} reaches {rule.switch}"
-
-
-def tell_forgotten(item, play):
-    return f"message {item.said['message']} is forgotten, and reaches nobody from now on"
-
-
-def tell_expired(item, play):
-    said = item.said
-    return f"the cache rule of message {said['message']} times out at {said['switch']}"
-
-
-def tell_exit(item, play):
-    return f"it sets out to {play.packet(item).bound_for()}, by {way(item.said['route'])}"
-
-
-def tell_out(item, play):
-    return f"it leaves by port {item.said['port']} of {play.packet(item).at}"
-
-
-def tell_dropped(item, play):
-    return f"it is dropped at {play.packet(item).at}"
-
-
-def tell_lost(item, play):
-    packet = play.packet(item)
-    return f"it is lost at {packet.at}, bound for {packet.bound_for()}: {packet.cause}"
-
-
-def tell_stuck(item, play):
-    packet = play.packet(item)
-    why = ", ".join(packet.unusable) or "no link joins them"
-    return f"it is stuck at {packet.at}, bound for {packet.bound_for()}: {packet.cause} ({why})"
-
-
-TELLERS = {name.removeprefix("tell_"): tell for name, tell in vars().items() if name[:5] == "tell_"}
+def words_of(item, play):
+    """A line in words."""
+    tell = TELLERS.get(item.kind)
+    return tell(item, play) if tell else TEXTS[item.kind].format(**facts_of(item, play))
 
 
 def story_of(case, number):
@@ -118,6 +92,6 @@ def story_of(case, number):
     for item in case.followed(play):
         if play.about(item) == number:
             items = [before, item] if item.kind in ("entered", "closed") else [item]
-            told += [(one, TELLERS[one.kind](one, play)) for one in items]
+            told += [(one, words_of(one, play)) for one in items]
         before = item
     return play, told

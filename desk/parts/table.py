@@ -1,4 +1,4 @@
-"""Lines of columns."""
+"""Lines of columns, and counts in words."""
 
 
 def table(heading, rows):
@@ -12,3 +12,9 @@ def table(heading, rows):
             for text, width, is_right in zip(row, wide, right)
         ]
         yield "  ".join(texts).rstrip()
+
+
+def plural(count, noun):
+    """So many of these: `1 packet`, `2 switches`."""
+    ending = "es" if noun.endswith("ch") else "s"
+    return f"{count:,} {noun}{ending * (count != 1)}"

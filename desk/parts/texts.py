@@ -1,7 +1,7 @@
 """The answers of desk/ask as text: one function a question."""
 from .packets import TRAVELLING
 from .story import header_text
-from .table import table
+from .table import plural, table
 
 NAMED = 10  # packets of a list, of which more are counted only
 
@@ -11,7 +11,7 @@ def share(part, whole):
 
 
 def ends(found):
-    yield f"{found['packets']} packets"
+    yield plural(found["packets"], "packet")
     yield from table(["end", "packets"], found["ends"].items())
     if found["ports"]:
         yield ""
@@ -41,7 +41,7 @@ def change_text(before):
 
 
 def caches(found):
-    yield f"caches decided {found['cached']} of {found['decided']} packets"
+    yield f"caches decided {found['cached']} of {plural(found['decided'], 'packet')}"
     names = ["switch", "decided", "cached", "rules sent", "delivered", "used"]
     rows = [[one[name] for name in names] for one in found["switches"]]
     rows = [[*row[:3], share(row[2], row[1]), *row[3:]] for row in rows]

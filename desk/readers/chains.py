@@ -67,7 +67,9 @@ class Chains:
     def rules_of(self, chain, above=()):
         """Each line of a chain and of those to which it jumps, and its rule, or why it can't be
         said, or nothing where it decides nothing."""
-        for number, text in self.rules[chain]:
+        rules = inside(self.rules[chain])
+        yield from ((number, None) for number, _ in self.rules[chain][len(rules) :])
+        for number, text in rules:
             target = target_of(text)
             if target in PERMITS:
                 yield number, rule_of(text, PERMITS[target], self.most)
@@ -76,7 +78,7 @@ class Chains:
             elif self.is_plain(target, (*above, chain)):
                 yield from self.jump(number, text, target, (*above, chain))
             else:
-                why = "its chain {} can't be said, for its RETURN or -g or a loop"
+                why = "its chain {} can't be said, for a RETURN before its end, -g or a loop"
                 why = why if target in self.rules else "its target {} can't be said"
                 yield number, Unsaid(why.format(target))
 
@@ -105,7 +107,7 @@ def rules_of(lines, most, name):
     others = sorted((number, NO_EFFECT) for number, rule in pairs if rule is None)
     jumps = {number for number, _ in pairs}
     for other, rules in chains.rules.items():
-        if not jumps & {number for number, _ in rules}:
+        if other != chosen and not jumps & {number for number, _ in rules}:
             others += [(number, f"of the chain {other}") for number, _ in rules]
     return found, chains.others + others
 
@@ -135,6 +137,15 @@ def target_of(text):
     return found and found[1]
 
 
+def inside(rules):
+    """The rules of a chain without those at its end that go back, as all goes back there."""
+    while rules and target_of(rules[-1][1]) == "RETURN":
+        rules = rules[:-1]
+    return rules
+
+
 def returns(rules):
-    """Whether a rule of a chain goes back, or goes on elsewhere for good."""
-    return any(target_of(text) == "RETURN" or " -g " in f" {text}" for _, text in rules)
+    """Whether a rule of a chain goes back before its end, or goes on elsewhere for good."""
+    return any(
+        target_of(text) == "RETURN" or " -g " in f" {text}" for _, text in inside(rules)
+    )

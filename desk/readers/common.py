@@ -125,13 +125,15 @@ def add_common(parser):
 
 def opened(name):
     """The bytes of a file, or of standard input where no name or a dash is given."""
-    if name is None and sys.stdin.isatty():
+    if name == "" or name is None and sys.stdin.isatty():
         raise Refused("no FILE is given; --help says what it is")
     return sys.stdin.buffer if name in (None, "-") else open(file_of(name), "rb")
 
 
 def lines_of(data):
     """The lines of a text in UTF-8, or in UTF-16 where it begins so."""
+    if not data.strip():
+        raise Refused("the file is empty")
     is_wide = data[:2] in (b"\xff\xfe", b"\xfe\xff")
     return list(io.StringIO(data.decode("utf-16" if is_wide else "utf-8-sig", "replace"), None))
 

@@ -5,7 +5,7 @@ follows, SCTP's or DCCP's where that is said, and else UDP's.
 """
 import re
 
-from readers.common import Unsaid, address_of
+from readers.common import Unsaid, address_of, protocol_of
 from readers.packets import Packet, WITH_PORTS
 
 CUT_IP = r"(?:truncated-ip - \d+ bytes missing! ?)?"
@@ -22,23 +22,8 @@ NO_PACKET = re.compile(
     r"\s*$|\s+0x[0-9a-f]+:|\t|tcpdump: |listening on |reading from file |\d+ packets? |"
     r"\S+: .*link-type|dropped privs"
 )
-STARTS = {
-    "ICMP": 1,
-    "[|icmp": 1,
-    "igmp": 2,
-    "IP6": 41,
-    "[|ip6": 41,
-    "IP": 4,
-    "RSVP": 46,
-    "GRE": 47,
-    "ESP": 50,
-    "AH": 51,
-    "EIGRP": 88,
-    "OSPF": 89,
-    "PIM": 103,
-    "VRRP": 112,
-    "CARP": 112,
-}
+STARTS = {word: protocol_of(word) for word in "ICMP igmp RSVP GRE ESP AH EIGRP OSPF PIM VRRP".split()}
+STARTS |= {"[|icmp": 1, "IP6": 41, "[|ip6": 41, "IP": 4, "CARP": 112}
 CUT = "the packet is cut short"
 LAST_PROTOCOL = 255
 FRAGMENT = "a later fragment, which has no ports"

@@ -2,7 +2,7 @@
 import csv
 import re
 
-from readers.common import Named
+from readers.common import Named, Refused
 from readers.flows import name_of
 from readers.maps import NAME
 
@@ -21,6 +21,7 @@ class Edges:
         self.left, self.before, self.renamed = Named("line"), Named("line"), Named("line")
         rows = list(rows_of(lines))
         places = places_of(rows[0][1]) if rows else None
+        check_columns([] if places else rows)
         for number, fields in rows[1:] if places else rows:
             texts = [fields[at] for at in places or (0, 1) if at < len(fields)]
             self.add(number, [text.strip() for text in texts if text.strip()])
@@ -68,6 +69,15 @@ def rows_of(lines):
     for number, line in lines:
         fields = next(csv.reader([line], delimiter=sign), []) if sign else line.split()
         yield number, fields
+
+
+def check_columns(rows):
+    """That lines have as many further columns with letters in front: those of a text haven't."""
+    counts = {sum(text[:1].isalpha() for text in fields[2:]): number for number, fields in rows}
+    if len(counts) > 1:
+        lines = " and ".join(map(str, sorted(counts.values())[:2]))
+        raise Refused(f"this is no list of edges: lines {lines} have other numbers of columns; a "
+                      "heading such as source,target says which columns count")
 
 
 def places_of(titles):

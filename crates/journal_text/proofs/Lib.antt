@@ -1,4 +1,4 @@
 pub mod LineGains
 pub mod MaskLemmas
-mod ToldTexts
+mod HeldTexts
 pub mod LineLengths

@@ -1,3 +1,3 @@
 pub mod Lines
 pub mod Sizes
-pub mod Told
+pub mod AdvertTexts

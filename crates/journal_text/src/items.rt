@@ -3,12 +3,12 @@ ghost use Rattle.net_file.specs.Net.{IsNet};
 ghost use Rattle.journal.specs.declared.item.Item.TheVariants as item;
 ghost use Rattle.journal_text.specs.Lines.{cause_text, how_text, item_line, journal_text, with_number, packet_at, two_text, via_text};
 ghost use Rattle.journal_text.specs.Sizes.{IsBodyOfType, IsItemOfType, IsShortRoute};
-ghost use Rattle.journal_text.specs.Told.{AreTold};
+ghost use Rattle.journal_text.specs.AdvertTexts.{AreAdvertTexts};
 ghost use Rattle.lines.specs.Pushes.{line_with};
 
+use crate::advert_texts::AdvertTexts;
 use crate::messages::{push_body, push_receiver, push_ruled};
 use crate::rows::{push_named, push_named_number, push_numbered, push_pair, push_step};
-use crate::told::ToldAdverts;
 use journal::{Action, Cause, How, Item, Journal, SharedMessage, SharedRoute};
 use lines::{Line, push_name, push_names};
 use net_file::{Net, name_laws};
@@ -26,25 +26,26 @@ pub fn text(alloc: Global, journal: &Journal, net: &Net) -> Result<Vec<u8>, Allo
     let items = journal.items();
     let mut text = Vec::new(alloc);
     let mut line = Line::new();
-    let mut told = ToldAdverts::new();
+    let mut texts = AdvertTexts::new();
     for item in items {
         line.clear();
-        push_line(&mut line, net, &mut told, item);
+        push_line(&mut line, net, &mut texts, item);
         text.extend_from_slice(line.bytes())?;
     }
     Ok(text)
 }
 
 /// Adds the line of the item, with its line feed. After 800 bytes there is room for any line.
-pub(crate) fn push_line(line: &mut Line, net: &Net, told: &mut ToldAdverts, item: &Item)
+#[inline(always)]
+pub(crate) fn push_line(line: &mut Line, net: &Net, texts: &mut AdvertTexts, item: &Item)
     requires net { IsNet net.now }
     requires room { length line.old ≤ 800 }
-    requires told { AreTold net.now told.old }
+    requires texts { AreAdvertTexts net.now texts.old }
     ensures text { line.new ≡ line.old ++ (item_line net.now item.now ++ 10 ∷ []) }
-    ensures told { AreTold net.now told.new }
+    ensures texts { AreAdvertTexts net.now texts.new }
 {
     name_laws();
-    push_item(line, net, told, item);
+    push_item(line, net, texts, item);
     line.push("\n");
 }
 
@@ -180,22 +181,23 @@ fn push_stuck(line: &mut Line, net: &Net, packet: u32, switch: u32, cause: Cause
 fn push_sent(
     line: &mut Line,
     net: &Net,
-    told: &mut ToldAdverts,
+    texts: &mut AdvertTexts,
     number: u32,
     message: &SharedMessage,
 )
-    requires { AreTold net.now told.old }
+    requires { AreAdvertTexts net.now texts.old }
     ensures text { line.new ≡ line_with line.old
         (item_line net.now (item.Sent number message.now)) }
     ensures of_type { IsBodyOfType message.now.body }
-    ensures told { AreTold net.now told.new }
+    ensures texts { AreAdvertTexts net.now texts.new }
 {
     let message = message.get();
-    push_numbered(line, "  sent", number);
+    line.push("  sent ");
+    line.push_number(u64::from(number));
     line.push(" ");
     push_receiver(line, net, message.to);
     line.push(" ");
-    push_body(line, net, told, &message.body);
+    push_body(line, net, texts, &message.body);
 }
 
 #[tactic(auto, using(lines::proofs::CallerLemmas::pushed_append))]
@@ -222,11 +224,11 @@ fn push_link(line: &mut Line, net: &Net, one: u32, two: u32, up: bool)
 }
 
 // An item's line, without its line feed.
-fn push_item(line: &mut Line, net: &Net, told: &mut ToldAdverts, item: &Item)
-    requires { AreTold net.now told.old }
+fn push_item(line: &mut Line, net: &Net, texts: &mut AdvertTexts, item: &Item)
+    requires { AreAdvertTexts net.now texts.old }
     ensures text { line.new ≡ line_with line.old (item_line net.now item.now) }
     ensures of_type { IsItemOfType item.now }
-    ensures told { AreTold net.now told.new }
+    ensures texts { AreAdvertTexts net.now texts.new }
 {
     match item {
         Item::Row { row, step } => push_row(line, net, *row, step),
@@ -260,7 +262,7 @@ fn push_item(line: &mut Line, net: &Net, told: &mut ToldAdverts, item: &Item)
             cause,
             ..
         } => push_stuck(line, net, *packet, *switch, *cause),
-        Item::Sent { number, message } => push_sent(line, net, told, *number, message),
+        Item::Sent { number, message } => push_sent(line, net, texts, *number, message),
         Item::Delivered { number } => push_numbered(line, "  delivered", *number),
         Item::Forgotten { number } => push_numbered(line, "  forgotten", *number),
         Item::Expired {

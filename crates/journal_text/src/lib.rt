@@ -5,12 +5,12 @@
 //! 2,048 bytes.
 #![tactic(auto)]
 
+mod advert_texts;
 mod items;
 mod laws;
 mod messages;
 mod names;
 mod rows;
-mod told;
 mod write;
 
 pub use items::text;

@@ -2,13 +2,13 @@ ghost use Rattle.std.specs.Prelude.{◌≡◌};
 ghost use Rattle.ctrl_msg.specs.declared.message.Body.TheVariants.{CacheRule};
 ghost use Rattle.journal_text.specs.Lines.{advert_text, body_text, boot_text, cache_text, with_name, receiver_text, ruled_text, version_text};
 ghost use Rattle.journal_text.specs.Sizes.{IsBodyOfType};
-ghost use Rattle.journal_text.specs.Told.{AreTold};
+ghost use Rattle.journal_text.specs.AdvertTexts.{AreAdvertTexts};
 ghost use Rattle.lines.specs.Sizes.{IsAction, IsNumber, IsRule};
 ghost use Rattle.lines.specs.Pushes.{line_with};
 
+use crate::advert_texts::AdvertTexts;
 use crate::names::push_mask;
 use crate::rows::{push_named_number, push_numbered};
-use crate::told::ToldAdverts;
 use ctrl_msg::{Body, Place};
 use failover::Advert;
 use lines::{Line, push_action, push_name, push_rule, push_word};
@@ -104,11 +104,11 @@ pub(crate) fn push_advert(line: &mut Line, net: &Net, advert: &Advert)
 }
 
 /// Adds what a message says.
-pub(crate) fn push_body(line: &mut Line, net: &Net, told: &mut ToldAdverts, body: &Body)
-    requires { AreTold net.now told.old }
+pub(crate) fn push_body(line: &mut Line, net: &Net, texts: &mut AdvertTexts, body: &Body)
+    requires { AreAdvertTexts net.now texts.old }
     ensures text { line.new ≡ line_with line.old (body_text net.now body.now) }
     ensures of_type { IsBodyOfType body.now }
-    ensures told { AreTold net.now told.new }
+    ensures texts { AreAdvertTexts net.now texts.new }
 {
     match body {
         Body::Install { boot, tables } => {
@@ -123,7 +123,7 @@ pub(crate) fn push_body(line: &mut Line, net: &Net, told: &mut ToldAdverts, body
             rule,
             action,
         } => push_cache(line, *version, word, *rule, *action),
-        Body::Advertise { advert } => told.push(line, net, advert),
+        Body::Advertise { advert } => texts.push(line, net, advert),
         Body::Hello { switch, boot } => push_booted(line, net, "hello", *switch, *boot),
         Body::Installed {
             switch,

@@ -3,8 +3,8 @@ ghost use Rattle.net_file.specs.Net.{IsNet};
 ghost use Rattle.journal_text.specs.Lines.{journal_text};
 ghost use Rattle.shelf.specs.SinkWrites.{IsAfterWrite};
 
+use crate::advert_texts::AdvertTexts;
 use crate::items::push_line;
-use crate::told::ToldAdverts;
 use journal::Journal;
 use lines::Line;
 use net_file::Net;
@@ -25,7 +25,7 @@ pub fn write_text<K: Sink>(journal: &Journal, net: &Net, sink: &mut K) -> Result
     ensures no_text { journal_text net.now journal.now ≡ [] → sink.new ≡ sink.old }
 {
     let mut line = Line::new();
-    let mut told = ToldAdverts::new();
+    let mut texts = AdvertTexts::new();
     let mut block = Block::new();
     let items = journal.items();
     if items.is_empty() {
@@ -36,7 +36,7 @@ pub fn write_text<K: Sink>(journal: &Journal, net: &Net, sink: &mut K) -> Result
             block.push(line.bytes(), sink)?;
             line.clear();
         }
-        push_line(&mut line, net, &mut told, item);
+        push_line(&mut line, net, &mut texts, item);
     }
     block.push(line.bytes(), sink)?;
     block.finish(sink)

@@ -1,4 +1,5 @@
 mod OverLemmas
+mod SlotKeyLemmas
 mod SlotPushLemmas
 mod LiveLemmas
 mod FirstLemmas

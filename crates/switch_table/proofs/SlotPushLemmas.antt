@@ -1,8 +1,8 @@
 -- Live slots among dead ones: their counts and keys, and what a push, a new key and a sweep leave.
-use Rattle.std.proofs.Common.{ℕ, zero, suc, ◌≡◌, ◌∙◌, ◌+◌, ◌<◌, ◌≤◌, Bool, true, false, cond, not, eqb, ◌||◌, Option, Some, None, List, [], ◌∷◌, ◌++◌, length, length-append, get_or, filter, take, set, replicate, slice_get, option_map, IfSome, IsFalse, refl, ap, sym, subst, arith, All}
+use Rattle.std.proofs.Common.{ℕ, zero, suc, ◌≡◌, ◌∙◌, ◌+◌, ◌<◌, ◌≤◌, ◌^◌, Bool, true, false, cond, not, eqb, ◌||◌, Option, Some, None, List, [], ◌∷◌, ◌++◌, length, length-append, get_or, filter, take, set, replicate, slice_get, option_map, IfSome, IsFalse, refl, ap, sym, subst, arith, All}
 use Rattle.std.specs.List.{AllByRecursion, IsDistinct, cons_option, position, position_or_len, swap_remove}
 use Rattle.std.specs.Map.{keys_of, lookup, values_of}
-use Rattle.std.proofs.lemmas.Bool.{and_from, and_parts, eq-eqb, eqb-true, false≢true}
+use Rattle.std.proofs.lemmas.Bool.{and_from, and_parts, eq-eqb, eqb-true}
 use Rattle.std.proofs.lemmas.List.{get_or-map, get_or_append_left, length-map, length-take-le, length_push, map_push, take-append-le, take-map}
 use Rattle.std.proofs.lemmas.List.Elements.{filter_map-append}
 use Rattle.std.proofs.lemmas.List.Sums.{count_by-le-length, length-filter}
@@ -13,11 +13,12 @@ use Rattle.ternary.specs.Meets.{word_eq}
 use Rattle.ternary.specs.Word.{WordValue}
 use Rattle.switch_table.specs.Keys.{HaveOwnKeys, Pair, equal_keys, has_key}
 use Rattle.switch_table.specs.Live.{AreCounts, CountPlaces, count_set}
-use Rattle.switch_table.specs.Slots.{AreSlots, SlotPair, flags_of, is_live, live_pair, live_pairs}
+use Rattle.switch_table.specs.Slots.{AreNamed, AreSlots, SlotPair, flags_of, is_live, live_pair, live_pairs}
 use Rattle.switch_table.specs.declared.key.CacheKey.{CacheKey}
 use Rattle.switch_table.specs.declared.key.Learnt.{Learnt}
 use Rattle.switch_table.specs.declared.key.Slot.{Slot}
 use Rattle.switch_table.specs.declared.live.LiveCounts.{LiveCounts}
+use Rattle.switch_table.proofs.SlotKeyLemmas.{named_pushed}
 
 -- ---- keys
 
@@ -223,9 +224,8 @@ rekeyed_flags (slot ∷ slots) (suc place) pair key at =
     ap (λ flags. slot.1.is_live ∷ flags) (rekeyed_flags slots place pair key at)
 
 -- the dead slot at this place has another key
-pub record IsRekeyed (place : ℕ) (taken : Option SlotPair) (slots new : List SlotPair)
-    : Type 0 where
-  pub key : CacheKey
+pub record IsRekeyed (place : ℕ) (key : CacheKey) (taken : Option SlotPair)
+    (slots new : List SlotPair) : Type 0 where
   pub pair : SlotPair
   pub at : slice_get slots place ≡ Some pair
   pub dead : pair.1.is_live ≡ false
@@ -237,12 +237,12 @@ pub rekeyed : (place : ℕ) (key : CacheKey) (slot : Slot) (taken : Option SlotP
     slice_get (values_of slots) place ≡ Some slot → more ≡ slots ++ (key, slot) ∷ [] →
     taken ≡ slice_get more place →
     IfSome taken (λ pair. new ≡ swap_remove more place pair) →
-    IsRekeyed place taken slots new
+    IsRekeyed place key taken slots new
 rekeyed place key slot taken slots more new dead slot_is more_is taken_is new_is =
     by_case (slice_get slots place) refl
   where
     by_case : (here : Option SlotPair) → slice_get slots place ≡ here →
-        IsRekeyed place taken slots new
+        IsRekeyed place key taken slots new
     by_case None at =
         absurd (none-some false (sym (slice_get-map is_live slots place
         ∙ ap (option_map is_live) at) ∙ dead))
@@ -257,7 +257,6 @@ rekeyed place key slot taken slots more new dead slot_is more_is taken_is new_is
         let same : slot ≡ pair.1 =
         same_Some slot pair.1 (sym slot_is ∙ slice_get-map (λ (p : SlotPair). p.1) slots place
         ∙ ap (option_map (λ (p : SlotPair). p.1)) at) in record {
-          key = key;
           pair = pair;
           at = at;
           dead = same_Some (is_live pair) false (sym (slice_get-map is_live slots place
@@ -271,8 +270,9 @@ rekeyed place key slot taken slots more new dead slot_is more_is taken_is new_is
 
 -- slots of the same flags
 pub same_flags : (live : LiveCounts) (first : ℕ) (old new : List SlotPair) →
-    flags_of new ≡ flags_of old → AreSlots live first old → AreSlots live first new
-same_flags live first old new same are =
+    flags_of new ≡ flags_of old → AreNamed 0 new → AreSlots live first old →
+    AreSlots live first new
+same_flags live first old new same named are =
     let front : flags_of (take first new) ≡ flags_of (take first old) =
     sym (take-map is_live first new) ∙ ap (take first) same ∙ take-map is_live first old in
     record {
@@ -290,7 +290,18 @@ same_flags live first old new same are =
           ∙ ap (λ flags. get_or flags k false) front
           ∙ get_or-map is_live (take first old) k d false fits ∙ are.dead k d fits;
       counted = subst (AreCounts live) (sym same) are.counted;
+      named = named;
     }
+
+-- the same slots under other counts
+pub with_counts : (live more : LiveCounts) (first : ℕ) (slots : List SlotPair) →
+    AreSlots live first slots → AreCounts more (flags_of slots) → AreSlots more first slots
+with_counts live more first slots are counts = record {
+  within = are.within;
+  dead = are.dead;
+  counted = counts;
+  named = are.named;
+}
 
 -- ---- a sweep
 
@@ -319,32 +330,13 @@ swept_flags (slot ∷ slots) = by_case slot.1.is_live refl (swept_flags slots)
     by_case true is rest = λ i. is i ∷ rest i
     by_case false is rest = rest
 
-pub swept_absent : (key : CacheKey) (slots : List SlotPair) →
-    has_key key (live_pairs slots) ≡ false →
-    lookup (equal_keys key) (filter is_live slots) ≡ None
-swept_absent key [] none = refl
-swept_absent key (slot ∷ slots) none =
-    by_case slot.1.is_live (equal_keys key slot.0) refl none (swept_absent key slots)
-  where
-    by_case : (live here : Bool) → equal_keys key slot.0 ≡ here →
-        has_key key (with_slot live slot (live_pairs slots)) ≡ false →
-        (has_key key (live_pairs slots) ≡ false
-        → lookup (equal_keys key) (filter is_live slots) ≡ None) →
-        lookup (equal_keys key) (cond live (slot ∷ filter is_live slots) (filter is_live slots))
-        ≡ None
-    by_case true true is gone rest =
-        absurd (false≢true (sym gone ∙ ap (λ b. b || has_key key (live_pairs slots)) is))
-    by_case true false is gone rest =
-        ap (λ b. cond b (Some slot.1) (lookup (equal_keys key) (filter is_live slots))) is
-        ∙ rest (sym (ap (λ b. b || has_key key (live_pairs slots)) is) ∙ gone)
-    by_case false here is gone rest = rest gone
-
 pub swept_slots : (live : LiveCounts) (slots : List SlotPair) → AreCounts live (flags_of slots) →
-    AreSlots live 0 slots
-swept_slots live slots are = record {
+    AreNamed 0 slots → AreSlots live 0 slots
+swept_slots live slots are named = record {
   within = omega arith;
   dead = λ k d less. absurd (omega (arith, less, length-take-le 0 slots (omega arith)));
   counted = are;
+  named = named;
 }
 
 pub room_of : (live : LiveCounts) (slots : List SlotPair) (places : ℕ) →
@@ -363,13 +355,14 @@ pushed_pairs slots key learnt =
 
 pub pushed_slots : (live more : LiveCounts) (first : ℕ) (slots : List SlotPair) (key : CacheKey)
     (learnt : Learnt) → AreSlots live first slots →
-    AreCounts more (flags_of slots ++ true ∷ []) →
+    AreCounts more (flags_of slots ++ true ∷ []) → key.number < 2 ^ 33 →
     AreSlots more first (slots ++ (key, record { learnt = learnt; is_live = true }) ∷ [])
-pushed_slots live more first slots key learnt are counts =
+pushed_slots live more first slots key learnt are counts small =
     let slot : SlotPair = (key, record { learnt = learnt; is_live = true }) in
     record {
       within = omega (arith, are.within, length_push slots slot);
       dead = subst (All (λ s. IsFalse (is_live s)))
           (sym (take-append-le first slots (slot ∷ []) are.within)) are.dead;
       counted = subst (AreCounts more) (sym (map_push is_live slots slot)) counts;
+      named = named_pushed 0 slots slot are.named small;
     }

@@ -3,6 +3,7 @@ use Rattle.std.proofs.Common.{ℕ, zero, suc, ◌≡◌, ◌∙◌, ◌+◌, ◌
 use Rattle.std.specs.Bool.{IsFalse}
 use Rattle.std.specs.List.{cons_option}
 use Rattle.std.specs.Map.{values_of}
+use Rattle.std.proofs.lemmas.Bool.{and_parts}
 use Rattle.std.proofs.lemmas.List.{take-map}
 use Rattle.std.proofs.lemmas.List.Elements.{All-cons, All-head, All-nil, All-tail}
 use Rattle.std.proofs.lemmas.List.Sums.{sum_by-cons, sum_by-take-drop, sum_by-take-le}
@@ -10,10 +11,11 @@ use Rattle.std.proofs.lemmas.Option.{none-some, same_Some, slice_get-get_or, sli
 use Rattle.indexmap.specs.Layout.{set_value_at}
 use Rattle.switch_table.specs.Keys.{Pair}
 use Rattle.switch_table.specs.Live.{AreCounts, IsNthSet, count_set}
-use Rattle.switch_table.specs.Slots.{AreSlots, SlotPair, flags_of, is_live, killed, live_pair, live_pairs}
+use Rattle.switch_table.specs.Slots.{AreNamed, AreSlots, SlotPair, flags_of, is_live, killed, live_pair, live_pairs}
 use Rattle.switch_table.specs.declared.key.CacheKey.{CacheKey}
 use Rattle.switch_table.specs.declared.key.Slot.{Slot}
 use Rattle.switch_table.specs.declared.live.LiveCounts.{LiveCounts}
+use Rattle.switch_table.proofs.SlotKeyLemmas.{named_kept, named_killed}
 use Rattle.switch_table.proofs.LiveLemmas.{count_both}
 use Rattle.switch_table.proofs.SlotPushLemmas.{count_live, live_fit}
 
@@ -254,8 +256,8 @@ module _ (test : CacheKey → Bool) where
   -- all of these are live
   pub kept_slots : (live : LiveCounts) (slots new : List SlotPair) (count : ℕ) →
       new ≡ filter is_kept slots → count ≡ length new → AreCounts live (replicate count true) →
-      AreSlots live 0 new
-  kept_slots live slots new count made long counted =
+      AreNamed 0 slots → AreSlots live 0 new
+  kept_slots live slots new count made long counted named =
       let flags : replicate count true ≡ flags_of new =
       ap (λ n. replicate n true) (long ∙ ap length made)
       ∙ sym (kept_flags slots) ∙ ap flags_of (sym made) in
@@ -263,6 +265,8 @@ module _ (test : CacheKey → Bool) where
         within = omega arith;
         dead = All-nil IsDead;
         counted = subst (AreCounts live) flags counted;
+        named = subst (AreNamed 0) (sym made) (named_kept is_kept
+            (λ slot is. (and_parts (is_live slot) (test slot.0) is).0) 0 0 slots named);
       }
 
 -- the slots past the dead ones at the front have all that live
@@ -361,6 +365,7 @@ slots_killed old live first next before at slots new are nth kills takes begins 
           (dead_killed next slots at slot (dead begins));
       counted = subst (AreCounts live) (sym (flags_killed slots at slot) ∙ ap flags_of (sym made))
           (takes (flags_of slots) are.counted nth.is_set);
+      named = subst (AreNamed 0) (sym made) (named_killed slots at slot are.named there);
     }
 
 -- no more are live than there are

@@ -1,5 +1,5 @@
 -- Pairs of a cache among dead ones: the slots of a map.
-use Rattle.std.specs.Prelude.{ℕ, ◌≤◌, Bool, false, if◌then◌else◌, Option, Some, None, List, length, map, take, filter_map, All, IsFalse}
+use Rattle.std.specs.Prelude.{⊤, ℕ, suc, ◌≡◌, ◌+◌, ◌-◌, ◌<◌, ◌≤◌, ◌^◌, ◌⊎◌, Bool, false, if◌then◌else◌, Option, Some, None, List, [], ◌∷◌, length, map, take, filter_map, All, IsFalse}
 use Rattle.switch_table.specs.Keys.{Pair}
 use Rattle.switch_table.specs.Live.{AreCounts}
 use Rattle.switch_table.specs.declared.key.CacheKey.{CacheKey}
@@ -26,8 +26,19 @@ flags_of slots = map is_live slots
 abbrev pub killed : SlotPair → SlotPair
 killed slot = (slot.0, record slot.1 { is_live = false })
 
+-- the key is one of a version and a shift; a dead slot's may be one of its place instead
+abbrev pub IsNamed : ℕ → SlotPair → Type 0
+IsNamed place slot =
+    (slot.0.number < 2 ^ 33) ⊎ ((slot.0.number + place ≡ 2 ^ 64 - 1) × IsFalse (is_live slot))
+
+-- so are those of slots from this place on
+unfoldable pub AreNamed : ℕ → List SlotPair → Type 0
+AreNamed place [] = ⊤
+AreNamed place (slot ∷ slots) = IsNamed place slot × AreNamed (suc place) slots
+
 -- the slots before `first` are dead, and the live ones are counted
 pub record AreSlots (live : LiveCounts) (first : ℕ) (slots : List SlotPair) : Type 0 where
   pub within : first ≤ length slots
   pub dead : All (λ slot. IsFalse (is_live slot)) (take first slots)
   pub counted : AreCounts live (flags_of slots)
+  pub named : AreNamed 0 slots

@@ -30,7 +30,8 @@ impl CacheEntry {
     /// The key in a queue that adds this much to versions.
     pub(crate) fn key(&self, shift: u64) -> CacheKey
         requires { shift ≤ 2 ^ 32 }
-        ensures { result ≡ key_of shift self.now }
+        ensures key { result ≡ key_of shift self.now }
+        ensures fits { result.number < 2 ^ 33 }
     {
         CacheKey {
             number: u64::from(self.version) + shift,

@@ -1,9 +1,10 @@
-ghost use Rattle.std.specs.Prelude.{◌≡◌, ◌<◌, ◌≤◌, ◌++◌, ◌∷◌, ◌&&◌, [], false, List, None, Some, OnOk, OnErr, IfOk, IsFalse, IsTrue, drop, length, find, filter, map, option_map, set, remove, nat_le, slice_get};
+ghost use Rattle.std.specs.Prelude.{ℕ, ◌≡◌, ◌<◌, ◌≤◌, ◌^◌, ◌++◌, ◌∷◌, ◌&&◌, [], false, List, None, Some, OnOk, OnErr, IsFalse, drop, length, find, filter, map, option_map, set, remove, nat_le, slice_get};
 ghost use Rattle.indexmap.specs.IndexMap.{IsUnique, get};
 ghost use Rattle.std.specs.List.{position_or_len};
 ghost use Rattle.switch_table.specs.Keys.{HaveOwnKeys, equal_keys, has_key, is_hit, is_carried_key, key_under};
+ghost use Rattle.switch_table.specs.declared.live.LiveCounts.{LiveCounts};
 ghost use Rattle.switch_table.specs.Live.{AreCounts, IsNthSet, count_set};
-ghost use Rattle.switch_table.specs.Slots.{AreSlots, SlotPair, flags_of, is_live, killed, live_pairs};
+ghost use Rattle.switch_table.specs.Slots.{AreNamed, AreSlots, SlotPair, flags_of, is_live, killed, live_pairs};
 
 use crate::items::SlotItems;
 use crate::key::{CacheKey, Learnt, Slot};
@@ -45,6 +46,7 @@ impl Model for Slots {
 }
 
 impl Slots {
+    #[tactic(auto, unfolding(crate::specs::Slots::AreNamed))]
     pub fn new(alloc: Global) -> Slots
         ensures { result ≡ [] }
     {
@@ -80,12 +82,13 @@ impl Slots {
 
     /// Puts this last, under a new key.
     pub fn push(&mut self, key: CacheKey, learnt: Learnt) -> Result<(), AllocError>
-        requires { IsFalse (has_key key self.old) }
+        requires fits { key.number < 2 ^ 33 }
+        requires absent { IsFalse (has_key key self.old) }
         ensures ok { OnOk result (self.new ≡ self.old ++ (key, learnt) ∷ []) }
         ensures err { OnErr result (self.new ≡ self.old) }
     {
-        release_key(&mut self.map, &mut self.live, &mut self.first, &key)?;
         let place = self.map.len();
+        release_key(&mut self.map, &key)?;
         self.live.make_room(place + 1)?;
         let slot = Slot {
             learnt,
@@ -245,48 +248,44 @@ fn kill(map: &mut IndexMap<CacheKey, Slot>, place: usize)
 }
 
 // Makes sure that no slot has this key, which no live one has.
-fn release_key(
-    map: &mut IndexMap<CacheKey, Slot>,
-    live: &mut LiveCounts,
-    first: &mut usize,
-    key: &CacheKey,
-) -> Result<(), AllocError>
-    requires slots { AreSlots live.old first.old map.old.entries }
+fn release_key(map: &mut IndexMap<CacheKey, Slot>, key: &CacheKey) -> Result<(), AllocError>
+    requires named { AreNamed 0 map.old.entries }
+    requires few { length map.old.entries < 2 ^ 63 }
+    requires fits { key.now.number < 2 ^ 33 }
     requires absent { IsFalse (has_key key.now (live_pairs map.old.entries)) }
-    ensures slots { AreSlots live.new first.new map.new.entries }
+    ensures slots { (live : LiveCounts) (first : ℕ) → AreSlots live first map.old.entries →
+        AreSlots live first map.new.entries }
     ensures pairs { live_pairs map.new.entries ≡ live_pairs map.old.entries }
+    ensures flags { flags_of map.new.entries ≡ flags_of map.old.entries }
     ensures gone { OnOk result (get equal_keys map.new key.now ≡ None) }
 {
     let Some(dead) = map.get_index_of(key) else {
         return Ok(());
     };
-    if !vacate(map, dead)? {
-        *first = 0;
-        sweep(map, live);
-    }
-    Ok(())
+    vacate(map, dead)
 }
 
-// Gives the dead slot at this place a key that no version and shift make, and returns `true`. If
-// there is that key, changes nothing and returns `false`: there never is, which isn't proved.
-fn vacate(map: &mut IndexMap<CacheKey, Slot>, place: usize) -> Result<bool, AllocError>
-    requires { slice_get (flags_of map.old.entries) place ≡ Some false }
+// Gives the dead slot at this place a key of the place, which no version and shift make.
+fn vacate(map: &mut IndexMap<CacheKey, Slot>, place: usize) -> Result<(), AllocError>
+    requires dead { slice_get (flags_of map.old.entries) place ≡ Some false }
+    requires named { AreNamed 0 map.old.entries }
+    requires few { length map.old.entries < 2 ^ 63 }
+    requires old { (pair : SlotPair) → slice_get map.old.entries place ≡ Some pair →
+        pair.0.number < 2 ^ 33 }
     ensures pairs { live_pairs map.new.entries ≡ live_pairs map.old.entries }
     ensures flags { flags_of map.new.entries ≡ flags_of map.old.entries }
-    ensures gone { IfOk result (λ gone. IsTrue gone → (pair : SlotPair) →
+    ensures named { AreNamed 0 map.new.entries }
+    ensures gone { OnOk result ((pair : SlotPair) →
         slice_get map.old.entries place ≡ Some pair → get equal_keys map.new pair.0 ≡ None) }
 {
     let key = CacheKey {
         number: u64::MAX - place as u64,
         word: Word::any(),
     };
-    if map.contains_key(&key) {
-        return Ok(false);
-    }
     let slot = map[place];
     map.insert(key, slot)?;
     map.swap_remove_index(place);
-    Ok(true)
+    Ok(())
 }
 
 // Removes the dead slots.

@@ -13,7 +13,7 @@ use crate::fields::{
 };
 use crate::parts::{put_tables, read_tables};
 use crate::reader::ByteReader;
-use crate::writer::{put_n1, put_n4, put_n8};
+use crate::writer::{put_n1, put_n4};
 use base::Shared;
 use ctrl_msg::{Body, Message, Place, SharedTables};
 use failover::Advert;
@@ -228,15 +228,32 @@ fn put_cache_rule(out: &mut Vec<u8>, version: u32, word: &Word, hit: Hit) -> Res
     put_action(out, hit.action)
 }
 
-#[tactic(auto, unfolding(crate::specs::Messages::advert))]
+// The spelling of an advert.
+#[tactic(auto, unfolding(crate::specs::Messages::advert, crate::specs::Fields::switch, crate::specs::Fields::n1, crate::specs::Fields::n4, crate::specs::Fields::n8))]
+fn advert_bytes(advert: &Advert) -> [u8; 17]
+    requires { advert.now.origin < 64 }
+    ensures fits { kinds.advert.fits advert.now ≡ true }
+    ensures spelled { result ≡ kinds.advert.spell advert.now }
+{
+    let Advert {
+        origin,
+        boot,
+        seq,
+        up,
+    } = *advert;
+    let mut bytes = [0; 17];
+    bytes[0] = origin as u8;
+    bytes[1..5].copy_from_slice(&boot.to_be_bytes());
+    bytes[5..9].copy_from_slice(&seq.to_be_bytes());
+    bytes[9..].copy_from_slice(&up.to_be_bytes());
+    bytes
+}
+
 fn put_advert(out: &mut Vec<u8>, advert: &Advert) -> Result<(), AllocError>
     requires { advert.now.origin < 64 }
     ensures { OnOk result (AppendsForm kinds.advert advert.now out.old.items out.new.items) }
 {
-    put_switch(out, advert.origin)?;
-    put_n4(out, advert.boot)?;
-    put_n4(out, advert.seq)?;
-    put_n8(out, advert.up)
+    out.extend_from_slice(&advert_bytes(advert))
 }
 
 #[tactic(auto, unfolding(crate::specs::Messages::hello))]

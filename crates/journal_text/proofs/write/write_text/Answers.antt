@@ -31,7 +31,7 @@ pub loop-item-init : goal.loop-item-init
 loop-item-init g c = record {
   held = held_first (g.K.Sink.state c.args.sink.now).bytes c.new-block.result c.new-line.result
       c.new-block.ensures c.new-line.ensures;
-  told = c.new-told.ensures c.args.net.now;
+  texts = c.new-texts.ensures c.args.net.now;
   faults = refl;
 }
 
@@ -65,7 +65,7 @@ loop-item-preserved g c =
         lines_more net items c.loop-item.item-index item c.loop-item-test.true c.item-item.is,
       ) (held_more text (item_line net item ++ 10 ∷ []) first.bytes now.bytes
           c.if-bytes-gt-ROOMY_BYTES.block c.if-bytes-gt-ROOMY_BYTES.line kept.0);
-      told = c.push_line.ensures.told;
+      texts = c.push_line.ensures.texts;
       faults = kept.1;
     }
 

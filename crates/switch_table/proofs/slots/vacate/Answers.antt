@@ -1,37 +1,64 @@
-use Rattle.std.proofs.Common.{◌≡◌, ◌∙◌, IfSome, None, ap, sym, subst}
-use Rattle.std.proofs.lemmas.Option.{same_Some}
-use Rattle.base.proofs.ListLemmas.{none_from_not_some}
+use Rattle.std.proofs.Common.{ℕ, ◌≡◌, ◌∙◌, ◌+◌, ◌-◌, ◌<◌, ◌^◌, IfSome, None, false, ap, arith, inr, slice_get, sym, subst}
+use Rattle.std.proofs.lemmas.Option.{same_Some, slice_get_within}
+use Rattle.std.proofs.lemmas.List.{length-map}
 use Rattle.indexmap.proofs.CallerLemmas.{insert_entry-new}
 use Rattle.indexmap.specs.IndexMap.{Updates, get}
 use Rattle.switch_table.specs.Keys.{equal_keys}
-use Rattle.switch_table.specs.Slots.{SlotPair, flags_of, live_pairs}
+use Rattle.switch_table.specs.Slots.{AreNamed, SlotPair, flags_of, is_live, live_pairs}
 use Rattle.switch_table.proofs.SlotPushLemmas.{IsRekeyed, rekeyed, rekeyed_flags, rekeyed_pairs}
+use Rattle.switch_table.specs.declared.key.CacheKey.{CacheKey}
+use Rattle.switch_table.proofs.SlotKeyLemmas.{named_absent, named_set}
 use Rattle.switch_table.proofs.slots.vacate.Goals as goal
 use Rattle.switch_table.proofs.slots.vacate.Goals.{After-swap_remove_index}
 
-made : (c : After-swap_remove_index) → IsRekeyed c.args.place
+at_place : (at place : ℕ) → 0 + at ≡ place → at ≡ place
+at_place at place here = omega (arith, here)
+
+-- there is a slot at the place
+within : (c : After-swap_remove_index) → c.args.place < 2 ^ 63
+within c = omega (
+  arith,
+  slice_get_within (flags_of c.args.map.now.entries) c.args.place false c.requires.dead,
+  length-map c.args.map.now.entries is_live,
+  c.requires.few,
+)
+
+-- the key of the place
+new_key : (c : After-swap_remove_index) → CacheKey
+new_key c = record { number = 2 ^ 64 - 1 - c.args.place; word = c.any.result }
+
+absent : (c : After-swap_remove_index) → get equal_keys c.args.map.now (new_key c) ≡ None
+unfolding new_key
+absent c =
+    named_absent (new_key c) c.args.place 0 c.args.map.now.entries (omega (arith, within c))
+    (within c) c.requires.named (λ at slot there here. c.requires.old slot
+    (ap (slice_get c.args.map.now.entries) (sym (at_place at c.args.place here)) ∙ there))
+
+made : (c : After-swap_remove_index) → IsRekeyed c.args.place (new_key c)
     c.swap_remove_index.result c.args.map.now.entries c.swap_remove_index.new.self.entries
+unfolding new_key equal_keys
 made c =
-    rekeyed _ _ _ _ _ _ _ c.requires c.index-slot.ensures
-    (c.in_ok-insert.ensures.entries ∙ insert_entry-new _ c.args.map.now _ _
-    (none_from_not_some _ (sym c.contains_key.ensures ∙ c.if-contains_key.false)))
+    rekeyed c.args.place (new_key c) _ _ _ _ _ c.requires.dead c.index-slot.ensures
+    (c.in_ok-insert.ensures.entries ∙ insert_entry-new _ c.args.map.now (new_key c) _ (absent c))
     c.swap_remove_index.ensures.entry c.swap_remove_index.ensures.entries
 
 pub returns-clause-pairs : goal.returns-clause-pairs
 returns-clause-pairs c =
-    let is = made (goal.at.returns-clause-pairs c).After-swap_remove_index in
+    let here = (goal.at.returns-clause-pairs c).After-swap_remove_index in
+    let is = made here in
     ap live_pairs is.new_is
-    ∙ rekeyed_pairs c.args.map.now.entries c.args.place is.pair is.key is.at is.dead
+    ∙ rekeyed_pairs c.args.map.now.entries c.args.place is.pair (new_key here) is.at is.dead
 
 pub returns-clause-flags : goal.returns-clause-flags
 returns-clause-flags c =
-    let is = made (goal.at.returns-clause-flags c).After-swap_remove_index in
+    let here = (goal.at.returns-clause-flags c).After-swap_remove_index in
+    let is = made here in
     ap flags_of is.new_is
-    ∙ rekeyed_flags c.args.map.now.entries c.args.place is.pair is.key is.at
+    ∙ rekeyed_flags c.args.map.now.entries c.args.place is.pair (new_key here) is.at
 
 pub returns-clause-gone : goal.returns-clause-gone
 unfolding equal_keys
-returns-clause-gone c = λ true pair at.
+returns-clause-gone c = λ pair at.
     let is = made (goal.at.returns-clause-gone c).After-swap_remove_index in
     let new = c.swap_remove_index.new.self in
     let updated = subst
@@ -39,3 +66,12 @@ returns-clause-gone c = λ true pair at.
     is.taken_is c.swap_remove_index.ensures.updates in
     subst (λ (p : SlotPair). get equal_keys new p.0 ≡ None)
     (same_Some is.pair pair (sym is.at ∙ at)) updated.1
+
+pub returns-clause-named : goal.returns-clause-named
+unfolding new_key
+returns-clause-named c =
+    let here = (goal.at.returns-clause-named c).After-swap_remove_index in
+    let is = made here in
+    subst (AreNamed 0) (sym is.new_is)
+    (named_set 0 c.args.map.now.entries c.args.place (new_key here, is.pair.1) c.requires.named
+    (inr (omega (arith, within here), is.dead)))

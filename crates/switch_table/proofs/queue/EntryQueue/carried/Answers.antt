@@ -12,8 +12,8 @@ all : (c : After-carried_entry)
 all c = ap (λ xs. c.loop-entry.yielded ++ xs) (sym c.in-Some.ensures.steps)
     ∙ c.loop-entry.invariant.1
 
-pub push-requires : goal.push-requires
-push-requires c =
+pub push-requires-clause-absent : goal.push-requires-clause-absent
+push-requires-clause-absent c =
     let version = c.args.version in
     let touched = c.args.touched.now in
     let entries = c.args.self.now in
@@ -23,9 +23,9 @@ push-requires c =
     let distinct : HaveDistinctKeys (filter_map (carried_entry version touched entries)
     (before ++ entry ∷ rest)) =
     subst (λ xs. HaveDistinctKeys (filter_map (carried_entry version touched entries) xs))
-    (sym (all (goal.at.push-requires c).After-carried_entry))
+    (sym (all (goal.at.push-requires-clause-absent c).After-carried_entry))
     (carried_distinct version touched entries c.iter-entry-items.ensures.distinct) in
-    ap (λ key. has_key key c.loop-entry.slots) c.key.ensures
+    ap (λ key. has_key key c.loop-entry.slots) c.key.ensures.key
     ∙ left_absent c.args.shift (carried_entry version touched entries) before entry
     c.in-Some-carried_entry.left rest c.loop-entry.slots distinct
     (sym c.carried_entry.ensures ∙ c.in-Some-carried_entry.is) c.loop-entry.invariant.0
@@ -42,7 +42,7 @@ loop-entry-preserved-in-Continue-1 c = (
       c.push.new.self (sym c.carried_entry.ensures ∙ c.in-Some-carried_entry.is)
       c.loop-entry.invariant.0
       (c.in_ok-push.ensures.ok
-      ∙ λ i. c.loop-entry.slots ++ (c.key.ensures i, c.learnt.ensures i) ∷ []),
+      ∙ λ i. c.loop-entry.slots ++ (c.key.ensures.key i, c.learnt.ensures i) ∷ []),
   onward (goal.at.loop-entry-preserved-in-Continue-1 c).After-carried_entry,
 )
 

@@ -9,6 +9,6 @@ pub returns : goal.returns
 returns c =
     let entry = c.args.entry.now in
     let pairs = c.self.inside.slots in
-    c.contains.ensures ∙ ap (λ key. has_key key pairs) c.key.ensures
+    c.contains.ensures ∙ ap (λ key. has_key key pairs) c.key.ensures.key
     ∙ has_key_of_entry c.self.inside.shift entry pairs c.self.invariant.versions
     ∙ ap (list_any (same_key entry)) c.self.view_is

@@ -16,6 +16,7 @@ invariant_of-self c =
     kept_slots (is_carried_key c.args.number c.args.touched.now) c.fill.new.self
     c.self.inside.map.entries c.retain.new.self.entries c.len.result
     (kept (goal.at.invariant_of-self c).After-retain) c.len.ensures.len c.fill.ensures
+    c.self.invariant.named
 
 pub returns : goal.returns
 returns c =

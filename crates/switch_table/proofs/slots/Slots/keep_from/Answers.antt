@@ -17,6 +17,7 @@ invariant_of-self c =
     kept_slots (λ (key : CacheKey). leb c.args.number key.number) c.fill.new.self
     c.self.inside.map.entries c.retain.new.self.entries c.len.result
     (kept (goal.at.invariant_of-self c).After-retain) c.len.ensures.len c.fill.ensures
+    c.self.invariant.named
 
 pub returns : goal.returns
 returns c =

@@ -1,6 +1,7 @@
-use Rattle.std.proofs.Common.{◌≡◌, ◌∙◌, ap, arith, inl, inr, length, refl, remove, slice_get}
-use Rattle.switch_table.specs.Slots.{AreSlots, live_pairs}
-use Rattle.switch_table.proofs.SlotPushLemmas.{count_live, swept_pairs}
+use Rattle.std.proofs.Common.{◌≡◌, ◌∙◌, ap, arith, inl, inr, length, refl, remove, slice_get, subst, sym}
+use Rattle.switch_table.specs.Slots.{AreNamed, AreSlots, is_live, live_pairs}
+use Rattle.switch_table.proofs.SlotKeyLemmas.{named_kept}
+use Rattle.switch_table.proofs.SlotPushLemmas.{count_live, swept_pairs, swept_slots}
 use Rattle.switch_table.proofs.SlotRemoveLemmas.{all_fit, nth_killed, nth_pair, slots_killed}
 use Rattle.switch_table.proofs.slots.Slots.remove.Goals as goal
 use Rattle.switch_table.proofs.slots.Slots.remove.Goals.{After-all, then-place-eq0, else-place-eq0}
@@ -62,6 +63,13 @@ overflow_add-all c =
 
 pub sweep-requires : goal.sweep-requires
 sweep-requires c = (left (goal.at.sweep-requires c).After-all).counted
+
+pub invariant_of-self : goal.invariant_of-self
+invariant_of-self c =
+    let are = left (goal.at.invariant_of-self c).After-all in
+    swept_slots c.sweep.new.live c.sweep.new.map.entries c.sweep.ensures.counts
+    (subst (AreNamed 0) (sym c.sweep.ensures.slots)
+    (named_kept is_live (λ slot is. is) 0 0 c.if-place-eq0.self-inside.map.entries are.named))
 
 pub invariant_of-self-else-len-all : goal.invariant_of-self-else-len-all
 invariant_of-self-else-len-all c = left (goal.at.invariant_of-self-else-len-all c).After-all

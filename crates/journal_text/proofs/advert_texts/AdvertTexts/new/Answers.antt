@@ -1,7 +1,7 @@
 use Rattle.std.proofs.lemmas.List.Elements.{All-replicate}
 use Rattle.std.specs.Prelude.{None}
-use Rattle.journal_text.specs.Told.{IsKept}
-use Rattle.journal_text.proofs.told.ToldAdverts.new.Goals as goal
+use Rattle.journal_text.specs.AdvertTexts.{IsKept}
+use Rattle.journal_text.proofs.advert_texts.AdvertTexts.new.Goals as goal
 
 pub returns : goal.returns
 returns c = λ net. All-replicate (IsKept net) 64 None tt

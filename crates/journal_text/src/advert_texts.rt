@@ -1,8 +1,8 @@
-//! Adverts that were written before: the text of one that is told again is copied.
+//! Adverts that were written before: the text of one that comes again is copied.
 ghost use Rattle.std.specs.Prelude.{◌≡◌, ◌≤◌, [], IfSome, length, take};
 ghost use Rattle.net_file.specs.declared.net.Net.{Net};
 ghost use Rattle.journal_text.specs.Lines.{advert_text};
-ghost use Rattle.journal_text.specs.Told.{AreTold, IsKeptText};
+ghost use Rattle.journal_text.specs.AdvertTexts.{AreAdvertTexts, IsKeptText};
 ghost use Rattle.lines.specs.Sizes.{IsNumber};
 ghost use Rattle.lines.specs.Pushes.{line_with};
 
@@ -12,27 +12,24 @@ use lines::Line;
 use net_file::Net;
 
 /// How many bytes the text of an advert that is kept has at most.
-const KEPT_BYTES: usize = 256;
-
-/// How many switches there are at most.
-const SWITCHES: u32 = 64;
+const KEPT_BYTES: usize = 512;
 
 /// An advert and its text.
 #[derive(Clone, Copy)]
 pub(crate) struct AdvertText {
     advert: Advert,
-    bytes: [u8; 256],
+    bytes: [u8; 512],
     len: usize,
 }
 
 impl AdvertText {
     fn new(advert: &Advert, text: &[u8]) -> AdvertText
-        requires { length text.now ≤ 256 }
+        requires { length text.now ≤ 512 }
         ensures advert { result.advert ≡ advert.now }
         ensures text { take result.len result.bytes ≡ text.now }
-        ensures within { result.len ≤ 256 }
+        ensures within { result.len ≤ 512 }
     {
-        let mut bytes = [0; 256];
+        let mut bytes = [0; 512];
         bytes[..text.len()].copy_from_slice(text);
         AdvertText {
             advert: *advert,
@@ -44,18 +41,18 @@ impl AdvertText {
 
 /// Of each switch the advert that was written last, with its text where that is short.
 #[derive(Drop)]
-pub(crate) struct ToldAdverts {
+pub(crate) struct AdvertTexts {
     kept: [Option<AdvertText>; 64],
     // The text that is written now.
     own: Line,
 }
 
-impl ToldAdverts {
+impl AdvertTexts {
     /// None was written.
-    pub fn new() -> ToldAdverts
-        ensures { (net : Net) → AreTold net result }
+    pub fn new() -> AdvertTexts
+        ensures { (net : Net) → AreAdvertTexts net result }
     {
-        ToldAdverts {
+        AdvertTexts {
             kept: [None; 64],
             own: Line::new(),
         }
@@ -63,10 +60,10 @@ impl ToldAdverts {
 
     /// Adds the text of an advert.
     pub fn push(&mut self, line: &mut Line, net: &Net, advert: &Advert)
-        requires { AreTold net.now self.old }
+        requires { AreAdvertTexts net.now self.old }
         ensures text { line.new ≡ line_with line.old (advert_text net.now advert.now) }
         ensures of_type { IsNumber advert.now.boot × IsNumber advert.now.seq }
-        ensures told { AreTold net.now self.new }
+        ensures texts { AreAdvertTexts net.now self.new }
     {
         match self.find(advert) {
             Some(kept) => line.push_bytes(&kept.bytes[..kept.len]),
@@ -81,9 +78,9 @@ impl ToldAdverts {
     fn find(&self, advert: &Advert) -> Option<&AdvertText>
         ensures advert { IfSome result (λ kept. kept.now.advert ≡ advert.now) }
         ensures text { IfSome result (λ kept.
-            (net : Net) → AreTold net self.now → IsKeptText net kept.now) }
+            (net : Net) → AreAdvertTexts net self.now → IsKeptText net kept.now) }
     {
-        let kept = self.kept[(advert.origin % SWITCHES) as usize].as_ref()?;
+        let kept = self.kept[(advert.origin % 64) as usize].as_ref()?;
         if kept.advert == *advert {
             Some(kept)
         } else {
@@ -92,17 +89,18 @@ impl ToldAdverts {
     }
 
     // Writes the text of an advert, and keeps it if it is short.
+    #[inline(never)]
     fn write(&mut self, net: &Net, advert: &Advert)
-        requires { AreTold net.now self.old }
+        requires { AreAdvertTexts net.now self.old }
         ensures own { self.new.own ≡ line_with [] (advert_text net.now advert.now) }
         ensures of_type { IsNumber advert.now.boot × IsNumber advert.now.seq }
-        ensures told { AreTold net.now self.new }
+        ensures texts { AreAdvertTexts net.now self.new }
     {
         self.own.clear();
         push_advert(&mut self.own, net, advert);
         let text = self.own.bytes();
         if text.len() <= KEPT_BYTES {
-            let place = (advert.origin % SWITCHES) as usize;
+            let place = (advert.origin % 64) as usize;
             self.kept[place] = Some(AdvertText::new(advert, text));
         }
     }

@@ -2,13 +2,13 @@
 use Rattle.std.specs.Prelude.{⊤, ◌≡◌, ◌≤◌, All, Option, Some, None, [], take}
 use Rattle.net_file.specs.declared.net.Net.{Net}
 use Rattle.journal_text.specs.Lines.{advert_text}
-use Rattle.journal_text.specs.declared.told.AdvertText.{AdvertText}
-use Rattle.journal_text.specs.declared.told.ToldAdverts.{ToldAdverts}
+use Rattle.journal_text.specs.declared.advert_texts.AdvertText.{AdvertText}
+use Rattle.journal_text.specs.declared.advert_texts.AdvertTexts.{AdvertTexts}
 use Rattle.lines.specs.Sizes.{IsNumber}
 use Rattle.lines.specs.Pushes.{line_with}
 
 pub record IsKeptText (net : Net) (kept : AdvertText) : Type 0 where
-  pub within : kept.len ≤ 256
+  pub within : kept.len ≤ 512
   pub boot : IsNumber kept.advert.boot
   pub seq : IsNumber kept.advert.seq
   pub text : take kept.len kept.bytes ≡ line_with [] (advert_text net kept.advert)
@@ -17,5 +17,5 @@ abbrev pub IsKept : Net → Option AdvertText → Type 0
 IsKept net None = ⊤
 IsKept net (Some kept) = IsKeptText net kept
 
-abbrev pub AreTold : Net → ToldAdverts → Type 0
-AreTold net told = All (IsKept net) told.kept
+abbrev pub AreAdvertTexts : Net → AdvertTexts → Type 0
+AreAdvertTexts net texts = All (IsKept net) texts.kept

@@ -1,8 +1,8 @@
 use Rattle.std.proofs.Common.{◌∙◌, ap, subst}
 use Rattle.failover.specs.declared.advert.Advert.{Advert}
 use Rattle.journal_text.specs.Lines.{advert_text}
-use Rattle.journal_text.proofs.ToldTexts.{held_text}
-use Rattle.journal_text.proofs.told.ToldAdverts.push.Goals as goal
+use Rattle.journal_text.proofs.HeldTexts.{held_text}
+use Rattle.journal_text.proofs.advert_texts.AdvertTexts.push.Goals as goal
 use Rattle.lines.specs.Sizes.{IsNumber}
 use Rattle.lines.specs.Pushes.{line_with}
 
