@@ -4,12 +4,12 @@
 usage: bench/changes.py BIN
 
 BIN is the proved program (`rt run` leaves it in crates/difane/out/difane). On one switch a policy
-of 2,000 rows is updated 63 times, with a flush behind each update: by changes that put one row in
-the place of another, or by whole files of the same rows. Then 100,000 updates are refused: for a
-row that isn't there, or for too many live versions. Last each of 62 changes is refused for too many
-leaves behind each of 63 updates. Each case runs in a folder of its own, with its output sent to a
-file. Prints a line a case: seconds, peak memory in MiB, items and bytes of the journal written.
-With no event it is what reading the files takes. It needs GNU time.
+of 2,000 rows is updated 63 times, with a flush after each update: by changes that replace one row by
+another, or by whole files of the same rows. Then 100,000 updates are refused: for a row that
+doesn't exist, or for too many versions that aren't retired. Last, each of 62 changes is refused for
+too many leaves after each of 63 updates. Each case runs in a folder of its own, with its output sent to a
+file. Prints a line for each case: seconds, peak memory in MiB, items and bytes of the journal written.
+With no event it is the time of reading the files. It needs GNU time.
 """
 import os
 import random

@@ -1,5 +1,5 @@
 #!/usr/bin/env python3
-"""Times lookups of Open vSwitch beside packet rows of the program, on the same tables.
+"""Times lookups of Open vSwitch and packet rows of the program, on the same tables.
 
 usage: bench/ovs.py BIN
 

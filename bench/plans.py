@@ -3,8 +3,8 @@
 
 Policies of 500, 1,000 and 2,000 rows are cut into leaves of at most 32 rules. *Subnets* are those
 of `bench/replay.py`, on one switch; *scattered* rows have random prefixes from /8 to /32, on four
-switches, for more rules than one has room for. Then a policy is cut into 512 partitions that stand
-at two of 64 switches each. Each figure is the least of several runs, with the start of the process.
+switches, for more rules than one has room for. Then a policy is cut into 512 partitions at two of
+64 switches each. Each figure is the least of several runs, including the start of the process.
 """
 import os
 import random

@@ -1,10 +1,10 @@
 #!/usr/bin/env python3
-"""Times what `--quiet` adds to a replay, where few or many messages wait at the end.
+"""Times what `--quiet` adds to a replay with few or many messages that wait at the end.
 
 usage: bench/quiet.py BIN [RUNS]
 
-BIN is the proved program (`rt run` leaves it in crates/difane/out/difane). Prints a line a case:
-what the judge says, the items of the journal, the seconds of the processor without and with
+BIN is the proved program (`rt run` leaves it in crates/difane/out/difane). Prints a line for each case:
+the verdict, the items of the journal, the seconds of the processor without and with
 `--quiet`, each the median of RUNS runs (5), and the part that the judge adds.
 """
 import os

@@ -4,8 +4,8 @@
 usage: bench/replay.py BIN
 
 BIN is the proved program (`rt run` leaves it in crates/difane/out/difane). Each case runs in a
-folder of its own, with its output sent to a file. Prints a line a case: seconds, peak memory in
-MiB, bytes written. It needs GNU time.
+folder of its own, with its output sent to a file. Prints a line for each case: seconds, peak memory
+in MiB, bytes written. It needs GNU time.
 """
 import os
 import random

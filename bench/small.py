@@ -1,17 +1,17 @@
 #!/usr/bin/env python3
 """Times calls of single crates: `bench/small.py [NAME..]`, or all of these.
 
-    carries    `Cache::carry` over 4,096 cached rules and a change of one row, beside `Cache::raise`
-    memory     the peak memory of a plan, of all switches' tables beside it, and of 64 versions of
+    carries    `Cache::carry` over 4,096 cached rules and a change of one row, and `Cache::raise`
+    memory     the peak memory of a plan, with all switches' tables, and of 64 versions of
                one plan at a controller
     networks   `read_net` over a large network, and over files of 16 MB that are refused
     routes     `Database::route` over a ring, a star, a fat tree, a full mesh and a random network
     rules      the reading of a policy of 2,000 rows, and the list of its 4,096 words
     schedules  `read_schedule` over 100,000 rows, for a network of 64 switches
     switches   `Switch::enter` and `Switch::arrive` against tables of 512 partitions
-    widen      the word of a cache rule, behind 0, 100 and 1,000 earlier rules
+    widen      the word of a cache rule, after 0, 100 and 1,000 earlier rules
 
-For each it makes a small program over copies of the crates that it uses, in a folder of its own,
+For each it makes a small program over copies of the crates that it uses, in its own folder,
 lets `rt run` prove and build it, and runs it again and again. It needs `rt` on the path, and for
 the memory GNU time.
 """

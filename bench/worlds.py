@@ -4,11 +4,11 @@
 usage: bench/worlds.py BIN
 
 BIN is the proved program (`rt run` leaves it in crates/difane/out/difane). Port i is at switch i;
-two opposite switches are authorities. A schedule has 33,000 packets: alone, with a drain behind
-each, or with a drain and a flush, so that the cache rules that authorities send are delivered. Two
+two opposite switches are authorities. A schedule has 33,000 packets: without a drain, with a drain
+after each, or with a drain and a flush, so that the cache rules that authorities send are delivered. Two
 more have 60 updates, each with 400 drained packets and a flush, and 100,000 updates that are
-refused. Each case runs in a folder of its own, with its output sent to a file. Prints a line a
-case: seconds, peak memory in MiB, items and bytes of the journal written. It needs GNU time.
+refused. Each case runs in a folder of its own, with its output sent to a file. Prints a line for
+each case: seconds, peak memory in MiB, items and bytes of the journal written. It needs GNU time.
 """
 import os
 import random

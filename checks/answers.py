@@ -5,17 +5,18 @@ A section whose heading names a crate in backticks is that crate's. Its tables w
 "Clause" have three kinds of rows, by the first cell:
 
 - Empty: a fact, with at least one reference in the last cell.
-- Calls of the crate, of which the row says what they answer. The last cell names clauses that each
-  of them has, `ensures` for the one that has no name, and references to others.
+- Calls of the crate; the row says what they return. The last cell names clauses that each of them
+  has, `ensures` for the one without a name, and references to others.
 - Calls whose second cell says "never out of memory"; those after the word "except" are left out.
 
-A reference is `call.clause`, or the call alone where its contract has one clause, with a crate and
-`::` before it where it is another crate's; `*` stands for any letters. In all other text of
-a page what begins with a crate's name is one, and in a crate's section also `call.clause`.
+A reference is `call.clause`, or only the call if its contract has one clause, with a crate and `::`
+before it if it is another crate's; `*` matches any letters. In all other text of a page, words in
+backticks that begin with a crate's name are references, and in a crate's section also
+`call.clause`.
 
-It ends with 1 where a crate, a call or a clause that is named isn't there, where a row names no
-clause, where a public call that may answer `None`, `false` or an error has no row of the second
-kind, or where a call that is said never to want memory may answer that there is none.
+It ends with 1 if a named crate, call or clause doesn't exist, if a row names no clause, if a public
+call that may return `None`, `false` or an error has no row of the second kind, or if a call that is
+said never to run out of memory may return that it did.
 """
 import re
 import sys

@@ -1,9 +1,9 @@
 #!/usr/bin/env python3
-"""Sees that each must-fail edit still applies: `checks/edits.py`.
+"""Checks that each must-fail edit still applies: `checks/edits.py`.
 
-An edit names a file of its crate (`file: `), and what stands there (`old: `) with what is to stand
-in its place (`new: `). It ends with 1 where such a file isn't there, or the old text doesn't stand
-in it exactly once.
+An edit names a file of its crate (`file: `), a text in it (`old: `) and the text that replaces it
+(`new: `). It ends with 1 if there is no such file, or if the old text doesn't occur in it exactly
+once.
 """
 import sys
 

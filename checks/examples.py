@@ -2,9 +2,9 @@
 """Compares the texts of examples/ with the models, and the pictures with the scripts that draw them.
 
 Plans and tables are those of `model/plan_model.py`, what replays print is that of
-`model/slow_replay.py`, and what is said of traces that of `model/slow_audit.py`. The gate compares
-the same texts with the program (crates/examples). What the gate told of commands that are refused,
-and of traces that aren't good, is what `model/refusals.py` says.
+`model/slow_replay.py`, and verdicts on traces are those of `model/slow_audit.py`. The gate compares
+the same texts with the program (crates/examples). What the program prints for commands that are
+refused, and for traces that aren't good, is what `model/refusals.py` says.
 """
 import re
 import subprocess

@@ -3,7 +3,7 @@
 
 Without arguments the commands are a load case, and a replay, its flows, its rebalance, an audit of
 its journal, a compile and a show of the day of a campus, examples/day. The N-th call for memory
-fails, alone and then with all after it, for N from 1 to the calls of a run in which none fails.
+fails, first only this one and then all after it too, for N from 1 to the calls of a run in which none fails.
 Each run must end with status 0 and the whole output, or with status 7 and a part of it from the
 front, not all; and its line of errors must be that of the status, or a part of it. Else this ends
 with 1. It needs a C compiler and Linux.

@@ -2,16 +2,16 @@
 """Writes the table of docs/GATE.md: `checks/gate.py [--measure]`.
 
 For each crate it counts the lines of code (without tests), of definitions and of proofs, and the
-must-fail edits. The seconds of the table stay as they are, unless `--measure` is given: then it
+must-fail edits. The seconds of the table stay unchanged, unless `--measure` is given: then it
 runs the whole gate once, `rt ci`, at the top of this repository, where nothing may be kept yet, and
 writes the processor seconds that the prover took for each crate's proof, for its tests (a crate
 with tests is proved once more together with them) and for its edits. It looks five times a second
 at each process of the prover that `rt ci` has begun, and takes the last figure that it saw of each.
 
-Below the table it writes, and prints, the sum of the seconds, and how often they have those of the
-proof of YARDSTICK: machines differ in seconds, and less in that. Of a run that it measured a
-sentence tells what it took as the system counts it, and what of that went beside the table: to link
-and run what was proved, and to `rt` itself. Nothing is written where `rt ci` fails.
+Below the table it writes, and prints, the sum of the seconds, and the same as multiples of the
+proof of YARDSTICK: machines differ in seconds, and less in that. About a run that it measured a
+sentence says what it took as the system counts it, and what of that isn't in the table: linking
+and running what was proved, and `rt` itself. Nothing is written if `rt ci` fails.
 """
 import os
 import re

@@ -1,9 +1,9 @@
 #!/usr/bin/env python3
 """Finds lemmas of any kind of values above `base`: `checks/generic_lemmas.py [--list]`.
 
-A lemma that binds a type, and whose statement names nothing of this repository, is on lists, options or tests as such: it stands in
-`base/proofs`, or in std. It ends with 1 where one stands in another crate and isn't among those that may stay, each with its reason; or
-where one of these has gone. With `--list` it lists those that may stay, too.
+A lemma that binds a type, and whose statement names nothing of this repository, is about lists, options or tests in general: it belongs in
+`base/proofs`, or in std. It ends with 1 if one is in another crate and isn't among those that may stay, each with its reason; or
+if one of these no longer exists. With `--list` it lists those that may stay, too.
 """
 import sys
 from itertools import count

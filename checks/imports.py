@@ -1,10 +1,10 @@
 #!/usr/bin/env python3
-"""Sees that what files import of other crates is there: `checks/imports.py`.
+"""Checks that what files import from other crates exists: `checks/imports.py`.
 
 It reads each `use Rattle.CRATE.specs.FILE` and `use Rattle.CRATE.proofs.FILE` of a crate of this
-repository, and each `CRATE::proofs::FILE::name`. It ends with 1 where a crate isn't among the
-libraries of crates.txt, where there is no such file, or where a name that is imported doesn't occur
-in it; then no prover needs to be asked. What the prover makes by itself is left to it.
+repository, and each `CRATE::proofs::FILE::name`. It ends with 1 if a crate isn't among the
+libraries of crates.txt, if there is no such file, or if an imported name doesn't occur in it; so
+this needs no prover. Names that the prover makes are left to it.
 """
 import re
 import sys

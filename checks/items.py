@@ -1,9 +1,9 @@
 #!/usr/bin/env python3
-"""Sees that docs/THEOREM.md tells of each item and each field of a journal: `checks/items.py`.
+"""Checks that docs/THEOREM.md has each item and each field of a journal: `checks/items.py`.
 
 The table that begins with HEAD has a row for each variant of `Item`, in its order. In the row's
-other cells each field of the variant stands once in backticks. It ends with 1 where an item or a
-field is missing, or stands twice.
+other cells each field of the variant occurs once in backticks. It ends with 1 if an item or a
+field is missing, or occurs twice.
 """
 import re
 import sys
@@ -33,7 +33,7 @@ def rows():
 def faults():
     known, told = items(), dict(rows())
     if [*told] != [*known]:
-        yield f"docs/THEOREM.md tells of other items, or in another order: {[*known]}"
+        yield f"docs/THEOREM.md has other items, or another order: {[*known]}"
     for name, fields in known.items():
         found = [word for word in told.get(name, []) if word in fields]
         for field in fields:

@@ -1,11 +1,11 @@
 #!/usr/bin/env python3
-"""Finds lemmas that stand twice: `checks/lemmas.py [--std] [--list]`.
+"""Finds lemmas that occur twice: `checks/lemmas.py [--std] [--list]`.
 
-Two lemmas are repeats of one another if their statements are equal but for layout and the names of bound variables; a name that is
-imported counts by where it is defined. It ends with 1 where a group of equal statements isn't in the table of docs/MAP.md under
+Two lemmas are repeats of one another if their statements are equal except for layout and the names of bound variables; a name that is
+imported counts by where it is defined. It ends with 1 if a group of equal statements isn't in the table of docs/MAP.md under
 "Lemmas that stand twice", or a row of that table is no such group. With `--list` it lists each group, those of the table too. With
-`--std` it lists the lemmas, too, whose statement a lemma of the kit at $RATTLE_KIT or /opt/rattle has, by the names alone: `rt lemma` says
-which of those std exports.
+`--std` it also lists the lemmas whose statement a lemma of the kit at $RATTLE_KIT or /opt/rattle has, compared only by names: `rt lemma`
+says which of those std exports.
 """
 import os
 import re

@@ -1,9 +1,9 @@
 #!/usr/bin/env python3
-"""Sees that what pages and scripts lead to is there: `checks/links.py`.
+"""Checks that what pages and scripts link to exists: `checks/links.py`.
 
-It looks at each link of a page to a file of this repository or to a heading, and at each name in
-backticks of a file of a crate, as `CRATE/src/FILE`. In pages, scripts and sources it looks at each name of a file
-of docs/, checks/, desk/, model/ or bench/. It ends with 1 where there is no such file.
+It looks at each link of a page to a file of this repository or to a heading, and at each name of a
+crate's file in backticks, such as `CRATE/src/FILE`. In pages, scripts and sources it looks at each name of a file
+of docs/, checks/, desk/, model/ or bench/. It ends with 1 if there is no such file.
 """
 import os
 import re

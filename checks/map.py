@@ -3,15 +3,14 @@
 
 In its part PART the page has a heading for each layer, the lowest first, and under it a table with
 a row for each crate. The name of the crate is written by hand; the script writes the rest of the
-row: what the crate is for, which is the first sentence of its root file, and on which crates it
-stands. Of these those are left out that follow from others: where A uses B and C, and B stands on
-C, A stands on B alone. The picture has the same lines, by `dot` (Debian's package graphviz).
+row: what the crate is for, which is the first sentence of its root file, and which crates it
+depends on, without those that follow from others: if A uses B and C, and B depends on C, the row
+of A has only B. The picture has the same lines, by `dot` (Debian's package graphviz).
 
-With `--check` it only compares. It ends with 1 where a crate stands in no layer or in two, or uses
-one of a later layer; where the page has a row that names no crate; where the page or the picture
-differ from crates.txt and the root files; where crates.txt, whose comments are the headings of the
-layers, has other layers; and where a crate with contracts has no place in
-docs/PROVED.md or docs/CLAUSES.md.
+With `--check` it only compares. It ends with 1 if a crate is in no layer or in two, or uses one of a
+later layer; if the page has a row that names no crate; if the page or the picture differ from
+crates.txt and the root files; if crates.txt, whose comments are the headings of the layers, has
+other layers; or if a crate with contracts has no part in docs/PROVED.md or docs/CLAUSES.md.
 """
 import html
 import re

@@ -1,14 +1,13 @@
 #!/usr/bin/env python3
-"""Sees that one name says one thing: `checks/names.py [--list]`.
+"""Checks that one name means one thing: `checks/names.py [--list]`.
 
-It ends with 1 where a definition of `specs/` stands in two crates and isn't among those that
-docs/GLOSSARY.md lists as saying the same of two values, or such a row has gone; where a type of
-`src/` stands in two; where constants of two crates have one number and one last word, as
-`MAX_ROWS` and `ROWS`; where a limit is called `MOST`; where the name of a definition, a type, a
-function or a file has a word of WORDS, which had several meanings; or where a shared file of
-`proofs/` has one word for its name, and not its subject. It prints how many there are of each, and
-how many lines of definitions and proofs stand for a line of code. Of tests only the types are looked
-at. With `--list` it prints what it found of each kind.
+It ends with 1 if a definition of `specs/` is in two crates and isn't among those that
+docs/GLOSSARY.md lists as meaning the same for two values, or such a row is out of date; if a type
+of `src/` is in two; if constants of two crates have the same number and the same last word, as
+`MAX_ROWS` and `ROWS`; if a limit is called `MOST`; if the name of a definition, a type, a function
+or a file has a word of WORDS, which had several meanings; or if a shared file of `proofs/` has one
+word for its name, and not its subject. It prints how many there are of each, and how many lines of
+definitions and proofs there are for each line of code. Of tests it looks only at the types. With `--list` it prints what it found of each kind.
 """
 import re
 import sys

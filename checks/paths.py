@@ -1,9 +1,9 @@
 #!/usr/bin/env python3
-"""Counts how deep the crates stand: `checks/paths.py`.
+"""Counts how deep the crates are: `checks/paths.py`.
 
 It prints how many crates there are, how many uses of one by another, how many crates the longest
 chain of uses has, and how many paths of uses begin with `TOP`. A kit that walks each path pays for
-these before each check. It ends with 1 where the chain or the paths are above the limits.
+these before each check. It ends with 1 if the chain or the paths exceed the limits.
 """
 import sys
 

@@ -2,12 +2,12 @@
 """Looks for prose that is hard to read: `checks/prose.py [FILE..]`.
 
 Without a file it looks at all pages: README.md, those of docs/ and desk/, and the README of bench,
-model and of each example; and at the comments of the sources and definitions for the words of
-DIALECT.
+model and of each example. For the words of DIALECT it looks, too, at the comments of the sources and
+definitions, at the manual page, and at the heads of scripts, which `--help` prints.
 
-It ends with 1 where a sentence or a cell of a table has more than 40 words, or a line that is no
-row of a table, no link and no code more than 100 columns; where a page or a comment has a word of
-DIALECT; and where a page has one of PAGES_ONLY. Beside each word is the plain one. Text in backticks
+It ends with 1 if a sentence or a cell of a table has more than 40 words, or a line that is no row
+of a table, no link and no code more than 100 columns; if any of these has a word of DIALECT; or if
+a page has one of PAGES_ONLY. With each word it prints the plain one. Text in backticks
 counts as one word.
 """
 import re
@@ -35,7 +35,7 @@ DIALECT = {
     r"go(?:es)? over to": "is carried to",
     r"[Ww]hoever (?:is told|sends|asks|stamps)": "a switch that, code that",
     r"sees to it": "makes sure",
-    r"answers? `": "returns",
+    r"answers? `(?:None|false|true|Ok|Err|Some)": "returns",
     r"so it is (?:with|of|for)": "the same is true of",
     r"(?:it|they) stands? (?:behind|before|beside|there|still|for)": "is, follows, means",
 }
@@ -99,9 +99,18 @@ def comments():
         yield path, [line if re.match(r"\s*(//|--)", line) else "" for line in lines]
 
 
+def helps():
+    """The manual page, and the head of each script up to the end of its first text."""
+    yield HOME / "docs/difane.1", (HOME / "docs/difane.1").read_text().splitlines()
+    for folder in ("desk", "bench", "model", "checks"):
+        for path in sorted((HOME / folder).iterdir()):
+            text = path.read_text() if path.is_file() and path.suffix in ("", ".py") else ""
+            yield path, "".join(text.partition('"""')[::2]).partition('"""')[0].splitlines()
+
+
 def main():
     found = 0
-    for path, lines in () if sys.argv[1:] else comments():
+    for path, lines in () if sys.argv[1:] else (*comments(), *helps()):
         for number, why in dialect(lines, DIALECT):
             print(f"{path}:{number}: {why}")
             found += 1

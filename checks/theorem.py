@@ -3,17 +3,16 @@
 
 A definition is reached if a clause of `run` names it, or a definition that is reached does. The
 first tier is what is reached without passing one of STOPS; the core of it is what CORE reaches so.
-The second tier is what else is reached without passing HELD, and the third part what HELD reaches
-alone. The page names a file of specs/ as `crate/File.antt`.
+The second tier is what else is reached without passing HELD, and the third part what only HELD
+reaches. The page names a file of specs/ as `crate/File.antt`.
 
-It ends with 1 where the files that the page names in its part on a tier aren't exactly those that
-are reached; where a file of the first tier has a definition that this tier doesn't reach, or
-doesn't say at its head that it is of this tier (MARK), or another file does; where the page's table
-of the types declared in src/ isn't exactly of those that the first tier speaks of; where a number
-of the page is another than is counted; or where this page or docs/TRUST.md says "`name` of
-`crate/File.antt`" and no such definition stands there; or where the lines of a wrong journal are
-others there than in the law of how it prints, or the facts that refuse it others than in the law of
-what refuses it. With `--write` it writes the numbers. With
+It ends with 1 if the files that the page names in its part on a tier aren't exactly those that are
+reached; if a file of the first tier has a definition that this tier doesn't reach, or doesn't say
+at its head that it is of this tier (MARK), or another file does; if the page's table of the types
+declared in src/ doesn't have exactly those that the first tier uses; if a number of the page
+differs from the count; if this page or docs/TRUST.md says "`name` of `crate/File.antt`" and there
+is no such definition; or if the lines of a wrong journal differ from those in the law of how it
+prints, or the facts that refuse it from those in the law of what refuses it. With `--write` it writes the numbers. With
 `--list` it prints each file with its lines, how many of them are reached, and what isn't.
 """
 import re

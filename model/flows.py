@@ -4,7 +4,7 @@
     model/flows.py FOLDER
     desk/run FOLDER
 
-Four switches stand in a ring, two of them are authorities, and leaves have few rules, so that
+Four switches form a ring, two of them are authorities, and leaves have few rules, so that
 regions are cut at bits of ports and of protocols too. Half of the 300 rows have ports and any
 protocol; the others have one of many protocols, and few have both addresses. The tables of each
 switch are those of `model/plan_model.py`. Each of the 600 packets is like a row: it has that row's

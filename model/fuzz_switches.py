@@ -5,8 +5,8 @@ usage: model/fuzz_switches.py COUNT [START]
 
 The cases are those of `model/fuzz.py` without rows that make links or switches fail, and with more
 drains and flushes; half of the later policies are changes. Each is played by
-`desk/openvswitch --network`, whose lines are shown where anything differs. At last it prints
-how many packets were compared, and why others weren't. It ends with 1 where there was a difference.
+`desk/openvswitch --network`, whose lines are shown if anything differs. At the end it prints
+how many packets were compared, and why others weren't. It ends with 1 if there was a difference.
 """
 import re
 import subprocess

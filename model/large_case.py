@@ -1,9 +1,9 @@
 #!/usr/bin/env python3
 """Makes a folder with a large case: `model/large_case.py FOLDER PACKETS`.
 
-The network is the fat tree of the examples, and each edge switch has a prefix of its own. Packets
+The network is the fat tree of the examples, and each edge switch has its own prefix. Packets
 come in at random edges, in flows that repeat, and hop by rows of their own; messages are delivered
-in their order, and all that wait behind two of the updates. On the way links fail and come back,
+in their order, and all that wait after two of the updates. On the way links fail and come back,
 and a switch crashes and restarts. The journal is that of `model/slow_replay.py`.
 """
 import random

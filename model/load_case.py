@@ -1,9 +1,9 @@
 #!/usr/bin/env python3
-"""The output of `load`, worked out anew from its definition and slowly.
+"""The output of `load`, computed independently from its definition and slowly.
 
 usage: model/load_case.py N
 
-The case is that of docs/FORMATS.md: a linear congruential generator draws its policies and packets.
+The case is that of docs/FORMATS.md: a linear congruential generator makes its policies and packets.
 The play is that of `model/slow_replay.py`, and the counts are those of its journal's lines.
 """
 import csv

@@ -1,11 +1,11 @@
 #!/usr/bin/env python3
-"""The texts of `compile` and `show`, worked out anew from their definitions and slowly.
+"""The texts of `compile` and `show`, computed independently from their definitions and slowly.
 
 usage: model/plan_model.py POLICY [SWITCH] [--net NET]
 
 It shares nothing with the program. The expected texts of examples/ come from it, and
-`checks/examples.py` compares them with it. It reads accepted files alone, and refuses nothing but a
-plan without room.
+`checks/examples.py` compares them with it. It reads only accepted files, and refuses only a plan
+without room.
 """
 import csv
 import sys

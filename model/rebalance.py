@@ -1,5 +1,5 @@
 #!/usr/bin/env python3
-"""The output of `rebalance`, worked out anew from its definitions and slowly.
+"""The output of `rebalance`, computed independently from its definitions and slowly.
 
 usage: model/rebalance.py SCHEDULE POLICY.. [--net NET]
 

@@ -1,13 +1,13 @@
 #!/usr/bin/env python3
-"""What `difane` says of arguments and files that it refuses, worked out anew from docs/FORMATS.md.
+"""What `difane` says of arguments and files that it refuses, computed from docs/FORMATS.md.
 
 usage: model/refusals.py ARGUMENTS
 
 The arguments are those of the program. It prints the line that the program writes on standard error
-and ends with its status, 1 to 4; where nothing is refused it prints nothing and ends with 0. It
+and ends with its status, 1 to 4; if nothing is refused it prints nothing and ends with 0. It
 shares nothing with the program: records are those of Python's `csv`, documents those of `tomllib`,
 plans those of `model/slow_replay.py`, and verdicts on traces those of `model/slow_audit.py`. What
-TOML 1.1 has beyond 1.0 it takes for a refusal.
+TOML 1.1 added to 1.0 it refuses.
 """
 import csv
 import io

@@ -1,4 +1,4 @@
-"""What `model/slow_replay.py` has in its network behind each row of a schedule."""
+"""What `model/slow_replay.py` has in its network after each row of a schedule."""
 import csv
 import tomllib
 from pathlib import Path

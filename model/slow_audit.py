@@ -1,11 +1,11 @@
 #!/usr/bin/env python3
-"""What `audit` says of a trace, worked out anew from its definitions and slowly.
+"""What `audit` says of a trace, computed independently from its definitions and slowly.
 
 usage: model/slow_audit.py TRACE POLICY..
 
 It prints `yes`, or on standard error the line of status 1, with which it then ends. It shares
 nothing with the program: a trace is text, cut at line feeds and blanks, and a decision is the first
-rule of `model/plan_model.py` that holds the header. Files that aren't there or are refused get the
+rule of `model/plan_model.py` that holds the header. Files that don't exist or are refused get the
 line and the status that the program has for them (`model/refusals.py`).
 """
 import re

@@ -1,14 +1,14 @@
 #!/usr/bin/env python3
-"""The output of `replay`, worked out anew from its definitions and slowly.
+"""The output of `replay`, computed independently from its definitions and slowly.
 
 usage: model/slow_replay.py SCHEDULE POLICY.. [--net NET] [--quiet | --flows]
 
-A POLICY behind the first may be a change: rows to remove and to add. With `--flows` it is the output
+A POLICY after the first may be a change: rows to remove and to add. With `--flows` it is the output
 of `flows`.
 
 It shares nothing with the program: the plans are those of `model/plan_model.py`, and all that
 happens is written from the definitions in words, in sets and lists. `model/fuzz.py` compares it
-with the program. It reads accepted files alone, and ends with 3 where the first policy has no plan.
+with the program. It reads only accepted files, and ends with 3 if the first policy has no plan.
 """
 import csv
 import sys
