@@ -22,7 +22,7 @@ from crates import HOME, below, height, layers, sources, uses
 PICTURE, PAGE = HOME / "docs/map.svg", HOME / "docs/MAP.md"
 PROVED = HOME / "docs/PROVED.md", HOME / "docs/CLAUSES.md"
 PART = "## The crates by layer\n"
-HEAD = "| Crate | What it is for | Stands on |\n|---|---|---|\n"
+HEAD = "| Crate | What it is for | Depends on |\n|---|---|---|\n"
 NAMED = re.compile(r"^\| `(\w+)` \|.*\n", re.M)
 COLOURS = ["#eceff4", "#dbe9f9", "#fff2c9", "#e3f3dc", "#f8e0d5", "#e9e1f5", "#f4f4f4"]
 
