@@ -56,7 +56,7 @@ def main():
     for name in sorted(gone):
         print(f"no such lemma: {name}")
     wrong = found.keys() - STAYS.keys()
-    print(f"{len(found)} lemmas of any kind above {LOWEST}, {len(wrong)} of them may not stand there")
+    print(f"{len(found)} lemmas of any kind above {LOWEST}, {len(wrong)} of them must not be there")
     sys.exit(bool(wrong or gone))
 
 

@@ -52,7 +52,7 @@ def is_proved(name):
 
 
 def parts_of(page):
-    """What stands before the part on layers, its pieces by layer, and what stands behind it."""
+    """The text before the part on layers, its pieces by layer, and the text after it."""
     before, rest = page.split(PART)
     part, *behind = re.split(r"^(?=## )", rest, maxsplit=1, flags=re.M)
     first, *layers = re.split(r"^(?=### )", part, flags=re.M)
@@ -120,7 +120,7 @@ def misplaced(layers):
         if name not in uses():
             yield f"docs/MAP.md: {name} is no crate"
         elif every.count(name) != 1:
-            yield f"docs/MAP.md: {name} stands in {every.count(name)} layers"
+            yield f"docs/MAP.md: {name} is in {every.count(name)} layers"
     place = {name: k for k, names in enumerate(layers) for name in names}
     for name in uses():
         for other in uses()[name]:

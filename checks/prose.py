@@ -39,6 +39,7 @@ DIALECT = {
     r"so it is (?:with|of|for)": "the same is true of",
     r"(?:it|they) stands? (?:behind|before|beside|there|still|for)": "is, follows, means",
     r"[Ss]tands on": "depends on",
+    r"stands? twice": "occurs twice, occur twice",
     r"(?:is|are|first) red": "is refused, isn't proved",
 }
 PAGES_ONLY = {  # words that comments may have
