@@ -72,4 +72,5 @@ def text(found):
         heading = ["packet", "switch", "here", "rule", "there", "rule", "header"]
         yield from table(heading, rows)
         yield ""
-    yield f"with the same fate: {found['same fate']}, by another row {found['by another row']}"
+    others = found["by another row"]
+    yield f"with the same fate: {found['same fate']}, of which another row decided {others}"
