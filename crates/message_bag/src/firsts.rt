@@ -1,4 +1,4 @@
-ghost use Rattle.std.specs.Prelude.{◌≡◌, ◌≤◌, ◌++◌, ◌∷◌, ◌↔◌, [], Some, length, slice_get, IfSome, IsNone, OnErr, OnOk};
+ghost use Rattle.std.specs.Prelude.{◌≡◌, ◌≤◌, ◌++◌, ◌∷◌, ◌↔◌, [], Some, length, slice_get, IfOk, IfSome, IsNone, OnErr, OnOk};
 
 use std::alloc::{AllocError, Global};
 use std::marker::Model;
@@ -14,10 +14,12 @@ const FIRST_SPANS: usize = 131_072;
 /// there are any.
 #[derive(Clone, Copy, Debug, Drop)]
 pub struct Span {
-    start: usize,
-    len: usize,
-    tables: Option<usize>,
+    start: u32,
+    len: u32,
+    tables: Option<u32>,
 }
+
+const _: () = prove!(size_of::<Span>() <= 16);
 
 /// The first frames of messages, one after the other, each with the number of the frames behind it.
 /// Contracts see the list.
@@ -65,13 +67,9 @@ impl Firsts {
         ensures unchanged { OnErr result (self.new ≡ self.old) }
     {
         make_room(&mut self.bytes, &mut self.spans)?;
-        let start = self.bytes.len();
+        let span = span_of(self.bytes.len(), frame.len(), tables)?;
         self.bytes.extend_from_slice(frame)?;
-        self.spans.push(Span {
-            start,
-            len: frame.len(),
-            tables,
-        })?;
+        self.spans.push(span)?;
         Ok(())
     }
 
@@ -84,8 +82,9 @@ impl Firsts {
         match self.spans.get(index) {
             None => None,
             Some(span) => {
-                let frame = &self.bytes[span.start..span.start + span.len];
-                Some((frame, span.tables))
+                let start = span.start as usize;
+                let frame = &self.bytes[start..start + span.len as usize];
+                Some((frame, long(span.tables)))
             }
         }
     }
@@ -101,4 +100,41 @@ fn make_room(bytes: &mut Vec<u8>, spans: &mut Vec<Span>) -> Result<(), AllocErro
         spans.reserve(FIRST_SPANS)?;
     }
     Ok(())
+}
+
+// The span of so many bytes behind so many. It has no room for 2^32 of them.
+fn span_of(start: usize, len: usize, tables: Option<usize>) -> Result<Span, AllocError>
+    ensures start { IfOk result (λ span. span.start ≡ start) }
+    ensures len { IfOk result (λ span. span.len ≡ len) }
+    ensures tables { IfOk result (λ span. span.tables ≡ tables) }
+{
+    let tables = match tables {
+        None => None,
+        Some(number) => Some(short(number)?),
+    };
+    Ok(Span {
+        start: short(start)?,
+        len: short(len)?,
+        tables,
+    })
+}
+
+// The same number in four bytes, where they hold it.
+fn short(number: usize) -> Result<u32, AllocError>
+    ensures { IfOk result (λ short. short ≡ number) }
+{
+    if number > u32::MAX as usize {
+        return Err(AllocError);
+    }
+    Ok(number as u32)
+}
+
+// The same number, if there is one.
+fn long(number: Option<u32>) -> Option<usize>
+    ensures { result ≡ number }
+{
+    match number {
+        None => None,
+        Some(number) => Some(number as usize),
+    }
 }

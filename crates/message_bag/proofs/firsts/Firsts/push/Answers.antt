@@ -1,4 +1,4 @@
-use Rattle.std.proofs.Common.{◌≡◌, ◌++◌, ◌∷◌, [], List, length, map, refl, ap, ◌∙◌, arith}
+use Rattle.std.proofs.Common.{◌≡◌, ◌++◌, ◌∷◌, ℕ, [], List, Option, length, map, ap, ◌∙◌, arith}
 use Rattle.std.proofs.lemmas.Grind.{common_steps}
 use Rattle.base.proofs.ResultsMade.{on_err}
 use Rattle.message_bag.specs.KeptFrames.{First, first_in}
@@ -20,10 +20,11 @@ pub returns-clause-pushed : goal.returns-clause-pushed
 returns-clause-pushed c =
     let bytes = c.self.inside.bytes.items in
     let spans = c.self.inside.spans.items in
-    let span : Span = record { start = c.len-start.result; len = length c.args.frame.now; tables = c.args.tables } in
+    let span : Span = c.in_ok-span.span in
     let grown : c.extend_from_slice.new.self.items ≡ bytes ++ c.args.frame.now = grind (arith, common_steps) in
     let longer : c.push.new.self.items ≡ spans ++ span ∷ [] =
     c.in_ok-push.ensures.items ∙ ap (λ (all : List Span). all ++ span ∷ []) c.make_room.ensures.spans in
     pushed bytes c.args.frame.now c.extend_from_slice.new.self.items spans c.push.new.self.items span c.self.invariant
-    grown longer (omega (arith, ap length c.make_room.ensures.bytes)) refl
-    ∙ ap (λ (firsts : List First). firsts ++ (c.args.frame.now, c.args.tables) ∷ []) c.self.view_is
+    grown longer (omega (arith, c.in_ok-span.ensures.start, ap length c.make_room.ensures.bytes)) c.in_ok-span.ensures.len
+    ∙ ap (λ (firsts : List First). firsts ++ (c.args.frame.now, span.tables) ∷ []) c.self.view_is
+    ∙ ap (λ (tables : Option ℕ). c.args.self.now ++ (c.args.frame.now, tables) ∷ []) c.in_ok-span.ensures.tables
