@@ -279,7 +279,7 @@ def answers_falling(n):
 
 
 ALIKE = {
-    "policies, the last rules differ": (8, versions(last_rule, all_hold(175)), "rules x versions"),
+    "policies, the last rules differ": (8, versions(last_rule, all_hold(175))),
     "60 changes, a cache is carried": (1_000, carried(one_port)),
     "60 changes that touch all, a cache": (1_000, carried(touching_all)),
     "installations, delivered again": (
