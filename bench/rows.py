@@ -1,7 +1,7 @@
 #!/usr/bin/env python3
 """Counts what the program takes for inputs of three sizes, and says how each kind of input grows.
 
-usage: bench/rows.py BIN [--write] [WORD..]     --write: puts the table into bench/README.md
+usage: bench/rows.py BIN [--write] [WORD..]     --write: puts all lines into bench/README.md
        bench/rows.py --check                    whether the table there has each kind, once
 
 BIN is the proved program (`rt run` leaves it in crates/difane/out/difane). The kinds of inputs are
@@ -237,7 +237,7 @@ def main():
         lines.append(line)
         bad += is_worse
     print(f"{len(lines)} kinds, {bad} worse than they must be")
-    if "--write" in words:
+    if "--write" in words and not wanted:
         put(lines)
     sys.exit(bad > 0)
 

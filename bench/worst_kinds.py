@@ -221,7 +221,7 @@ TRAVELLING = {
     ),
     "hops in turn: a line of 64 switches": (1_000, in_turn),
     "packets find links down: 256 links": (200, chords_down),
-    "packets stand, 64 switches crash in turn": (1_000, standing),
+    "packets stand, 64 switches crash": (1_000, standing),
 }
 
 
@@ -375,4 +375,4 @@ OTHERS = {
 
 
 WORST = {**COLLIDING, **TRAVELLING, **ALIKE, **OTHERS}
-WORST_JUDGED = "60 changes, a cache is carried", "packets stand, 64 switches crash in turn"
+WORST_JUDGED = "60 changes, a cache is carried", "packets stand, 64 switches crash"
