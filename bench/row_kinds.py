@@ -1,13 +1,12 @@
-"""The kinds of inputs of `bench/rows.py` that are plain: many of each kind of row, of refused update,
-of policy, of command and of text."""
-from itertools import islice
+"""The kinds of inputs of `bench/rows.py` that are plain: many of each kind of row, of refused
+update, of policy, of command and of text."""
 from random import Random
 
 from plans import in_512_parts, scattered, subnets
 from row_inputs import (
-    ALL_PORTS, HERE, HOSTS, HUB, MESH, ONE, PAIR, THREE, TWO, WIDE, Input, all_hold, anywhere, audit,
-    behind_each, blocks, change, each, falling, few_parts, fields, lines, network, of_network,
-    packet, packets, play, policy, with_half,
+    ALL_PORTS, HERE, HOSTS, HUB, MESH, ONE, PAIR, THREE, TWO, WIDE, Input, all_hold, anywhere,
+    audit, behind_each, blocks, change, each, falling, few_parts, fields, lines, network,
+    of_network, packet, packets, play, policy, with_half,
 )
 
 # Of each kind what makes an input of a size. With it may stand the least of the three sizes, where
@@ -39,7 +38,9 @@ def waiting(n, kind, order):
 
 MESSAGES = {
     "deliveries, the last message first": (5_000, lambda n: waiting(n, "deliver", falling)),
-    "deliveries of the last message": (5_000, lambda n: waiting(n, "deliver", lambda last: [last] * n)),
+    "deliveries of the last message": (
+        5_000, lambda n: waiting(n, "deliver", lambda last: [last] * n)
+    ),
     "forgotten, the last message first": (5_000, lambda n: waiting(n, "forget", falling)),
     "resends, 2 switches": lambda n: play(["resend,s1"] * n),
     "resend, flush: 2 switches": lambda n: play(["resend,s1", "flush"] * (n // 2)),
@@ -290,11 +291,15 @@ def refused_schedule(text):
 SWITCH = '\n[[switch]]\nname = "a"\nports = [1]\nauthority = 9\n'
 TEXTS = {
     "a schedule, one field, bytes": lambda n: refused_schedule("a" * n),
-    "a schedule, a row of empty fields, bytes": lambda n: refused_schedule("event,arguments\n" + "," * n),
+    "a schedule, a row of empty fields, bytes": lambda n: refused_schedule(
+        "event,arguments\n" + "," * n
+    ),
     "a schedule, doubled quotes, bytes": lambda n: refused_schedule(
         'event,arguments\n"' + '""' * (n // 2) + '"'
     ),
-    "a schedule, blank lines, bytes": lambda n: refused_schedule("event,arguments\n" + "\n" * n + "a"),
+    "a schedule, blank lines, bytes": lambda n: refused_schedule(
+        "event,arguments\n" + "\n" * n + "a"
+    ),
     "a network, a comment, bytes": lambda n: of_network("#" + "a" * n + SWITCH, 0),
     "a network, a text, bytes": lambda n: of_network(f'a = "{"a" * n}"' + SWITCH, 0),
     "a network, a key, bytes": lambda n: of_network("a" * n + " = 1" + SWITCH, 0),
@@ -304,7 +309,9 @@ TEXTS = {
     "a network, keys in one line, bytes": lambda n: of_network(
         f"a = {{{','.join(f'k{k}=1' for k in range(n // 10))}}}" + SWITCH, 0
     ),
-    "a network, keys, bytes": lambda n: of_network(lines(f"k{k}=1" for k in range(n // 10)) + SWITCH, 0),
+    "a network, keys, bytes": lambda n: of_network(
+        lines(f"k{k}=1" for k in range(n // 10)) + SWITCH, 0
+    ),
     "a network, empty switches, bytes": lambda n: of_network(f"switch = [{'{},' * (n // 3)}]"),
     "a trace, one word, bytes": lambda n: audit("nothing" * (n // 7) + "\n", status=1),
     "a trace, a line of blanks, bytes": lambda n: audit("row " + " " * n + "\n"),

@@ -11,9 +11,9 @@ names have one of them.
 
 Prints a line a kind: the least size, the next ones being twice and four times that; millions of
 instructions at each size (by callgrind: the same on every machine and under any load); what they
-grow with; the peak memory in MiB at each size; and for the latter the seconds of the slow model at each,
-`-` where it takes more than 10. Sizes are rows of the schedule, lines of the trace, rows of the policy,
-versions, bytes, or what the name says.
+grow with; and the peak memory in MiB at each size. Of the kinds that are meant to be dear it has
+the seconds of the slow model too, `-` where these are more than 10. Sizes are rows of the schedule,
+lines of the trace, rows of the policy, versions, bytes, or what the name says.
 
 What the first size takes beyond nothing is left out: from the second size to the third the
 instructions rise by R times what they rise by from the first to the second. Up to 2.4 the growth is
@@ -45,8 +45,8 @@ BEGIN, END = "    kind ", "\n\n"
 
 
 class Kind(NamedTuple):
-    """The first size, what makes an input of a size, what its time grows with, and whether the model
-    is asked too."""
+    """The first size, what makes an input of a size, what its time grows with, and whether it is
+    meant to be dear."""
 
     least: int
     make: object

@@ -4,10 +4,10 @@ one after another, tables that differ in their last rule, and so on."""
 from itertools import count, islice
 from random import Random
 
-from plans import dotted, in_512_parts, subnets
+from plans import dotted, subnets
 from row_inputs import (
-    HERE, HUB, MESH, ONE, PAIR, STAR, TWO, Input, all_hold, anywhere, audit, behind_each, blocks, change,
-    each, falling, few_parts, fields, lines, network, of_network, packet, packets, play, policy,
+    HERE, HUB, MESH, ONE, PAIR, TWO, Input, all_hold, anywhere, audit, behind_each, blocks,
+    change, each, few_parts, fields, lines, network, of_network, packet, packets, play, policy,
 )
 from row_kinds import BYTES, FEW, SWITCH, cached, corners, versions
 
@@ -129,7 +129,7 @@ def narrow_row(rng):
 
 
 def many_masks():
-    """A policy whose cache rules for TCP have as many masks as can be, and one for UDP above all."""
+    """A policy whose cache rules for TCP have many masks, with a row for UDP above all others."""
     rng = Random(4)
     rows = [f"{3000 - k},{narrow_row(rng)}" for k in range(600)]
     return policy(["9999,any,any,any,any,udp,drop", *rows])
