@@ -39,6 +39,8 @@ def run(name, main):
     try:
         status = main()
         sys.stdout.flush()
+        if status:
+            sys.exit(status)
     except Mistake as mistake:
         end(f"{name}: {mistake}", mistake.status)
     except KeyboardInterrupt:
@@ -52,9 +54,6 @@ def run(name, main):
         end(f"{name}: a file or a word isn't UTF-8")
     except RecursionError:
         end(f"{name}: a file is nested too deeply")
-    else:
-        if status:
-            sys.exit(status)
 
 
 def end(line, status=Mistake.status):
