@@ -177,8 +177,9 @@ pub fn answered_rows_are_entered()
 
 /// At each moment, within a step too, what is known of boots, versions and marks is right; each
 /// switch has the version that it stamps with; each cache rule says what its version says; and an
-/// amendment removes from a cache no rule that it doesn't touch, and changes no decision of
-/// another header.
+/// amendment changes no decision of another header and, when a `Stamp` raises a switch to the very
+/// next version, removes from its cache no rule that it doesn't touch, unless that version has an
+/// entry of its word.
 pub fn items_keep_versions_whole()
     ensures { HoldsReached (λ setting journal.
         IsSetting setting → KeepVersionsWhole setting journal) }
