@@ -60,6 +60,7 @@ pub record IsProposedFor (rows : List Row) (plan : List Hosted) (net : Net) (jou
   pub parts : IsPlan rows net plan
   pub same_parts : map part_of (with_targets plan placement) ≡ map part_of plan
   pub leads : LeadEveryHeader rows (with_targets plan placement)
+  -- what a scan finds, to which the tables lead, is the first match
   pub first_match : (header : Header) → IsFirstMatch rows header (scan rows header)
 
 -- the peaks of the old and the new placement, the bound, and the plan with the new one

@@ -100,7 +100,7 @@ pub fn run<F: Shelf, K: Sink, E: Sink>(
     ensures shelf { IsAfterReads
         (most_reads (F.state shelf.old).files (command_of (argument_texts words.now)))
         (F.state shelf.old) (F.state shelf.new) }
-    // If no file is read, as for a load case, no fault is counted, whatever the status.
+    // If no file is read, as for a load case, the shelf is unchanged, whatever the status.
     ensures unread { ReadsNothing (command_of (argument_texts words.now))
         → F.state shelf.new ≡ F.state shelf.old }
     ensures faults { (K.state out.old).faults ≤ (K.state out.new).faults }
