@@ -23,7 +23,7 @@ def the_first_answer_is_the_models(desk):
     own, before = desk.copy("campus", "own"), os.times()
     out, errors, status = desk.run("own")
     assert (out, status) == (text("campus/journal.txt"), 0)
-    assert "the slow model answers, of which nothing is proved; --build asks" in errors
+    assert "uses the slow model, of which nothing is proved; --build builds" in errors
     after = os.times()
     assert sum(after[2:4]) - sum(before[2:4]) < 3
     assert (own / "journal.txt").read_text() == out

@@ -69,7 +69,7 @@ def text(*parts):
 def an_example_is_printed(desk):
     out, errors, status = desk.by_program("campus")
     assert (out, status) == (text("campus/journal.txt"), 0)
-    assert errors == f"desk/run: asks the program {desk.program}\n"
+    assert errors == f"desk/run: uses the program {desk.program}\n"
 
 
 @case

@@ -23,7 +23,8 @@ def policies_in(folder):
 def example_of(name):
     """The folder of the example of this name, or None."""
     example = EXAMPLES / name
-    return example if name and example.is_dir() and example.resolve().parent == EXAMPLES else None
+    is_name = "/" not in name and name not in ("", ".", "..")
+    return example if is_name and example.is_dir() and example.parent == EXAMPLES else None
 
 
 def folder_of(name):

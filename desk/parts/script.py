@@ -39,7 +39,8 @@ def run(name, main):
     try:
         status = main()
         sys.stdout.flush()
-        sys.exit(status)
+        if status:
+            sys.exit(status)
     except Mistake as mistake:
         end(f"{name}: {mistake}", mistake.status)
     except KeyboardInterrupt:

@@ -1,5 +1,5 @@
 -- A switch is told to stamp with a version only once it acknowledged its tables; members
--- acknowledged every version up to the current one.
+-- acknowledged each version from the one at which they were opened to the current one.
 use Rattle.std.specs.Prelude.{⊤, ℕ, ◌≡◌, ◌<◌, ◌≤◌, List, length, IsTrue}
 use Rattle.ctrl_msg.specs.declared.message.Body.{Body}
 use Rattle.ctrl_msg.specs.declared.message.Body.TheVariants.{OpenAt, Stamp}

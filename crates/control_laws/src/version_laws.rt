@@ -43,7 +43,7 @@ pub fn installs_are_planned()
 {}
 
 /// A switch is told to stamp with a version only once it acknowledged its tables in its boot, and
-/// only with a version that is current or was.
+/// only with a version that is at most the current one.
 pub fn stamps_are_acked_first()
     ensures { HoldsAlways (λ setting journal. HaveCauses (IsAckedFirst setting) [] journal) }
 {}

@@ -12,7 +12,7 @@ use Rattle.update_machine.specs.Pieces.{piece}
 use Rattle.update_machine.specs.Setting.{Setting}
 use Rattle.convergence_laws.specs.Converged.{Reaches}
 
--- a packet that had found no link down gets stuck in a step only if no target of its leg is
+-- a packet that had found no link down gets stuck in the next step only if no target of its leg is
 -- reachable over usable links
 abbrev pub GetStuckApart : Setting → List Item → Type 0
 GetStuckApart setting journal = (row : ℕ) (step : Step) (front rest : List Item) (i s : ℕ)

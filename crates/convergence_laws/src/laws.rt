@@ -36,7 +36,7 @@ pub fn quiet_networks_have_converged()
 {}
 
 /// If neighbours agree, as in a quiet network, a packet that had found no link down gets stuck in
-/// a step only if no target of its leg is reachable over usable links.
+/// the next step only if no target of its leg is reachable over usable links.
 pub fn packets_get_stuck_apart()
     ensures agreed { HoldsAtEnds (λ setting journal.
         IsNet setting.net → NeighboursAgree setting journal → GetStuckApart setting journal) }

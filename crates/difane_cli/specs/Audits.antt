@@ -29,8 +29,8 @@ use Rattle.difane_cli.specs.declared.status.Status.TheVariants as status
 abbrev pub yes_line : List ℕ
 yes_line = codes "yes\n"
 
--- a file for each name, each with what its type has, and at most 2,000 rows; the first has a policy;
--- and the trace isn't too long
+-- a file for each name, each with what its type has, and at most 2,000 rows; the first has a
+-- policy; and the trace isn't too long
 pub record IsAuditingOf (command : AuditCommand) (auditing : Auditing) : Type 0 where
   pub many : length auditing.files ≡ length command.policies
   pub first : IsSome (first_policy auditing.files)
@@ -82,6 +82,6 @@ TellsLines (report.Lines quiet) = ⊤
 TellsLines _ = ⊥
 
 -- if the lines of a journal are printed, the text is a trace each line of which is good with the
--- files of the play: so `audit` returns Yes for it
+-- files of the play: so `audit` says yes, up to the longest trace that it accepts
 abbrev pub IsGoodTrace : Inputs → List ℕ → Type 0
 IsGoodTrace inputs text = TellsLines inputs.report → AreGood inputs.setting.files (lines_of text)

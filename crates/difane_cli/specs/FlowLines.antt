@@ -29,7 +29,7 @@ flows_text (Some row) gone meters = []
 -- ---- counts
 
 -- each record of a meter that stayed counts all packets that left by its port with its header; if
--- no meter left there is no other record (`flow_laws`)
+-- no meter left, each record does (`flow_laws`)
 abbrev pub AreCounted : List Item → (given : List Seen) → Type 0
 AreCounted journal given = All (IsCounted (left_in journal)) (flat_map flow_records_of given)
 

@@ -45,6 +45,7 @@ pub record IsPrintingOf (command : PrintCommand) (printing : Printing) : Type 0 
   pub plan : plan_of printing.policy printing.net ≡ Ok printing.hosted
   pub parts : IsPlan printing.policy printing.net printing.hosted
   pub leads : LeadEveryHeader printing.policy printing.hosted
+  -- what a scan finds, to which the tables lead, is the first match
   pub first_match : (header : Header)
       → IsFirstMatch printing.policy header (scan printing.policy header)
 

@@ -44,10 +44,10 @@ with_targets plan placement = zip (map part_of plan) placement
 -- ---- the proposal
 
 -- the placement is proposed to replace the plan's own, computed from how many packets asked its
--- partitions; it fits, and its peak is at least the bound and not higher than the plan's. The plan's
--- partitions are the leaves of the tree that is defined for the policy's rules, and each stays; and
--- with the new targets too the tables lead each header to what a scan of the policy finds, the first
--- match
+-- partitions; it fits, and its peak is at least the bound and not higher than the plan's. The
+-- plan's partitions are the leaves of the tree that is defined for the policy's rules, and each
+-- stays; and with the new targets too the tables lead each header to what a scan of the policy
+-- finds, the first match
 pub record IsProposedFor (rows : List Row) (plan : List Hosted) (net : Net) (journal : List Item)
     (placement : List (List ℕ)) : Type 0 where
   pub proposal : IsProposal (sizes_in plan) (weights_in journal plan) (rooms_of net) net.backups
@@ -60,6 +60,7 @@ pub record IsProposedFor (rows : List Row) (plan : List Hosted) (net : Net) (jou
   pub parts : IsPlan rows net plan
   pub same_parts : map part_of (with_targets plan placement) ≡ map part_of plan
   pub leads : LeadEveryHeader rows (with_targets plan placement)
+  -- what a scan finds, to which the tables lead, is the first match
   pub first_match : (header : Header) → IsFirstMatch rows header (scan rows header)
 
 -- the peaks of the old and the new placement, the bound, and the plan with the new one

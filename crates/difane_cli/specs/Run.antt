@@ -98,9 +98,9 @@ pub record IsAnswer (command : Command) (files : Option Files) (inputs : Inputs)
 -- stopped full; the meters that were given back are those that stayed of the ones that were taken,
 -- and flow meters counted right; and the output gained what the play prints. For a replay this is
 -- the text of the journal and, unless it stopped full, the meters' lines, and with `--quiet`
--- whether the network is quiet: if it is, all have converged, on the newest version; and `audit`
--- returns Yes for this text as a trace. Otherwise it is flow records or a summary, unless it
--- stopped full
+-- whether the network is quiet: if it is, all have converged, on the newest version; and each line
+-- of this text is good as a trace's, so `audit` says yes, up to the longest trace that it accepts.
+-- Otherwise it is flow records or a summary, unless it stopped full
 pub record Played (command : Command) (files : Option Files) (full : Option ℕ)
     (journal : List Item) (taken given : List Seen) (before now : SinkState) : Type 0 where
   pub inputs : Inputs

@@ -3,7 +3,7 @@ use Rattle.std.specs.Prelude.{ℕ, ◌≡◌, ◌⊎◌, List, [], ◌≤◌, Bo
 use Rattle.shelf.specs.Sink.{with_gained, GainedPart, SinkState, Rose}
 use Rattle.journal.specs.declared.item.Item.{Item}
 
--- the output gained this text; if it is empty no write was made, not even an empty one
+-- the output gained this text; if it is empty the output's state is the same
 pub record Wrote (text : List ℕ) (before now : SinkState) : Type 0 where
   pub whole : now.bytes ≡ with_gained before.bytes text
   pub untouched : text ≡ [] → now ≡ before
@@ -12,7 +12,7 @@ pub record Wrote (text : List ℕ) (before now : SinkState) : Type 0 where
 abbrev pub WrotePart : List ℕ → (before now : SinkState) → Type 0
 WrotePart text before now = (now ≡ before) ⊎ GainedPart before.bytes text now.bytes
 
--- nothing was played, and the output wasn't touched: no write was made, not even an empty one
+-- nothing was played, and the output's state is the same
 pub record Unplayed (journal : List Item) (before now : SinkState) : Type 0 where
   pub nothing_played : journal ≡ []
   pub untouched : now ≡ before

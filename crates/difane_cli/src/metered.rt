@@ -68,7 +68,7 @@ pub fn run_metered<F: Shelf, K: Sink, E: Sink>(
     errs: &mut E,
 ) -> Result<CommandEnd, AllocError>
     // If `flows` succeeds, it wrote the records of the packets that left in the journal, and the
-    // counts of each meter that stayed are right; if no meter left, there are no others.
+    // counts of each meter that stayed are right (if no meter left, all are: `flow_laws`).
     ensures flows { IfOk result (λ ending. IsTrue (asks_flows (argument_texts words.now))
         → ending.status ≡ status.Ok
         → TellsFlows (argument_texts words.now) (F.state shelf.old).files ending.journal

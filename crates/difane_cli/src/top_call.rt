@@ -67,8 +67,8 @@ pub fn run<F: Shelf, K: Sink, E: Sink>(
     // Whether or not files are known, a refusal names what the arguments name.
     ensures names { NamesOneOf (names_in (command_of (argument_texts words.now))) result.status }
 
-    // Only with this status is a fault counted or, if the files aren't known, with status 7 too:
-    // no read that failed is repeated with success.
+    // A fault of reading is counted only with status 4 or, if the files aren't known, with 7, or
+    // with 3 by the codes 0 and 20: no read that failed is repeated with success.
     ensures no_read_fault { ¬ MayFollowFault (F.state shelf.old).files result.status
         → (F.state shelf.new).faults ≡ (F.state shelf.old).faults }
     ensures no_write_fault { result.status ≢ status.WriteFault
@@ -100,7 +100,7 @@ pub fn run<F: Shelf, K: Sink, E: Sink>(
     ensures shelf { IsAfterReads
         (most_reads (F.state shelf.old).files (command_of (argument_texts words.now)))
         (F.state shelf.old) (F.state shelf.new) }
-    // Where no file is read, as of a load case, no fault is counted, whatever the status.
+    // If no file is read, as for a load case, the shelf is unchanged, whatever the status.
     ensures unread { ReadsNothing (command_of (argument_texts words.now))
         → F.state shelf.new ≡ F.state shelf.old }
     ensures faults { (K.state out.old).faults ≤ (K.state out.new).faults }

@@ -9,8 +9,8 @@ use Rattle.convergence_laws.specs.Updated.{IsUpdated}
 use Rattle.forwarding_laws.specs.Forwards.{QuietForwards}
 
 -- the network is quiet: so the switches know the usable links, a packet that had found no link
--- down gets stuck in a step only if no target is reachable, and the switches that are up stamp
--- with the newest version; and a packet that comes in then is decided by that version, and is
+-- down gets stuck in the next step only if no target is reachable, and the switches that are up
+-- stamp with the newest version; and a packet that comes in then is decided by that version, and is
 -- dropped or leaves, or is stuck if usable links lead to no target of its partition or not to its
 -- port
 pub record HasComeToRest (setting : Setting) (journal : List Item) : Type 0 where

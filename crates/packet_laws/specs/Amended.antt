@@ -1,6 +1,7 @@
 -- An amendment changes only what it touches: a header that none of its rows matches keeps its
 -- first match, and each packet with that header is decided by it, under the version before or the
--- new one. It removes from a cache no rule that it doesn't touch.
+-- new one. When a `Stamp` raises a switch to the very next version, it removes from the cache no
+-- rule that it doesn't touch, unless that version has an entry of its word.
 use Rattle.std.specs.Prelude.{ℕ, ◌≡◌, ◌+◌, ◌⊎◌, Bool, ◌||◌, nat_le, if◌then◌else◌, Some, Ok, List, All, IsFalse, ◌<◌, [], ◌∷◌, ◌++◌, Any, Contains, filter, map}
 use Rattle.ctrl_msg.specs.declared.message.Body.TheVariants.{Stamp}
 use Rattle.five_tuple.specs.Header.{fields_of}
@@ -69,8 +70,8 @@ ChangesLeaveOthers setting journal = (version : ℕ) (header : Header)
 
 -- ---- cache rules
 
--- the cache has a rule of this version for the word of the entry, which decides each header of it as
--- the version's policy does
+-- the cache has a rule of this version for the word of the entry, which decides each header of it
+-- as the version's policy does
 abbrev pub HasUnder : Setting → List Item → ℕ → ℕ → CacheEntry → Type 0
 HasUnder setting journal s version entry =
     Any (λ kept. (kept.version ≡ version) × ((kept.word ≡ entry.word)

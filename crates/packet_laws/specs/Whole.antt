@@ -18,7 +18,7 @@ use Rattle.packet_laws.specs.Travelling.{RulesAreRight}
 pub record KeepVersionsWhole (setting : Setting) (journal : List Item) : Type 0 where
   -- each item of switches and of the controller was written for its cause: what is sent for a boot
   -- was sent while that boot was known and the switch wasn't over; and the current mark rose only
-  -- when each member had acknowledged all versions up to it
+  -- when each member had acknowledged each version above the old mark, up to the new one
   pub causes : HaveCauses (HasItemCause setting) [] journal
   -- the known boot of a switch is at most its own, and no message carries a greater one
   pub boots : BootsAreKnown journal
@@ -44,7 +44,9 @@ pub record KeepVersionsWhole (setting : Setting) (journal : List Item) : Type 0 
   pub touched : StampsSayTouched setting journal
   -- each cache rule says what its own version says of each header of its word
   pub rules : RulesAreRight setting journal
-  -- and an amendment removes from a cache none that it doesn't touch: they stay, in their order
+  -- and when a `Stamp` raises a switch to the very next version, its amendment removes from the
+  -- cache none that it doesn't touch, unless that version has an entry of its word: they stay, in
+  -- their order
   pub untouched : UntouchedStay setting journal
   -- a header that an amendment doesn't touch is decided alike by the versions before and after it
   pub alike : ChangesLeaveOthers setting journal

@@ -51,11 +51,10 @@ pub fn cache_rules_are_right()
     ensures { HoldsReached (λ setting journal. IsSetting setting → RulesAreRight setting journal) }
 {}
 
-/// An amendment removes from a cache no rule that it doesn't touch: when a `Stamp` message raises a
-/// switch to the version that the amendment made, each entry of the version before whose word meets
-/// no touched word stays, of the same message and in its place in the order, under the new version;
-/// if an entry of that version has its word already, that one stays instead. It then decides as the
-/// policy of that version does.
+/// When a `Stamp` message raises a switch to the version that an amendment made, each entry of the
+/// version before whose word meets no touched word stays in the cache, of the same message and in
+/// its place in the order, under the new version; if an entry of that version has its word already,
+/// that one stays instead. It then decides as the policy of that version does.
 pub fn untouched_rules_stay()
     ensures { HoldsReached (λ setting journal. IsSetting setting → UntouchedStay setting journal) }
 {}
@@ -177,8 +176,9 @@ pub fn answered_rows_are_entered()
 
 /// At each moment, within a step too, what is known of boots, versions and marks is right; each
 /// switch has the version that it stamps with; each cache rule says what its version says; and an
-/// amendment removes from a cache no rule that it doesn't touch, and changes no decision of
-/// another header.
+/// amendment changes no decision of another header and, when a `Stamp` raises a switch to the very
+/// next version, removes from its cache no rule that it doesn't touch, unless that version has an
+/// entry of its word.
 pub fn items_keep_versions_whole()
     ensures { HoldsReached (λ setting journal.
         IsSetting setting → KeepVersionsWhole setting journal) }

@@ -183,8 +183,13 @@ met c =
     }
 
 pub go_around-requires-clause-met : goal.go_around-requires-clause-met
-go_around-requires-clause-met c = (c.args.switch.now, (c.unwrap-kept.result.now,
-    met (goal.at.go_around-requires-clause-met c).In_ok-at-in-LinkDown))
+go_around-requires-clause-met c = (
+  c.args.switch.now,
+  (
+    c.unwrap-kept.result.now,
+    met (goal.at.go_around-requires-clause-met c).In_ok-at-in-LinkDown,
+  ),
+)
 
 pub go_around-requires-clause-here : goal.go_around-requires-clause-here
 go_around-requires-clause-here c =
