@@ -1,5 +1,5 @@
 #!/usr/bin/env python3
-"""Runs the checks that need no proof, and tells which failed: `checks/all.py [BIN]`.
+"""Runs the checks that need no proof, and says which failed: `checks/all.py [BIN]`.
 
 With BIN, the program as it was built (`rt run` leaves it in crates/difane/out/difane), it also lets
 each allocation, read and write fail in turn, sends packets through Open vSwitch, opens pages in a
@@ -20,7 +20,7 @@ SEEDS = 100
 
 
 def commands(program):
-    """Each check as its name and the arguments behind it."""
+    """Each check as its name and its arguments."""
     for path in sorted((HOME / "checks").glob("*.py")):
         if path.name not in NO_CHECKS | DEAR:
             yield f"checks/{path.name}", ARGS.get(path.name, [])

@@ -49,7 +49,7 @@ def walks(name):
 
 @cache
 def below(name):
-    """All crates that this one stands on."""
+    """All crates that this one depends on."""
     return set(uses()[name]).union(*map(below, uses()[name]))
 
 

@@ -23,7 +23,7 @@ def faults(edit):
             count += 1
             found = file.read_text().count(rest) if file and file.is_file() else 0
             if found != 1:
-                wrong.append(f"stands {found} times: {rest[:80]}")
+                wrong.append(f"occurs {found} times: {rest[:80]}")
     return count, wrong
 
 

@@ -75,7 +75,7 @@ def main():
         drawn = subprocess.run([str(HOME / script), *args], cwd=HOME, capture_output=True)
         if drawn.stdout != (HOME / picture).read_bytes():
             wrong.append(f"{picture} is another picture than `{' '.join([script, *args])}`")
-    print("\n".join(wrong) if wrong else "the texts are the model's, and the pictures are drawn anew")
+    print("\n".join(wrong) if wrong else "the texts are the model's, and the pictures are those of desk/draw")
     sys.exit(bool(wrong))
 
 

@@ -170,7 +170,7 @@ def told(seconds, whole):
 
 
 def parts_of(page):
-    """What stands before the table, the table, and the paragraphs behind it."""
+    """The text before the table, the table, and the paragraphs after it."""
     start = page.index(HEAD)
     table, *rest = page[start:].split("\n\n")
     return page[:start], table, rest

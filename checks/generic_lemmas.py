@@ -12,7 +12,7 @@ from crates import libraries
 from lemmas import HOME, TOKEN, Reader, is_statement, own_modules
 
 LOWEST = "base"
-PATHS = "`cache_maker` doesn't stand on `base`, which would cost 82 paths"
+PATHS = "`cache_maker` doesn't depend on `base`, which would cost 82 paths"
 STAYS = {
     "cache_maker.PlaceSearch.found_before": PATHS,
     "cache_maker.PlaceSearch.found_from": PATHS,
@@ -20,9 +20,9 @@ STAYS = {
     "cache_maker.PlaceSearch.not_found": PATHS,
     "cache_maker.PlaceSearch.not_found_on_both_sides": PATHS,
     "placement.turns.front.Answers.made": "the answer of one goal, with the numbers of its function",
-    "ternary.WordLemmas.cond_and": "`ternary` stands on no crate",
-    "ternary.WordLemmas.implies_decides": "`ternary` stands on no crate",
-    "ternary.WordLemmas.then_cond": "`ternary` stands on no crate",
+    "ternary.WordLemmas.cond_and": "`ternary` depends on no crate",
+    "ternary.WordLemmas.implies_decides": "`ternary` depends on no crate",
+    "ternary.WordLemmas.then_cond": "`ternary` depends on no crate",
 }
 
 
@@ -56,7 +56,7 @@ def main():
     for name in sorted(gone):
         print(f"no such lemma: {name}")
     wrong = found.keys() - STAYS.keys()
-    print(f"{len(found)} lemmas of any kind above {LOWEST}, {len(wrong)} of them may not stand there")
+    print(f"{len(found)} lemmas of any kind above {LOWEST}, {len(wrong)} of them must not be there")
     sys.exit(bool(wrong or gone))
 
 

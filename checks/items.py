@@ -38,7 +38,7 @@ def faults():
         found = [word for word in told.get(name, []) if word in fields]
         for field in fields:
             if found.count(field) != 1:
-                yield f"docs/THEOREM.md: field {field} of {name} stands {found.count(field)} times"
+                yield f"docs/THEOREM.md: field {field} of {name} occurs {found.count(field)} times"
 
 
 def main():

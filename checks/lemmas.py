@@ -3,7 +3,7 @@
 
 Two lemmas are repeats of one another if their statements are equal except for layout and the names of bound variables; a name that is
 imported counts by where it is defined. It ends with 1 if a group of equal statements isn't in the table of docs/MAP.md under
-"Lemmas that stand twice", or a row of that table is no such group. With `--list` it lists each group, those of the table too. With
+"Lemmas that occur twice", or a row of that table is no such group. With `--list` it lists each group, those of the table too. With
 `--std` it also lists the lemmas whose statement a lemma of the kit at $RATTLE_KIT or /opt/rattle has, compared only by names: `rt lemma`
 says which of those std exports.
 """
@@ -16,7 +16,7 @@ from pathlib import Path
 
 HOME = Path(__file__).resolve().parent.parent
 PAGE = HOME / "docs/MAP.md"
-TITLE = "## Lemmas that stand twice"
+TITLE = "## Lemmas that occur twice"
 KIT = Path(os.environ.get("RATTLE_KIT", "/opt/rattle")) / "rattle"
 HEAD = re.compile(r"(pub )?([^\s:=(){}]+) : (.*)")
 DEFINES = re.compile(r"(?:abbrev |unfoldable |pub |data |record )*([^\s:=(){}]+)")
@@ -187,7 +187,7 @@ def places(found):
 
 
 def listed(groups, table):
-    """Prints the groups that stand twice and aren't in the table, and the rows that are no groups; how many they are."""
+    """Prints the groups that occur twice and aren't in the table, and the rows that are no groups; how many they are."""
     twice = {places(found): found for found in groups.values() if len(found) > 1}
     wrong = 0
     for names, found in sorted(twice.items()):
@@ -200,7 +200,7 @@ def listed(groups, table):
     for names in sorted(table - twice.keys()):
         wrong += 1
         print(f"no such group: {', '.join(names)}")
-    print(f"{sum(map(len, groups.values()))} lemmas; {len(twice)} statements stand twice, {len(twice.keys() & table)} of them in the table")
+    print(f"{sum(map(len, groups.values()))} lemmas; {len(twice)} statements occur twice, {len(twice.keys() & table)} of them in the table")
     return wrong
 
 

@@ -28,7 +28,7 @@ def headings(path):
 
 
 def missing(path):
-    """What a file leads to and isn't there, each with its line."""
+    """The links of a file that lead nowhere, each with its line."""
     for number, line in enumerate(path.read_text().splitlines(), 1):
         named = [HOME / name for name in NAME.findall(re.sub(r"\]\([^)]*\)", "", line))]
         if path.suffix == ".md":
@@ -46,7 +46,7 @@ def missing(path):
 def main():
     files = sorted(path for pattern in PAGES + OTHERS for path in HOME.glob(pattern))
     faults = [fault for path in files for fault in missing(path)]
-    print("\n".join(faults) or f"what {len(files)} files lead to is there")
+    print("\n".join(faults) or f"all links of {len(files)} files exist")
     sys.exit(bool(faults))
 
 

@@ -22,7 +22,7 @@ from crates import HOME, below, height, layers, sources, uses
 PICTURE, PAGE = HOME / "docs/map.svg", HOME / "docs/MAP.md"
 PROVED = HOME / "docs/PROVED.md", HOME / "docs/CLAUSES.md"
 PART = "## The crates by layer\n"
-HEAD = "| Crate | What it is for | Stands on |\n|---|---|---|\n"
+HEAD = "| Crate | What it is for | Depends on |\n|---|---|---|\n"
 NAMED = re.compile(r"^\| `(\w+)` \|.*\n", re.M)
 COLOURS = ["#eceff4", "#dbe9f9", "#fff2c9", "#e3f3dc", "#f8e0d5", "#e9e1f5", "#f4f4f4"]
 
@@ -52,7 +52,7 @@ def is_proved(name):
 
 
 def parts_of(page):
-    """What stands before the part on layers, its pieces by layer, and what stands behind it."""
+    """The text before the part on layers, its pieces by layer, and the text after it."""
     before, rest = page.split(PART)
     part, *behind = re.split(r"^(?=## )", rest, maxsplit=1, flags=re.M)
     first, *layers = re.split(r"^(?=### )", part, flags=re.M)
@@ -120,7 +120,7 @@ def misplaced(layers):
         if name not in uses():
             yield f"docs/MAP.md: {name} is no crate"
         elif every.count(name) != 1:
-            yield f"docs/MAP.md: {name} stands in {every.count(name)} layers"
+            yield f"docs/MAP.md: {name} is in {every.count(name)} layers"
     place = {name: k for k, names in enumerate(layers) for name in names}
     for name in uses():
         for other in uses()[name]:

@@ -71,12 +71,12 @@ def doubled_definitions():
         if name not in found:
             yield f"docs/GLOSSARY.md lists {name}, which stands in one crate at most"
         elif found[name] != listed.get(name):
-            yield f"{name} stands in {', '.join(sorted(found[name]))}"
+            yield f"{name} is in {', '.join(sorted(found[name]))}"
 
 
 def doubled_types():
     for name, crates in sorted(in_two(stands(TYPE, "src/**/*.rt")).items()):
-        yield f"{name} stands in {', '.join(sorted(crates))}"
+        yield f"{name} is in {', '.join(sorted(crates))}"
 
 
 def constants():
@@ -145,7 +145,7 @@ def lines_for_a_line():
 CHECKS = {
     "names of specs/ in two crates, but for those that say the same": doubled_definitions,
     "type names in two crates": doubled_types,
-    "numbers that stand twice": doubled_numbers,
+    "numbers that occur twice": doubled_numbers,
     "limits that are called MOST": limits,
     "names with a word of several meanings": words_of_two_meanings,
     "shared proof files of one word": one_word_files,

@@ -38,6 +38,9 @@ DIALECT = {
     r"answers? `(?:None|false|true|Ok|Err|Some)": "returns",
     r"so it is (?:with|of|for)": "the same is true of",
     r"(?:it|they) stands? (?:behind|before|beside|there|still|for)": "is, follows, means",
+    r"[Ss]tands on": "depends on",
+    r"stands? twice": "occurs twice, occur twice",
+    r"(?:is|are|first) red": "is refused, isn't proved",
 }
 PAGES_ONLY = {  # words that comments may have
     r"off the grammar": "the grammar doesn't have",
@@ -57,6 +60,7 @@ PAGES_ONLY = {  # words that comments may have
     r"[Rr]ight behind": "right after",
     r"taken as it stands": "taken as given",
     r"come of (?:the|it|that)": "follow from, come from",
+    r"[Tt]he judge": "the function, by its name",
 }
 
 
