@@ -66,7 +66,7 @@ class Options:
         if self.trace and names != ["audit"]:
             raise Mistake("--trace goes with audit only, and with no further command")
         if len(who) > 1:
-            raise Mistake(f"{who[0]} and {who[1]} say each who is asked: give one of them")
+            raise Mistake(f"{who[0]} and {who[1]} exclude each other: give one")
         if "" in self.folders:
             raise Mistake("the name of a folder is empty; the current one is .")
 
