@@ -72,7 +72,7 @@ class Options:
 
     def next(self, left, word, what):
         if not left:
-            raise Mistake(f"{word} needs {what} behind it")
+            raise Mistake(f"{word} needs {what}")
         return left.pop(0)
 
 
