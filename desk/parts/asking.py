@@ -98,7 +98,7 @@ def folder_of(name, at):
     """The folder at this path, or else the example of this name; a later one may be a command."""
     example = places.example_of(name)
     if at and not (example or Path(name).is_dir()):
-        raise Mistake(f"{name!r} is no folder, no example and no command: {', '.join(COMMANDS)}")
+        raise Mistake(f"{name!r} is no folder, example or command for folders: {', '.join(FILES)}")
     folder = places.folder_of(name)
     if example and example.resolve() != folder.resolve():
         say(f"{name} is the folder here; the example is {example}")
