@@ -202,7 +202,8 @@ def state_told(play):
             for name, switch in network.switches.items()
         },
         "down": sorted(map(sorted, network.links_down)),
-        "waiting": [one.number for one in network.messages.values() if one.is_waiting()],
+        "waiting": [one.number for one in network.messages.values()
+                    if one.delivered is one.forgotten is None],
     }
 
 

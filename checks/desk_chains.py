@@ -9,14 +9,26 @@ It ends with 1 where anything differs. Of the script it uses nothing but its out
 """
 import random
 import re
+import subprocess
 import sys
 import tempfile
 from functools import partial
 from pathlib import Path
 
-from desk_kit import PROTOCOLS, SAMPLES, dotted, number, policy_faults
+from desk_kit import HOME, PROTOCOLS, SAMPLES, dotted, number, policy_faults
 
 CHAINS = 12
+TWICE = """*filter
+:FORWARD DROP [0:0]
+:SUB - [0:0]
+-A FORWARD -s 10.0.0.0/8 -j SUB
+-A FORWARD -s 11.0.0.0/8 -j SUB
+-A SUB -m state --state NEW -j DROP
+-A SUB -p tcp --dport 80 -j ACCEPT
+-A SUB -j LOG
+COMMIT
+"""
+SAID_ONCE = "1 of 2 lines, 2 rows", "can't be said: line 6\n", "it decides nothing: line 8\n"
 
 
 # ---- what the chains say
@@ -143,7 +155,15 @@ def sources(rng):
         yield f"chains drawn {seed}", text, "FORWARD", said
 
 
+def twice_faults():
+    """Of a chain to which two lines jump, each line is counted and named once."""
+    args = [HOME / "desk/policy", "--list", "FORWARD", "--permit", "out:7"]
+    said = subprocess.run(args, input=TWICE, capture_output=True, text=True).stderr
+    yield from (f"{text!r} isn't said: {said}" for text in SAID_ONCE if text not in said)
+
+
 def all_faults(rng, folder):
+    yield from twice_faults()
     for name, text, chain, said in sources(rng):
         chains = chains_of(text.splitlines())
         decide = partial(decided_from, chains, chain, said)

@@ -1,7 +1,8 @@
 #!/usr/bin/env python3
-"""Checks what desk/ask refuses: `checks/desk_stale.py`.
+"""Checks what desk/ask, desk/view and desk/draw refuse: `checks/desk_stale.py`.
 
-- Nothing is said of a journal that its inputs contradict; a newer input is told in the first line.
+- Nothing is said of a journal that its inputs contradict, nor is it drawn; a newer input is told
+  in the first line, and by view and draw on standard error.
 - Wrong words and wrong policies are told in one line, with status 2.
 """
 import json
@@ -17,7 +18,7 @@ import desk
 import refusals
 
 HOME = Path(__file__).resolve().parent.parent
-ASK, EXAMPLES = HOME / "desk/ask", HOME / "examples"
+DESK, EXAMPLES = HOME / "desk", HOME / "examples"
 HEADING = desk.POLICY_HEADING
 
 EDITS = {  # a file of the example `day`, what is edited, and by what
@@ -27,6 +28,8 @@ EDITS = {  # a file of the example `day`, what is edited, and by what
     "another packet": ("schedule.csv", "10.0.1.6", "10.0.1.7"),
     "another row": ("schedule.csv", "flush", "drain"),
     "a row taken out": ("schedule.csv", "drain\n", ""),
+    "rows at the end": ("schedule.csv", "40001,443,tcp\ndrain\nflush\n",
+                        "40001,443,tcp\ndrain\nflush\ncrash,b\nflush\n"),
     "another switch": ("net.toml", 'name = "c"', 'name = "e"'),
     "another port of a switch": ("net.toml", "ports = [2", "ports = [9"),
 }
@@ -44,6 +47,9 @@ def stale_faults():
             first = asked(folder, *question)[0].partition("\n")[0]
             if "policy2.csv is newer than journal.txt" not in first:
                 yield f"{question}: the first line is {first!r}"
+        for script in ([DESK / "view", folder], [DESK / "draw", folder, "1"]):
+            if "policy2.csv is newer" not in subprocess.run(script, capture_output=True, text=True).stderr:
+                yield f"{script} doesn't say that policy2.csv is newer"
         out, errors, _ = asked(folder, "ends", "--json")
         if "newer" not in errors or json.loads(out)["packets"] != 4:
             yield "with --json the caution isn't on standard error"
@@ -55,6 +61,8 @@ def stale_faults():
                 yield f"{what} edits nothing"
             for question in (["ends"], ["packet", "1"], ["rules"], ["packets"], ["quiet"]):
                 yield from desk.refusal_faults(f"{what}, {question}", "ask", str(folder), *question)
+            for script in (["view", str(folder)], ["draw", str(folder), "1"]):
+                yield from desk.refusal_faults(f"{what}, {script[0]}", *script)
             (folder / file).write_text(text)
 
 
@@ -91,7 +99,7 @@ def wrong_word_faults():
 
 
 def asked(folder, *words):
-    done = subprocess.run([ASK, folder, *words], capture_output=True, text=True)
+    done = subprocess.run([DESK / "ask", folder, *words], capture_output=True, text=True)
     return done.stdout, done.stderr, done.returncode
 
 

@@ -222,7 +222,7 @@ def scripts():
 def completion_faults():
     """The completion of questions, commands, examples and options."""
     asked = subprocess.run([DESK / "ask", "campus", "?"], capture_output=True, text=True).stderr
-    questions = set(asked.partition("a question: ")[2].strip().split(", "))
+    questions = set(asked.partition("the questions are ")[2].strip().split(", "))
     ways = {
         ("desk/ask", "campus", ""): questions,
         ("desk/run", "campus", ""): {"replay", "compile", "show"},

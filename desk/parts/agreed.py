@@ -1,4 +1,6 @@
 """Whether a journal agrees with the files beside it; nothing is said of one that doesn't."""
+import sys
+
 from .boxes import Ranked, point_of
 from .packets import HEADER
 from .places import EXAMPLES
@@ -6,6 +8,7 @@ from .records import lines_of, records_of
 from .script import Mistake
 
 PLAYED = {"drain": "hop", "flush": "deliver"}  # each of their steps is a line of this kind
+FULL = 990_000  # a play that stopped full has sent so many messages, each in a line
 INPUTS = ("net.toml", "schedule.csv", "policy*.csv")
 
 
@@ -23,11 +26,11 @@ def newer_inputs(case):
     return [path.name for path in files if path.stat().st_mtime_ns > made]
 
 
-def caution(case):
-    """The line that stands in front where an input is newer than the journal, or none."""
-    names = newer_inputs(case)
-    said = f"{' and '.join(names)} {'are' if names[1:] else 'is'} newer than {case.journal.name}"
-    return [f"{said}: {is_from(case)}"] if names else []
+def tell(case, file=sys.stderr):
+    """Says in a line where an input is newer than the journal."""
+    if names := newer_inputs(case):
+        said = f"{' and '.join(names)} {'are' if names[1:] else 'is'} newer than"
+        print(f"{said} {case.journal.name}: {is_from(case)}", file=file)
 
 
 # ---- rows of the schedule
@@ -63,6 +66,14 @@ def plain(kind, fields):
         return (fields[0], point_of(header)) if header else fields
     except ValueError:
         return fields
+
+
+def check_all(case, schedule, seen):
+    """That the journal has each row of the schedule; only drains and flushes may do nothing."""
+    for row, (kind, *_) in schedule.items():
+        if kind not in PLAYED and row not in seen:
+            raise Mistake(f"{case.journal.name} has no row {row}, and schedule.csv has: {kind}; "
+                          f"{is_from(case)}")
 
 
 # ---- decisions, and the network

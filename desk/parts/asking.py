@@ -66,13 +66,13 @@ class Options:
         if self.trace and names != ["audit"]:
             raise Mistake("--trace goes with audit only, and with no further command")
         if len(who) > 1:
-            raise Mistake(f"{who[0]} and {who[1]} say each who is asked: give one of them")
+            raise Mistake(f"{who[0]} and {who[1]} exclude each other: give one")
         if "" in self.folders:
             raise Mistake("the name of a folder is empty; the current one is .")
 
     def next(self, left, word, what):
         if not left:
-            raise Mistake(f"{word} needs {what} behind it")
+            raise Mistake(f"{word} needs {what}")
         return left.pop(0)
 
 
@@ -98,7 +98,7 @@ def folder_of(name, at):
     """The folder at this path, or else the example of this name; a later one may be a command."""
     example = places.example_of(name)
     if at and not (example or Path(name).is_dir()):
-        raise Mistake(f"{name!r} is no folder, no example and no command: {', '.join(COMMANDS)}")
+        raise Mistake(f"{name!r} is no folder, example or command for folders: {', '.join(FILES)}")
     folder = places.folder_of(name)
     if example and example.resolve() != folder.resolve():
         say(f"{name} is the folder here; the example is {example}")

@@ -31,13 +31,14 @@ class Case:
 
     def items(self):
         """The items of the journal, one at a time; its rows are those of the schedule."""
-        schedule = agreed.schedule_of(self)
-        if schedule and not self.journal.stat().st_size:
-            raise Mistake(f"{self.journal} is empty; desk/run {self.name} plays anew")
-        for item in read_items(self.journal):
+        schedule, seen, line = agreed.schedule_of(self), set(), 0
+        for line, item in enumerate(read_items(self.journal), 1):
             if item.kind == "row" and schedule is not None:
                 agreed.check_row(self, schedule, item)
+                seen.add(item.row)
             yield item
+        if line < agreed.FULL:
+            agreed.check_all(self, schedule or {}, seen)
 
     def followed(self, play):
         """The items, each as the play has followed it; at the end all has to agree."""

@@ -54,7 +54,8 @@ def mistake_of(name, told, args, folder):
 def explain_refusal(asked, name, code, row):
     """What a code says of a file, by what the file is."""
     if code == 21:
-        return absent_switch(asked, name)
+        said = "code 21 of show: the network lacks a switch of this name"
+        return [said, *names_hint(asked, name)]
     if code in ANY_FILE:
         return [f"code {code}: {ANY_FILE[code]}", *size_or_absence(asked, name, code)]
     if name == "load":
@@ -76,10 +77,6 @@ def unreadable(args, folder):
             yield f"{name} is a folder"
         elif (folder / name).exists() and not os.access(folder / name, os.R_OK):
             yield f"{name} may not be read"
-
-
-def absent_switch(asked, name):
-    return ["code 21 of show: the network lacks a switch of this name", *names_hint(asked, name)]
 
 
 def size_or_absence(asked, name, code):

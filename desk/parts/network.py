@@ -91,10 +91,6 @@ class Message:
         self.sent = item.row
         self.delivered = self.forgotten = self.packet = self.boot = None
 
-    def is_waiting(self):
-        """Whether it was neither delivered nor forgotten."""
-        return self.delivered is None and self.forgotten is None
-
 
 class Version:
     """A version of the policy: its file, the version before it or None, and the rows by which it

@@ -6,6 +6,7 @@ each changed thing to its new value, up to the row of the slider.
 import json
 from pathlib import Path
 
+from . import agreed
 from .layout import placed
 from .lines import HALF_HIGH, arrow_of, half_wide, lines_of
 from .packets import ENDS
@@ -25,7 +26,6 @@ class Record:
         self.play = case.start()
         self.names = [row["name"] for row in net["switch"]]
         self.links = [tuple(link["ends"]) for link in net.get("link", [])]
-        self.joined = set(map(frozenset, self.links))
         self.lines, self.rows, self.changes, self.marks = [], [], [], []
         self.told, self.hops, self.matches, self.shown = {}, {}, {}, {}
         for name in self.names:
@@ -103,12 +103,7 @@ class Record:
         switch = self.number(item.said["switch"], item)
         self.change(item.line, "at", item.said["packet"], switch)
 
-    def on_hopped(self, item):
-        """A hop goes over a link, along which its arrow is drawn."""
-        self.on_entered(item)
-        ends = self.play.packet(item).stood[-2:]
-        if frozenset(ends) not in self.joined:
-            raise item.mistake(f"the network has no link {' '.join(ends)}")
+    on_hopped = on_entered
 
     def on_decided(self, item):
         packet = item.said["packet"]
@@ -166,6 +161,8 @@ def data_of(case):
     net, record = case.net(), Record(case)
     for item in case.items():
         record.take(item)
+    agreed.check_network(case, record.play)
+    agreed.check_decisions(case, record.play)
     ports = {row["name"]: row.get("ports", []) for row in net["switch"]}
     at, size = placed(record.names, record.links, {name for name in ports if ports[name]})
     return {

@@ -26,16 +26,12 @@ def prepared(question):
     schedule = (question.folder / SCHEDULE).read_bytes()
     end = b"" if schedule.endswith(b"\n") else b"\n"
     names = [row["name"] for row in Case(question.folder / JOURNAL, "").net()["switch"]]
-    (folder / ROWS).write_bytes(schedule + end + recovery_rows(names).encode())
+    rows = [f"{kind},{name}\n" for kind in ("confirm", "resend") for name in names]
+    (folder / ROWS).write_bytes(schedule + end + "".join([*rows, "flush\n"]).encode())
     args = [ROWS if arg == SCHEDULE else arg for arg in question.args]
     files = [ROWS if name == SCHEDULE else name for name in question.files]
     quiet = [] if "--quiet" in args else ["--quiet"]
     return question._replace(folder=folder, args=args + quiet, files=files, output=JOURNAL)
-
-
-def recovery_rows(names):
-    rows = [[kind, name] for kind in ("confirm", "resend") for name in names] + [["flush"]]
-    return "".join(",".join(row) + "\n" for row in rows)
 
 
 class Report:

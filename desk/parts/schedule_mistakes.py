@@ -32,7 +32,9 @@ def explain_schedule(asked, name, code, row):
     kind, *left = record.fields
     if code == 2:
         lines += wrong_width(asked, name, record, FORMS[kind])
-        lines += portless(kind, left)
+        if kind == "packet" and len(left) == 4:
+            lines.append("a packet without ports, as of icmp, has 0 for both: "
+                         "packet,S,SRC,DST,0,0,icmp")
     elif code == 3:
         lines += unknown_kind(record)
     elif code == 4:
@@ -52,11 +54,6 @@ def explain_schedule(asked, name, code, row):
     elif code == 9:
         lines += absent_link(asked, left)
     return lines
-
-
-def portless(kind, left):
-    if kind == "packet" and len(left) == 4:
-        yield "a packet without ports, as of icmp, has 0 for both: packet,S,SRC,DST,0,0,icmp"
 
 
 def unknown_kind(record):

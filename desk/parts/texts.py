@@ -41,7 +41,7 @@ def change_text(before):
 
 
 def caches(found):
-    yield f"caches decided {found['cached']} of {plural(found['decided'], 'packet')}"
+    yield f"caches decided {found['cached']} of {plural(found['decided'], 'decided packet')}"
     names = ["switch", "decided", "cached", "rules sent", "delivered", "used"]
     rows = [[one[name] for name in names] for one in found["switches"]]
     rows = [[*row[:3], share(row[2], row[1]), *row[3:]] for row in rows]

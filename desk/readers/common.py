@@ -52,11 +52,13 @@ class Named:
     """Lines or packets by what is said of them: for each such text their numbers, as ranges."""
 
     def __init__(self, what):
-        self.what, self.count, self.ranges = what, 0, {}
+        self.what, self.numbers, self.ranges = what, set(), {}
 
     def add(self, number, why):
-        self.count += 1
         ranges = self.ranges.setdefault(str(why), [])
+        if number in self.numbers and any(a <= number <= b for a, b in ranges):
+            return
+        self.numbers.add(number)
         if ranges and ranges[-1][1] == number - 1:
             ranges[-1][1] = number
         else:
@@ -150,7 +152,7 @@ def finish(name, args, rows, told, left, *others):
         lines += named.lines(begin, shown)
     for line in lines:
         print(f"desk/{name}: {line}", file=sys.stderr)
-    if args.strict and left.count:
+    if args.strict and left.numbers:
         print(f"desk/{name}: --strict: nothing is written", file=sys.stderr)
         return 1
     sys.stdout.write("".join(f"{row}\n" for row in rows))
