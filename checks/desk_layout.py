@@ -65,8 +65,8 @@ def any_links(rng, count):
 def network(rng):
     """The names of switches, links between them, and which of them have ports."""
     count = rng.choice([rng.randint(1, 12), rng.randint(1, SWITCHES)])
-    long = rng.choice([1, 1, 3, 12])
-    names = [f"{'s' * rng.randint(1, long)}{k}" for k in range(count)]
+    long = rng.choice([1, 1, 3, 14])
+    names = [f"{'W' * rng.randint(1, long)}{k}" for k in range(count)]
     rng.shuffle(names)
     pairs = rng.choice([ring, tree, star, grid, any_links])(rng, count)
     links = list({frozenset(ends): None for ends in pairs if len({*ends}) == 2})[:LINKS]
