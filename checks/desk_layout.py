@@ -84,8 +84,8 @@ def net_text(rng, names, links, ports):
 
 
 def journal_text(rng, names, links):
-    """A packet that walks over links at random, and is decided where it stops."""
-    here = ingress = rng.choice(names)
+    """A packet that walks at random from the longest name, and is decided where it stops."""
+    here = ingress = max(names, key=len)
     lines = [f"row 1: packet {here} 10.0.0.1 10.0.0.2 1 2 tcp", f"  entered 1 {here}"]
     for row in range(2, rng.randint(3, 12)):
         near = [end for ends in links if here in ends for end in ends if end != here]
