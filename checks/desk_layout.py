@@ -65,8 +65,8 @@ def any_links(rng, count):
 def network(rng):
     """The names of switches, links between them, and which of them have ports."""
     count = rng.choice([rng.randint(1, 12), rng.randint(1, SWITCHES)])
-    long = rng.choice([1, 1, 3, 12])
-    names = [f"{'s' * rng.randint(1, long)}{k}" for k in range(count)]
+    long = rng.choice([1, 1, 3, 14])
+    names = [f"{'W' * rng.randint(1, long)}{k}" for k in range(count)]
     rng.shuffle(names)
     pairs = rng.choice([ring, tree, star, grid, any_links])(rng, count)
     links = list({frozenset(ends): None for ends in pairs if len({*ends}) == 2})[:LINKS]
@@ -84,8 +84,8 @@ def net_text(rng, names, links, ports):
 
 
 def journal_text(rng, names, links):
-    """A packet that walks over links at random, and is decided where it stops."""
-    here = ingress = rng.choice(names)
+    """A packet that walks at random from the longest name, and is decided where it stops."""
+    here = ingress = max(names, key=len)
     lines = [f"row 1: packet {here} 10.0.0.1 10.0.0.2 1 2 tcp", f"  entered 1 {here}"]
     for row in range(2, rng.randint(3, 12)):
         near = [end for ends in links if here in ends for end in ends if end != here]
