@@ -223,9 +223,9 @@ def state_faults(world, rows, folder):
         for row, told in row_states.told(world, rows):
             yield from told
             if state_told(play) != row_states.state_of(world):
-                wrong.append(f"behind row {row} the state is another one than the model's")
+                wrong.append(f"after row {row} the state is another one than the model's")
             if newest_told(case, play) != world.newest:
-                wrong.append(f"behind row {row} the newest policy is another one than the model's")
+                wrong.append(f"after row {row} the newest policy is another one than the model's")
 
     for item in journal.items_of(lines()):
         play.follow(item)

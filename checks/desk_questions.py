@@ -138,7 +138,7 @@ def matrix_faults(folder, rng):
     """Each packet of the matrix, against a journal of that packet only."""
     case, words = inputs_of(str(folder)), [rng.choice(texts) for texts in FIELDS]
     policies = desk.policies_in(folder)
-    for behind in ([], ["behind"]):
+    for behind in ([], ["after"]):
         found, cells = reach.answer(case, *words, *behind), {}
         for one in found["packets"]:
             end = f"port {one['port']}" if one["end"] == "out" else one["end"]

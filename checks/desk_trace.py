@@ -81,7 +81,7 @@ def trace_faults(folder, packet, behind, who):
     rows = row_states.rows_of(folder / "schedule.csv") if behind else []
     text, _ = journal(folder, [*rows, ["packet", *packet], ["drain"]])
     number = str(sum(row[0] == "packet" for row in rows) + 1)
-    args = [*["--behind"] * behind, *who, str(folder), *packet]
+    args = [*["--after"] * behind, *who, str(folder), *packet]
     out, errors, status = ask("trace", *args, "--json")
     name = f"trace {' '.join(args)}"
     if status:
@@ -207,7 +207,7 @@ WRONG = [
     ["trace", "--program", "nowhere", "campus", "a", *PACKET],
     ["trace", "--program"],
     ["trace", "--ahead", "campus", "a", *PACKET],
-    ["trace", "--behind", "leaves", "a", *PACKET],
+    ["trace", "--after", "leaves", "a", *PACKET],
     ["whatif", "nowhere"],
     ["whatif", "--json"],
     ["whatif", "--pears", "campus"],
@@ -240,7 +240,7 @@ def all_refusal_faults():
                 for file in ("policy.csv", "net.toml", "schedule.csv"):
                     Path(folder, file).write_bytes((EXAMPLES / "campus" / file).read_bytes())
                 Path(folder, name).write_text(text)
-                yield from refusal_faults("trace", "--behind", folder, "a", *PACKET)
+                yield from refusal_faults("trace", "--after", folder, "a", *PACKET)
                 yield from refusal_faults("whatif", folder)
 
 

@@ -133,7 +133,7 @@ def state_faults(case, view):
     wanted = {"before the first row": state_wanted(world)}
     for row, told in row_states.told(world, rows):
         if told:
-            wanted[f"behind row {row}"] = state_wanted(world)
+            wanted[f"after row {row}"] = state_wanted(world)
     states = view.evaluate(STATES)
     if [page["at"] for page in states] != list(wanted):
         yield "the slider has other rows than the journal"
@@ -201,7 +201,7 @@ def hand_faults(case, view):
         yield f"the key Home leads to {view.evaluate(view_parts.AT)}"
     view.press(*RIGHT)
     first = re.match(r"row (\d+)", case.text)[1]
-    if view.evaluate(view_parts.AT) != f"behind row {first}":
+    if view.evaluate(view_parts.AT) != f"after row {first}":
         yield f"an arrow leads to {view.evaluate(view_parts.AT)}"
     view.press(*LEFT)
     for packet in case.packets()[:1]:
@@ -284,7 +284,7 @@ def large_faults(case, view):
     for number, _ in row_states.told(world, rows):
         if number == int(row):
             break
-    if page["at"] != f"behind row {row}" or large_state(page) != large_wanted(world):
+    if page["at"] != f"after row {row}" or large_state(page) != large_wanted(world):
         yield f"{page['at']} the page shows another state than the model's"
     yield from view.complaints()
 

@@ -53,12 +53,12 @@ def mark_faults(case, view):
     for button, order in (("mark-after", rows), ("mark-before", rows[-2::-1])):
         for row in order:
             view.evaluate(f'document.getElementById("{button}").click()')
-            if view.evaluate(AT) != f"behind row {row}":
+            if view.evaluate(AT) != f"after row {row}":
                 yield f"{button} leads to {view.evaluate(AT)}, and not to row {row}"
     for row in {int(row) for row in re.findall(r"^row (\d+)", case.text, re.M)[-2:]}:
         view.evaluate(f'(() => {{ const one = document.getElementById("go"); one.value = {row};'
                       'one.dispatchEvent(new Event("change")); })()')
-        if view.evaluate(AT) != f"behind row {row}":
+        if view.evaluate(AT) != f"after row {row}":
             yield f"the field leads to {view.evaluate(AT)}, and not to row {row}"
 
 

@@ -208,7 +208,7 @@ function showState() {
 
 function showTime() {
   const row = view.row ? data.rows[view.row - 1][0] : 0;
-  const place = row ? `behind row ${row}` : "before the first row";
+  const place = row ? `after row ${row}` : "before the first row";
   for (const at of document.querySelectorAll(".at")) at.textContent = place;
   byId("row").value = view.row;
   byId("row").setAttribute("aria-valuetext", place);

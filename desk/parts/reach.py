@@ -21,19 +21,19 @@ def answer(case, *words):
     """
     if fault := fields.first_fault(fields.OF_POLICY[1:], words[:5]):
         raise Mistake(fault)
-    box, is_behind = box_of(words[:5]), words[5:] == ("behind",)
+    box, is_after = box_of(words[:5]), words[5:] == ("after",)
     names = [row["name"] for row in case.net()["switch"]]
-    headers = headers_of(case, box, is_behind)
+    headers = headers_of(case, box, is_after)
     if len(names) * len(headers) > MOST:
         raise Mistake(f"{len(headers):,} rows decide such headers: from {len(names)} switches these "
                       f"are more than {MOST:,} packets, so name fewer headers")
     probes = [(name, header) for name in names for header in headers]
-    packets, by = played(case, probes, is_behind)
+    packets, by = played(case, probes, is_after)
     ends = {name: Counter() for name in names}
     for (name, _), packet in zip(probes, packets, strict=True):
         ends[name][f"port {packet.port}" if packet.end == "out" else packet.end] += 1
     return {
-        "behind": is_behind,
+        "after": is_after,
         "by": by,
         "headers": headers,
         "from": {name: dict(counts) for name, counts in ends.items()},
@@ -44,9 +44,9 @@ def answer(case, *words):
     }
 
 
-def headers_of(case, box, is_behind):
+def headers_of(case, box, is_after):
     """A header of the box for each row that decides some, of the versions by which switches work."""
-    if is_behind:
+    if is_after:
         network = case.play().network
         stamps = {switch.stamp for switch in network.switches.values()} & {*network.versions}
         policies = [case.policy(network.versions[stamp]) for stamp in sorted(stamps)]
@@ -73,12 +73,12 @@ def headers_in(ranked, box):
         yield header_in(free)
 
 
-def played(case, probes, is_behind):
+def played(case, probes, is_after):
     """The packets of these probes, each drained, and who played them."""
     rows = [row for name, header in probes
             for row in (["packet", name, *(header[field] for field in HEADER)], ["drain"])]
     player = Player(str(case.folder), proved())
-    rows = (player.own_rows() if is_behind else []) + rows
+    rows = (player.own_rows() if is_after else []) + rows
     player.check(rows)
     packets = list(player.case(rows).play().packets.values())
     return packets[len(packets) - len(probes) :], "program" if player.program else "model"
@@ -86,7 +86,7 @@ def played(case, probes, is_behind):
 
 def text(found):
     """The headers, and the matrix: switches by ports and other ends, with counts of packets."""
-    where = "behind the schedule" if found["behind"] else "as the network begins"
+    where = "after the schedule" if found["after"] else "as the network begins"
     count, by = len(found["headers"]), SAYS[found["by"]]
     yield f"headers: {count}, one for each row that decides some; {where}, {by}"
     if len(found["headers"]) == 1:
