@@ -37,7 +37,7 @@ class Map:
         key = address >> 32 - length
         table = self.tables.setdefault(length, {})
         if key in table:
-            raise Refused(f"{where}: {prefix} stands there before")
+            raise Refused(f"{where}: {prefix} is named before")
         table[key] = switch
         self.places.setdefault(switch, where)
         self.tables = dict(sorted(self.tables.items(), reverse=True))

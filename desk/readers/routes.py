@@ -24,7 +24,7 @@ class Routes:
             if not PORT.fullmatch(port):
                 raise Refused(f"{where}: {port!r} is no port from 0 to 63")
             if prefix in self.ports:
-                raise Refused(f"{where}: {text} stands there before")
+                raise Refused(f"{where}: {text} is named before")
             self.ports[prefix] = port
 
     def over(self, prefix):
