@@ -13,6 +13,9 @@ import tempfile
 from pathlib import Path
 
 HOME = Path(__file__).resolve().parent.parent
+sys.path.append(str(HOME / "desk"))
+from parts import plans
+
 INSTALL, PAGE = HOME / "desk/install", HOME / "desk/README.md"
 PYTHON = Path("/usr/bin/python3")
 BLOCK = re.compile(r"^    \$ desk/(\S+) ?(.*)\n((?:    .*\n|\n(?=    (?!\$)))*)", re.M)
@@ -31,7 +34,8 @@ def call(prefix, folder, name, words, user):
     places = {"PATH": path, "HOME": str(folder), "LANG": "C.UTF-8"}
     done = subprocess.run([f"difane-{name}", *words.split()], cwd=folder, env=places,
                           capture_output=True, text=True, **user)
-    return "".join(f"    {line}".rstrip() + "\n" for line in (done.stdout + done.stderr).splitlines())
+    said = (done.stdout + done.stderr).replace(plans.SAYS["program"], plans.SAYS["model"])
+    return "".join(f"    {line}".rstrip() + "\n" for line in said.splitlines())
 
 
 def faults(folder):

@@ -15,7 +15,10 @@ import time
 from pathlib import Path
 
 HOME = Path(__file__).resolve().parent.parent
-EXAMPLES, RUN = HOME / "crates/examples/data", HOME / "desk/run"
+EXAMPLES = HOME / "crates/examples/data"
+COPY = tempfile.TemporaryDirectory()  # of the repository, without a program that was built there
+LEFT_OUT = shutil.ignore_patterns("out", ".git", "wip")
+RUN = Path(shutil.copytree(HOME, Path(COPY.name, "copy"), ignore=LEFT_OUT)) / "desk/run"
 STAND_IN = HOME / "checks/stand_in.py"
 MANY = 9000  # packets, whose journal on one switch is longer than 1 MiB
 
