@@ -47,10 +47,9 @@ def answer(case, *words):
 def headers_of(case, box, is_after):
     """A header of the box for each row that decides some, of the versions by which switches work."""
     if is_after:
-        network = case.play().network
-        stamps = {switch.stamp for switch in network.switches.values()} & {*network.versions}
-        stamps = stamps or {max(network.versions)}  # no switch serves: each packet is closed
-        policies = [case.policy(network.versions[stamp]) for stamp in sorted(stamps)]
+        versions = (network := case.play().network).versions
+        stamps = {switch.stamp for switch in network.switches.values()} & {*versions}
+        policies = [case.policy(versions[stamp]) for stamp in sorted(stamps or {max(versions)})]
     else:
         policies = [case.stated(1)]
     if None in policies:
