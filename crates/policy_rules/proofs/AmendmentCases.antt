@@ -1,15 +1,23 @@
 -- What a change makes of a policy, by cases.
-use Rattle.std.proofs.Common.{ℕ, suc, ◌≡◌, ◌∙◌, ◌+◌, ◌<◌, ◌≤◌, ◌≢◌, ◌⊎◌, inl, inr, Bool, true, false, cond, not, ◌&&◌, eqb, ltb, All, Contains, Result, Ok, Err, List, [], ◌∷◌, ◌++◌, length, map, filter, get_or, refl, sym, ap, subst, arith}
-use Rattle.std.specs.List.{list_all, list_any}
+use Rattle.std.proofs.Common.{ℕ, suc, ◌≡◌, ◌∙◌, ◌+◌, ◌<◌, ◌≤◌, ◌≢◌, ◌⊎◌, inl, inr, Bool, true, false, cond, not, ◌&&◌, ◌||◌, eqb, ltb, All, AllPairs, Contains, Result, Ok, Err, List, [], ◌∷◌, length, map, filter, get_or, refl, sym, ap, subst, arith}
+use Rattle.std.specs.List.{IsDistinct, count_by, list_all, list_any}
+use Rattle.std.specs.Set.{IsIntersection, is_member}
+use Rattle.std.proofs.lemmas.Cmp.{nat_eq_equiv}
+use Rattle.std.proofs.lemmas.Bool.Decides.{Decides-eqb, nat_tests}
+use Rattle.std.proofs.lemmas.List.{length-map}
+use Rattle.std.proofs.lemmas.List.Filters.{length-filter_both}
+use Rattle.std.proofs.lemmas.List.Sums.{count_by-le-length, sum_by-cons}
+use Rattle.std.proofs.lemmas.Map.Made.{IsDistinct-from_AllPairs, length-IsIntersection}
 use Rattle.std.proofs.lemmas.Bool.{eq-eqb, ltb-false, lt-ltb, le-ltb}
 use Rattle.std.proofs.lemmas.List.Elements.{All-append, All-cons, All-contains_itself, All-filter, All-nil, All-weaker}
 use Rattle.std.proofs.lemmas.List.Folds.{list_any_at}
 use Rattle.std.proofs.lemmas.Map.Views.{any-filter_same, exact_unsigned_eq}
 use Rattle.std.proofs.lemmas.List.Kept.{AllPairs-filter}
-use Rattle.base.proofs.ListsOfAll.{AllPairs-append}
+use Rattle.base.proofs.ListsOfAll.{AllPairs-append, AllPairs-map}
 use Rattle.base.proofs.ListsOfAny.{any_key}
 use Rattle.policy_rules.specs.declared.policy.Row.{Row}
-use Rattle.policy_rules.specs.Policy.{IsPolicy, IsSoundRow}
+use Rattle.policy_rules.specs.Policy.{HaveDistinctPriorities, IsPolicy, IsSoundRow}
+use Rattle.policy_rules.proofs.RowWords.{eqb_sym}
 use Rattle.policy_rules.specs.declared.amendment.Edit.{Edit}
 use Rattle.policy_rules.specs.declared.amendment.Edit.TheVariants.{Remove, Add}
 use Rattle.policy_rules.specs.PolicyFiles.{AddsOnly}
@@ -159,35 +167,116 @@ IsSetOf test numbers = (q : ℕ) → test q ≡ list_any (λ n. eqb n q) numbers
 abbrev pub priorities : List Row → List ℕ
 priorities rows = map (λ (row : Row). row.priority) rows
 
-pub absent_by : (held : ℕ → Bool) (rows : List Row) (change : List Edit)
-    → IsSetOf held (priorities rows)
-    → removes_absent rows change ≡ not (list_all held (removals change))
-absent_by held rows change is_held =
-    ap (λ test. not (list_all test (removals change)))
-    (λ i q. (sym (any_key (λ (row : Row). row.priority) rows q) ∙ sym (is_held q)) i)
+is_member_is : (numbers : List ℕ) (q : ℕ)
+    → is_member eqb numbers q ≡ list_any (λ n. eqb n q) numbers
+is_member_is numbers q =
+    ap (λ (test : ℕ → Bool). list_any test numbers) (λ i n. eqb_sym q n i)
 
-stays_by : (held gone : ℕ → Bool) (rows : List Row) (change : List Edit)
-    → IsSetOf held (priorities rows) → IsSetOf gone (removals change) → (q : ℕ)
-    → has_priority (staying_rows rows change) q ≡ (not (gone q) && held q)
-stays_by held gone rows change is_held is_gone q =
-    any-filter_same (λ (row : Row). eqb row.priority q)
-    (λ (row : Row). not (removes change row.priority)) (not (removes change q))
-    (λ row same. ap (λ n. not (removes change n)) (exact_unsigned_eq row.priority q same)) rows
-    ∙ ap (λ b. not b && has_priority rows q) (sym (is_gone q))
-    ∙ ap (λ b. not (gone q) && b)
-    (sym (any_key (λ (row : Row). row.priority) rows q) ∙ sym (is_held q))
+-- the priorities of the rows that the change removes
+abbrev gone_priorities : List Row → List Edit → List ℕ
+gone_priorities rows change = priorities (filter (λ row. removes change row.priority) rows)
 
-pub taken_by : (held gone : ℕ → Bool) (rows : List Row) (change : List Edit)
-    → IsSetOf held (priorities rows) → IsSetOf gone (removals change)
-    → adds_taken rows change ≡ list_any (λ row. not (gone row.priority) && held row.priority)
-    (additions change)
-taken_by held gone rows change is_held is_gone =
-    ap (λ (test : Row → Bool). list_any test (additions change))
-    (λ i row. stays_by held gone rows change is_held is_gone row.priority i)
+gone_once : (rows : List Row) (change : List Edit) → HaveDistinctPriorities rows
+    → IsDistinct eqb (gone_priorities rows change)
+gone_once rows change distinct =
+    IsDistinct-from_AllPairs Decides-eqb (gone_priorities rows change)
+    (AllPairs-map (λ (x y : ℕ). x ≢ y) (λ (row : Row). row.priority)
+    (filter (λ row. removes change row.priority) rows)
+    (AllPairs-filter (λ (x y : Row). x.priority ≢ y.priority)
+    (λ row. removes change row.priority) rows distinct))
 
-pub amended_by : (gone : ℕ → Bool) (rows : List Row) (change : List Edit)
-    → IsSetOf gone (removals change)
-    → filter (λ row. not (gone row.priority)) rows ++ additions change ≡ amended_rows rows change
-amended_by gone rows change is_gone =
-    ap (λ (test : Row → Bool). filter test rows ++ additions change)
-    (λ i row. not (is_gone row.priority i))
+-- they are those that the policy has, of those that the change removes
+gone_are : (rows : List Row) (change : List Edit)
+    → IsIntersection eqb (removals change) (priorities rows) (gone_priorities rows change)
+gone_are rows change q =
+    is_member_is (gone_priorities rows change) q
+    ∙ any_key (λ (row : Row). row.priority) (filter (λ row. removes change row.priority) rows) q
+    ∙ any-filter_same (λ (row : Row). eqb row.priority q) (λ row. removes change row.priority)
+    (removes change q)
+    (λ row same. ap (removes change) (exact_unsigned_eq row.priority q same)) rows
+    ∙ ap (λ b. removes change q && b) (sym (any_key (λ (row : Row). row.priority) rows q))
+    ∙ sym (ap (λ b. b && is_member eqb (priorities rows) q) (is_member_is (removals change) q)
+    ∙ ap (λ b. removes change q && b) (is_member_is (priorities rows) q))
+
+fewer : (gone staying all removed : ℕ) → gone + staying ≡ all
+    → ltb gone removed ≡ ltb all (staying + removed)
+fewer gone staying all removed split = grind (arith, nat_tests)
+
+one_more : (a b : ℕ) → ltb a b ≡ ltb (suc a) (suc b)
+one_more a b = grind (arith, nat_tests)
+
+-- not all pass a test where fewer pass than there are
+some_fails : (test : ℕ → Bool) (xs : List ℕ)
+    → not (list_all test xs) ≡ ltb (count_by test xs) (length xs)
+some_fails test [] = refl
+some_fails test (x ∷ xs) =
+    by (test x) (some_fails test xs)
+    ∙ ap (λ n. ltb n (suc (length xs))) (sym (sum_by-cons (λ y. cond (test y) 1 0) x xs))
+  where
+    few : count_by test xs ≤ length xs
+    few = count_by-le-length test xs
+
+    by : (b : Bool) → not (list_all test xs) ≡ ltb (count_by test xs) (length xs)
+        → not (b && list_all test xs) ≡ ltb (cond b 1 0 + count_by test xs) (suc (length xs))
+    by true rest = rest ∙ one_more _ _ ∙ ap (λ n. ltb n (suc (length xs))) (omega arith)
+    by false rest = sym (lt-ltb _ _ (omega (arith, few)))
+
+-- the policy lacks a priority that is removed where fewer rows go than priorities are removed
+pub absent_by : (rows : List Row) (change : List Edit) → HaveDistinctPriorities rows
+    → AllPairs (λ (x y : ℕ). x ≢ y) (removals change)
+    → removes_absent rows change
+    ≡ ltb (length rows) (length (staying_rows rows change) + length (removals change))
+absent_by rows change distinct once =
+    let gone = filter (λ row. removes change row.priority) rows in
+    let held : (q : ℕ) → has_priority rows q ≡ is_member eqb (priorities rows) q =
+    λ q. sym (any_key (λ (row : Row). row.priority) rows q) ∙ sym (is_member_is (priorities rows) q)
+    in
+    let count : length gone ≡ count_by (has_priority rows) (removals change) =
+    sym (length-map gone (λ (row : Row). row.priority))
+    ∙ length-IsIntersection nat_eq_equiv (removals change) (priorities rows) (priorities gone)
+    (IsDistinct-from_AllPairs Decides-eqb (removals change) once) (gone_once rows change distinct)
+    (gone_are rows change)
+    ∙ ap (λ (test : ℕ → Bool). count_by test (removals change)) (λ i q. sym (held q) i) in
+    some_fails (has_priority rows) (removals change)
+    ∙ ap (λ n. ltb n (length (removals change))) (sym count)
+    ∙ fewer (length gone) (length (staying_rows rows change)) (length rows)
+    (length (removals change))
+    (length-filter_both (λ row. removes change row.priority)
+    (λ row. not (removes change row.priority)) (λ row. refl) rows)
+
+none_passes : (rows : List Row) → list_any (λ row. false) rows ≡ false
+none_passes [] = refl
+none_passes (row ∷ rows) = none_passes rows
+
+one_passes : (a b c d e : Bool) → e ≡ (c || d) → ((a || b) || e) ≡ ((a || c) || (b || d))
+one_passes true b c d e is = refl
+one_passes false true true d e is = refl
+one_passes false true false d e is = refl
+one_passes false false c d e is = is
+
+passes_either : (p q : Row → Bool) (rows : List Row)
+    → list_any (λ row. p row || q row) rows ≡ (list_any p rows || list_any q rows)
+passes_either p q [] = refl
+passes_either p q (row ∷ rows) =
+    one_passes (p row) (q row) (list_any p rows) (list_any q rows) _ (passes_either p q rows)
+
+-- of two lists a row of the first has the priority of one of the second, or the other way round
+share_priority : (rows others : List Row)
+    → list_any (λ row. has_priority rows row.priority) others
+    ≡ list_any (λ row. has_priority others row.priority) rows
+share_priority rows [] = sym (none_passes rows)
+share_priority rows (other ∷ others) =
+    let later : Row → Bool = λ row. has_priority others row.priority in
+    ap (λ b. has_priority rows other.priority || b) (share_priority rows others)
+    ∙ ap (λ (test : Row → Bool). list_any test rows || list_any later rows)
+    (λ i row. eqb_sym row.priority other.priority i)
+    ∙ sym (passes_either (λ row. eqb other.priority row.priority) later rows)
+
+pub taken_by : (new : ℕ → Bool) (rows : List Row) (change : List Edit)
+    → IsSetOf new (priorities (additions change))
+    → adds_taken rows change ≡ list_any (λ row. new row.priority) (staying_rows rows change)
+taken_by new rows change is_new =
+    share_priority (staying_rows rows change) (additions change)
+    ∙ ap (λ (test : Row → Bool). list_any test (staying_rows rows change))
+    (λ i row. (sym (any_key (λ (added : Row). added.priority) (additions change) row.priority)
+    ∙ sym (is_new row.priority)) i)

@@ -10,6 +10,7 @@ pub use Rattle.policy_rules.proofs.FirstMatch.{first_match-only, first_match-sca
 pub use Rattle.policy_rules.proofs.AmendmentCases.{All-additions, All-applied, IsPolicy-applied, additions_sound}
 pub use Rattle.policy_rules.proofs.DistinctRows.{distinct_push}
 pub use Rattle.policy_rules.proofs.EditLists.{fresh_edits}
+pub use Rattle.policy_rules.proofs.PrioritySets.{is_eq-nat_cmp}
 pub use Rattle.policy_rules.proofs.RowWords.{IsWord-word_of_row, holds-word_of_row}
 pub use Rattle.policy_rules.proofs.RuleRanks.{length-words_of_row}
 pub use Rattle.policy_rules.proofs.RuleLaw.{first_rule-rules_of, holds-words_of_row}

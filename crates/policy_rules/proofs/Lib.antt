@@ -4,6 +4,7 @@ mod RowWords
 mod RuleRanks
 mod BlockLoops
 mod FallingRows
+mod PrioritySets
 mod RuleLaw
 mod RuleShape
 pub mod CallerLemmas

@@ -52,7 +52,7 @@ proto_bound : (p : Proto) → IsProtocol p → (proto_value p < 2 ^ 8) × (proto
 proto_bound Any small = (omega arith, omega arith)
 proto_bound (Is n) small = (small, omega arith)
 
-eqb_sym : (p q : ℕ) → eqb p q ≡ eqb q p
+pub eqb_sym : (p q : ℕ) → eqb p q ≡ eqb q p
 eqb_sym p q = grind (arith, nat_tests)
 
 masked_proto : (p : Proto) (number : ℕ) → IsProtocol p → number < 2 ^ 8

@@ -1,7 +1,6 @@
 pub mod Policy
 pub mod SoundPolicies
 pub mod Applied
-pub mod Priorities
 pub mod PolicyFiles
 pub mod Repeats
 pub mod Scan

@@ -1,5 +1,6 @@
-ghost use Rattle.std.specs.Prelude.{◌≡◌, ◌+◌, ◌<◌, ◌^◌, ◌++◌, ◌∷◌, [], List, IfOk, IfErr, OnOk, length, vec_len, nat_eq, not};
-ghost use Rattle.std.specs.HashSet.{contains};
+ghost use Rattle.std.specs.Prelude.{◌≡◌, ◌+◌, ◌<◌, ◌^◌, ◌++◌, ◌∷◌, [], List, IfOk, IfErr, OnOk, length, vec_len, not};
+ghost use Rattle.std.specs.BTreeSet.{contains};
+ghost use Rattle.std.specs.Ordering.{nat_cmp};
 ghost use Rattle.policy_rules.specs.Exports.{AreSeen, IsAmendment, IsSoundEdit, RefusesEdits, addition, additions, edits_of, removal, removals, repeats};
 ghost use Rattle.policy_rules.specs.declared.amendment.Edit.{Edit};
 ghost use Rattle.base.specs.Refusals.{IfRefused};
@@ -7,7 +8,7 @@ ghost use Rattle.base.specs.Refusals.{IfRefused};
 use crate::policy::{Row, row_is_sound};
 use base::Failure;
 use std::alloc::{AllocError, Global};
-use std::collections::HashSet;
+use std::collections::BTreeSet;
 use std::marker::Model;
 use thiserror::Error;
 
@@ -171,8 +172,8 @@ fn check_edits(alloc: Global, edits: &[Edit]) -> Result<(), Failure<Repeated>>
     ensures amendment { OnOk result (IsAmendment edits.now) }
     ensures refused { IfErr result (IfRefused (RefusesEdits edits.now)) }
 {
-    let mut removed: HashSet<u32> = HashSet::new(alloc);
-    let mut added: HashSet<u32> = HashSet::new(alloc);
+    let mut removed: BTreeSet<u32> = BTreeSet::new(alloc);
+    let mut added: BTreeSet<u32> = BTreeSet::new(alloc);
     let mut number = 0u32;
     for edit in edits {
         number += 1;
@@ -188,16 +189,16 @@ fn check_edits(alloc: Global, edits: &[Edit]) -> Result<(), Failure<Repeated>>
 // Whether no earlier edit did the same to the row of this one's priority, if the sets have the
 // priorities of the rows that earlier ones removed and added. Then they have this one's too.
 fn is_new(
-    removed: &mut HashSet<u32>,
-    added: &mut HashSet<u32>,
+    removed: &mut BTreeSet<u32>,
+    added: &mut BTreeSet<u32>,
     edit: &Edit,
 ) -> Result<bool, AllocError>
     ensures new { IfOk result (λ new. (earlier : List Edit)
-        → AreSeen (contains nat_eq removed.old) (contains nat_eq added.old) earlier
+        → AreSeen (contains nat_cmp removed.old) (contains nat_cmp added.old) earlier
         → new ≡ not (repeats earlier edit.now)) }
     ensures seen { OnOk result ((earlier : List Edit)
-        → AreSeen (contains nat_eq removed.old) (contains nat_eq added.old) earlier
-        → AreSeen (contains nat_eq removed.new) (contains nat_eq added.new)
+        → AreSeen (contains nat_cmp removed.old) (contains nat_cmp added.old) earlier
+        → AreSeen (contains nat_cmp removed.new) (contains nat_cmp added.new)
         (earlier ++ edit.now ∷ [])) }
 {
     match edit {
@@ -206,7 +207,7 @@ fn is_new(
     }
 }
 
-// Each field of an edit is as its type has it.
+// Each field of an edit satisfies the invariant of its type.
 fn edit_is_sound(edit: &Edit)
     ensures { IsSoundEdit edit.now }
 {

@@ -1,30 +1,19 @@
-ghost use Rattle.std.specs.Prelude.{◌≡◌, ◌≤◌, Ok, ◌&&◌, ◌++◌, ◌==◌, ℕ, IfOk, IfErr, filter, length, map, nat_eq, not};
-ghost use Rattle.std.specs.List.{list_all, list_any};
-ghost use Rattle.std.specs.HashSet.{contains};
+ghost use Rattle.std.specs.Prelude.{◌≡◌, ◌≤◌, ◌==◌, ℕ, Ok, IfOk, IfErr, filter, length, map, not};
+ghost use Rattle.std.specs.List.{list_any};
+ghost use Rattle.std.specs.BTreeSet.{contains};
+ghost use Rattle.std.specs.Ordering.{nat_cmp};
 ghost use Rattle.policy_rules.specs.Exports.{IsPolicy, applied};
-ghost use Rattle.policy_rules.specs.Priorities.{is_among};
 ghost use Rattle.base.specs.Refusals.{IsRefusal};
 
 use crate::amendment::Amendment;
 use crate::policy::{Policy, Row};
 use base::Failure;
 use std::alloc::{AllocError, Global};
-use std::collections::HashSet;
+use std::collections::BTreeSet;
 use thiserror::Error;
 
 /// The most rows of a policy or a change, as a file has them, and of a policy that a change makes.
 pub const MAX_ROWS: usize = 2000;
-
-/// With at most this many edits, priorities are looked up in a list.
-const FEW_EDITS: usize = 16;
-
-/// Priorities among which others are looked up.
-#[derive(Drop)]
-pub enum Priorities {
-    /// For few to look up, or among few.
-    Listed(Vec<u32>),
-    Hashed(HashSet<u32>),
-}
 
 /// Why a change can't be applied to a policy.
 #[derive(Clone, Copy, Debug, PartialEq, Eq, Error)]
@@ -59,16 +48,16 @@ pub fn apply(alloc: Global, policy: &Policy, change: &Amendment) -> Result<Polic
     let rows = policy.rows();
     let removed = change.removed();
     let added = change.added();
-    let few = change.edits().len() <= FEW_EDITS;
-    let held = priorities_of(alloc, rows, few)?;
-    if !has_all(&held, removed) {
+    let mut amended = staying_rows(alloc, rows, removed)?;
+    // Neither list has a priority twice, so each that is removed is that of one row, or of none.
+    if rows.len() < amended.len() + removed.len() {
         return Err(ApplyError::Refused(Inapplicable::Absent));
     }
-    let gone = set_of(alloc, removed, few)?;
-    if has_some(&held, &gone, added) {
+    let new = priorities_of(alloc, added)?;
+    if has_some(&amended, &new) {
         return Err(ApplyError::Refused(Inapplicable::Taken));
     }
-    let amended = amended_rows(alloc, rows, &gone, added)?;
+    amended.extend_from_slice(added)?;
     if amended.len() > MAX_ROWS {
         return Err(ApplyError::Refused(Inapplicable::TooManyRows {
             rows: amended.len() as u64,
@@ -77,84 +66,27 @@ pub fn apply(alloc: Global, policy: &Policy, change: &Amendment) -> Result<Polic
     Ok(Policy::from_sound(amended))
 }
 
-impl Priorities {
-    fn contains(&self, priority: u32) -> bool
-        ensures { result ≡ is_among self.now priority }
-    {
-        match self {
-            Priorities::Listed(list) => list.contains(&priority),
-            Priorities::Hashed(set) => set.contains(&priority),
-        }
-    }
-}
-
-// The priorities of the rows, to look up others among them.
-fn priorities_of(alloc: Global, rows: &[Row], few: bool) -> Result<Priorities, AllocError>
-    ensures { IfOk result (λ held. (q : ℕ) → is_among held q
-        ≡ list_any (λ priority. priority == q) (map (λ row. row.priority) rows.now)) }
+// The rows whose priorities aren't removed.
+fn staying_rows(alloc: Global, rows: &[Row], removed: &[u32]) -> Result<Vec<Row>, AllocError>
+    ensures { IfOk result (λ staying. staying.items ≡ filter
+        (λ row. not (list_any (λ priority. priority == row.priority) removed.now)) rows.now) }
 {
-    if few {
-        let list: Vec<u32> = rows.iter().map(|row| row.priority).collect(alloc)?;
-        return Ok(Priorities::Listed(list));
-    }
-    let set = hash_rows(alloc, rows)?;
-    Ok(Priorities::Hashed(set))
+    let gone: BTreeSet<u32> = removed.iter().copied().collect(alloc)?;
+    let staying = rows.iter().filter(|row| !gone.contains(&row.priority));
+    staying.copied().collect(alloc)
 }
 
-// The hash set of the rows' priorities.
-fn hash_rows(alloc: Global, rows: &[Row]) -> Result<HashSet<u32>, AllocError>
-    ensures { IfOk result (λ held. (q : ℕ) → contains nat_eq held q
+// The set of the rows' priorities.
+fn priorities_of(alloc: Global, rows: &[Row]) -> Result<BTreeSet<u32>, AllocError>
+    ensures { IfOk result (λ set. (q : ℕ) → contains nat_cmp set q
         ≡ list_any (λ priority. priority == q) (map (λ row. row.priority) rows.now)) }
 {
     rows.iter().map(|row| row.priority).collect(alloc)
 }
 
-// These priorities, to look up others among them.
-fn set_of(alloc: Global, priorities: &[u32], few: bool) -> Result<Priorities, AllocError>
-    ensures { IfOk result (λ set. (q : ℕ)
-        → is_among set q ≡ list_any (λ priority. priority == q) priorities.now) }
+// Whether one of the rows has a priority of the set.
+fn has_some(rows: &[Row], priorities: &BTreeSet<u32>) -> bool
+    ensures { result ≡ list_any (λ row. contains nat_cmp priorities.now row.priority) rows.now }
 {
-    if few {
-        let list = Vec::from_slice(alloc, priorities)?;
-        return Ok(Priorities::Listed(list));
-    }
-    let set = hash_all(alloc, priorities)?;
-    Ok(Priorities::Hashed(set))
-}
-
-// The hash set of the priorities.
-fn hash_all(alloc: Global, priorities: &[u32]) -> Result<HashSet<u32>, AllocError>
-    ensures { IfOk result (λ set. (q : ℕ)
-        → contains nat_eq set q ≡ list_any (λ priority. priority == q) priorities.now) }
-{
-    priorities.iter().copied().collect(alloc)
-}
-
-// Whether the set has all of these priorities.
-fn has_all(held: &Priorities, priorities: &[u32]) -> bool
-    ensures { result ≡ list_all (is_among held.now) priorities.now }
-{
-    priorities.iter().all(|priority| held.contains(*priority))
-}
-
-// Whether one of the rows has a priority of the set that isn't removed.
-fn has_some(held: &Priorities, gone: &Priorities, rows: &[Row]) -> bool
-    ensures { result ≡ list_any (λ row. not (is_among gone.now row.priority)
-        && is_among held.now row.priority) rows.now }
-{
-    rows.iter().any(|row| !gone.contains(row.priority) && held.contains(row.priority))
-}
-
-// The rows whose priorities aren't removed, and then the added ones.
-fn amended_rows(
-    alloc: Global,
-    rows: &[Row],
-    gone: &Priorities,
-    added: &[Row],
-) -> Result<Vec<Row>, AllocError>
-    ensures { IfOk result (λ amended. amended.items ≡
-        filter (λ row. not (is_among gone.now row.priority)) rows.now ++ added.now) }
-{
-    let staying = rows.iter().filter(|row| !gone.contains(row.priority));
-    staying.chain(added).copied().collect(alloc)
+    rows.iter().any(|row| priorities.contains(&row.priority))
 }

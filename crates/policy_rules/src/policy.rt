@@ -7,7 +7,7 @@ ghost use Rattle.base.specs.Refusals.{IfRefused};
 use base::Failure;
 use five_tuple::{Fields, Header, PortRange, Prefix, Proto};
 use std::alloc::{AllocError, Global};
-use std::collections::HashSet;
+use std::collections::BTreeSet;
 use std::marker::Model;
 use thiserror::Error;
 
@@ -187,7 +187,7 @@ fn check_rows(alloc: Global, rows: &[Row]) -> Result<(), Failure<SamePriority>>
     if falling {
         return Ok(());
     }
-    let mut seen: HashSet<u32> = HashSet::new(alloc);
+    let mut seen: BTreeSet<u32> = BTreeSet::new(alloc);
     let mut number = 0u32;
     for row in rows {
         number += 1;
@@ -218,8 +218,8 @@ fn are_falling(rows: &[Row]) -> bool
     true
 }
 
-/// Each field of a row is as its type has it, which the proof knows once the field is read: here,
-/// once for all rows of a policy, and once for those that a change adds.
+/// Each field of a row satisfies the invariant of its type, which the proof knows once the field is
+/// read: here, once for all rows of a policy, and once for those that a change adds.
 pub fn row_is_sound(row: &Row)
     ensures { IsSoundRow row.now }
 {

@@ -16,7 +16,7 @@ impl fmt::Display for Action {
     }
 }
 
-/// A rule's name: the priority of its row, or `default` if no row is behind it.
+/// A rule's name: the priority of its row, or `default` if it comes from no row.
 #[derive(Clone, Copy, Debug, PartialEq, Eq)]
 pub struct RuleName(pub Option<u32>);
 

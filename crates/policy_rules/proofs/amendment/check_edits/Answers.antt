@@ -1,5 +1,6 @@
-use Rattle.std.proofs.Common.{◌≡◌, ◌∙◌, sym, ap, subst, ◌+◌, ◌++◌, ◌∷◌, [], nat_eq, take, All, false, arith}
-use Rattle.std.specs.HashSet.{contains}
+use Rattle.std.proofs.Common.{◌≡◌, ◌∙◌, sym, ap, subst, ◌+◌, ◌++◌, ◌∷◌, [], take, All, false, arith}
+use Rattle.std.specs.BTreeSet.{contains}
+use Rattle.std.specs.Ordering.{nat_cmp}
 use Rattle.std.proofs.lemmas.Bool.{not-true}
 use Rattle.std.proofs.lemmas.List.{take_all, take_more}
 use Rattle.std.proofs.lemmas.List.Elements.{All-more}
@@ -22,8 +23,8 @@ loop-edit-preserved c =
     ∙ c.if-not-branch.false) in
     record {
       counts = ap (λ n. n + 1) known.counts;
-      seen = subst (AreSeen (contains nat_eq c.is_new.new.removed)
-          (contains nat_eq c.is_new.new.added)) (sym more)
+      seen = subst (AreSeen (contains nat_cmp c.is_new.new.removed)
+          (contains nat_cmp c.is_new.new.added)) (sym more)
           (c.in_ok-is_new.ensures.seen (take i edits) known.seen);
       sound = All-more IsSoundEdit edits i edit within known.sound
           (subst IsSoundEdit c.edit-item.is c.edit_is_sound.ensures);

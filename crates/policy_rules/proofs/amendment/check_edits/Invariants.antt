@@ -1,5 +1,6 @@
-use Rattle.std.proofs.Common.{◌≡◌, nat_eq, take, All}
-use Rattle.std.specs.HashSet.{contains}
+use Rattle.std.proofs.Common.{◌≡◌, take, All}
+use Rattle.std.specs.BTreeSet.{contains}
+use Rattle.std.specs.Ordering.{nat_cmp}
 use Rattle.policy_rules.specs.Applied.{AreDistinctEdits, IsSoundEdit}
 use Rattle.policy_rules.specs.Edits.{AreSeen}
 use Rattle.policy_rules.proofs.amendment.check_edits.Given as goal
@@ -7,7 +8,7 @@ use Rattle.policy_rules.proofs.amendment.check_edits.Given as goal
 abbrev pub invariant-loop-edit : goal.invariant-loop-edit
 invariant-loop-edit l = record {
   counts : l.number ≡ l.edit-index;
-  seen : AreSeen (contains nat_eq l.removed) (contains nat_eq l.added)
+  seen : AreSeen (contains nat_cmp l.removed) (contains nat_cmp l.added)
       (take l.edit-index l.edits);
   sound : All IsSoundEdit (take l.edit-index l.edits);
   distinct : AreDistinctEdits (take l.edit-index l.edits);

@@ -1,96 +1,125 @@
-use Rattle.std.proofs.Common.{ℕ, ◌≡◌, ◌∙◌, ◌≤◌, ◌<◌, ◌++◌, ◌&&◌, Bool, true, false, filter, length, List, not, Ok, Err, sym, ap, subst, arith}
-use Rattle.std.specs.List.{list_all, list_any}
-use Rattle.policy_rules.specs.Applied.{adds_taken, amended_rows, removes_absent}
-use Rattle.policy_rules.specs.Priorities.{is_among}
+use Rattle.std.proofs.Common.{ℕ, ◌≡◌, ◌∙◌, ◌≤◌, ◌<◌, ◌++◌, ◌+◌, false, filter, length, List, not, eqb, ltb, Ok, Err, sym, ap, subst, arith}
+use Rattle.std.specs.List.{list_any}
+use Rattle.std.specs.BTreeSet.{contains}
+use Rattle.std.specs.Ordering.{nat_cmp}
+use Rattle.std.proofs.lemmas.Bool.{le-ltb, lt-ltb}
+use Rattle.policy_rules.specs.Applied.{adds_taken, amended_rows, removals, removes_absent, staying_rows}
 use Rattle.policy_rules.specs.declared.applying.Inapplicable.TheVariants.{TooManyRows}
 use Rattle.policy_rules.specs.Policy.{IsPolicy}
+use Rattle.policy_rules.specs.declared.amendment.Edit.{Edit}
 use Rattle.policy_rules.specs.declared.policy.Row.{Row}
-use Rattle.policy_rules.proofs.AmendmentCases.{IsPolicy-amended, IsSetOf, absent_by, amended_by, is_absent, is_applied, is_taken, is_too_long, priorities, taken_by}
+use Rattle.policy_rules.proofs.AmendmentCases.{IsPolicy-amended, IsSetOf, absent_by, is_absent, is_applied, is_taken, is_too_long, priorities, taken_by}
 use Rattle.policy_rules.proofs.applying.apply.Goals as goal
-use Rattle.policy_rules.proofs.applying.apply.Goals.{In_ok-amended}
+use Rattle.policy_rules.proofs.applying.apply.Goals.{In_ok-amended, In_ok-new, In_ok-extend_from_slice}
 
-set_of_rows : (test : ℕ → Bool) (own rows : List Row) → own ≡ rows → IsSetOf test (priorities own)
-    → IsSetOf test (priorities rows)
-set_of_rows test own rows same is = subst (λ rows. IsSetOf test (priorities rows)) same is
+-- ---- the rows that stay
 
-pub returns-then-not-has_all-clause-refused : goal.returns-then-not-has_all-clause-refused
-returns-then-not-has_all-clause-refused c =
-    let held = is_among c.in_ok-held.held in
+staying_is : (c : In_ok-amended) → c.in_ok-amended.amended.items
+    ≡ staying_rows c.args.policy.now c.args.change.now
+staying_is c =
+    c.in_ok-amended.ensures
+    ∙ ap (filter (λ (row : Row). not (list_any (λ n. eqb n row.priority) c.removed-removed.result.now)))
+    c.rows-rows.ensures.rows
+    ∙ ap (λ (removed : List ℕ). filter (λ (row : Row). not (list_any (λ n. eqb n row.priority) removed))
+    c.args.policy.now) c.removed-removed.ensures
+
+absent_is : (c : In_ok-amended) → removes_absent c.args.policy.now c.args.change.now
+    ≡ ltb (length c.rows-rows.result.now)
+    (length c.in_ok-amended.amended.items + length c.removed-removed.result.now)
+absent_is c =
+    let rows = c.args.policy.now in
+    let change = c.args.change.now in
+    let one = ap length (staying_is c) in
+    let two : length c.removed-removed.result.now ≡ length (removals change) =
+    ap length c.removed-removed.ensures in
+    let three : length c.rows-rows.result.now ≡ length rows = ap length c.rows-rows.ensures.rows in
+    absent_by rows change c.rows-rows.ensures.policy.distinct
+    c.added-added.ensures.amendment.distinct.removed_once
+    ∙ sym (λ i. ltb (three i) (one i + two i))
+
+pub returns-then-rows-len-clause-refused : goal.returns-then-rows-len-clause-refused
+returns-then-rows-len-clause-refused c =
+    let before = (goal.at.returns-then-rows-len-clause-refused c).In_ok-amended in
     is_absent c.args.policy.now c.args.change.now
-    (absent_by held c.args.policy.now c.args.change.now
-    (set_of_rows held _ _ c.rows-rows.ensures.rows c.in_ok-held.ensures)
-    ∙ ap not (ap (list_all held) (sym c.removed-removed.ensures) ∙ sym c.has_all.ensures
-    ∙ c.if-not-has_all.true))
+    (absent_is before ∙ lt-ltb _ _ (omega arith))
+
+-- ---- the rows that are added
+
+taken_is : (c : In_ok-new) → adds_taken c.args.policy.now c.args.change.now
+    ≡ list_any (λ (row : Row). contains nat_cmp c.in_ok-new.new row.priority)
+    (staying_rows c.args.policy.now c.args.change.now)
+taken_is c =
+    let new = contains nat_cmp c.in_ok-new.new in
+    taken_by new c.args.policy.now c.args.change.now
+    (subst (λ (rows : List Row). IsSetOf new (priorities rows)) c.added-added.ensures.rows
+    c.in_ok-new.ensures)
 
 pub returns-then-has_some-clause-refused : goal.returns-then-has_some-clause-refused
 returns-then-has_some-clause-refused c =
-    let held = is_among c.in_ok-held.held in
-    let gone = is_among c.in_ok-gone.gone in
-    let is_held = set_of_rows held _ _ c.rows-rows.ensures.rows c.in_ok-held.ensures in
+    let before = (goal.at.returns-then-has_some-clause-refused c).In_ok-amended in
     is_taken c.args.policy.now c.args.change.now
-    (absent_by held c.args.policy.now c.args.change.now is_held
-    ∙ ap not (ap (list_all held) (sym c.removed-removed.ensures) ∙ sym c.has_all.ensures
-    ∙ c.if-not-has_all.false))
-    (taken_by held gone c.args.policy.now c.args.change.now is_held
-    (subst (IsSetOf gone) c.removed-removed.ensures c.in_ok-gone.ensures)
-    ∙ ap (list_any (λ (row : Row). not (gone row.priority) && held row.priority))
-    (sym c.added-added.ensures.rows) ∙ sym c.has_some.ensures ∙ c.if-has_some.true)
+    (absent_is before ∙ le-ltb _ _ (omega arith))
+    (taken_is (goal.at.returns-then-has_some-clause-refused c).In_ok-new
+    ∙ ap (list_any (λ (row : Row). contains nat_cmp c.in_ok-new.new row.priority))
+    (sym (c.deref.ensures.value ∙ staying_is before)) ∙ sym c.has_some.ensures ∙ c.if-has_some.true)
 
 -- ---- where nothing is absent or taken
 
-none_absent : (c : In_ok-amended) → removes_absent c.args.policy.now c.args.change.now ≡ false
-none_absent c =
-    let held = is_among c.in_ok-held.held in
-    absent_by held c.args.policy.now c.args.change.now
-    (set_of_rows held _ _ c.rows-rows.ensures.rows c.in_ok-held.ensures)
-    ∙ ap not (ap (list_all held) (sym c.removed-removed.ensures) ∙ sym c.has_all.ensures
-    ∙ c.if-not-has_all.false)
+record Applies (rows : List Row) (change : List Edit) (amended : List Row) : Type 0 where
+  there : removes_absent rows change ≡ false
+  free : adds_taken rows change ≡ false
+  is : amended_rows rows change ≡ amended
 
-none_taken : (c : In_ok-amended) → adds_taken c.args.policy.now c.args.change.now ≡ false
-none_taken c =
-    let held = is_among c.in_ok-held.held in
-    let gone = is_among c.in_ok-gone.gone in
-    taken_by held gone c.args.policy.now c.args.change.now
-    (set_of_rows held _ _ c.rows-rows.ensures.rows c.in_ok-held.ensures)
-    (subst (IsSetOf gone) c.removed-removed.ensures c.in_ok-gone.ensures)
-    ∙ ap (list_any (λ (row : Row). not (gone row.priority) && held row.priority))
-    (sym c.added-added.ensures.rows) ∙ sym c.has_some.ensures ∙ c.if-has_some.false
-
-amended_is : (c : In_ok-amended) → amended_rows c.args.policy.now c.args.change.now
-    ≡ c.in_ok-amended.amended.items
-amended_is c =
-    let gone = is_among c.in_ok-gone.gone in
-    let stays : Row → Bool = λ row. not (gone row.priority) in
-    sym (c.in_ok-amended.ensures
-    ∙ ap (λ rows. filter stays rows ++ c.added-added.result.now) c.rows-rows.ensures.rows
-    ∙ ap (λ added. filter stays c.args.policy.now ++ added) c.added-added.ensures.rows
-    ∙ amended_by gone c.args.policy.now c.args.change.now
-    (subst (IsSetOf gone) c.removed-removed.ensures c.in_ok-gone.ensures))
+applies : (c : In_ok-extend_from_slice)
+    → c.in_ok-amended.amended.items ≡ staying_rows c.args.policy.now c.args.change.now
+    → removes_absent c.args.policy.now c.args.change.now
+    ≡ ltb (length c.rows-rows.result.now)
+    (length c.in_ok-amended.amended.items + length c.removed-removed.result.now)
+    → adds_taken c.args.policy.now c.args.change.now
+    ≡ list_any (λ (row : Row). contains nat_cmp c.in_ok-new.new row.priority)
+    (staying_rows c.args.policy.now c.args.change.now)
+    → Applies c.args.policy.now c.args.change.now c.extend_from_slice.new.self.items
+applies c staying absent taken = record {
+  there = absent ∙ le-ltb _ _ (omega arith);
+  free = taken
+      ∙ ap (list_any (λ (row : Row). contains nat_cmp c.in_ok-new.new row.priority))
+      (sym (c.deref.ensures.value ∙ staying)) ∙ sym c.has_some.ensures ∙ c.if-has_some.false;
+  is = sym (c.in_ok-extend_from_slice.ensures.items
+      ∙ ap (λ (rows : List Row). rows ++ c.added-added.result.now) staying
+      ∙ ap (λ (added : List Row). staying_rows c.args.policy.now c.args.change.now ++ added)
+      c.added-added.ensures.rows);
+}
 
 pub returns-then-len-gt-MAX_ROWS-clause-refused :
     goal.returns-then-len-gt-MAX_ROWS-clause-refused
 returns-then-len-gt-MAX_ROWS-clause-refused c =
-    let before = (goal.at.returns-then-len-gt-MAX_ROWS-clause-refused c).In_ok-amended in
-    let count : length c.in_ok-amended.amended.items ≡ c.len-then-len-gt-MAX_ROWS.result =
+    let before = goal.at.returns-then-len-gt-MAX_ROWS-clause-refused c in
+    let done = applies before.In_ok-extend_from_slice (staying_is before.In_ok-amended)
+    (absent_is before.In_ok-amended) (taken_is before.In_ok-new) in
+    let count : length c.extend_from_slice.new.self.items ≡ c.len-then-len-gt-MAX_ROWS.result =
     omega arith in
-    let many : 2000 < length c.in_ok-amended.amended.items = omega arith in
-    is_too_long c.args.policy.now c.args.change.now (none_absent before) (none_taken before)
-    (subst (λ (rows : List Row). 2000 < length rows) (sym (amended_is before)) many)
-    ∙ ap (λ n. Err (TooManyRows n)) (ap length (amended_is before) ∙ count)
+    let many : 2000 < length c.extend_from_slice.new.self.items = omega arith in
+    is_too_long c.args.policy.now c.args.change.now done.there done.free
+    (subst (λ (rows : List Row). 2000 < length rows) (sym done.is) many)
+    ∙ ap (λ n. Err (TooManyRows n)) (ap length done.is ∙ count)
 
 pub from_sound-requires : goal.from_sound-requires
 from_sound-requires c =
-    let before = (goal.at.from_sound-requires c).In_ok-amended in
-    let few : length c.in_ok-amended.amended.items ≤ 2000 = omega arith in
-    subst IsPolicy (amended_is before)
+    let before = goal.at.from_sound-requires c in
+    let done = applies before.In_ok-extend_from_slice (staying_is before.In_ok-amended)
+    (absent_is before.In_ok-amended) (taken_is before.In_ok-new) in
+    let few : length c.extend_from_slice.new.self.items ≤ 2000 = omega arith in
+    subst IsPolicy done.is
     (IsPolicy-amended c.args.policy.now c.args.change.now c.rows-rows.ensures.policy
-    c.added-added.ensures.amendment (none_taken before)
-    (subst (λ (rows : List Row). length rows ≤ 2000) (sym (amended_is before)) few))
+    c.added-added.ensures.amendment done.free
+    (subst (λ (rows : List Row). length rows ≤ 2000) (sym done.is) few))
 
 pub returns-clause-applied : goal.returns-clause-applied
 returns-clause-applied c =
-    let before = (goal.at.returns-clause-applied c).In_ok-amended in
-    let few : length c.in_ok-amended.amended.items ≤ 2000 = omega arith in
-    is_applied c.args.policy.now c.args.change.now (none_absent before) (none_taken before)
-    (subst (λ (rows : List Row). length rows ≤ 2000) (sym (amended_is before)) few)
-    ∙ ap Ok (amended_is before ∙ sym c.from_sound.ensures.rows)
+    let before = goal.at.returns-clause-applied c in
+    let done = applies before.In_ok-extend_from_slice (staying_is before.In_ok-amended)
+    (absent_is before.In_ok-amended) (taken_is before.In_ok-new) in
+    let few : length c.extend_from_slice.new.self.items ≤ 2000 = omega arith in
+    is_applied c.args.policy.now c.args.change.now done.there done.free
+    (subst (λ (rows : List Row). length rows ≤ 2000) (sym done.is) few)
+    ∙ ap Ok (done.is ∙ sym c.from_sound.ensures.rows)

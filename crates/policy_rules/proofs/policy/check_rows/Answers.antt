@@ -1,6 +1,7 @@
 use Rattle.std.proofs.Common.{◌∙◌, sym, ap, ◌+◌, nat_eq, true, cond}
 use Rattle.std.proofs.lemmas.Bool.{not-true}
 use Rattle.policy_rules.proofs.DistinctRows.{seen_more, so_far_all, so_far_more}
+use Rattle.policy_rules.proofs.PrioritySets.{set_with}
 use Rattle.policy_rules.proofs.policy.check_rows.Goals as goal
 
 pub loop-row-preserved : goal.loop-row-preserved
@@ -10,7 +11,7 @@ loop-row-preserved c =
     let known = c.loop-row.invariant in
     record {
       counts = ap (λ n. n + 1) known.counts;
-      seen = λ q. c.in_ok-insert.ensures.updates.0 q
+      seen = λ q. set_with _ _ row.priority c.in_ok-insert.ensures.updates q
           ∙ ap (λ b. cond (nat_eq row.priority q) true b) (known.seen q)
           ∙ seen_more rows _ row q c.loop-row-test.true c.row-item.is;
       so_far = so_far_more rows _ row c.loop-row-test.true c.row-item.is known.so_far
