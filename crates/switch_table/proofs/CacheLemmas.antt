@@ -1,5 +1,5 @@
 -- What each call keeps of a cache.
-use Rattle.std.proofs.Common.{ℕ, zero, suc, ◌≡◌, ◌+◌, ◌≤◌, Bool, true, false, cond, leb, ◌||◌, nat_lt, List, [], ◌∷◌, ◌++◌, length, remove, drop, length-append, refl, ap, sym, subst, inl, inr, arith}
+use Rattle.std.proofs.Common.{ℕ, zero, suc, ◌≡◌, ◌+◌, ◌<◌, ◌≤◌, Bool, true, false, cond, leb, ◌||◌, nat_lt, List, [], ◌∷◌, ◌++◌, length, remove, drop, length-append, refl, ap, sym, subst, inl, inr, arith}
 use Rattle.std.specs.List.{list_any}
 use Rattle.std.proofs.lemmas.Bool.{cases_lt, lt-ltb, le-ltb}
 use Rattle.std.proofs.lemmas.List.Edits.{length-remove}
@@ -8,7 +8,7 @@ use Rattle.std.proofs.lemmas.List.Quantifiers.{all_pairs_remove}
 use Rattle.std.proofs.lemmas.List.Sums.{length-filter, count_by-le-length}
 use Rattle.switch_table.specs.Cache.{CacheValue, HaveDistinctKeys, IsCache, same_key, newest_entries, after_accept, after_expire, after_raise, after_clear}
 use Rattle.switch_table.specs.declared.cache.CacheEntry.{CacheEntry}
-use Rattle.switch_table.proofs.QueueLemmas.{none_distinct, push_distinct, rest_distinct}
+use Rattle.switch_table.proofs.PairLemmas.{none_distinct, push_distinct, rest_distinct}
 
 pub cache_begun : (capacity : ℕ) → IsCache (record { entries = []; capacity = capacity })
 cache_begun capacity = record { distinct = none_distinct; few = omega arith }
@@ -45,7 +45,7 @@ cache_expired place cache is = elim (cases_lt place (length cache.entries)) [
       (sym (remove_past cache.entries place past)) is
 ]
 
-length-rest : (entries : List CacheEntry) (most : ℕ) → length entries ≤ most + 1 →
+pub length-rest : (entries : List CacheEntry) (most : ℕ) → length entries ≤ most + 1 →
     length (drop 1 entries) ≤ most
 length-rest [] most few = omega arith
 length-rest (x ∷ xs) most few = omega (arith, few)
@@ -81,3 +81,17 @@ cache_accepted stamp entry cache is =
     by_case false false absent = newest_is cache.capacity with_it
         (push_distinct cache.entries entry is.distinct absent)
         (omega (arith, length-append cache.entries (entry ∷ []), is.few))
+
+-- a new entry of a full cache evicts the first one
+pub first_evicted : (stamp : ℕ) (entry : CacheEntry) (cache : CacheValue)
+    → nat_lt entry.version stamp ≡ false → list_any (same_key entry) cache.entries ≡ false
+    → cache.capacity < length (cache.entries ++ entry ∷ [])
+    → record { entries = drop 1 (cache.entries ++ entry ∷ []); capacity = cache.capacity }
+    ≡ after_accept stamp entry cache
+first_evicted stamp entry cache late absent full =
+    let with_it = cache.entries ++ entry ∷ [] in
+    let more = lt-ltb cache.capacity (length with_it) full in
+    sym (λ i. cond (late i || absent i) cache (record {
+      entries = cond (more i) (drop 1 with_it) with_it;
+      capacity = cache.capacity;
+    }))

@@ -1,7 +1,6 @@
 -- What a cache keeps as it goes over to a version.
-use Rattle.std.proofs.Common.{ℕ, ◌≡◌, ◌∙◌, ◌+◌, ◌≤◌, Bool, true, false, cond, leb, eqb, not, ◌&&◌, ◌||◌, ◌⊎◌, Option, Some, None, Result, Ok, Err, IfSome, List, [], ◌∷◌, ◌++◌, append-nil, length, map, filter, filter_map, get_or, refl, ap, sym, subst, inl, inr, arith, All, AllPairs, Any, Contains}
+use Rattle.std.proofs.Common.{ℕ, ◌≡◌, ◌∙◌, ◌+◌, ◌≤◌, Bool, true, false, cond, leb, eqb, not, ◌&&◌, ◌||◌, ◌⊎◌, Option, Some, None, IfSome, List, [], ◌∷◌, ◌++◌, append-nil, length, map, filter, filter_map, get_or, refl, ap, sym, subst, inl, inr, arith, All, AllPairs, Any, Contains}
 use Rattle.std.specs.List.{cons_option, list_any}
-use Rattle.std.specs.Prelude.{OnErr, OnOk}
 use Rattle.std.proofs.lemmas.Bool.{eq-eqb, eqb-true, false_from_ne_true, le-leb, leb-true}
 use Rattle.std.proofs.lemmas.List.{get_or_default, map-append}
 use Rattle.std.proofs.lemmas.List.Elements.{All-contains_itself, All-weaker, filter_map-append}
@@ -16,7 +15,7 @@ use Rattle.switch_table.specs.CacheLaws.{WasCarried}
 use Rattle.switch_table.specs.Carried.{after_carry, all_touched, carried_entry, is_carried, meets_any, under}
 use Rattle.switch_table.specs.Keys.{Pair, has_key, key_of, pair_of}
 use Rattle.switch_table.specs.declared.cache.CacheEntry.{CacheEntry}
-use Rattle.switch_table.proofs.QueueLemmas.{apart-sym, has_key_of_pairs, none_before, same_key_from, same_key_parts}
+use Rattle.switch_table.proofs.PairLemmas.{apart-sym, has_key_of_pairs, none_before, same_key_from, same_key_parts}
 
 -- ---- an entry that goes over
 
@@ -139,15 +138,18 @@ carried_distinct version touched entries distinct =
     (carried_entry version touched entries) (pair_carried version touched entries) entries
     (pairs_within entries distinct)
 
+-- there are no more of them
+pub left_few : (version capacity : ℕ) (touched : List WordValue) (entries : List CacheEntry)
+    → length entries ≤ capacity
+    → length (filter_map (carried_entry version touched entries) entries) ≤ capacity
+left_few version capacity touched entries few =
+    omega (arith, length-filter_map (carried_entry version touched entries) entries, few)
+
 pub cache_carried : (version : ℕ) (touched : List WordValue) (cache : CacheValue) → IsCache cache
     → IsCache (after_carry version touched cache)
 cache_carried version touched cache is = record {
   distinct = carried_distinct version touched cache.entries is.distinct;
-  few = omega (
-    arith,
-    length-filter_map (carried_entry version touched cache.entries) cache.entries,
-    is.few,
-  );
+  few = left_few version cache.capacity touched cache.entries is.few;
 }
 
 -- ---- what isn't touched stays
@@ -310,18 +312,3 @@ left_absent shift f before entry left rest pairs distinct some are =
     ap (has_key (key_of shift left)) are ∙ has_key_of_pairs shift left (filter_map f before)
     ∙ none_before (filter_map f before) left (filter_map f rest)
     (subst HaveDistinctKeys all distinct)
-
--- there are no more of them
-pub left_few : (version capacity : ℕ) (touched : List WordValue) (old new : List CacheEntry)
-    → length old ≤ capacity → new ≡ filter_map (carried_entry version touched old) old
-    → length new ≤ capacity
-left_few version capacity touched old new few are =
-    omega (arith, ap length are, length-filter_map (carried_entry version touched old) old, few)
-
-pub few_after : {T E : Type 0} (r : Result T E) (version capacity : ℕ) (touched : List WordValue)
-    (old new : List CacheEntry) → length old ≤ capacity
-    → OnOk r (new ≡ filter_map (carried_entry version touched old) old) → OnErr r (new ≡ old)
-    → length new ≤ capacity
-few_after (Ok x) version capacity touched old new few are same =
-    left_few version capacity touched old new few are
-few_after (Err e) version capacity touched old new few are same = omega (arith, ap length same, few)

@@ -9,9 +9,9 @@ use Rattle.ternary.specs.Word.{WordValue, holds}
 use Rattle.switch_table.specs.Cache.{first_entry}
 use Rattle.switch_table.specs.Keys.{Pair, kept_entries, kept_entry, equal_keys, is_hit, key_of, key_under}
 use Rattle.switch_table.specs.Masks.{HasMaskIn}
-use Rattle.switch_table.specs.Queue.{AreMasked, HaveVersions}
+use Rattle.switch_table.specs.Pairs.{AreMasked, HaveVersions}
 use Rattle.switch_table.specs.declared.cache.CacheEntry.{CacheEntry}
-use Rattle.switch_table.proofs.QueueLemmas.{HasVersion, key_of_entry}
+use Rattle.switch_table.proofs.PairLemmas.{HasVersion, key_of_entry}
 use Rattle.std.proofs.lemmas.Bool.Decides.{nat_tests}
 use Rattle.base.proofs.ListsOfAny.{list_any-both}
 

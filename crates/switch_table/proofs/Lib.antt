@@ -5,7 +5,7 @@ mod LiveLemmas
 mod FirstLemmas
 mod SlotHitLemmas
 mod SlotRemoveLemmas
-pub mod QueueLemmas
+pub mod PairLemmas
 pub mod CacheLemmas
 pub mod CarryLemmas
 pub mod TableLemmas

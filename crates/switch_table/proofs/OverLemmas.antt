@@ -9,9 +9,9 @@ use Rattle.switch_table.specs.Cache.{same_key}
 use Rattle.switch_table.specs.Carried.{carried_entry, is_carried, meets_any, under}
 use Rattle.switch_table.specs.Keys.{Pair, kept_entries, kept_entry, is_carried_key}
 use Rattle.switch_table.specs.Masks.{HasMaskOf}
-use Rattle.switch_table.specs.Queue.{AreMasked, AreUpTo, HaveVersions}
+use Rattle.switch_table.specs.Pairs.{AreMasked, AreUpTo, HaveVersions}
 use Rattle.switch_table.specs.declared.cache.CacheEntry.{CacheEntry}
-use Rattle.switch_table.proofs.QueueLemmas.{HasVersion, same_key_parts}
+use Rattle.switch_table.proofs.PairLemmas.{HasVersion, same_key_parts}
 
 -- ---- where no entry is of the version or a later one
 

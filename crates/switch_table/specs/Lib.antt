@@ -5,7 +5,7 @@ pub mod Listed
 pub mod Live
 pub mod CacheLaws
 pub mod Masks
-pub mod Queue
+pub mod Pairs
 pub mod Slots
 pub mod Tables
 pub mod Lookup

@@ -1,12 +1,14 @@
-ghost use Rattle.std.specs.Prelude.{◌≡◌, ◌≤◌, ◌<◌, ◌+◌, ◌^◌, [], slice_get, option_map, OnOk, OnErr};
-ghost use Rattle.switch_table.specs.Cache.{IsCache, after_accept, after_expire, after_raise, after_clear, first_entry};
+ghost use Rattle.std.specs.Prelude.{◌≡◌, ◌≤◌, ◌<◌, ◌+◌, ◌^◌, [], filter_map, map, slice_get, option_map, IfOk, OnOk, OnErr};
+ghost use Rattle.std.specs.List.{list_any};
+ghost use Rattle.switch_table.specs.Cache.{IsCache, after_accept, after_expire, after_raise, after_clear, first_entry, same_key};
 ghost use Rattle.switch_table.specs.CacheLaws.{CacheLaws, CarryLaws};
-ghost use Rattle.switch_table.specs.Carried.{after_carry};
-ghost use Rattle.switch_table.specs.Keys.{kept_entry, key_of, learnt_of};
+ghost use Rattle.switch_table.specs.Carried.{after_carry, carried_entry};
+ghost use Rattle.switch_table.specs.Keys.{kept_entry, key_of, learnt_of, pair_of};
 
 use crate::items::CacheItems;
 use crate::key::{CacheKey, Learnt};
-use crate::queue::EntryQueue;
+use crate::masks::Masks;
+use crate::slots::Slots;
 use crate::touched::Touched;
 use policy_rules::Action;
 use std::alloc::{AllocError, Global};
@@ -27,7 +29,7 @@ pub struct CacheEntry {
 }
 
 impl CacheEntry {
-    /// The key in a queue that adds this much to versions.
+    /// The key in a cache that adds this much to versions.
     pub(crate) fn key(&self, shift: u64) -> CacheKey
         requires { shift ≤ 2 ^ 32 }
         ensures key { result ≡ key_of shift self.now }
@@ -50,7 +52,7 @@ impl CacheEntry {
         }
     }
 
-    /// The entry of this key in a queue that adds this much to versions.
+    /// The entry of this key in a cache that adds this much to versions.
     pub(crate) fn of(key: &CacheKey, learnt: &Learnt, shift: u64) -> CacheEntry
         requires { (shift ≤ key.now.number) × (key.now.number < shift + 2 ^ 32) }
         ensures { result ≡ kept_entry shift (key.now, learnt.now) }
@@ -67,21 +69,31 @@ impl CacheEntry {
 
 /// The rules that a switch has learnt: at most as many as its capacity, no two of one version and
 /// word, in the order in which they came. Contracts see the list and the capacity.
+// The key of an entry has its version and the shift. So when entries are carried to the next
+// version, the shift falls by one, and no entry is written. No entry is of a later version than
+// `newest`, so that a carry need not look at all of them to know that none is of its version.
 #[derive(Drop)]
 pub struct Cache {
-    queue: EntryQueue,
+    slots: Slots,
+    shift: u64,
+    newest: u32,
+    masks: Masks,
     capacity: u32,
 }
 
+// The shift of a cache at first.
+const MAX_SHIFT: u64 = 1 << 32;
+
 impl Model for Cache {
-    ghost use Rattle.std.specs.Prelude.{◌≤◌, length};
     ghost use Rattle.switch_table.specs.Cache.{CacheValue};
+    ghost use Rattle.switch_table.specs.Keys.{kept_entries};
+    ghost use Rattle.switch_table.specs.Pairs.{HoldsEntries};
 
     ghost Value = { CacheValue };
 
-    ghost view = { λ c. record { entries = c.queue; capacity = c.capacity } };
+    ghost view = { λ c. record { entries = kept_entries c.shift c.slots; capacity = c.capacity } };
 
-    ghost invariant = { λ c. length c.queue ≤ c.capacity };
+    ghost invariant = { λ c. HoldsEntries c.masks c.shift c.newest c.capacity c.slots };
 }
 
 impl Cache {
@@ -90,7 +102,10 @@ impl Cache {
         ensures { result ≡ record { entries = []; capacity = capacity } }
     {
         Cache {
-            queue: EntryQueue::new(alloc),
+            slots: Slots::new(alloc),
+            shift: MAX_SHIFT,
+            newest: 0,
+            masks: Masks::new(alloc),
             capacity,
         }
     }
@@ -100,8 +115,7 @@ impl Cache {
         ensures entries { result ≡ self.now.entries }
         ensures cache { IsCache self.now }
     {
-        let _capacity = self.capacity;
-        self.queue.iter()
+        CacheItems::new(self.slots.iter(), self.shift)
     }
 
     /// Adds an entry as the last one; if there are then more than the capacity, the first one is
@@ -110,45 +124,51 @@ impl Cache {
     ///
     /// # Errors
     /// Only out of memory; then nothing changes.
+    #[tactic(auto, using(crate::proofs::PairLemmas::has_key_of_entry))]
     pub fn accept(&mut self, stamp: u32, entry: CacheEntry) -> Result<(), AllocError>
         ensures ok { OnOk result (self.new ≡ after_accept stamp entry self.old) }
         ensures err { OnErr result (self.new ≡ self.old) }
     {
-        if entry.version < stamp || self.queue.has_key_of(&entry) {
+        if self.capacity == 0 || entry.version < stamp || self.has_key_of(&entry) {
             return Ok(());
         }
-        self.queue.gather_masks()?;
-        if self.queue.len() < self.capacity as usize {
-            self.queue.push(&entry)
-        } else if self.capacity > 0 {
-            self.queue.replace_first(&entry)
-        } else {
-            Ok(())
+        self.gather_masks()?;
+        self.masks.add(&entry.word, self.slots.len())?;
+        self.slots.push(entry.key(self.shift), entry.learnt())?;
+        self.newest = self.newest.max(entry.version);
+        if self.slots.len() > self.capacity as usize {
+            self.slots.remove(0);
         }
+        Ok(())
     }
 
     /// Removes the entry at this place, from 0, and returns the number of its message; `None` if
     /// there is none.
+    #[tactic(auto, using(crate::proofs::PairLemmas::entries_removed))]
     pub fn expire(&mut self, k: u32) -> Option<u32>
         ensures message { result
             ≡ option_map (λ entry. entry.message) (slice_get self.old.entries k) }
         ensures after { self.new ≡ after_expire k self.old }
     {
-        let entry = self.queue.remove(k as usize)?;
-        Some(entry.message)
+        let (_, learnt) = self.slots.remove(k as usize)?;
+        Some(learnt.message)
     }
 
     /// Removes the entries of versions below the stamp.
     pub fn raise(&mut self, stamp: u32)
         ensures { self.new ≡ after_raise stamp self.old }
     {
-        self.queue.keep_from(stamp);
+        self.slots.keep_from(u64::from(stamp) + self.shift);
+        self.masks.wait_for(self.slots.len());
     }
 
     /// Carries the entries to a version: those of the version before become entries of it if their
-    /// words meet none of the touched ones, and keep their places in the order. The others of that
-    /// version and all of earlier ones are removed, and so is one whose word an entry of the
+    /// words overlap none of the touched ones, and keep their places in the order. The others of
+    /// that version and all of earlier ones are removed, and so is one whose word an entry of the
     /// version has.
+    ///
+    /// If no entry came with or was carried to this version or a later one, this allocates
+    /// nothing; otherwise what is left is written anew, and then replaces the old entries.
     ///
     /// # Errors
     /// Only out of memory; then nothing changes.
@@ -156,21 +176,91 @@ impl Cache {
         ensures ok { OnOk result (self.new ≡ after_carry version touched.now self.old) }
         ensures err { OnErr result (self.new ≡ self.old) }
     {
-        self.queue.carry(version, touched)
+        if self.newest < version {
+            self.shift -= 1;
+            self.slots
+                .keep_carried(u64::from(version) + self.shift, touched);
+            self.masks.wait_for(self.slots.len());
+            self.newest = version;
+            return Ok(());
+        }
+        self.slots = self.carried(version, touched, self.shift)?;
+        self.newest = self.newest.max(version);
+        Ok(())
     }
 
-    /// Removes all entries.
+    /// Removes all entries, and frees their memory.
     pub fn clear(&mut self)
         ensures { self.new ≡ after_clear self.old }
     {
-        self.queue.clear();
+        *self = Cache::new(self.slots.allocator(), self.capacity);
     }
 
     /// The first entry of this version whose word holds the header number.
+    // If the masks are few, for each of them only one key may be such an entry's.
     pub fn first_entry(&self, version: u32, number: u128) -> Option<CacheEntry>
         ensures { result ≡ first_entry version number self.now.entries }
     {
-        self.queue.first_entry(version, number)
+        match self.masks.few(self.slots.len()) {
+            Some(masks) => {
+                let shifted = u64::from(version) + self.shift;
+                let (key, learnt) = self.slots.first_hit(shifted, number, masks)?;
+                Some(CacheEntry::of(&key, &learnt, self.shift))
+            }
+            None => self.entries().find(|entry| entry.version == version
+                && entry.word.holds(number)),
+        }
+    }
+
+    // Whether there is an entry of this one's version and word.
+    fn has_key_of(&self, entry: &CacheEntry) -> bool
+        ensures { result ≡ list_any (same_key entry.now) self.now.entries }
+    {
+        self.slots.contains(&entry.key(self.shift))
+    }
+
+    // Collects the masks, if it is time to.
+    fn gather_masks(&mut self) -> Result<(), AllocError>
+        ensures { self.new ≡ self.old }
+    {
+        if self.masks.are_due() {
+            self.masks = Masks::gather(self.slots.allocator(), self.entries(), self.slots.len())?;
+        }
+        Ok(())
+    }
+
+    // Slots with what is left of the entries, in order, under keys of this shift.
+    fn carried(&self, version: u32, touched: &Touched, shift: u64) -> Result<Slots, AllocError>
+        requires { shift ≤ 2 ^ 32 }
+        ensures { IfOk result (λ slots. slots ≡ map (pair_of shift)
+            (filter_map (carried_entry version touched.now self.now.entries) self.now.entries)) }
+    {
+        let mut slots = Slots::new(self.slots.allocator());
+        for entry in self.entries() {
+            if let Some(left) = self.carried_entry(version, touched, &entry) {
+                slots.push(left.key(shift), left.learnt())?;
+            }
+        }
+        Ok(slots)
+    }
+
+    // What becomes of an entry.
+    fn carried_entry(
+        &self,
+        version: u32,
+        touched: &Touched,
+        entry: &CacheEntry,
+    ) -> Option<CacheEntry>
+        ensures { result ≡ carried_entry version touched.now self.now.entries entry.now }
+    {
+        if version <= entry.version {
+            return Some(*entry);
+        }
+        let over = CacheEntry { version, ..*entry };
+        let stays = entry.version + 1 == version
+            && !touched.meets(&entry.word)
+            && !self.has_key_of(&over);
+        if stays { Some(over) } else { None }
     }
 }
 

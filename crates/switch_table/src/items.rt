@@ -1,6 +1,6 @@
 ghost use Rattle.std.specs.Prelude.{◌≡◌};
 ghost use Rattle.switch_table.specs.Keys.{kept_entries};
-ghost use Rattle.switch_table.specs.Queue.{HaveVersions};
+ghost use Rattle.switch_table.specs.Pairs.{HaveVersions};
 ghost use Rattle.switch_table.specs.Slots.{live_pairs};
 
 use crate::cache::CacheEntry;
@@ -61,7 +61,7 @@ pub struct CacheItems<'a> {
 impl<'a> Model for CacheItems<'a> {
     ghost use Rattle.std.specs.Prelude.{List};
     ghost use Rattle.switch_table.specs.Keys.{kept_entries};
-    ghost use Rattle.switch_table.specs.Queue.{HaveVersions};
+    ghost use Rattle.switch_table.specs.Pairs.{HaveVersions};
     ghost use Rattle.switch_table.specs.declared.cache.CacheEntry.{CacheEntry};
 
     ghost Value = { List CacheEntry };

@@ -3,7 +3,7 @@ use ternary::Word;
 
 /// What identifies a cache entry: its word, and a number for its version.
 ///
-/// The number is the version and what a queue adds to it, which falls when entries are carried to
+/// The number is the version and what a cache adds to it, which falls when entries are carried to
 /// a later version. So an entry that is carried keeps its key.
 #[derive(Clone, Copy, PartialEq, Eq, Hash)]
 pub struct CacheKey {

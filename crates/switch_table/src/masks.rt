@@ -14,7 +14,7 @@ const LEAST_WAIT: usize = 1024;
 // At most this many masks are few.
 const MAX_FEW: usize = 256;
 
-/// The masks of a queue's entries, if they are few compared with these: a word of each. If they
+/// The masks of a cache's entries, if they are few compared with these: a word of each. If they
 /// were many, they are collected again once as many entries have come as there were.
 ///
 /// Contracts see the words, or `None` if the masks aren't known. A mask may stay longer than its

@@ -131,7 +131,7 @@ impl Slots {
         self.first = 0;
     }
 
-    /// Keeps those of this number whose words meet none of the touched ones.
+    /// Keeps those of this number whose words overlap none of the touched ones.
     pub fn keep_carried(&mut self, number: u64, touched: &Touched)
         ensures { self.new ≡ filter (λ pair. is_carried_key number touched.now pair.0) self.old }
     {

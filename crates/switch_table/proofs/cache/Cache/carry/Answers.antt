@@ -1,7 +1,95 @@
-use Rattle.switch_table.proofs.CarryLemmas.{few_after}
+use Rattle.std.proofs.Common.{◌≡◌, ◌∙◌, ◌+◌, ◌-◌, ◌<◌, All, ap, arith, filter, filter_map, map, subst, sym}
+use Rattle.switch_table.specs.Cache.{CacheValue}
+use Rattle.switch_table.specs.Carried.{after_carry, carried_entry}
+use Rattle.switch_table.specs.Keys.{Pair, kept_entries, is_carried_key, pair_of}
+use Rattle.switch_table.specs.Pairs.{AreUpTo, HaveVersions, HoldsEntries}
+use Rattle.switch_table.proofs.CarryLemmas.{left_few}
+use Rattle.switch_table.proofs.OverLemmas.{IsBelow, below_newest, carried_pairs, masked_carried, pairs_over, up_to_carried, versions_over}
+use Rattle.switch_table.proofs.PairLemmas.{entries_of_pairs, holds_of, versions_of_pairs}
 use Rattle.switch_table.proofs.cache.Cache.carry.Goals as goal
+use Rattle.switch_table.proofs.cache.Cache.carry.Goals.{After-keep_carried}
+
+kept : (c : After-keep_carried) → c.keep_carried.new.self
+    ≡ pairs_over c.self.inside.shift c.args.version c.args.touched.now c.self.inside.slots
+kept c =
+    let lower = c.self.inside.shift - 1 in
+    c.keep_carried.ensures
+    ∙ (λ i. filter (λ (pair : Pair). is_carried_key (c.from.ensures i + lower) c.args.touched.now
+    pair.0) c.self.inside.slots)
+
+-- the shift isn't 0
+some : (c : After-keep_carried) → 0 < c.self.inside.shift
+some c = omega
+    (arith, c.self.invariant.falls, c.if-self-version.true, c.ranges.version.fits)
+
+gone_over : (c : After-keep_carried) → let entries = kept_entries c.self.inside.shift c.self.inside.slots in
+    kept_entries (c.self.inside.shift - 1) c.keep_carried.new.self
+    ≡ filter_map (carried_entry c.args.version c.args.touched.now entries) entries
+gone_over c =
+    let shift = c.self.inside.shift in
+    let version = c.args.version in
+    let touched = c.args.touched.now in
+    let entries = kept_entries shift c.self.inside.slots in
+    let below : All (IsBelow version) entries =
+    below_newest version c.self.inside.newest entries (omega (arith, c.if-self-version.true))
+    c.self.invariant.up_to in
+    ap (kept_entries (shift - 1)) (kept c)
+    ∙ carried_pairs shift version touched entries c.self.inside.slots
+    (some c) c.self.invariant.versions below below
 
 pub invariant_of-self : goal.invariant_of-self
 invariant_of-self c =
-    few_after c.carry.result c.args.version c.self.inside.capacity c.args.touched.now
-    c.self.inside.queue c.carry.new.self c.self.invariant c.carry.ensures.ok c.carry.ensures.err
+    let here = (goal.at.invariant_of-self c).After-keep_carried in
+    let shift = c.self.inside.shift in
+    let version = c.args.version in
+    let touched = c.args.touched.now in
+    let entries = kept_entries shift c.self.inside.slots in
+    subst (λ masks. HoldsEntries masks (shift - 1) version c.self.inside.capacity
+    c.keep_carried.new.self) (sym c.wait_for.ensures)
+    (holds_of c.self.inside.masks (shift - 1) version c.self.inside.capacity
+    c.keep_carried.new.self _
+    (omega (arith, c.self.invariant.fits))
+    (omega (arith, c.self.invariant.falls, c.if-self-version.true, c.ranges.version.fits))
+    (subst (HaveVersions (shift - 1)) (sym (kept here))
+    (versions_over shift version touched c.self.inside.slots (some here)
+    (omega (arith, c.ranges.version.fits)))) (gone_over here)
+    (up_to_carried version c.self.inside.newest version touched entries c.self.invariant.up_to
+    (omega (arith, c.if-self-version.true)) (omega arith))
+    (masked_carried c.self.inside.masks version touched entries c.self.invariant.masked)
+    (left_few version c.self.inside.capacity touched entries c.self.invariant.few))
+
+pub returns-then-self-version-clause-ok : goal.returns-then-self-version-clause-ok
+returns-then-self-version-clause-ok c =
+    let left = gone_over (goal.at.returns-then-self-version-clause-ok c).After-keep_carried in
+    (λ i. record { entries = left i; capacity = c.self.inside.capacity })
+    ∙ ap (after_carry c.args.version c.args.touched.now) c.self.view_is
+
+pub invariant_of-self-2 : goal.invariant_of-self-2
+invariant_of-self-2 c =
+    let shift = c.self.inside.shift in
+    let newest = c.max-self-inside.result in
+    let version = c.args.version in
+    let touched = c.args.touched.now in
+    let entries = kept_entries shift c.self.inside.slots in
+    let after = filter_map (carried_entry version touched entries) entries in
+    let are = c.in_ok-self-inside.ensures ∙ ap (λ (cache : CacheValue). map (pair_of shift)
+    (filter_map (carried_entry version touched cache.entries) cache.entries)) (sym c.self.view_is) in
+    let up_to : AreUpTo newest after =
+    up_to_carried version c.self.inside.newest newest touched entries c.self.invariant.up_to
+    (omega (arith, c.max-self-inside.ensures)) (omega (arith, c.max-self-inside.ensures)) in
+    holds_of c.self.inside.masks shift newest c.self.inside.capacity c.in_ok-self-inside.field-0
+    after c.self.invariant.fits
+    (omega (arith, c.self.invariant.falls, c.max-self-inside.ensures))
+    (subst (HaveVersions shift) (sym are)
+    (versions_of_pairs shift newest after c.max-self-inside.type_inv up_to))
+    (ap (kept_entries shift) are ∙ entries_of_pairs shift after) up_to
+    (masked_carried c.self.inside.masks version touched entries c.self.invariant.masked)
+    (left_few version c.self.inside.capacity touched entries c.self.invariant.few)
+
+pub returns-clause-ok : goal.returns-clause-ok
+returns-clause-ok c =
+    let shift = c.self.inside.shift in
+    let after = filter_map (carried_entry c.args.version c.args.touched.now c.args.self.now.entries)
+    c.args.self.now.entries in
+    let left = ap (kept_entries shift) c.in_ok-self-inside.ensures ∙ entries_of_pairs shift after in
+    λ i. record { entries = left i; capacity = (c.self.view_is i).capacity }

@@ -1,15 +1,30 @@
-use Rattle.std.proofs.Common.{ap, length, leb, arith}
-use Rattle.std.proofs.lemmas.List.Sums.{length-filter, count_by-le-length}
-use Rattle.switch_table.specs.declared.cache.CacheEntry.{CacheEntry}
+use Rattle.std.proofs.Common.{◌≡◌, ◌∙◌, ◌+◌, ap, filter, leb, subst, sym}
+use Rattle.switch_table.specs.Cache.{after_raise}
+use Rattle.switch_table.specs.Keys.{Pair, kept_entries}
+use Rattle.switch_table.specs.Pairs.{HoldsEntries}
+use Rattle.switch_table.proofs.PairLemmas.{entries_from, holds_from}
 use Rattle.switch_table.proofs.cache.Cache.raise.Goals as goal
+use Rattle.switch_table.proofs.cache.Cache.raise.Goals.{After-keep_from}
+
+kept : (c : After-keep_from) → c.keep_from.new.self
+    ≡ filter (λ (pair : Pair). leb (c.args.stamp + c.self.inside.shift) pair.0.number)
+    c.self.inside.slots
+kept c =
+    c.keep_from.ensures
+    ∙ ap (λ stamp. filter (λ (pair : Pair). leb (stamp + c.self.inside.shift) pair.0.number)
+    c.self.inside.slots) c.from.ensures
 
 pub invariant_of-self : goal.invariant_of-self
 invariant_of-self c =
-    let kept = λ (entry : CacheEntry). leb c.args.stamp entry.version in
-    omega (
-      arith,
-      ap length c.keep_from.ensures,
-      length-filter kept c.self.inside.queue,
-      count_by-le-length kept c.self.inside.queue,
-      c.self.invariant,
-    )
+    subst (λ masks. HoldsEntries masks c.self.inside.shift c.self.inside.newest
+    c.self.inside.capacity c.keep_from.new.self) (sym c.wait_for.ensures)
+    (holds_from _ _ _ _ c.args.stamp _ _ c.self.invariant
+    (kept (goal.at.invariant_of-self c).After-keep_from))
+
+pub returns : goal.returns
+returns c =
+    let shift = c.self.inside.shift in
+    let left = ap (kept_entries shift) (kept (goal.at.returns c).After-keep_from)
+    ∙ entries_from shift c.args.stamp c.self.inside.slots c.self.invariant.versions in
+    (λ i. record { entries = left i; capacity = c.self.inside.capacity })
+    ∙ ap (after_raise c.args.stamp) c.self.view_is

@@ -1,7 +1,7 @@
 use Rattle.std.proofs.Common.{ℕ, ◌+◌, ◌<◌, ◌≤◌, ◌^◌, subst}
 use Rattle.std.proofs.lemmas.List.Elements.{All-head, All-tail}
 use Rattle.switch_table.specs.Keys.{Pair}
-use Rattle.switch_table.specs.Queue.{HaveVersions}
+use Rattle.switch_table.specs.Pairs.{HaveVersions}
 use Rattle.switch_table.proofs.items.CacheItemsIterator.next.Goals as goal
 
 abbrev IsVersioned : ℕ → Pair → Type 0

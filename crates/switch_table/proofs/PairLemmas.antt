@@ -1,0 +1,328 @@
+-- Cache entries as pairs, whose keys add a shift to versions: what a push, a removal and a filter
+-- make of them, and that no two have one key.
+use Rattle.std.proofs.Common.{ℕ, zero, suc, ◌≡◌, ◌∙◌, ◌+◌, ◌-◌, ◌<◌, ◌≤◌, ◌^◌, Bool, true, false, cond, Option, leb, ◌&&◌, ◌||◌, eqb, List, [], ◌∷◌, ◌++◌, length, length-append, map, filter, remove, drop, get_or, refl, ap, sym, subst, arith, All}
+use Rattle.std.specs.List.{AllByRecursion, IsDistinct, list_any}
+use Rattle.std.specs.Map.{keys_of}
+use Rattle.std.proofs.Math.Seq.{get_or-append_seam}
+use Rattle.std.proofs.lemmas.Bool.{and_parts, and_from, eqb-true, eq-eqb, false≢true, false_from_ne_true, le-leb, leb-true}
+use Rattle.std.proofs.lemmas.List.{get_or_default, map-append}
+use Rattle.std.proofs.lemmas.List.Elements.{All-cons, All-filter, All-head, All-nil, All-push, All-tail, All-weaker}
+use Rattle.std.proofs.lemmas.List.Folds.{list_any-from_Any}
+use Rattle.std.proofs.lemmas.List.Kept.{AllPairs-cons}
+use Rattle.std.proofs.lemmas.List.Quantifiers.{all_pairs_push}
+use Rattle.std.proofs.lemmas.List.Sums.{length-filter, count_by-le-length}
+use Rattle.base.proofs.ListsByPlace.{map-remove}
+use Rattle.base.proofs.ListsOfAll.{All-remove}
+use Rattle.ternary.specs.Meets.{word_eq}
+use Rattle.ternary.specs.Word.{WordValue}
+use Rattle.switch_table.specs.Cache.{HaveDistinctKeys, same_key}
+use Rattle.switch_table.specs.Keys.{HaveOwnKeys, Pair, kept_entries, kept_entry, equal_keys, has_key, key_of, pair_of}
+use Rattle.switch_table.specs.Masks.{HasMaskOf}
+use Rattle.switch_table.specs.Pairs.{AreMasked, AreUpTo, HaveVersions, HoldsEntries}
+use Rattle.switch_table.specs.declared.cache.CacheEntry.{CacheEntry}
+
+-- ---- keys of entries
+
+pub same_key_parts : (a b : CacheEntry) → same_key a b ≡ true
+    → (a.version ≡ b.version) × (a.word ≡ b.word)
+unfolding same_key
+same_key_parts a b is =
+    let parts = and_parts (eqb a.version b.version) (word_eq a.word b.word) is in
+    let words = and_parts (eqb a.word.value b.word.value) (eqb a.word.mask b.word.mask) parts.1 in
+    let values = eqb-true a.word.value b.word.value words.0 in
+    let masks = eqb-true a.word.mask b.word.mask words.1 in (
+      eqb-true a.version b.version parts.0,
+      λ i. record { value = values i; mask = masks i },
+    )
+
+pub same_key_from : (a b : CacheEntry) → a.version ≡ b.version → a.word ≡ b.word
+    → same_key a b ≡ true
+unfolding same_key
+same_key_from a b versions words =
+    and_from (eqb a.version b.version) (word_eq a.word b.word) (eq-eqb a.version b.version versions)
+    (and_from (eqb a.word.value b.word.value) (eqb a.word.mask b.word.mask)
+    (eq-eqb a.word.value b.word.value (ap (λ w. w.value) words))
+    (eq-eqb a.word.mask b.word.mask (ap (λ w. w.mask) words)))
+
+pub eqb-shift : (a b shift : ℕ) → eqb a b ≡ eqb (a + shift) (b + shift)
+eqb-shift a b shift = by_case (eqb a b) refl
+  where
+    by_case : (same : Bool) → eqb a b ≡ same → same ≡ eqb (a + shift) (b + shift)
+    by_case true is =
+        sym (eq-eqb (a + shift) (b + shift) (ap (λ n. n + shift) (eqb-true a b is)))
+    by_case false is =
+        sym (false_from_ne_true (eqb (a + shift) (b + shift)) (λ same.
+        let equal : a ≡ b = omega (arith, eqb-true (a + shift) (b + shift) same) in
+        false≢true (sym is ∙ eq-eqb a b equal)))
+
+-- two entries of different keys, in either order
+pub apart-sym : (a b : CacheEntry) → same_key a b ≡ false → same_key b a ≡ false
+apart-sym a b apart =
+    false_from_ne_true (same_key b a) (λ same.
+    let parts = same_key_parts b a same in
+    false≢true (sym apart ∙ same_key_from a b (sym parts.0) (sym parts.1)))
+
+pub none_at : (test : CacheEntry → Bool) (entries : List CacheEntry) (k : ℕ) (d : CacheEntry)
+    → list_any test entries ≡ false → k < length entries → test (get_or entries k d) ≡ false
+none_at test entries k d none within =
+    false_from_ne_true _ (λ passes.
+    false≢true (sym none ∙ list_any-from_Any test entries (
+      k,
+      get_or entries k d,
+      within,
+      get_or_default entries k (get_or entries k d) d within,
+      passes,
+    )))
+
+pub none_distinct : HaveDistinctKeys []
+none_distinct = λ i j d less within. absurd (omega arith)
+
+pub rest_distinct : (entries : List CacheEntry) → HaveDistinctKeys entries →
+    HaveDistinctKeys (drop 1 entries)
+rest_distinct [] pairs = none_distinct
+rest_distinct (x ∷ xs) pairs = λ i j d less within. pairs (suc i) (suc j) d (omega arith)
+    (omega arith)
+
+pub push_distinct : (entries : List CacheEntry) (entry : CacheEntry) → HaveDistinctKeys entries →
+    list_any (same_key entry) entries ≡ false → HaveDistinctKeys (entries ++ entry ∷ [])
+push_distinct entries entry distinct absent =
+    all_pairs_push (λ a b. same_key a b ≡ false) entries entry distinct
+    (λ k d within. apart-sym entry (get_or entries k d)
+    (none_at (same_key entry) entries k d absent within))
+
+-- ---- entries of pairs
+
+-- the number of the pair's key is a version and the shift
+abbrev pub HasVersion : ℕ → Pair → Type 0
+HasVersion shift pair = (shift ≤ pair.0.number) × (pair.0.number < shift + 2 ^ 32)
+
+pub entry_of_pair : (shift : ℕ) (entry : CacheEntry) → kept_entry shift (pair_of shift entry) ≡ entry
+entry_of_pair shift entry =
+    let versions : entry.version + shift - shift ≡ entry.version = omega arith in
+    λ i. record entry { version = versions i }
+
+pub key_of_entry : (shift : ℕ) (pair : Pair) → HasVersion shift pair
+    → key_of shift (kept_entry shift pair) ≡ pair.0
+key_of_entry shift pair is =
+    let numbers : pair.0.number - shift + shift ≡ pair.0.number = omega (arith, is.0) in
+    λ i. record { number = numbers i; word = pair.0.word }
+
+pub same_key-is : (shift : ℕ) (a b : CacheEntry)
+    → same_key a b ≡ equal_keys (key_of shift a) (key_of shift b)
+unfolding same_key equal_keys
+same_key-is shift a b =
+    ap (λ same. same && word_eq a.word b.word) (eqb-shift a.version b.version shift)
+
+-- an entry's key is that of the pair
+same_key_of : (shift : ℕ) (entry : CacheEntry) (pair : Pair) → HasVersion shift pair
+    → equal_keys (key_of shift entry) pair.0 ≡ same_key entry (kept_entry shift pair)
+same_key_of shift entry pair is =
+    sym (same_key-is shift entry (kept_entry shift pair)
+    ∙ ap (equal_keys (key_of shift entry)) (key_of_entry shift pair is))
+
+pub has_key_of_entry : (shift : ℕ) (entry : CacheEntry) (pairs : List Pair)
+    → HaveVersions shift pairs
+    → has_key (key_of shift entry) pairs ≡ list_any (same_key entry) (kept_entries shift pairs)
+has_key_of_entry shift entry [] are = refl
+has_key_of_entry shift entry (pair ∷ pairs) are =
+    let here = same_key_of shift entry pair (All-head (HasVersion shift) pair pairs are) in
+    let rest = has_key_of_entry shift entry pairs (All-tail (HasVersion shift) pair pairs are) in
+    λ i. here i || rest i
+
+apart_from_all : (shift : ℕ) (pair : Pair) (pairs : List Pair) → HasVersion shift pair
+    → HaveVersions shift pairs
+    → AllByRecursion (λ key. equal_keys pair.0 key ≡ false) (keys_of pairs)
+    → All (λ entry. same_key (kept_entry shift pair) entry ≡ false) (kept_entries shift pairs)
+apart_from_all shift pair [] is are apart =
+    All-nil (λ entry. same_key (kept_entry shift pair) entry ≡ false)
+apart_from_all shift pair (next ∷ pairs) is are apart =
+    let here : same_key (kept_entry shift pair) (kept_entry shift next) ≡ false =
+    sym (same_key_of shift (kept_entry shift pair) next (All-head (HasVersion shift) next pairs are))
+    ∙ ap (λ key. equal_keys key next.0) (key_of_entry shift pair is) ∙ apart.0 in
+    All-cons (λ entry. same_key (kept_entry shift pair) entry ≡ false) (kept_entry shift next)
+    (kept_entries shift pairs) here
+    (apart_from_all shift pair pairs is (All-tail (HasVersion shift) next pairs are) apart.1)
+
+-- no two entries have one key where no two pairs do
+pub entries_distinct : (shift : ℕ) (pairs : List Pair) → HaveVersions shift pairs
+    → HaveOwnKeys pairs → HaveDistinctKeys (kept_entries shift pairs)
+unfolding IsDistinct
+entries_distinct shift [] are own = none_distinct
+entries_distinct shift (pair ∷ pairs) are own =
+    let rest = All-tail (HasVersion shift) pair pairs are in
+    AllPairs-cons (λ a b. same_key a b ≡ false) (kept_entry shift pair) (kept_entries shift pairs)
+    (apart_from_all shift pair pairs (All-head (HasVersion shift) pair pairs are) rest own.0)
+    (entries_distinct shift pairs rest own.1)
+
+pub entries_pushed : (shift : ℕ) (entry : CacheEntry) (pairs new : List Pair)
+    → new ≡ pairs ++ pair_of shift entry ∷ []
+    → kept_entries shift new ≡ kept_entries shift pairs ++ entry ∷ []
+entries_pushed shift entry pairs new made =
+    ap (kept_entries shift) made ∙ map-append (kept_entry shift) pairs (pair_of shift entry ∷ [])
+    ∙ ap (λ e. kept_entries shift pairs ++ e ∷ []) (entry_of_pair shift entry)
+
+pub entries_removed : (shift : ℕ) (pairs : List Pair) (place : ℕ)
+    → kept_entries shift (remove pairs place) ≡ remove (kept_entries shift pairs) place
+entries_removed shift pairs place = map-remove (kept_entry shift) pairs place
+
+-- a test of pairs that is one of their entries
+pub entries_filtered : (shift : ℕ) (test : Pair → Bool) (kept : CacheEntry → Bool)
+    → ((pair : Pair) → HasVersion shift pair → test pair ≡ kept (kept_entry shift pair))
+    → (pairs : List Pair) → HaveVersions shift pairs
+    → kept_entries shift (filter test pairs) ≡ filter kept (kept_entries shift pairs)
+entries_filtered shift test kept same [] are = refl
+entries_filtered shift test kept same (pair ∷ pairs) are =
+    let here = same pair (All-head (HasVersion shift) pair pairs are) in
+    by_case (test pair) _
+    (entries_filtered shift test kept same pairs (All-tail (HasVersion shift) pair pairs are))
+    ∙ ap (λ b. cond b (kept_entry shift pair ∷ filter kept (kept_entries shift pairs))
+    (filter kept (kept_entries shift pairs))) here
+  where
+    by_case : (stays : Bool) (left : List CacheEntry) → kept_entries shift (filter test pairs) ≡ left
+        → kept_entries shift (cond stays (pair ∷ filter test pairs) (filter test pairs))
+        ≡ cond stays (kept_entry shift pair ∷ left) left
+    by_case true left rest = ap (λ es. kept_entry shift pair ∷ es) rest
+    by_case false left rest = rest
+
+leb-shift : (shift version number : ℕ) → shift ≤ number
+    → leb (version + shift) number ≡ leb version (number - shift)
+leb-shift shift version number fits = by_case (leb version (number - shift)) refl
+  where
+    by_case : (less : Bool) → leb version (number - shift) ≡ less
+        → leb (version + shift) number ≡ less
+    by_case true is =
+        le-leb (version + shift) number
+        (omega (arith, leb-true version (number - shift) is, fits))
+    by_case false is =
+        false_from_ne_true (leb (version + shift) number) (λ le.
+        let less : version ≤ number - shift =
+        omega (arith, leb-true (version + shift) number le, fits) in
+        false≢true (sym is ∙ le-leb version (number - shift) less))
+
+pub entries_from : (shift version : ℕ) (pairs : List Pair) → HaveVersions shift pairs
+    → kept_entries shift (filter (λ (pair : Pair). leb (version + shift) pair.0.number) pairs)
+    ≡ filter (λ (entry : CacheEntry). leb version entry.version) (kept_entries shift pairs)
+entries_from shift version pairs are =
+    entries_filtered shift (λ (pair : Pair). leb (version + shift) pair.0.number)
+    (λ (entry : CacheEntry). leb version entry.version)
+    (λ pair is. leb-shift shift version pair.0.number is.0) pairs are
+
+-- ---- pairs of entries
+
+pub entries_of_pairs : (shift : ℕ) (entries : List CacheEntry)
+    → kept_entries shift (map (pair_of shift) entries) ≡ entries
+entries_of_pairs shift [] = refl
+entries_of_pairs shift (entry ∷ entries) =
+    let here = entry_of_pair shift entry in
+    let rest = entries_of_pairs shift entries in
+    λ i. here i ∷ rest i
+
+pub versions_of_pairs : (shift newest : ℕ) (entries : List CacheEntry) → newest < 2 ^ 32
+    → AreUpTo newest entries → HaveVersions shift (map (pair_of shift) entries)
+versions_of_pairs shift newest [] small up_to = All-nil (HasVersion shift)
+versions_of_pairs shift newest (entry ∷ entries) small up_to =
+    let IsUpTo = λ (e : CacheEntry). e.version ≤ newest in
+    let here : entry.version ≤ newest = All-head IsUpTo entry entries up_to in
+    All-cons (HasVersion shift) (pair_of shift entry) (map (pair_of shift) entries)
+    (omega (arith, here), omega (arith, here, small))
+    (versions_of_pairs shift newest entries small (All-tail IsUpTo entry entries up_to))
+
+pub has_key_of_pairs : (shift : ℕ) (entry : CacheEntry) (entries : List CacheEntry)
+    → has_key (key_of shift entry) (map (pair_of shift) entries) ≡ list_any (same_key entry) entries
+has_key_of_pairs shift entry [] = refl
+has_key_of_pairs shift entry (x ∷ xs) =
+    let here = same_key-is shift entry x in
+    let rest = has_key_of_pairs shift entry xs in
+    sym (λ i. here i || sym rest i)
+
+-- no entry before another one has its key
+pub none_before : (before : List CacheEntry) (entry : CacheEntry) (rest : List CacheEntry) →
+    HaveDistinctKeys (before ++ entry ∷ rest) → list_any (same_key entry) before ≡ false
+none_before [] entry rest distinct = refl
+none_before (x ∷ before) entry rest distinct =
+    let len = length-append (x ∷ before) (entry ∷ rest) in
+    let at = get_or-append_seam (x ∷ before) entry rest entry in
+    let apart : same_key x entry ≡ false =
+    subst (λ e. same_key x e ≡ false) at
+    (distinct 0 (length (x ∷ before)) entry (omega arith) (omega (arith, len))) in
+    let rest_apart = none_before before entry rest (rest_distinct (x ∷ before ++ entry ∷ rest)
+    distinct) in
+    ap (λ b. b || list_any (same_key entry) before) (apart-sym x entry apart) ∙ rest_apart
+
+-- ---- what a cache keeps
+
+pub holds_of : (masks : Option (List WordValue)) (shift newest capacity : ℕ) (pairs : List Pair)
+    (entries : List CacheEntry) → shift ≤ 2 ^ 32 → 2 ^ 32 ≤ shift + newest
+    → HaveVersions shift pairs → kept_entries shift pairs ≡ entries → AreUpTo newest entries
+    → AreMasked masks entries → length entries ≤ capacity
+    → HoldsEntries masks shift newest capacity pairs
+holds_of masks shift newest capacity pairs entries fits falls versions are up_to masked few = record {
+  fits = fits;
+  falls = falls;
+  versions = versions;
+  up_to = subst (AreUpTo newest) (sym are) up_to;
+  masked = subst (AreMasked masks) (sym are) masked;
+  few = omega (arith, ap length are, few);
+}
+
+-- one more comes, of a version up to the newest one
+pub holds_pushed : (masks after : Option (List WordValue)) (shift newest later capacity : ℕ)
+    (pairs new : List Pair) (entry : CacheEntry) → HoldsEntries masks shift newest capacity pairs
+    → new ≡ pairs ++ pair_of shift entry ∷ [] → newest ≤ later → entry.version ≤ later
+    → later < 2 ^ 32 → ((one : WordValue) → HasMaskOf masks one → HasMaskOf after one)
+    → HasMaskOf after entry.word → HoldsEntries after shift later (capacity + 1) new
+holds_pushed masks after shift newest later capacity pairs new entry is made newer up_to small kept added =
+    let entries = kept_entries shift pairs in
+    let IsUpTo = λ (e : CacheEntry). e.version ≤ later in
+    let IsMasked = λ (e : CacheEntry). HasMaskOf after e.word in
+    holds_of after shift later (capacity + 1) new (entries ++ entry ∷ []) is.fits
+    (omega (arith, is.falls, newer))
+    (subst (HaveVersions shift) (sym made)
+    (All-push (HasVersion shift) pairs (pair_of shift entry) is.versions
+    (omega arith, omega (arith, up_to, small))))
+    (entries_pushed shift entry pairs new made)
+    (All-push IsUpTo entries entry
+    (All-weaker (λ (e : CacheEntry). e.version ≤ newest) IsUpTo
+    (λ e le. omega (arith, le, newer)) entries is.up_to) up_to)
+    (All-push IsMasked entries entry
+    (All-weaker (λ (e : CacheEntry). HasMaskOf masks e.word) IsMasked (λ e. kept e.word)
+    entries is.masked) added)
+    (omega (arith, length-append entries (entry ∷ []), is.few))
+
+pub few_removed : (entries : List CacheEntry) (place : ℕ)
+    → length (remove entries place) ≤ length entries
+few_removed [] zero = omega arith
+few_removed [] (suc place) = omega arith
+few_removed (x ∷ xs) zero = omega arith
+few_removed (x ∷ xs) (suc place) = omega (arith, few_removed xs place)
+
+pub first_removed : (entries : List CacheEntry) → remove entries 0 ≡ drop 1 entries
+first_removed [] = refl
+first_removed (x ∷ xs) = refl
+
+pub holds_removed : (masks : Option (List WordValue)) (shift newest capacity most place : ℕ)
+    (pairs new : List Pair) → HoldsEntries masks shift newest most pairs
+    → new ≡ remove pairs place → length (remove (kept_entries shift pairs) place) ≤ capacity
+    → HoldsEntries masks shift newest capacity new
+holds_removed masks shift newest capacity most place pairs new is made few =
+    let entries = kept_entries shift pairs in
+    holds_of masks shift newest capacity new (remove entries place) is.fits is.falls
+    (subst (HaveVersions shift) (sym made) (All-remove (HasVersion shift) pairs place is.versions))
+    (ap (kept_entries shift) made ∙ entries_removed shift pairs place)
+    (All-remove (λ (entry : CacheEntry). entry.version ≤ newest) entries place is.up_to)
+    (All-remove (λ (entry : CacheEntry). HasMaskOf masks entry.word) entries place is.masked) few
+
+pub holds_from : (masks : Option (List WordValue)) (shift newest capacity version : ℕ)
+    (pairs new : List Pair) → HoldsEntries masks shift newest capacity pairs
+    → new ≡ filter (λ (pair : Pair). leb (version + shift) pair.0.number) pairs
+    → HoldsEntries masks shift newest capacity new
+holds_from masks shift newest capacity version pairs new is made =
+    let entries = kept_entries shift pairs in
+    let kept = λ (entry : CacheEntry). leb version entry.version in
+    let test = λ (pair : Pair). leb (version + shift) pair.0.number in
+    holds_of masks shift newest capacity new (filter kept entries) is.fits is.falls
+    (subst (HaveVersions shift) (sym made) (All-filter test (HasVersion shift) pairs is.versions))
+    (ap (kept_entries shift) made ∙ entries_from shift version pairs is.versions)
+    (All-filter kept (λ (entry : CacheEntry). entry.version ≤ newest) entries is.up_to)
+    (All-filter kept (λ (entry : CacheEntry). HasMaskOf masks entry.word) entries is.masked)
+    (omega (arith, length-filter kept entries, count_by-le-length kept entries, is.few))

@@ -1,0 +1,59 @@
+use Rattle.std.proofs.Common.{◌≡◌, ◌∙◌, ◌+◌, ◌&&◌, Option, Some, None, IfSome, ap, eqb, find, option_map, rules, subst, sym}
+use Rattle.std.proofs.lemmas.Iterator.Adapters.{option_map_id}
+use Rattle.std.proofs.lemmas.Iterator.Consumers.{YieldsList-from_first}
+use Rattle.std.proofs.lemmas.Iterator.Search.{find_from_yields_List}
+use Rattle.base.proofs.ListsFound.{found_is}
+use Rattle.ternary.specs.Word.{holds}
+use Rattle.switch_table.specs.Cache.{CacheValue, first_entry}
+use Rattle.switch_table.specs.Keys.{Pair, kept_entries, kept_entry, is_hit}
+use Rattle.switch_table.specs.Pairs.{AreMasked}
+use Rattle.switch_table.specs.declared.cache.CacheEntry.{CacheEntry}
+use Rattle.switch_table.proofs.FirstLemmas.{first_by_hits}
+use Rattle.switch_table.proofs.PairLemmas.{HasVersion}
+use Rattle.switch_table.proofs.cache.Cache.first_entry.Goals as goal
+use Rattle.switch_table.proofs.cache.Cache.first_entry.Goals.{After-first_hit}
+
+-- the first entry, by the first pair of such a key
+entry_is : (c : After-first_hit) (pair : Option Pair)
+    → pair ≡ find (λ (p : Pair). is_hit (c.from.result + c.self.inside.shift) c.args.number
+    c.in-Some.masks.now p.0) c.self.inside.slots
+    → option_map (kept_entry c.self.inside.shift) pair
+    ≡ first_entry c.args.version c.args.number c.args.self.now.entries
+entry_is c pair is =
+    let shift = c.self.inside.shift in
+    let masks = c.in-Some.masks.now in
+    let pairs = c.self.inside.slots in
+    ap (option_map (kept_entry shift)) (is ∙ ap
+    (λ version. find (λ (p : Pair). is_hit (version + shift) c.args.number masks p.0) pairs)
+    c.from.ensures)
+    ∙ first_by_hits shift c.args.version c.args.number masks pairs c.self.invariant.versions
+    (subst (λ known. AreMasked known (kept_entries shift pairs)) c.in-Some.ensures
+    c.self.invariant.masked)
+    ∙ ap (λ (cache : CacheValue). first_entry c.args.version c.args.number cache.entries)
+    c.self.view_is
+
+pub returns-in_err-key-in-Some : goal.returns-in_err-key-in-Some
+returns-in_err-key-in-Some c =
+    let none : c.from_residual.result ≡ None = search rules in
+    none ∙ entry_is (goal.at.returns-in_err-key-in-Some c).After-first_hit None (search rules)
+
+pub of-requires : goal.of-requires
+of-requires c =
+    let HasOne = λ (found : Option Pair). IfSome found (HasVersion c.self.inside.shift) in
+    subst HasOne (sym c.in_ok-key-in-Some.ensures)
+    (found_is (HasVersion c.self.inside.shift) _ c.self.inside.slots c.self.invariant.versions)
+
+pub returns-in_ok-key-in-Some : goal.returns-in_ok-key-in-Some
+returns-in_ok-key-in-Some c =
+    ap Some c.of.ensures
+    ∙ entry_is (goal.at.returns-in_ok-key-in-Some c).After-first_hit
+    (Some (c.in_ok-key-in-Some.key, c.in_ok-key-in-Some.learnt)) c.in_ok-key-in-Some.ensures
+
+pub returns-in-None : goal.returns-in-None
+returns-in-None c =
+    let test = λ (entry : CacheEntry). eqb entry.version c.args.version
+    && holds entry.word c.args.number in
+    let found = find_from_yields_List test _ _ c.find.result c.find.ensures.ran
+    (YieldsList-from_first (λ x. x) (λ s. s) c.args.self.now.entries c.entries.ensures.entries)
+    (λ x b q k. search rules) in
+    sym (option_map_id c.find.result) ∙ found

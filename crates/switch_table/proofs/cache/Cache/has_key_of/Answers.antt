@@ -1,0 +1,14 @@
+use Rattle.std.proofs.Common.{◌∙◌, ap}
+use Rattle.std.specs.List.{list_any}
+use Rattle.switch_table.specs.Cache.{CacheValue, same_key}
+use Rattle.switch_table.specs.Keys.{has_key}
+use Rattle.switch_table.proofs.PairLemmas.{has_key_of_entry}
+use Rattle.switch_table.proofs.cache.Cache.has_key_of.Goals as goal
+
+pub returns : goal.returns
+returns c =
+    let entry = c.args.entry.now in
+    let pairs = c.self.inside.slots in
+    c.contains.ensures ∙ ap (λ key. has_key key pairs) c.key.ensures.key
+    ∙ has_key_of_entry c.self.inside.shift entry pairs c.self.invariant.versions
+    ∙ ap (λ (cache : CacheValue). list_any (same_key entry) cache.entries) c.self.view_is
