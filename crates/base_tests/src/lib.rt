@@ -2,8 +2,8 @@
 //! that are read, refused and printed, and the shelves and sinks that keep them; meters on a
 //! board.
 //!
-//! Each public call once with ample memory. Only tests, so that none of those crates is proved a
-//! second time together with its tests.
+//! They make each public call once, with ample memory. There are only tests here, so that none of
+//! those crates is proved a second time together with its tests.
 #![tactic(auto)]
 
 #[cfg(test)]

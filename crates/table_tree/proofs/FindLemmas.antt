@@ -1,15 +1,14 @@
 -- Where a finder's tree leads.
-use Rattle.std.proofs.Common.{◌≡◌, ℕ, suc, ◌+◌, ◌^◌, ◌<◌, Bool, true, false, cond, not, ◌&&◌, Option, Some, None, IsSome, List, [], ◌∷◌, length, find, position, unwrap_or, slice_get, get_or, map, count_by, refl, sym, ◌∙◌, ap, subst, inl, inr, arith}
-use Rattle.std.specs.Bool.{IsTrue, IsFalse, ◌==◌}
-use Rattle.std.specs.Int.{bit_at, from_bool}
-use Rattle.std.specs.List.{position_or_len}
+use Rattle.std.proofs.Common.{◌≡◌, ℕ, ◌+◌, ◌^◌, ◌<◌, Bool, true, false, Option, Some, None, IsSome, List, [], ◌∷◌, length, find, position, unwrap_or, slice_get, get_or, map, count_by, refl, sym, ◌∙◌, ap, subst, inl, inr, arith}
+use Rattle.std.specs.Bool.{IsTrue, ◌==◌}
+use Rattle.std.specs.List.{position_from}
+use Rattle.std.proofs.lemmas.Iterator.Adapters.{position_from-zero}
 use Rattle.std.specs.Option.{IfSome, IsSomeAnd, option_and_then, option_map, option_map_or}
-use Rattle.std.proofs.lemmas.Bool.{cases_eq, both_ways, eqb-true, eq-eqb, lt-ltb}
+use Rattle.std.proofs.lemmas.Bool.{cases_Bool, both_ways, eqb-true, eq-eqb}
 use Rattle.std.proofs.lemmas.List.{length-map}
 use Rattle.std.proofs.lemmas.List.Elements.{All-nil, All-cons, All-contains, All-weaker}
-use Rattle.std.proofs.lemmas.Nat.Bits.{bit_at-lt}
 use Rattle.std.proofs.lemmas.List.Quantifiers.{position-Some}
-use Rattle.std.proofs.lemmas.Option.{none-some, same_Some, slice_get-get_or, slice_get-map}
+use Rattle.std.proofs.lemmas.Option.{same_Some, slice_get-get_or, slice_get-map}
 use Rattle.std.proofs.lemmas.Bool.Decides.{same_from_decides}
 use Rattle.policy_rules.proofs.CallerLemmas.{count_by-map, find-position, find-there, find_agree, found_from_count, one_place, there_at}
 use Rattle.five_tuple.specs.Header.{IsHeader, number_of}
@@ -17,8 +16,8 @@ use Rattle.five_tuple.specs.Laws.{HeaderLaws}
 use Rattle.five_tuple.specs.declared.header.Header.{Header}
 use Rattle.ternary.specs.Laws.{HoldsLaws, MeetLaws}
 use Rattle.ternary.specs.Word.{WordValue, holds}
-use Rattle.ternary.specs.Meets.{any_word, fix_of, is_fixed_of}
-use Rattle.ternary.proofs.CallerLemmas.{any_holds, fix_holds}
+use Rattle.ternary.specs.Meets.{any_word, fix_of}
+use Rattle.ternary.proofs.CallerLemmas.{any_holds}
 use Rattle.policy_rules.specs.Hosted.{is_in}
 use Rattle.policy_rules.specs.Rules.{is_held}
 use Rattle.policy_rules.specs.declared.rules.Partition.{Partition}
@@ -32,22 +31,11 @@ use Rattle.table_tree.specs.Regions.{AreNodeCandidates, has_number, candidates_o
 use Rattle.table_tree.specs.Ruling.{RegionTree, part_tree, rule_shape, rule_tree, seen_tree}
 use Rattle.table_tree.specs.declared.rule_tree.RuleTree.{RuleTree}
 use Rattle.table_tree.specs.Finding.{AreTreesOf, IsEnd, IsFinderTree, IsGrownShape, IsCandidateTreeOf, candidate_shape_of}
-use Rattle.table_tree.specs.LookupTrees.{LookupTree, CutsHeaderBits, Leaf, Sides, leaf_at}
+use Rattle.table_tree.specs.LookupTrees.{LookupTree, Leaf, Sides, leaf_at}
 use Rattle.table_tree.specs.declared.node.Candidate.{Candidate}
 use Rattle.table_tree.specs.declared.trees.Trees.{Trees}
-use Rattle.table_tree.proofs.NodeLemmas.{cut_is_free, half_node, never_stuck, root_node, several_candidates, side_finds, candidate_at, candidates_count}
-
--- ---- the cut bit
-
-pub cuts_bits : (tree : LookupTree ℕ) (candidates : List Candidate) (region : WordValue)
-    → IsCandidateTreeOf candidates region tree
-    → CutsHeaderBits tree
-cuts_bits (Leaf place) candidates region is = tt
-cuts_bits (Sides bit low high) candidates region is = (
-  (cut_is_free candidates region bit is.1).bound,
-  cuts_bits low _ _ is.2,
-  cuts_bits high _ _ is.3,
-)
+use Rattle.table_tree.proofs.LookupLemmas.{down}
+use Rattle.table_tree.proofs.NodeLemmas.{cut_is_free, half_node, never_stuck, root_node, several_candidates, side_finds, candidates_count}
 
 -- ---- how it is grown
 
@@ -92,15 +80,6 @@ finder_tree header_laws holds_laws meet_laws tables trees sound are =
 
 -- ---- down the tree
 
--- a header with this bit is in the half that has it
-pub in_half : (region : WordValue) (bit number : ℕ) (one : Bool) → IsFalse (is_fixed_of region bit)
-    → IsTrue (holds region number) → bit_at number bit ≡ from_bool one
-    → IsTrue (holds (fix_of region bit one) number)
-in_half region bit number one free held is =
-    fix_holds region bit one free number
-    ∙ ap (λ t. t && (bit_at number bit == from_bool one)) held
-    ∙ eq-eqb (bit_at number bit) (from_bool one) is
-
 -- the bits of a header lead to the place of the region that has it
 pub leads : (tree : LookupTree ℕ) (candidates : List Candidate) (region : WordValue) (number : ℕ)
     (candidate : Candidate)
@@ -110,57 +89,27 @@ leads (Leaf place) candidates region number candidate is held found =
     sym (All-contains (λ (s : Candidate). s.place ≡ place) candidates candidate is.there
     (find-there (has_number number) candidates candidate found).0)
 leads (Sides bit low high) candidates region number candidate is held found =
-    by_case (bit_at number bit == 1) refl
-    (λ inside. leads high (candidates_of_side candidates region bit true) (fix_of region bit true)
-    number candidate
-    is.3 inside (side_finds candidates region bit number true inside ∙ found))
+    down (λ place. place ≡ candidate.place) region bit number low high
+    (cut_is_free candidates region bit is.1).free held
     (λ inside. leads low (candidates_of_side candidates region bit false) (fix_of region bit false)
     number candidate
     is.2 inside (side_finds candidates region bit number false inside ∙ found))
-  where
-    by_case : (b : Bool) → (bit_at number bit == 1) ≡ b
-        → (IsTrue (holds (fix_of region bit true) number) → leaf_at number high ≡ candidate.place)
-        → (IsTrue (holds (fix_of region bit false) number) → leaf_at number low ≡ candidate.place)
-        → cond b (leaf_at number high) (leaf_at number low) ≡ candidate.place
-    by_case true set upper lower =
-        let free = cut_is_free candidates region bit is.1 in
-        upper (in_half region bit number true free.free held (eqb-true _ _ set))
-    by_case false unset upper lower =
-        let free = cut_is_free candidates region bit is.1 in
-        let zero_bit : bit_at number bit ≡ 0 = elim (cases_eq (bit_at number bit) 1) [
-          | inl one ↦ absurd (both_ways _ unset (eq-eqb _ _ one))
-          | inr other ↦ omega (arith, bit_at-lt number bit, other)
-        ] in
-        lower (in_half region bit number false free.free held zero_bit)
+    (λ inside. leads high (candidates_of_side candidates region bit true) (fix_of region bit true)
+    number candidate
+    is.3 inside (side_finds candidates region bit number true inside ∙ found))
 
 -- ---- the place in the rows
 
 -- the candidate that is found has the place of the row
-candidate_place : (place number : ℕ) (rows : List PartRow) (candidate : Candidate)
-    → find (has_number number) (candidates_from place rows) ≡ Some candidate
-    → (candidate.place ≡ place + position_or_len (λ (row : PartRow). holds row.region number) rows)
-    × (position_or_len (λ (row : PartRow). holds row.region number) rows < length rows)
-candidate_place place number [] candidate found = absurd (none-some candidate found)
-candidate_place place number (row ∷ rows) candidate found =
-    by_case (holds row.region number) refl found (candidate_place (place + 1) number rows candidate)
-  where
-    by_case : (b : Bool) → holds row.region number ≡ b
-        → cond b (Some (candidate_at place row))
-        (find (has_number number) (candidates_from (place + 1) rows)) ≡ Some candidate
-        → (find (has_number number) (candidates_from (place + 1) rows) ≡ Some candidate
-        → (candidate.place ≡ place + 1 + position_or_len (λ (r : PartRow). holds r.region number)
-        rows)
-        × (position_or_len (λ (r : PartRow). holds r.region number) rows < length rows))
-        → (candidate.place ≡ place + cond (not b)
-        (1 + position_or_len (λ (r : PartRow). holds r.region number) rows) 0)
-        × (cond (not b) (1 + position_or_len (λ (r : PartRow). holds r.region number) rows) 0 < suc (length rows))
-    by_case true passes is rest =
-        let same : candidate_at place row ≡ candidate = same_Some (candidate_at place row) candidate
-        is in
-        (omega (arith, ap (λ (s : Candidate). s.place) same), omega arith)
-    by_case false fails is rest =
-        let later = rest is in
-        (omega (arith, later.0), omega (arith, later.1))
+found_place : (number place : ℕ) (rows : List PartRow)
+    → option_map (λ (s : Candidate). s.place)
+    (find (has_number number) (candidates_from place rows))
+    ≡ position_from (λ (row : PartRow). holds row.region number) place rows
+found_place number place [] = refl
+found_place number place (row ∷ rows) = elim (cases_Bool (holds row.region number)) [
+  | inl held ↦ rw held refl
+  | inr past ↦ rw past (found_place number (place + 1) rows)
+]
 
 -- the tree of the rows leads each header to the first row that holds it
 pub leads_to_row : (rows : List PartRow) (tree : LookupTree ℕ) (header : Header)
@@ -177,16 +126,11 @@ leads_to_row rows tree header is one =
         → position (row_has header) rows ≡ Some (leaf_at (number_of header) tree)
     by_case None none some = absurd (both_ways false refl some)
     by_case (Some candidate) found some =
-        let at = candidate_place 0 (number_of header) rows candidate found in
-        let here : candidate.place
-        ≡ position_or_len (λ (row : PartRow). holds row.region (number_of header)) rows =
-        omega (arith, at.0) in
-        let place : leaf_at (number_of header) tree ≡ position_or_len (row_has header) rows =
-        leads tree (candidates_of rows) any_word (number_of header) candidate is
-        (any_holds (number_of header)) found ∙ here in
-        ap (λ t. cond t (Some (position_or_len (row_has header) rows)) None)
-        (lt-ltb (position_or_len (row_has header) rows) (length rows) at.1)
-        ∙ ap Some (sym place)
+        position_from-zero (row_has header) rows
+        ∙ sym (found_place (number_of header) 0 rows)
+        ∙ ap (option_map (λ (s : Candidate). s.place)) found
+        ∙ ap Some (sym (leads tree (candidates_of rows) any_word (number_of header) candidate is
+        (any_holds (number_of header)) found))
 
 -- ---- the partition of a place
 

@@ -1,4 +1,5 @@
 pub mod BitLemmas
+pub mod LookupLemmas
 pub mod NodeLemmas
 pub mod FindLemmas
 pub mod RuleLemmas

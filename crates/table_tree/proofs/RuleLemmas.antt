@@ -1,13 +1,12 @@
 -- Where a rule tree leads.
-use Rattle.std.proofs.Common.{◌≡◌, ℕ, zero, suc, ◌+◌, ◌-◌, ◌*◌, ◌<◌, ◌≤◌, nat_lt, Bool, true, false, cond, not, ◌&&◌, Option, Some, None, List, [], ◌∷◌, length, find, position, slice_get, map, All, refl, sym, ◌∙◌, ap, subst, inl, inr, arith}
-use Rattle.std.specs.Bool.{IsTrue, ◌==◌}
-use Rattle.std.specs.Int.{bit_at}
-use Rattle.std.specs.List.{position_or_len}
+use Rattle.std.proofs.Common.{◌≡◌, ℕ, zero, suc, ◌+◌, ◌-◌, ◌*◌, ◌<◌, ◌≤◌, Bool, true, false, cond, ◌&&◌, Option, Some, None, List, [], ◌∷◌, length, find, position, slice_get, map, All, Vec, refl, sym, ◌∙◌, ap, subst, inl, inr, arith}
+use Rattle.std.specs.Bool.{IsTrue}
+use Rattle.std.specs.List.{position_from}
+use Rattle.std.proofs.lemmas.Iterator.Adapters.{position_from-zero}
 use Rattle.std.specs.Option.{option_map, option_map_or}
-use Rattle.std.proofs.lemmas.Bool.{cases_Bool, cases_lt, cases_eq, both_ways, eqb-true, eq-eqb, lt-ltb, le-ltb}
+use Rattle.std.proofs.lemmas.Bool.{cases_Bool, le-ltb}
 use Rattle.std.proofs.lemmas.Bool.Decides.{nat_tests}
 use Rattle.std.proofs.lemmas.List.Elements.{All-nil, All-cons, All-head, All-tail, All-same}
-use Rattle.std.proofs.lemmas.Nat.Bits.{bit_at-lt}
 use Rattle.std.proofs.Math.Bool.{and-true}
 use Rattle.policy_rules.proofs.CallerLemmas.{find-map, find_agree}
 use Rattle.ternary.specs.Word.{WordValue, holds}
@@ -21,9 +20,11 @@ use Rattle.cut_tree.specs.declared.choice.Cost.{Cost}
 use Rattle.cut_tree.proofs.CallerLemmas.{narrow_first}
 use Rattle.cut_tree.proofs.CutLemmas.{least_cuts}
 use Rattle.cut_tree.proofs.NarrowLemmas.{narrow_apart, narrow_covered, narrow_more, narrow_none}
-use Rattle.table_tree.specs.Ruling.{is_held_at, if_pays, tree_by_cut, paying_cut, is_worth_cutting, ranked_by_place, rule_tree, rule_tree_within}
-use Rattle.table_tree.specs.LookupTrees.{LookupTree, CutsHeaderBits, Leaf, Sides, leaf_at}
-use Rattle.table_tree.proofs.FindLemmas.{in_half}
+use Rattle.table_tree.specs.Ruling.{is_held_at, if_pays, tree_by_cut, paying_cut, is_worth_cutting, ranked_by_place, rule_shape, rule_tree, rule_tree_within}
+use Rattle.std.specs.Global.{Global}
+use Rattle.table_tree.specs.LookupTrees.{LookupTree, Leaf, Sides, leaf_at, lookup_tree_of}
+use Rattle.table_tree.specs.declared.bit_tree.BitTree.{BitTree}
+use Rattle.table_tree.proofs.LookupLemmas.{down, seen_at}
 
 abbrev pub rank_of : Rule → ℕ
 rank_of rule = rule.rank
@@ -108,24 +109,6 @@ paying_free rules region count cost is = by_least (least_below 104 rules region)
             (least_cuts rules region best found).cuts
         by_test false none = absurd (cc)
 
-pub cuts_header : (cuts : ℕ) (rules : List Rule) (region : WordValue)
-    → CutsHeaderBits (rule_tree_within cuts rules region)
-unfolding rule_tree_within
-cuts_header zero rules region = tt
-cuts_header (suc cuts) rules region = by_cut (paying_cut (suc cuts) rules region) refl
-    (λ bit one. cuts_header cuts (side_of rules region bit one) (fix_of region bit one))
-  where
-    by_cut : (cut : Option Cost) → paying_cut (suc cuts) rules region ≡ cut
-        → ((bit : ℕ) (one : Bool) → CutsHeaderBits
-        (rule_tree_within cuts (side_of rules region bit one) (fix_of region bit one)))
-        → CutsHeaderBits (tree_by_cut (rule_tree_within cuts) rules region cut)
-    by_cut None none sides = tt
-    by_cut (Some cost) is sides = (
-      (paying_free rules region (length rules) cost is).bound,
-      sides cost.bit false,
-      sides cost.bit true,
-    )
-
 -- ---- narrowed rules, by their places
 
 -- the rule at the rank holds the header where the rule does
@@ -183,9 +166,13 @@ first_kept rules region number inside =
 
 -- ---- down the tree
 
+-- the first of the places whose rule holds the header is that of the first of the rules that does
+abbrev Finds : List Rule → List Rule → ℕ → List ℕ → Type 0
+Finds list rules number places =
+    find (is_held_at list number) places ≡ option_map rank_of (find (is_held number) rules)
+
 end_finds : (list rules : List Rule) (number : ℕ) → All (Agrees list number) rules
-    → find (is_held_at list number) (map rank_of rules) ≡ option_map rank_of
-    (find (is_held number) rules)
+    → Finds list rules number (map rank_of rules)
 end_finds list rules number all =
     find-map (is_held_at list number) rank_of rules
     ∙ ap (option_map rank_of)
@@ -194,8 +181,7 @@ end_finds list rules number all =
 -- the bits of a header lead to the place of the first rule that holds it
 leads : (cuts : ℕ) (list rules : List Rule) (region : WordValue) (number : ℕ)
     → IsTrue (holds region number) → All (Agrees list number) rules
-    → find (is_held_at list number) (leaf_at number (rule_tree_within cuts rules region))
-    ≡ option_map rank_of (find (is_held number) rules)
+    → Finds list rules number (leaf_at number (rule_tree_within cuts rules region))
 unfolding rule_tree_within
 leads zero list rules region number inside all = end_finds list rules number all
 leads (suc cuts) list rules region number inside all =
@@ -207,34 +193,17 @@ leads (suc cuts) list rules region number inside all =
   where
     by_cut : (cut : Option Cost) → paying_cut (suc cuts) rules region ≡ cut
         → ((bit : ℕ) (one : Bool) → IsTrue (holds (fix_of region bit one) number)
-        → find (is_held_at list number) (leaf_at number
-        (rule_tree_within cuts (side_of rules region bit one) (fix_of region bit one)))
-        ≡ option_map rank_of (find (is_held number) rules))
-        → find (is_held_at list number) (leaf_at number
+        → Finds list rules number (leaf_at number
+        (rule_tree_within cuts (side_of rules region bit one) (fix_of region bit one))))
+        → Finds list rules number (leaf_at number
         (tree_by_cut (rule_tree_within cuts) rules region cut))
-        ≡ option_map rank_of (find (is_held number) rules)
-    by_cut None none down = end_finds list rules number all
-    by_cut (Some cost) is down = by_bit (paying_free rules region (length rules) cost is)
-        (bit_at number cost.bit == 1) refl
-      where
-        by_bit : IsFreeBit region cost.bit → (b : Bool) → (bit_at number cost.bit == 1) ≡ b
-            → find (is_held_at list number)
-            (cond b
-            (leaf_at number (rule_tree_within cuts (side_of rules region cost.bit true)
-            (fix_of region cost.bit true)))
-            (leaf_at number (rule_tree_within cuts (side_of rules region cost.bit false)
-            (fix_of region cost.bit false))))
-            ≡ option_map rank_of (find (is_held number) rules)
-        by_bit free true set = down cost.bit true
-            (in_half region cost.bit number true free.free inside (eqb-true _ _ set))
-        by_bit free false unset =
-            let zero_bit : bit_at number cost.bit ≡ 0 =
-            elim (cases_eq (bit_at number cost.bit) 1) [
-              | inl one ↦ absurd (both_ways _ unset (eq-eqb _ _ one))
-              | inr other ↦ omega (arith, bit_at-lt number cost.bit, other)
-            ] in
-            down cost.bit false
-            (in_half region cost.bit number false free.free inside zero_bit)
+    by_cut None none sides = end_finds list rules number all
+    by_cut (Some cost) is sides =
+        down (Finds list rules number) region cost.bit number
+        (rule_tree_within cuts (side_of rules region cost.bit false) (fix_of region cost.bit false))
+        (rule_tree_within cuts (side_of rules region cost.bit true) (fix_of region cost.bit true))
+        (paying_free rules region (length rules) cost is).free inside (sides cost.bit false)
+        (sides cost.bit true)
 
 -- ---- the root
 
@@ -258,37 +227,12 @@ ranked_agrees list number place (rule ∷ rules) same =
 
 ranked_position : (number place : ℕ) (rules : List Rule)
     → option_map rank_of (find (is_held number) (ranked_by_place place rules))
-    ≡ cond (nat_lt (position_or_len (is_held number) rules) (length rules))
-    (Some (place + position_or_len (is_held number) rules)) None
+    ≡ position_from (is_held number) place rules
 ranked_position number place [] = refl
-ranked_position number place (rule ∷ rules) =
-    by_case (holds rule.word number) (ranked_position number (place + 1) rules)
-  where
-    by_case : (b : Bool)
-        → option_map rank_of (find (is_held number) (ranked_by_place (place + 1) rules))
-        ≡ cond (nat_lt (position_or_len (is_held number) rules) (length rules))
-        (Some (place + 1 + position_or_len (is_held number) rules)) None
-        → option_map rank_of (cond b (Some (record rule { rank = place }))
-        (find (is_held number) (ranked_by_place (place + 1) rules)))
-        ≡ cond (nat_lt (cond (not b) (1 + position_or_len (is_held number) rules) 0)
-        (suc (length rules)))
-        (Some (place + cond (not b) (1 + position_or_len (is_held number) rules) 0)) None
-    by_case true rest =
-        let here : place ≡ place + 0 = omega arith in
-        ap Some here
-        ∙ sym (ap (λ t. cond t (Some (place + 0)) None) (lt-ltb 0 (suc (length rules)) (omega arith)))
-    by_case false rest =
-        let n = position_or_len (is_held number) rules in
-        let next : place + 1 + n ≡ place + (1 + n) = omega arith in
-        rest
-        ∙ ap (λ k. cond (nat_lt n (length rules)) (Some k) None) next
-        ∙ ap (λ t. cond t (Some (place + (1 + n))) None) (same_lt n (length rules))
-      where
-        same_lt : (a b : ℕ) → nat_lt a b ≡ nat_lt (1 + a) (suc b)
-        same_lt a b = elim (cases_lt a b) [
-          | inl within ↦ lt-ltb a b within ∙ sym (lt-ltb (1 + a) (suc b) (omega arith))
-          | inr past ↦ le-ltb a b past ∙ sym (le-ltb (1 + a) (suc b) (omega arith))
-        ]
+ranked_position number place (rule ∷ rules) = elim (cases_Bool (holds rule.word number)) [
+  | inl held ↦ rw held refl
+  | inr past ↦ rw past (ranked_position number (place + 1) rules)
+]
 
 -- the tree of a list leads each header of the region to the first of its rules that holds it
 pub tree_first : (list : List Rule) (region : WordValue) (number : ℕ)
@@ -303,23 +247,20 @@ tree_first list region number inside =
     (side_agrees list ranked region number inside agree)
     ∙ first_kept ranked region number inside
     ∙ ranked_position number 0 list
-    ∙ ap (λ k. cond (nat_lt (position_or_len (is_held number) list) (length list)) (Some k) None)
-    (none_more (position_or_len (is_held number) list))
+    ∙ sym (position_from-zero (is_held number) list)
   where
     none_more : (n : ℕ) → 0 + n ≡ n
     none_more n = omega arith
 
-pub root_cuts : (list : List Rule) (region : WordValue) → CutsHeaderBits (rule_tree list region)
-unfolding rule_tree
-root_cuts list region = cuts_header 12 (narrow (ranked_by_place 0 list) region) region
-
 -- as `first` reads it
-pub first_is : (list : List Rule) (region : WordValue) (shape : LookupTree (List ℕ)) (number h : ℕ)
-    (places : List ℕ) (found : Option ℕ) → shape ≡ rule_tree list region
-    → IsTrue (holds region h) → number ≡ h → places ≡ leaf_at number shape
+pub first_is : (list : List Rule) (region : WordValue) (tree : BitTree (Vec ℕ Global)) (number h : ℕ)
+    (end : Vec ℕ Global) (places : List ℕ) (found : Option ℕ) → rule_shape tree ≡ rule_tree list region
+    → IsTrue (holds region h) → number ≡ h → end ≡ leaf_at number (lookup_tree_of (λ x. x) tree)
+    → places ≡ end.items
     → found ≡ find (is_held_at list number) places → found ≡ position (is_held h) list
-first_is list region shape number h places found built inside same at is =
+first_is list region tree number h end places found built inside same at read is =
     is
-    ∙ ap (find (is_held_at list number)) (at ∙ ap (leaf_at number) built)
+    ∙ ap (find (is_held_at list number)) (read ∙ ap (λ (v : Vec ℕ Global). v.items) at
+    ∙ seen_at (λ (v : Vec ℕ Global). v.items) number tree ∙ ap (leaf_at number) built)
     ∙ tree_first list region number (subst (λ n. IsTrue (holds region n)) (sym same) inside)
     ∙ ap (λ n. position (is_held n) list) same

@@ -11,17 +11,15 @@ use Rattle.policy_rules.specs.declared.rules.Partition.{Partition}
 use Rattle.table_tree.specs.Cutting.{NoneFree}
 use Rattle.table_tree.specs.Regions.{AreRegions, IsCutBit, candidates_of_side, some_fix, candidates_of}
 use Rattle.table_tree.specs.Ruling.{part_tree, seen_tree}
-use Rattle.table_tree.specs.LookupTrees.{LookupTree, Leaf, Sides}
+use Rattle.table_tree.specs.LookupTrees.{LookupTree, Leaf, Sides, lookup_tree_of}
 use Rattle.table_tree.specs.declared.rule_tree.RuleTree.{RuleTree}
 use Rattle.table_tree.specs.declared.node.Candidate.{Candidate}
-use Rattle.table_tree.specs.declared.tree.PartTree.{PartTree, At, Cut'}
+use Rattle.table_tree.specs.declared.bit_tree.BitTree.{BitTree}
 use Rattle.table_tree.specs.declared.trees.Trees.{Trees}
 
 -- the shape of a tree, which leads to places of the partition rules
-abbrev pub candidate_shape_of : PartTree → LookupTree ℕ
-candidate_shape_of (At place) = Leaf place
-candidate_shape_of (Cut' bit p low q high) = Sides bit (candidate_shape_of low)
-    (candidate_shape_of high)
+abbrev pub candidate_shape_of : BitTree ℕ → LookupTree ℕ
+candidate_shape_of tree = lookup_tree_of (λ place. place) tree
 
 -- one region is left, and this is its place
 pub record IsEnd (candidates : List Candidate) (place : ℕ) : Type 0 where
@@ -64,7 +62,7 @@ pub record AreTreesOf (rows : List PartRow) (parts : List Partition) (trees : Tr
 -- the tables of a finder, and its tree
 pub record FinderValue : Type 0 where
   pub tables : Tables
-  pub tree : PartTree
+  pub tree : BitTree ℕ
 
 -- the tables are sound, the tree is theirs, and these are the trees of the authority partitions
 pub record IsFinder (finder : FinderValue) (rule_trees : List RuleTree) : Type 0 where

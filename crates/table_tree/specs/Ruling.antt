@@ -1,7 +1,7 @@
 -- A decision tree that finds the first rule of a header: a list of rules is cut as in Yu, Rexford,
 -- Freedman and Wang, "Scalable Flow-Based Networking with DIFANE", SIGCOMM 2010; when a cut pays
 -- is this project's own rule.
-use Rattle.std.specs.Prelude.{ℕ, zero, suc, ◌+◌, ◌*◌, ◌&&◌, if◌then◌else◌, nat_lt, nat_le, Bool, true, false, Option, Some, None, List, [], ◌∷◌, length, map, slice_get}
+use Rattle.std.specs.Prelude.{ℕ, zero, suc, ◌+◌, ◌*◌, ◌&&◌, if◌then◌else◌, nat_lt, nat_le, Bool, true, false, Option, Some, None, List, [], ◌∷◌, length, map, slice_get, Vec}
 use Rattle.std.specs.Option.{option_map_or}
 use Rattle.ternary.specs.Word.{WordValue, holds}
 use Rattle.ternary.specs.Meets.{fix_of}
@@ -10,14 +10,14 @@ use Rattle.policy_rules.specs.declared.rules.Rule.{Rule}
 use Rattle.cut_tree.specs.Cuts.{least_below, side_of}
 use Rattle.cut_tree.specs.Narrow.{narrow}
 use Rattle.cut_tree.specs.declared.choice.Cost.{Cost}
-use Rattle.table_tree.specs.LookupTrees.{LookupTree, Leaf, Sides}
-use Rattle.table_tree.specs.declared.rule_node.RuleNode.{RuleNode, End, Cut'}
+use Rattle.std.specs.Global.{Global}
+use Rattle.table_tree.specs.LookupTrees.{LookupTree, Leaf, Sides, lookup_tree_of}
+use Rattle.table_tree.specs.declared.bit_tree.BitTree.{BitTree}
 use Rattle.table_tree.specs.declared.rule_tree.RuleTree.{RuleTree}
 
 -- the shape of a tree, which leads to the places of the rules that are left, in order
-abbrev pub rule_shape : RuleNode → LookupTree (List ℕ)
-rule_shape (End places) = Leaf places.items
-rule_shape (Cut' bit p low q high) = Sides bit (rule_shape low) (rule_shape high)
+abbrev pub rule_shape : BitTree (Vec ℕ Global) → LookupTree (List ℕ)
+rule_shape tree = lookup_tree_of (λ places. places.items) tree
 
 -- there is a rule at the place that holds the number
 abbrev pub is_held_at : List Rule → ℕ → ℕ → Bool

@@ -8,9 +8,9 @@ use crate::node::Candidate;
 use cut_tree::free_bits;
 use ternary::{ALL_BITS, Word};
 
-/// The bit at which these regions, which meet a region, are separated: of its free bits the least
-/// one that all of them fix, otherwise the least one that some region fixes. `None` if no region
-/// fixes any.
+/// The bit at which these regions, which overlap a region, are separated: of its free bits the
+/// least one that all of them fix, otherwise the least one that some region fixes. `None` if no
+/// region fixes any.
 pub fn cut_bit(candidates: &[Candidate], region: &Word) -> Option<u32>
     ensures some { IfSome result (λ bit. IsCutBit candidates.now region.now bit) }
     ensures free { IfSome result (λ bit. IsFreeBit region.now bit) }

@@ -6,7 +6,7 @@ ghost use Rattle.switch_table.specs.Lookup.{lookup_of, table_lookup};
 ghost use Rattle.switch_table.specs.Tables.{AreSoundTables};
 ghost use Rattle.table_tree.specs.Finding.{AreTreesOf, IsFinderTree, candidate_shape_of};
 
-use crate::tree::PartTree;
+use crate::bit_tree::BitTree;
 use crate::trees::Trees;
 use five_tuple::{Header, header_laws};
 use policy_rules::Partition;
@@ -25,13 +25,14 @@ pub struct Finder {
 }
 
 impl Model for Finder {
+    ghost use Rattle.std.specs.Borrow.{u32};
     ghost use Rattle.std.specs.Coded.{codes};
     ghost use Rattle.table_tree.specs.Finding.{FinderValue, IsFinder};
-    ghost use Rattle.table_tree.specs.contracts.tree.PartTree.{the_row};
+    ghost use Rattle.table_tree.specs.contracts.bit_tree.BitTree.{the_row};
 
     ghost Value = { FinderValue };
 
-    ghost coded = { Prim.hlevel (codes, the_row.coded) };
+    ghost coded = { Prim.hlevel (codes, (the_row u32).coded) };
 
     ghost view = { λ f. record { tables = f.tables.value; tree = f.trees.value.tree } };
 
@@ -91,7 +92,7 @@ impl Finder {
     }
 
     /// The tree over the partition rules.
-    pub fn tree(&self) -> &PartTree
+    pub fn tree(&self) -> &BitTree<u32>
         ensures { result.now ≡ self.now.tree }
     {
         &self.trees.tree
@@ -134,7 +135,7 @@ impl Finder {
     fn table_lookup(&self, header: &Header) -> Found
         ensures { result ≡ table_lookup self.now.tables header.now }
     {
-        let place = self.trees.tree.place(header.number());
+        let place = *self.trees.tree.end_of(header.number());
         match own_place(self.tables.auth.items(), place) {
             Some(own) => Found::Authority {
                 partition: place,

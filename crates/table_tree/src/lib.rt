@@ -5,9 +5,11 @@
 //! `first` promises what `first_hit` returns. `Trees` are built once for equal tables, whatever
 //! their version: a tree over the partition rules, and a rule tree for each authority partition. A
 //! `Finder` shares them with others, and its tables. Its `lookup` promises the result of
-//! `switch_table::lookup` for these tables. Neither lookup allocates.
+//! `switch_table::lookup` for these tables. Neither lookup allocates. Both kinds of trees are
+//! `BitTree`s; what their ends hold differs.
 #![tactic(auto)]
 
+mod bit_tree;
 mod bits;
 mod finder;
 mod node;
@@ -16,8 +18,7 @@ mod rule_tree;
 mod tree;
 mod trees;
 
+pub use bit_tree::{BitTree, HeaderBit};
 pub use finder::Finder;
-pub use rule_node::RuleNode;
 pub use rule_tree::RuleTree;
-pub use tree::PartTree;
 pub use trees::Trees;

@@ -2,8 +2,8 @@ ghost use Rattle.std.specs.Prelude.{◌≡◌, ◌<◌, IfOk, IfSome, map};
 ghost use Rattle.policy_rules.specs.declared.rules.Rule.{Rule};
 ghost use Rattle.cut_tree.specs.Cuts.{IsFreeBit};
 ghost use Rattle.table_tree.specs.Ruling.{paying_cut, rule_shape, rule_tree_within};
-ghost use Rattle.table_tree.specs.LookupTrees.{CutsHeaderBits, leaf_at};
 
+use crate::bit_tree::{BitTree, HeaderBit};
 use cut_tree::{Cost, Node};
 use policy_rules::Rule;
 use std::alloc::{AllocError, Global};
@@ -11,48 +11,14 @@ use std::alloc::{AllocError, Global};
 /// The most rules of a node that is not cut.
 const FEW_RULES: usize = 16;
 
-/// A decision tree over the bits of a header number.
-#[derive(Debug, Drop)]
-pub enum RuleNode {
-    /// The places of the rules that are left, in order.
-    End {
-        places: Vec<u32>,
-    },
-    /// The headers with a 0 at the bit are on the low side, those with a 1 on the high side.
-    Cut {
-        bit: u32,
-        low: Box<RuleNode>,
-        high: Box<RuleNode>,
-    },
-}
-
-impl RuleNode {
-    /// The places to which the bits of the number lead.
-    pub fn places(&self, number: u128) -> &[u32]
-        requires { CutsHeaderBits (rule_shape self.now) }
-        ensures { result.now ≡ leaf_at number (rule_shape self.now) }
-    {
-        match self {
-            RuleNode::End { places } => places,
-            RuleNode::Cut { bit, low, high } => {
-                if (number >> *bit) & 1 == 1 {
-                    high.places(number)
-                } else {
-                    low.places(number)
-                }
-            }
-        }
-    }
-}
-
 /// The tree of a node with at most this many cuts one below another.
-pub fn grow(alloc: Global, node: Node, cuts: u32) -> Result<RuleNode, AllocError>
+pub fn grow(alloc: Global, node: Node, cuts: u32) -> Result<BitTree<Vec<u32>>, AllocError>
     ensures { IfOk result (λ tree.
         rule_shape tree ≡ rule_tree_within cuts node.rules.items node.region) }
 {
     let Some(cost) = paying_cut(&node, cuts) else {
         let places = places_of(alloc, &node.rules)?;
-        return Ok(RuleNode::End { places });
+        return Ok(BitTree::End(places));
     };
     let low = node.half(alloc, cost.bit, false)?;
     let high = node.half(alloc, cost.bit, true)?;
@@ -60,8 +26,8 @@ pub fn grow(alloc: Global, node: Node, cuts: u32) -> Result<RuleNode, AllocError
     drop(node);
     let low = grow(alloc, low, cuts - 1)?;
     let high = grow(alloc, high, cuts - 1)?;
-    Ok(RuleNode::Cut {
-        bit: cost.bit,
+    Ok(BitTree::Cut {
+        bit: HeaderBit::new(cost.bit),
         low: Box::new(alloc, low)?,
         high: Box::new(alloc, high)?,
     })

@@ -6,7 +6,8 @@ ghost use Rattle.policy_rules.specs.Rules.{is_held};
 ghost use Rattle.cut_tree.specs.Nodes.{AreWords};
 ghost use Rattle.table_tree.specs.Ruling.{is_held_at, ranked_by_place, rule_shape, rule_tree};
 
-use crate::rule_node::{RuleNode, grow};
+use crate::bit_tree::BitTree;
+use crate::rule_node::grow;
 use cut_tree::Node;
 use five_tuple::Header;
 use policy_rules::Rule;
@@ -21,7 +22,7 @@ const MAX_CUTS: u32 = 12;
 #[derive(Debug, Drop)]
 pub struct RuleTree {
     pub region: Word,
-    pub root: RuleNode,
+    pub root: BitTree<Vec<u32>>,
 }
 
 impl RuleTree {
@@ -58,7 +59,7 @@ impl RuleTree {
         ensures small { IfSome result (λ place. place < 2 ^ 32) }
     {
         let number = header.number();
-        match first_of(self.root.places(number), rules, number) {
+        match first_of(self.root.end_of(number), rules, number) {
             Some(place) => Some(*place as usize),
             None => None,
         }

@@ -2,9 +2,10 @@ ghost use Rattle.std.specs.Prelude.{◌≡◌, ◌<◌, ◌^◌, All, IfOk, leng
 ghost use Rattle.table_tree.specs.Finding.{AreTreesOf};
 ghost use Rattle.table_tree.specs.Ruling.{part_tree, seen_tree};
 
+use crate::bit_tree::BitTree;
 use crate::node::PartNode;
 use crate::rule_tree::RuleTree;
-use crate::tree::{self, PartTree};
+use crate::tree;
 use policy_rules::Partition;
 use std::alloc::{AllocError, Global};
 use switch_table::PartRow;
@@ -13,7 +14,7 @@ use switch_table::PartRow;
 /// one over the rules of each authority partition.
 #[derive(Debug, Drop)]
 pub struct Trees {
-    pub tree: PartTree,
+    pub tree: BitTree<u32>,
     pub rule_trees: Vec<RuleTree>,
 }
 

@@ -9,7 +9,7 @@ use std::alloc::Global;
 use std::rc::Rc;
 use std::test::Fail;
 use switch_table::{Cache, Found, PartRow, PartRows, Partitions, Tables, lookup};
-use table_tree::{Finder, PartTree};
+use table_tree::{BitTree, Finder, HeaderBit};
 use ternary::{Word, any_laws, fix_laws};
 
 // Tables of three regions, of a switch that is no authority.
@@ -53,12 +53,12 @@ fn shared(alloc: Global) -> Result<Rc<Tables>, Fail>
 }
 
 // The bit of the tree's first cut, and of the first one on its low side.
-fn first_cuts(tree: &PartTree) -> Option<(u32, u32)> {
+fn first_cuts(tree: &BitTree<u32>) -> Option<(HeaderBit, HeaderBit)> {
     match tree {
-        PartTree::At { .. } => None,
-        PartTree::Cut { bit, low, .. } => match low.as_ref() {
-            PartTree::At { .. } => None,
-            PartTree::Cut { bit: next, .. } => Some((*bit, *next)),
+        BitTree::End(_) => None,
+        BitTree::Cut { bit, low, .. } => match low.as_ref() {
+            BitTree::End(_) => None,
+            BitTree::Cut { bit: next, .. } => Some((*bit, *next)),
         },
     }
 }
@@ -68,7 +68,7 @@ fn regions_are_found_by_two_bits(rt: HostRuntime) -> Result<(), Fail> {
     let alloc = rt.alloc();
     let tables = shared(alloc)?;
     let finder = Finder::build(alloc, tables.clone()?)?;
-    assert!(rt; first_cuts(finder.tree()) == Some((71, 103)));
+    assert!(rt; first_cuts(finder.tree()) == Some((HeaderBit::new(71), HeaderBit::new(103))));
     let cache = Cache::new(alloc, 4);
     for (header, place) in [
         (web_header(1, 2), 0),

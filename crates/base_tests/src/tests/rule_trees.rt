@@ -5,7 +5,7 @@ use crate::packets::web_header;
 use policy_rules::{Action, Rule, first_hit};
 use std::alloc::Global;
 use std::test::Fail;
-use table_tree::{RuleNode, RuleTree};
+use table_tree::{BitTree, RuleTree};
 use ternary::{Word, any_laws};
 
 // The rules of the destinations 10.0.0.0/16 to 10.38.0.0/16, and one of all headers.
@@ -37,7 +37,7 @@ fn a_tree_finds_what_a_search_finds(rt: HostRuntime) -> Result<(), Fail> {
     let alloc = rt.alloc();
     let rules = rules(alloc)?;
     let tree = RuleTree::build(alloc, &rules, &Word::any())?;
-    assert!(rt; matches!(&tree.root, RuleNode::Cut { .. }));
+    assert!(rt; matches!(&tree.root, BitTree::Cut { .. }));
     for dst in [0x0a000001, 0x0a030201, 0x0a260000, 0x0a270000, 0x0b000000] {
         let header = web_header(1, dst);
         assert!(rt; tree.first(&rules, &header) == first_hit(&rules, &header));
@@ -51,7 +51,7 @@ fn few_rules_are_not_cut(rt: HostRuntime) -> Result<(), Fail> {
     let alloc = rt.alloc();
     let rules = [rule(Word::any(), Action::Drop)];
     let tree = RuleTree::build(alloc, &rules, &Word::any())?;
-    assert!(rt; matches!(&tree.root, RuleNode::End { .. }));
+    assert!(rt; matches!(&tree.root, BitTree::End(_)));
     assert!(rt; tree.first(&rules, &web_header(1, 1)) == Some(0));
     Ok(())
 }

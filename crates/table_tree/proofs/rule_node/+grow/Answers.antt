@@ -13,7 +13,7 @@ returns-in_default t c =
 pub returns : goal.returns
 returns t c =
     let node = c.args.node in
-    rw (c.in_ok-new.ensures.ok, c.in_ok-new-2.ensures.ok)
+    rw (c.new.ensures, c.in_ok-new.ensures.ok, c.in_ok-new-2.ensures.ok)
     (within_cut c.args.cuts node.rules.items node.region c.in-Some.cost _ _ _ _ _ _
     c.in-Some.ensures.left c.in-Some.ensures.cut c.in_ok-low.ensures.rules
     c.in_ok-low.ensures.region c.in_ok-high.ensures.rules c.in_ok-high.ensures.region

@@ -1,32 +1,23 @@
 use Rattle.std.proofs.Common.{◌<◌, ◌==◌, ◌∙◌, List, length, get_or, find, position, slice_get, ap, sym, subst}
 use Rattle.std.specs.Bool.{IsTrue}
 use Rattle.std.specs.Option.{IsSomeAnd, option_and_then}
-use Rattle.ternary.specs.Meets.{any_word}
 use Rattle.policy_rules.specs.Hosted.{is_in}
 use Rattle.policy_rules.specs.declared.rules.Partition.{Partition}
 use Rattle.switch_table.specs.Lookup.{table_lookup}
 use Rattle.switch_table.specs.declared.search.Found.TheVariants.{Authority, Redirect}
 use Rattle.switch_table.specs.declared.tables.PartRow.{PartRow}
 use Rattle.switch_table.specs.declared.tables.Tables.{Tables}
-use Rattle.table_tree.specs.declared.trees.Trees.{Trees}
-use Rattle.table_tree.specs.Finding.{FinderValue, candidate_shape_of}
-use Rattle.table_tree.specs.Regions.{candidates_of}
-use Rattle.table_tree.specs.LookupTrees.{CutsHeaderBits}
-use Rattle.table_tree.proofs.FindLemmas.{cuts_bits, first_in, none_there, own_decides, own_has, place_is, place_within, row_decides}
+use Rattle.table_tree.specs.Finding.{FinderValue}
+use Rattle.table_tree.proofs.FindLemmas.{first_in, none_there, own_decides, own_has, place_is, place_within, row_decides}
 use Rattle.table_tree.proofs.finder.Finder.table_lookup.Goals as goal
-
-pub place-place-requires : goal.place-place-requires
-place-place-requires c = subst (λ (t : Trees). CutsHeaderBits (candidate_shape_of t.tree))
-    (sym c.deref.ensures) (cuts_bits (candidate_shape_of c.self.inside.trees.value.tree)
-    (candidates_of c.self.inside.tables.value.parts) any_word c.self.invariant.tree)
 
 pub first_at-requires : goal.first_at-requires
 first_at-requires c =
     let tables = c.self.inside.tables.value in
-    let place = c.place-place.result in
+    let place = c.end_of-place.result.now in
     let at = place_is tables c.self.inside.trees.value c.deref.result.now c.args.header.now c.number.result place
     c.self.invariant.sound c.self.invariant.tree c.deref.ensures c.number.ensures.header c.number.ensures.number
-    c.place-place.ensures in
+    c.end_of-place.ensures in
     let there = sym (c.in-Some.ensures ∙ ap (position (λ (p : Partition). p.number == place))
     (c.items.ensures ∙ ap (λ (t : Tables). t.auth) c.deref-2.ensures)) in
     subst (λ (v : FinderValue). IsSomeAnd (slice_get v.tables.auth c.in-Some.own)
@@ -38,11 +29,11 @@ pub bounds-items-place : goal.bounds-items-place
 bounds-items-place c =
     let tables = c.self.inside.tables.value in
     let at = place_is tables c.self.inside.trees.value c.deref.result.now c.args.header.now c.number.result
-    c.place-place.result c.self.invariant.sound c.self.invariant.tree c.deref.ensures c.number.ensures.header
-    c.number.ensures.number c.place-place.ensures in
-    subst (λ (rows : List PartRow). c.place-place.result < length rows)
+    c.end_of-place.result.now c.self.invariant.sound c.self.invariant.tree c.deref.ensures c.number.ensures.header
+    c.number.ensures.number c.end_of-place.ensures in
+    subst (λ (rows : List PartRow). c.end_of-place.result.now < length rows)
     (sym (c.items-in-None.ensures ∙ ap (λ (t : Tables). t.parts) c.deref-in-None.ensures))
-    (place_within c.args.header.now tables.parts c.place-place.result at)
+    (place_within c.args.header.now tables.parts c.end_of-place.result.now at)
 
 pub bounds-items-place-in-None : goal.bounds-items-place-in-None
 bounds-items-place-in-None c = bounds-items-place c
@@ -51,10 +42,10 @@ pub returns-in-Some : goal.returns-in-Some
 returns-in-Some c =
     let tables = c.self.inside.tables.value in
     let header = c.args.header.now in
-    let place = c.place-place.result in
+    let place = c.end_of-place.result.now in
     let at = place_is tables c.self.inside.trees.value c.deref.result.now header c.number.result place
     c.self.invariant.sound c.self.invariant.tree c.deref.ensures c.number.ensures.header c.number.ensures.number
-    c.place-place.ensures in
+    c.end_of-place.ensures in
     let there = sym (c.in-Some.ensures ∙ ap (position (λ (p : Partition). p.number == place))
     (c.items.ensures ∙ ap (λ (t : Tables). t.auth) c.deref-2.ensures)) in
     let first = c.first_at.ensures.place
@@ -69,11 +60,11 @@ pub returns-in-None : goal.returns-in-None
 returns-in-None c =
     let tables = c.self.inside.tables.value in
     let header = c.args.header.now in
-    let place = c.place-place.result in
+    let place = c.end_of-place.result.now in
     let d = c.index-items-place.result in
     let at = place_is tables c.self.inside.trees.value c.deref.result.now header c.number.result place
     c.self.invariant.sound c.self.invariant.tree c.deref.ensures c.number.ensures.header c.number.ensures.number
-    c.place-place.ensures in
+    c.end_of-place.ensures in
     let none = none_there c.items.result.now place c.in-None.ensures
     ∙ ap (find (λ (p : Partition). p.number == place))
     (c.items.ensures ∙ ap (λ (t : Tables). t.auth) c.deref-2.ensures) in
