@@ -1,12 +1,14 @@
 -- Frames of all beside what became of each message.
-use Rattle.std.proofs.Common.{◌≡◌, ◌-◌, ◌<◌, ◌≤◌, ℕ, Bool, true, false, Option, Some, None, List, [], ◌∷◌, zero, suc, length, min, set, refl, ap, sym, ◌∙◌, arith}
+use Rattle.std.proofs.Common.{◌≡◌, ◌-◌, ◌<◌, ◌≤◌, ℕ, Bool, true, false, Option, Some, None, List, [], ◌∷◌, ◌++◌, zero, suc, length, min, set, refl, ap, sym, ◌∙◌, arith}
 use Rattle.std.specs.Prelude.{is_some, not, slice_get, if◌then◌else◌}
 use Rattle.std.specs.List.{zip}
 use Rattle.std.specs.Option.{option_and_then, option_map_or}
 use Rattle.std.proofs.lemmas.Slice.Zip.{length-zip, seconds-zip}
-use Rattle.message_bag.specs.Deliveries.{is_deliverable, may_be_delivered}
+use Rattle.base.proofs.ListsJoined.{zip_pushed}
+use Rattle.ctrl_msg.specs.declared.message.Message.{Message}
+use Rattle.message_bag.specs.Deliveries.{is_deliverable, may_be_delivered, waiting_status}
 use Rattle.message_bag.specs.Numbered.{with_changed}
-use Rattle.message_bag.specs.Posts.{Post, frames_posted, remembered_frames, statuses_of, with_status}
+use Rattle.message_bag.specs.Posts.{Post, frames_posted, new_post, posted_frames, remembered_frames, statuses_of, with_status}
 use Rattle.message_bag.specs.declared.deliveries.MessageState.{MessageState}
 
 -- what became of one changes
@@ -65,6 +67,15 @@ length_of_zip all statuses same = length-zip all statuses
   where
     itself : (n : ℕ) → min n n ≡ n
     itself n = omega arith
+
+-- one more message waits behind them
+pub one_more : (all more : List (List (List ℕ))) (statuses after : List MessageState) (posts : List Post) (m : Message)
+    → length all ≡ length statuses → zip all statuses ≡ posts → more ≡ all ++ posted_frames m ∷ []
+    → after ≡ statuses ++ waiting_status ∷ [] → zip more after ≡ posts ++ new_post m ∷ []
+one_more all more statuses after posts m same are posted added =
+    ap (λ fs. zip fs after) posted ∙ ap (zip (all ++ posted_frames m ∷ [])) added
+    ∙ zip_pushed all statuses (posted_frames m) waiting_status same
+    ∙ ap (λ (all : List Post). all ++ new_post m ∷ []) are
 
 -- ---- the frames of a number
 

@@ -8,6 +8,7 @@ pub mod TablesRestamped
 mod FirstFrameSpans
 mod InstallationFrames
 mod PostedMessages
+mod RepeatedMessages
 mod ComingOut
 pub mod FramedMessages
 pub mod NumberedPosts

@@ -74,7 +74,7 @@ posted_kept m before after firsts longer first grown kept more there has is =
 pub same_grown : (kept : List (List (List ℕ))) → IsGrown kept kept
 same_grown kept = take_all (length kept) kept (omega arith)
 
--- ---- a first frame that is pushed, or not for want of memory
+-- ---- a first frame that is pushed, or not, if memory runs out
 
 pub kept_after : {T E : Type 0} (r : Result T E) (m : Message) (before after : List (List (List ℕ)))
     → (firsts longer : List First) (first : First) → IsGrown before after → All (AreKeptFrames before) firsts

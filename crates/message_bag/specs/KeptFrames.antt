@@ -31,6 +31,10 @@ IsInstallOf m tables = HasShortSpelling m × ((boot : ℕ) × (m.body ≡ Instal
 abbrev pub First : Type 0
 First = List ℕ × Option ℕ
 
+-- what replaces one that isn't there
+abbrev pub no_first : First
+no_first = ([], None)
+
 -- first frames that are one after the other
 abbrev pub first_in : List ℕ → Span → First
 first_in bytes span = (take span.len (drop span.start bytes), span.tables)

@@ -4,3 +4,4 @@ pub mod KeptFrames
 pub mod Numbered
 pub mod Deliveries
 pub mod Posts
+pub mod Sharing

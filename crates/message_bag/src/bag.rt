@@ -1,8 +1,9 @@
-ghost use Rattle.std.specs.Prelude.{◌≡◌, ◌<◌, ◌+◌, ◌-◌, ◌^◌, ◌++◌, ◌∷◌, ◌↔◌, ◌⊎◌, [], None, Some, true, length, IfOk, IfSome, IsNone, OnErr, OnOk};
+ghost use Rattle.std.specs.Prelude.{◌≡◌, ◌<◌, ◌+◌, ◌-◌, ◌^◌, ◌++◌, ◌∷◌, ◌↔◌, ◌⊎◌, [], None, Some, true, length, IfOk, IfSome, IsNone, IsSome, OnErr, OnOk};
 ghost use Rattle.ctrl_msg.specs.declared.message.Body.TheVariants.{Install};
 ghost use Rattle.wire.specs.Frames.{frames};
 ghost use Rattle.wire.specs.Messages.{HasSpelling, message as form};
 ghost use Rattle.message_bag.specs.KeptFrames.{IsPosted, tables_version};
+ghost use Rattle.message_bag.specs.Numbered.{item_numbered};
 
 use crate::firsts::Firsts;
 use crate::reading::{message_of_frame, tables_of};
@@ -55,7 +56,8 @@ impl Bag {
     /// Posts a message, and returns its number: one more than there were messages.
     ///
     /// # Errors
-    /// Only out of memory; then nothing changes.
+    /// Only out of memory, or if the first frames before this message's have 2^32 bytes or more;
+    /// then nothing changes.
     pub fn post(&mut self, message: &Message) -> Result<u32, AllocError>
         requires spelling { HasSpelling message.now }
         requires short { length (form.spell message.now) < 2 ^ 40 }
@@ -70,6 +72,23 @@ impl Bag {
             None => self.post_alone(message)?,
             Some((boot, tables)) => self.post_tables(alloc, message, boot, tables)?,
         }
+        Ok(self.len() as u32)
+    }
+
+    /// Posts the message of this number again, and returns its new number. It isn't encoded again,
+    /// and its frames aren't kept again.
+    ///
+    /// # Errors
+    /// Only out of memory; then nothing changes.
+    pub fn repeat(&mut self, number: u32) -> Result<u32, AllocError>
+        requires there { IsSome (item_numbered self.old number) }
+        requires few { length self.old < 2 ^ 32 - 1 }
+        ensures number { IfOk result (λ next. next ≡ length self.old + 1) }
+        ensures posted { OnOk result (IfSome (item_numbered self.old number)
+            (λ frames. self.new ≡ self.old ++ frames ∷ [])) }
+        ensures unchanged { OnErr result (self.new ≡ self.old) }
+    {
+        self.firsts.repeat(number as usize - 1)?;
         Ok(self.len() as u32)
     }
 

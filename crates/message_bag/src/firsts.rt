@@ -1,4 +1,5 @@
-ghost use Rattle.std.specs.Prelude.{◌≡◌, ◌≤◌, ◌++◌, ◌∷◌, ◌↔◌, [], Some, length, slice_get, IfOk, IfSome, IsNone, OnErr, OnOk};
+ghost use Rattle.std.specs.Prelude.{◌≡◌, ◌<◌, ◌≤◌, ◌++◌, ◌∷◌, ◌↔◌, [], Some, get_or, length, slice_get, IfOk, IfSome, IsNone, OnErr, OnOk};
+ghost use Rattle.message_bag.specs.KeptFrames.{no_first};
 
 use std::alloc::{AllocError, Global};
 use std::marker::Model;
@@ -61,7 +62,8 @@ impl Firsts {
     /// One more, at the end.
     ///
     /// # Errors
-    /// Only out of memory; then nothing changes.
+    /// Only out of memory, or if the frames so far or this one have 2^32 bytes or more, or the
+    /// number is 2^32 or more; then nothing changes.
     #[inline(always)]
     pub fn push(&mut self, frame: &[u8], tables: Option<usize>) -> Result<(), AllocError>
         ensures pushed { OnOk result (self.new ≡ self.old ++ (frame.now, tables) ∷ []) }
@@ -70,6 +72,21 @@ impl Firsts {
         make_room(&mut self.bytes, &mut self.spans)?;
         let span = span_of(self.bytes.len(), frame.len(), tables)?;
         self.bytes.extend_from_slice(frame)?;
+        self.spans.push(span)?;
+        Ok(())
+    }
+
+    /// The one of this index once more, at the end. Its bytes aren't kept again.
+    ///
+    /// # Errors
+    /// Only out of memory; then nothing changes.
+    pub fn repeat(&mut self, index: usize) -> Result<(), AllocError>
+        requires { index < length self.old }
+        ensures pushed { OnOk result (self.new
+            ≡ self.old ++ get_or self.old index no_first ∷ []) }
+        ensures unchanged { OnErr result (self.new ≡ self.old) }
+    {
+        let span = self.spans[index];
         self.spans.push(span)?;
         Ok(())
     }

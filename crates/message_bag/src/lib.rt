@@ -3,16 +3,18 @@
 //! A `PostBag` has the frames of each message that was posted, under its number from 1. Until it
 //! is forgotten it may be delivered, in any order and more than once, as by a network that loses,
 //! duplicates and reorders what it carries: then the message is made out of its frames again. What
-//! became of each is kept apart from the frames. Only `post` and `get` allocate; when memory runs
-//! out nothing changes.
+//! became of each is kept apart from the frames. Only `post`, `post_shared` and `get` allocate;
+//! when memory runs out nothing changes.
 //!
 //! A `Bag` keeps only the frames of each message. All first frames are one after the other in one
 //! vector, so that a message of a few bytes takes a few bytes. The other frames, of tables, are
-//! shared by all installations of the same tables, in whatever boot and to whatever switch. Tables
-//! that differ only in their versions share all frames except the one that begins with the
-//! version, into which its four bytes are written. So rows and partitions are encoded, cut,
-//! assembled and decoded once, and trees to find a rule are built once: the messages that are
-//! taken share the tables that came out of the frames, and these tell which tables are the same.
+//! shared by all installations of the same tables, in whatever boot and to whatever switch. An
+//! advert that `post_shared` posts, and that says the same as its switch's last one to its
+//! receiver, shares that one's message and frames. Tables that differ only in their versions share
+//! all frames except the one that begins with the version, into which its four bytes are written.
+//! So rows and partitions are encoded, cut, assembled and decoded once, and trees to find a rule
+//! are built once: the messages that are taken share the tables that came out of the frames, and
+//! these tell which tables are the same.
 //!
 //! The laws say what an assembler returns for frames that come in any order and any number of
 //! times.
@@ -30,10 +32,10 @@ mod bag;
 mod deliveries;
 mod digest;
 mod firsts;
-mod last_adverts;
 mod laws;
 mod post_bag;
 mod reading;
+mod sharing_bag;
 mod tables;
 
 pub use bag::Bag;

@@ -2,9 +2,8 @@ ghost use Rattle.std.specs.Prelude.{◌≡◌, ◌<◌, ◌+◌, ◌-◌, ◌^�
 ghost use Rattle.message_bag.specs.Posts.{IsMessageOf, is_post_deliverable, next_waiting_post, new_post, with_delivered, with_forgotten};
 ghost use Rattle.message_bag.specs.Feeding.{HasShortSpelling};
 
-use crate::bag::Bag;
 use crate::deliveries::Deliveries;
-use crate::last_adverts::LastAdverts;
+use crate::sharing_bag::SharingBag;
 use base::Shared;
 use ctrl_msg::Message;
 use std::alloc::{AllocError, Global};
@@ -15,10 +14,8 @@ use std::marker::Model;
 /// forgotten.
 #[derive(Drop)]
 pub struct PostBag {
-    frames: Bag,
+    frames: SharingBag,
     deliveries: Deliveries,
-    // Adverts that were shared.
-    told: LastAdverts,
 }
 
 impl Model for PostBag {
@@ -39,16 +36,16 @@ impl PostBag {
         ensures { result ≡ [] }
     {
         PostBag {
-            frames: Bag::new(alloc),
+            frames: SharingBag::new(alloc),
             deliveries: Deliveries::new(alloc),
-            told: LastAdverts::new(alloc),
         }
     }
 
     /// Posts a message, and returns its number: one more than there were messages.
     ///
     /// # Errors
-    /// Only out of memory; then nothing changes.
+    /// Only out of memory, or if the first frames before this message's have 2^32 bytes or more;
+    /// then nothing changes.
     pub fn post(&mut self, message: &Message) -> Result<u32, AllocError>
         requires spelling { HasShortSpelling message.now }
         requires few { length self.old < 2 ^ 32 - 1 }
@@ -67,10 +64,12 @@ impl PostBag {
     }
 
     /// Posts a message as `post` does, and returns the message too, to be shared. An advert that
-    /// says the same as its switch's last one to its receiver is shared with that one.
+    /// says the same as its switch's last one to its receiver is shared with that one, and so are
+    /// its frames.
     ///
     /// # Errors
-    /// Only out of memory; then nothing changes.
+    /// Only out of memory, or if the first frames before this message's have 2^32 bytes or more;
+    /// then nothing changes.
     pub fn post_shared(
         &mut self,
         alloc: Global,
@@ -83,9 +82,14 @@ impl PostBag {
         ensures posted { OnOk result (self.new ≡ self.old ++ new_post message ∷ []) }
         ensures unchanged { OnErr result (self.new ≡ self.old) }
     {
-        let shared = self.told.share(alloc, message)?;
-        let number = self.post(shared.get())?;
-        Ok((number, shared))
+        self.deliveries.add()?;
+        match self.frames.post_shared(alloc, message) {
+            Ok(both) => Ok(both),
+            Err(error) => {
+                self.deliveries.take_back();
+                Err(error)
+            }
+        }
     }
 
     /// How many messages were posted.
@@ -105,7 +109,7 @@ impl PostBag {
         ensures message { IfOk result (λ answer. IfSome answer (IsMessageOf self.now number)) }
     {
         if self.may_be_delivered(number) {
-            self.frames.take(number)
+            self.frames.bag().take(number)
         } else {
             Ok(None)
         }

@@ -1,0 +1,13 @@
+-- Adverts that were posted, which a bag shares when they are posted again.
+use Rattle.std.specs.Prelude.{ℕ, ◌≡◌, Option, Some, None, List, get_or}
+use Rattle.message_bag.specs.Numbered.{item_numbered}
+use Rattle.message_bag.specs.Posts.{posted_frames}
+use Rattle.message_bag.specs.declared.sharing_bag.PostedAdvert.{PostedAdvert}
+
+-- if there is an advert, the bag has its frames under its number
+abbrev pub IsPostedAdvert : List (List (List ℕ)) → Option PostedAdvert → Type 0
+IsPostedAdvert bag None = Unit {0}
+IsPostedAdvert bag (Some last) = item_numbered bag last.number ≡ Some (posted_frames last.message)
+
+abbrev pub ArePostedAdverts : List (List (List ℕ)) → List (Option PostedAdvert) → Type 0
+ArePostedAdverts bag adverts = (place : ℕ) → IsPostedAdvert bag (get_or adverts place None)

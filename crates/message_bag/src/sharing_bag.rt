@@ -1,0 +1,194 @@
+//! A bag that shares an advert with the last equal one of its switch to its receiver: the message,
+//! and its frames.
+ghost use Rattle.std.specs.Prelude.{◌≡◌, ◌<◌, ◌+◌, ◌-◌, ◌^◌, ◌++◌, ◌∷◌, [], ℕ, None, Some, get_or, length, IfOk, IfSome, IsTrue, OnErr, OnOk};
+ghost use Rattle.message_bag.specs.Feeding.{HasShortSpelling};
+ghost use Rattle.message_bag.specs.Posts.{posted_frames};
+ghost use Rattle.message_bag.specs.Sharing.{IsPostedAdvert};
+
+use crate::bag::Bag;
+use base::{MAX_SWITCHES, Shared};
+use ctrl_msg::{Body, Message, Place};
+use std::alloc::{AllocError, Global};
+use std::marker::Model;
+
+/// An advert that was posted, and its number.
+#[derive(Drop)]
+pub struct PostedAdvert {
+    message: Shared<Message>,
+    number: u32,
+}
+
+/// The messages that were posted, numbered from 1 in their order. Contracts see the list of their
+/// frames.
+#[derive(Drop)]
+pub struct SharingBag {
+    bag: Bag,
+    // For each receiver and each switch, the switch's last advert that `post_shared` posted to the
+    // receiver.
+    last: Vec<Option<PostedAdvert>>,
+}
+
+impl Model for SharingBag {
+    ghost use Rattle.std.specs.Prelude.{List, ℕ};
+    ghost use Rattle.message_bag.specs.Sharing.{ArePostedAdverts};
+
+    ghost Value = { List (List (List ℕ)) };
+
+    ghost view = { λ b. b.bag };
+
+    ghost invariant = { λ b. ArePostedAdverts b.bag b.last.items };
+}
+
+impl SharingBag {
+    /// A bag in which nothing was posted; it allocates nothing yet.
+    pub fn new(alloc: Global) -> SharingBag
+        ensures { result ≡ [] }
+    {
+        SharingBag {
+            bag: Bag::new(alloc),
+            last: Vec::new(alloc),
+        }
+    }
+
+    /// The bag that has their frames.
+    pub fn bag(&self) -> &Bag
+        ensures { result.now ≡ self.now }
+    {
+        &self.bag
+    }
+
+    /// Posts a message, and returns its number: one more than there were messages.
+    ///
+    /// # Errors
+    /// Only out of memory, or if the first frames before this message's have 2^32 bytes or more;
+    /// then nothing changes.
+    pub fn post(&mut self, message: &Message) -> Result<u32, AllocError>
+        requires spelling { HasShortSpelling message.now }
+        requires few { length self.old < 2 ^ 32 - 1 }
+        ensures number { IfOk result (λ number. number ≡ length self.old + 1) }
+        ensures posted { OnOk result (self.new ≡ self.old ++ posted_frames message.now ∷ []) }
+        ensures unchanged { OnErr result (self.new ≡ self.old) }
+    {
+        self.bag.post(message)
+    }
+
+    /// Posts a message as `post` does, and returns the message too, to be shared. An advert that
+    /// says the same as its switch's last one to its receiver is shared with that one, and so are
+    /// its frames.
+    ///
+    /// # Errors
+    /// Only out of memory, or if the first frames before this message's have 2^32 bytes or more;
+    /// then nothing changes.
+    pub fn post_shared(
+        &mut self,
+        alloc: Global,
+        message: Message,
+    ) -> Result<(u32, Shared<Message>), AllocError>
+        requires spelling { HasShortSpelling message }
+        requires few { length self.old < 2 ^ 32 - 1 }
+        ensures number { IfOk result (λ both. both.0 ≡ length self.old + 1) }
+        ensures message { IfOk result (λ both. both.1 ≡ message) }
+        ensures posted { OnOk result (self.new ≡ self.old ++ posted_frames message ∷ []) }
+        ensures unchanged { OnErr result (self.new ≡ self.old) }
+    {
+        let Some(place) = place_of(&message) else {
+            let shared = Shared::new(alloc, message)?;
+            let number = self.post(shared.get())?;
+            return Ok((number, shared));
+        };
+        match find(&self.last, place, &message) {
+            Some(last) => post_again(&mut self.bag, last),
+            None => self.post_advert(alloc, place, message),
+        }
+    }
+
+    // Posts an advert, which is the last one of this place from now on.
+    fn post_advert(
+        &mut self,
+        alloc: Global,
+        place: usize,
+        message: Message,
+    ) -> Result<(u32, Shared<Message>), AllocError>
+        requires place { place < 4096 }
+        requires spelling { HasShortSpelling message }
+        requires few { length self.old < 2 ^ 32 - 1 }
+        ensures number { IfOk result (λ both. both.0 ≡ length self.old + 1) }
+        ensures message { IfOk result (λ both. both.1 ≡ message) }
+        ensures posted { OnOk result (self.new ≡ self.old ++ posted_frames message ∷ []) }
+        ensures unchanged { OnErr result (self.new ≡ self.old) }
+    {
+        let message = Shared::new(alloc, message)?;
+        let shared = message.clone()?;
+        make_place(&mut self.last, place)?;
+        let number = self.bag.post(shared.get())?;
+        self.last[place] = Some(PostedAdvert { message, number });
+        Ok((number, shared))
+    }
+}
+
+// Posts an advert again that was posted before.
+fn post_again(bag: &mut Bag, last: &PostedAdvert) -> Result<(u32, Shared<Message>), AllocError>
+    requires there { IsPostedAdvert bag.old (Some last.now) }
+    requires few { length bag.old < 2 ^ 32 - 1 }
+    ensures number { IfOk result (λ both. both.0 ≡ length bag.old + 1) }
+    ensures message { IfOk result (λ both. both.1 ≡ last.now.message) }
+    ensures posted { OnOk result (bag.new ≡ bag.old ++ posted_frames last.now.message ∷ []) }
+    ensures unchanged { OnErr result (bag.new ≡ bag.old) }
+{
+    let shared = last.message.clone()?;
+    let number = bag.repeat(last.number)?;
+    Ok((number, shared))
+}
+
+// The last advert of this place, if this message is the same.
+fn find<'a>(
+    adverts: &'a [Option<PostedAdvert>],
+    place: usize,
+    message: &Message,
+) -> Option<&'a PostedAdvert>
+    ensures same { IfSome result (λ last. last.now.message ≡ message.now) }
+    ensures there { IfSome result (λ last. get_or adverts.now place None ≡ Some last.now) }
+{
+    match adverts.get(place) {
+        Some(Some(last)) if are_same_advert(last.message.get(), message) => Some(last),
+        _ => None,
+    }
+}
+
+// The place of an advert to a switch.
+fn place_of(message: &Message) -> Option<usize>
+    ensures { IfSome result (λ place. place < 4096) }
+{
+    match (message.to, &message.body) {
+        (Place::Switch(to), Body::Advertise { advert }) => {
+            let place = to % MAX_SWITCHES * MAX_SWITCHES + advert.origin % MAX_SWITCHES;
+            Some(place as usize)
+        }
+        _ => None,
+    }
+}
+
+// Makes sure that there is this place. Each new one is pushed.
+#[tactic(auto, using(crate::proofs::RepeatedMessages::padded_same))]
+fn make_place(adverts: &mut Vec<Option<PostedAdvert>>, place: usize) -> Result<(), AllocError>
+    requires { place < 4096 }
+    ensures there { OnOk result (place < length adverts.new.items) }
+    ensures same { (k : ℕ) → get_or adverts.new.items k None ≡ get_or adverts.old.items k None }
+{
+    while adverts.len() <= place {
+        adverts.push(None)?;
+    }
+    Ok(())
+}
+
+// Whether both are the same advert to the same receiver.
+fn are_same_advert(one: &Message, other: &Message) -> bool
+    ensures { IsTrue result → one.now ≡ other.now }
+{
+    match (&one.body, &other.body) {
+        (Body::Advertise { advert }, Body::Advertise { advert: same }) => {
+            one.to == other.to && advert == same
+        }
+        _ => false,
+    }
+}
