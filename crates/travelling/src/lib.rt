@@ -16,6 +16,7 @@
 #![tactic(auto)]
 
 mod held_flight;
+mod no_links;
 mod standing;
 mod stored_flight;
 mod switch_index;

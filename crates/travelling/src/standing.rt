@@ -1,4 +1,4 @@
-ghost use Rattle.std.specs.Prelude.{◌≡◌, ◌≢◌, ◌<◌, IfOk, OnErr, OnOk, unwrap_or};
+ghost use Rattle.std.specs.Prelude.{◌≡◌, ◌≢◌, ◌<◌, OnErr, OnOk, unwrap_or};
 ghost use Rattle.std.specs.Option.{option_copied};
 ghost use Rattle.failover.specs.Links.{no_links};
 ghost use Rattle.travelling.specs.Travelling.{marked_at, standing_kept};
@@ -7,12 +7,12 @@ use five_tuple::Header;
 use journal::{DownSet, SharedLinks};
 use std::alloc::{AllocError, Global};
 
-/// A packet at a switch: as it comes in, or at the end of its route.
+/// A packet at a switch: as it enters, at the end of its route, or where its next link is down.
 #[derive(Drop)]
 pub struct Standing {
     pub packet: u32,
     pub header: Header,
-    /// The switch where it came in.
+    /// The switch where it entered.
     pub ingress: u32,
     pub switch: u32,
     /// The links that it found down; there is a set only if it found one.
@@ -53,19 +53,6 @@ impl Standing {
         match &self.down {
             None => None,
             Some(links) => Some(links.get()),
-        }
-    }
-
-    /// The set of the links that it found down, shared.
-    ///
-    /// # Errors
-    /// Only out of memory.
-    pub fn into_links(self, alloc: Global) -> Result<SharedLinks, AllocError>
-        ensures { IfOk result (λ links. links ≡ (standing_kept self).down) }
-    {
-        match self.down {
-            None => SharedLinks::new(alloc, DownSet::empty()),
-            Some(links) => Ok(links),
         }
     }
 }

@@ -7,13 +7,16 @@
 //! ended, so that a drain after each of n packets passes each slot once, O(n) in all. Packets are
 //! marked where they are, so that a search for those at a switch looks at no other packet's slot.
 //! No slot is freed before the end, as in a journal.
-ghost use Rattle.std.specs.Prelude.{◌≡◌, ◌+◌, ◌<◌, ◌≤◌, ℕ, max, [], Some, None, is_some, option_map, length, slice_set, IsSome, OnOk};
+ghost use Rattle.std.specs.Prelude.{◌≡◌, ◌+◌, ◌<◌, ◌≤◌, ℕ, max, [], Some, None, is_some, option_map, length, slice_set, IfOk, IsSome, OnOk};
 ghost use Rattle.std.specs.Option.{IsSomeAnd, option_copied};
-ghost use Rattle.travelling.specs.Travelling.{AreMarked, HasPlace, IsNextAt, IsNextFrom, StandBelow, WithOne, placed_at, flight};
+ghost use Rattle.travelling.specs.Travelling.{AreMarked, HasPlace, IsNextAt, IsNextFrom, StandBelow, WithOne, placed_at, flight, standing_kept};
 
 use crate::held_flight::HeldFlight;
+use crate::no_links::NoLinks;
+use crate::standing::Standing;
 use crate::stored_flight::StoredFlight;
 use crate::switch_index::SwitchIndex;
+use journal::SharedLinks;
 use std::alloc::{AllocError, Global};
 use std::marker::Model;
 
@@ -26,6 +29,8 @@ pub struct Travelling {
     first: usize,
     // Where packets are.
     by_switch: SwitchIndex,
+    // The set that packets share that found no link down.
+    no_links: NoLinks,
 }
 
 impl Model for Travelling {
@@ -47,6 +52,7 @@ impl Travelling {
             slots: Vec::new(alloc),
             first: 0,
             by_switch: SwitchIndex::new(alloc),
+            no_links: NoLinks::new(),
         }
     }
 
@@ -108,6 +114,21 @@ impl Travelling {
         set_slot(&mut self.slots, &mut self.by_switch, packet as usize, None);
         self.first = first_held(&self.slots, self.first);
         true
+    }
+
+    /// The set of the links that the packet found down, shared. All packets that found none down
+    /// share one set.
+    ///
+    /// # Errors
+    /// Only out of memory.
+    pub fn links_of(&mut self, alloc: Global, at: Standing) -> Result<SharedLinks, AllocError>
+        ensures links { IfOk result (λ links. links ≡ (standing_kept at).down) }
+        ensures same { self.new ≡ self.old }
+    {
+        match at.down {
+            None => self.no_links.share(alloc),
+            Some(links) => Ok(links),
+        }
     }
 
     /// The least number at or above `from` of a packet that travels.

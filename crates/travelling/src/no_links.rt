@@ -1,0 +1,46 @@
+//! The set of no link, which is kept once.
+ghost use Rattle.std.specs.Prelude.{◌≡◌, IfOk};
+ghost use Rattle.failover.specs.Links.{no_links};
+
+use journal::{DownSet, SharedLinks};
+use std::alloc::{AllocError, Global};
+use std::marker::Model;
+
+/// The set of no link, to be shared. It is made when it is first needed.
+#[derive(Drop)]
+pub struct NoLinks {
+    made: Option<SharedLinks>,
+}
+
+impl Model for NoLinks {
+    ghost use Rattle.std.specs.Prelude.{◌≡◌, List, ℕ, unwrap_or};
+    ghost use Rattle.failover.specs.Links.{no_links};
+
+    ghost Value = { List ℕ };
+
+    ghost view = { λ n. unwrap_or n.made no_links };
+
+    ghost invariant = { λ n. unwrap_or n.made no_links ≡ no_links };
+}
+
+impl NoLinks {
+    /// It isn't made yet.
+    pub fn new() -> NoLinks {
+        NoLinks { made: None }
+    }
+
+    /// The set of no link, shared.
+    ///
+    /// # Errors
+    /// Only out of memory.
+    pub fn share(&mut self, alloc: Global) -> Result<SharedLinks, AllocError>
+        ensures { IfOk result (λ links. links ≡ no_links) }
+    {
+        if let Some(links) = &self.made {
+            return links.clone();
+        }
+        let links = SharedLinks::new(alloc, DownSet::empty())?;
+        self.made = Some(links.clone()?);
+        Ok(links)
+    }
+}
