@@ -107,7 +107,7 @@ acts_unnamed i number (act.Current v ∷ acts) = (refl, acts_unnamed i number ac
 acts_unnamed i number (act.Retired v ∷ acts) = (refl, acts_unnamed i number acts)
 acts_unnamed i number (act.Post message ∷ acts) = (refl, acts_unnamed i (number + 1) acts)
 
--- and no packet comes in by it
+-- and no packet enters by it
 pub acts_bring_none : (number : ℕ) (acts : List Act)
     → count_of is_packet (act_items number acts) ≡ 0
 unfolding act_items

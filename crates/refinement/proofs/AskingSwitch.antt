@@ -1,5 +1,5 @@
--- The switch where a packet comes in, or stands on its way, as it is asked what becomes of it.
-use Rattle.std.proofs.Common.{ℕ, ◌≡◌, ◌<◌, Some, List, ap, sym, ◌∙◌, length, get_or, arith}
+-- The switch where a packet enters, or stands on its way, as it is asked what becomes of it.
+use Rattle.std.proofs.Common.{ℕ, ◌≡◌, ◌<◌, Some, List, sym, ◌∙◌, length, get_or, arith}
 use Rattle.std.specs.Prelude.{slice_index}
 use Rattle.journal.specs.declared.item.Item.{Item}
 use Rattle.net_file.specs.Owners.{AreOwners}
@@ -46,24 +46,6 @@ module _ {setting : Setting} {journal : List Item} {state : NetworkState}
   standing_of i t its =
       standing_by setting journal i t (reached_known setting journal refines.sound refines.reached)
       (sym (refines.packet i ∙ flight_now setting journal i) ∙ its)
-
-  pub number_of_packet : (i : ℕ) (t : Flight) → flight state.travelling i ≡ Some t
-      → t.tunnel.packet ≡ i
-  number_of_packet i t its =
-      ap (λ (u : Flight). u.tunnel.packet) (standing_of i t its).is
-
-  -- the switch where it came in is below 64
-  pub ingress_below : (i : ℕ) (t : Flight) → flight state.travelling i ≡ Some t
-      → t.tunnel.ingress < 64
-  ingress_below i t its =
-      let standing : IsStanding setting journal i t =
-      standing_of i t its in
-      omega (
-        arith,
-        ap (λ (u : Flight). u.tunnel.ingress) standing.is,
-        standing.stands.at_first,
-        refines.sound.net.few_switches,
-      )
 
   -- its switch is there
   pub within_here : (i : ℕ) (t : Flight) (s : ℕ) → flight state.travelling i ≡ Some t

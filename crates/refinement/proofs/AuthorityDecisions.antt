@@ -29,7 +29,7 @@ use Rattle.refinement.proofs.OtherPackets.{sends_unnamed, unnamed}
 use Rattle.refinement.proofs.SeenWithinStep.{Sees, sees_one}
 use Rattle.refinement.proofs.FactsAlong.{facts_all}
 
--- a packet with this header that came in at this switch and found these links down
+-- a packet with this header that entered at this switch and found these links down
 pub record IsPacket (journal : List Item) (packet : Packet) : Type 0 where
   pub entered : (what_is_known journal packet.number).header ≡ Some packet.header
   pub came : (what_is_known journal packet.number).ingress ≡ Some packet.ingress

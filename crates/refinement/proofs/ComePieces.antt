@@ -1,4 +1,4 @@
--- A packet that comes in: the calls that its step counts, and where each packet is then.
+-- A packet that enters: the calls that its step counts, and where each packet is then.
 use Rattle.std.proofs.Common.{ℕ, ◌≡◌, ◌==◌, Bool, true, false, if◌then◌else◌, cond, Option, List, [], ◌∷◌, ◌++◌, refl, ap, sym, ◌∙◌, eqb-true, arith, Some, None}
 use Rattle.std.proofs.lemmas.Bool.Decides.{nat_tests}
 use Rattle.std.proofs.lemmas.List.Sums.{sum_by-cons}
@@ -29,7 +29,7 @@ use Rattle.refinement.proofs.OtherPackets.{entered_other}
 use Rattle.refinement.proofs.PostedFrames.{SendFrom, are_apart}
 use Rattle.refinement.proofs.FactsAlong.{Targets, by_targets, flight_along, facts_along}
 
--- ---- one packet comes in, and then none
+-- ---- one packet enters, and then none
 
 once : (first : Item) (items : List Item) → is_packet first ≡ true → AreInStep items
     → count_of is_packet (first ∷ items) ≡ 1
@@ -48,7 +48,7 @@ entered_once number at (Some what) =
 
 -- ---- the switches
 
--- the switch where it comes in is called, and no other
+-- the switch where it enters is called, and no other
 pub come_called : (setting : Setting) (journal : List Item) (row number q : ℕ) (at : Standing)
     (what : Option Answer) (b : Bool) → SendFrom number (entered_items number at what)
     → (at.switch == q) ≡ b

@@ -122,7 +122,7 @@ restart_is setting journal s have =
     (near setting now s)
     ∙ ap restarted_switch (sym (switch_is setting journal s))
 
--- ---- a timeout
+-- ---- an expiry
 
 pub expiry_is : (setting : Setting) (journal : List Item) (s place message : ℕ)
     → switch_of setting (journal ++ item.Expired s place message ∷ []) s

@@ -1,4 +1,4 @@
--- A packet that comes in: what its step writes.
+-- A packet that enters: what its step writes.
 use Rattle.std.proofs.Common.{ℕ, ◌≡◌, ◌<◌, ◌==◌, Bool, true, false, if◌then◌else◌, List, [], ◌∷◌, ◌++◌, refl, ap, sym, subst, ◌∙◌, length, eq-eqb, Option, Some, None}
 use Rattle.failover.specs.Links.{no_links}
 use Rattle.five_tuple.specs.Header.{IsHeader}
@@ -54,7 +54,7 @@ coming_packet journal row i s taken header unmarked =
           ∙ rw own (ap (λ facts. facts.found) first ∙ unmarked);
     }
 
--- where it comes in, and what is known of its switch
+-- where it enters, and what is known of its switch
 pub record ComesTo (setting : Setting) (journal : List Item) (i s : ℕ) (header : Header)
     (w : SwitchValue) (mask : ℕ) (ports : Ports) : Type 0 where
   pub knows : Known setting journal

@@ -221,7 +221,7 @@ answer_goes targets before number at version rule (answer.Stuck cause leg) facts
     let own : (at.packet == at.packet) ≡ true = eq-eqb _ _ refl in
     rw own refl
 
--- a packet that just came in
+-- a packet that just entered
 abbrev pub GoesIn : Targets → Standing → Option Answer → Type 0
 GoesIn targets at None = ⊤
 GoesIn targets at (Some what) =

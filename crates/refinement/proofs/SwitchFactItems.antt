@@ -154,7 +154,7 @@ facts_opened setting before s v =
     facts_more setting before next s
     ∙ rw (eq-eqb s s refl, calls_stay s before (next ∷ []) (refl, tt)) refl
 
--- ---- a timeout
+-- ---- an expiry
 
 pub facts_expired : (setting : Setting) (before : List Item) (s place message : ℕ)
     → facts_of setting (before ++ item.Expired s place message ∷ []) s

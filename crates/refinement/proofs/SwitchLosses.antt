@@ -27,7 +27,7 @@ pub losts_no_rows : (packets : List ℕ) → NoRows (map item.Lost packets)
 losts_no_rows [] = tt
 losts_no_rows (k ∷ packets) = (tt, losts_no_rows packets)
 
--- no packet comes in by them
+-- no packet enters by them
 pub losts_bring_none : (packets : List ℕ) → count_of is_packet (map item.Lost packets) ≡ 0
 losts_bring_none [] = refl
 losts_bring_none (k ∷ packets) =

@@ -108,7 +108,7 @@ in_that_of_another = record {
 
 -- ---- calls
 
--- a step has one row, and one packet comes in at its beginning
+-- a step has one row, and one packet enters at its beginning
 not_two_rows : AreInStep (item.Row 2 (step.Hop 1) ∷ []) → ⊥
 not_two_rows are = absurd are.0
 

@@ -32,7 +32,7 @@ AreInStep [] = ⊤
 AreInStep (first ∷ items) = IsInStep first × AreInStep items
 
 -- what a step of packets does to a switch, which hears nothing then: it is called once if a packet
--- comes in there, and once for a packet that is there and moves on, or twice if that arrives
+-- enters there, and once for a packet that is there and moves on, or twice if that arrives
 pub record CallsRefine : Type 0 where
   pub entered : (setting : Setting) (before : List Item) (row i s t : ℕ) (header : Header)
       (items : List Item) → AreInStep items →

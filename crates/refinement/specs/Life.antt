@@ -1,4 +1,4 @@
--- What a crash, a boot and a timeout do to a switch.
+-- What a crash, a boot and an expiry do to a switch.
 use Rattle.std.specs.Prelude.{ℕ, ◌≡◌, ◌+◌, Option, Some, None, option_map, List, [], ◌∷◌, ◌++◌, slice_get}
 use Rattle.journal.specs.declared.item.Item.{Item}
 use Rattle.journal.specs.declared.item.Item.TheVariants as item
@@ -16,7 +16,7 @@ message_at setting journal s place =
     option_map (λ entry. entry.message)
     (slice_get (switch_of setting journal s).cache.entries place)
 
--- what a timeout writes
+-- what an expiry writes
 abbrev pub expired_by : ℕ → ℕ → Option ℕ → List Item
 expired_by s place None = nothing
 expired_by s place (Some message) = item.Expired s place message ∷ []
@@ -33,7 +33,7 @@ pub record LivesRefine : Type 0 where
   pub expiry : (setting : Setting) (journal : List Item) (s place message : ℕ) →
       switch_of setting (journal ++ item.Expired s place message ∷ []) s
       ≡ entry_expired (switch_of setting journal s) place
-  -- and which timeout is written
+  -- and which expiry is written
   pub expires : (setting : Setting) (journal : List Item) (s place : ℕ) →
       expire_items setting s place journal
       ≡ expired_by s place (message_at setting journal s place)

@@ -36,7 +36,7 @@ pub record IsOfNet (setting : Setting) (journal : List Item) (ports : Ports) : T
   pub reached : IsReached setting journal
   pub owners : AreOwners setting.net.switches ports
 
--- ---- a packet comes in
+-- ---- a packet enters
 
 -- what the switch that the journal describes returns for the next packet
 abbrev pub entry_at : Setting → List Item → Ports → ℕ → Header → Option Answer

@@ -17,7 +17,7 @@ use Rattle.update_machine.specs.Setting.{Setting, IsSetting}
 use Rattle.update_machine.specs.LinkMasks.{near as near_of}
 use Rattle.travelling.specs.Travelling.{Flights, flight}
 
--- all that a world has: the switches, the packets on their way, how many came in or were refused,
+-- all that a world has: the switches, the packets on their way, how many entered or were refused,
 -- the controller, the messages that were sent, and the switches to which each switch has a link
 -- that is up, and to which it has a usable one, as masks
 pub record NetworkState : Type 0 where

@@ -14,13 +14,13 @@ pub fn messages_are_heard()
     ensures { HearingRefines }
 {}
 
-/// A switch that goes down and one that boots have forgotten what they learnt; a timeout removes
+/// A switch that goes down and one that boots have forgotten what they learnt; an expiry removes
 /// one entry from the cache.
 pub fn switches_forget()
     ensures { LivesRefine }
 {}
 
-/// The calls of a switch are counted: one for a packet that comes in, and one or two for a packet
+/// The calls of a switch are counted: one for a packet that enters, and one or two for a packet
 /// that is there and moves on.
 pub fn calls_are_counted()
     ensures { CallsRefine }

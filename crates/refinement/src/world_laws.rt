@@ -127,7 +127,7 @@ pub fn acts_write_in_turn()
         → written_items journal (map Post messages) ≡ send_items journal messages }
 {}
 
-/// A packet comes in at a switch that is as the journal says: the call may be made, and its result
+/// A packet enters at a switch that is as the journal says: the call may be made, and its result
 /// is what the step writes. The packet is then where the result leaves it, and no other packet
 /// moves.
 pub fn packets_come_in()

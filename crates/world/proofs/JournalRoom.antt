@@ -19,7 +19,7 @@ module _ {setting : Setting} {journal : List Item} {state : NetworkState}
   pub has_room : length state.posts < FULL_AT → HasRoom journal
   has_room few = omega (arith, refines.bag.many, few)
 
--- want of memory is another error
+-- out of memory is another error
 pub not_full : {T : Type 0} (r : Result T (Failure Full)) → IsErrAnd r (λ e. e ≡ NoMemory)
     → IsErrOf r no_step → ⊥
 not_full (Ok x) none full = absurd cc

@@ -1,104 +1,133 @@
 -- The steps of packets over the parts of a world.
-use Rattle.std.proofs.Common.{ℕ, ◌≡◌, ◌+◌, ◌<◌, Some, List, ◌∷◌, ◌++◌, length, sym, subst, get_or, set, arith}
-use Rattle.std.specs.Prelude.{OnOk, Result, slice_index}
+use Rattle.std.proofs.Common.{ℕ, ◌≡◌, ◌∙◌, ◌+◌, ◌<◌, Global, None, Option, Some, List, Vec, ◌∷◌, ◌++◌, ap, length, refl, sym, subst, get_or, set, arith}
+use Rattle.std.specs.Prelude.{Result, is_some, slice_get, slice_index}
+use Rattle.std.proofs.lemmas.Option.{get_or_from_slice_get}
+use Rattle.std.proofs.lemmas.Result.{on_ok_weaker}
 use Rattle.base.proofs.ResultsMade.{both_ok, three_ok}
-use Rattle.message_bag.specs.Posts.{Post}
 use Rattle.five_tuple.specs.declared.header.Header.{Header}
 use Rattle.journal.specs.declared.item.Item.{Item}
 use Rattle.journal.specs.declared.item.Item.TheVariants as item
 use Rattle.steps.specs.declared.step.Step.TheVariants.{Hop, Packet as PacketStep}
+use Rattle.switch_core.specs.Answers.{Answer}
 use Rattle.switch_core.specs.State.{SwitchValue, call_counted}
 use Rattle.tunnel.specs.Moves.{here}
-use Rattle.update_machine.specs.Pieces.{piece}
-use Rattle.world_log.specs.Packets.{coming_in, entry, hop_written, hop_posts, hop_flight, hopped_switch}
-use Rattle.world.specs.Parts.{IsReadyForStep, setting_in, state_in}
+use Rattle.world_log.specs.Packets.{Hops, MayGoOn, coming_in, entry, hop_written}
+use Rattle.world.specs.Parts.{BeginsStep, Goes, setting_in}
 use Rattle.refinement.specs.Refinement.{RefineJournal}
-use Rattle.travelling.specs.Travelling.{Flight, Flights, WithOne, flight}
-use Rattle.world_log.specs.Writing.{entered_items, entered_posts, entered_flight}
+use Rattle.travelling.specs.Travelling.{Flight, Standing, flight}
+use Rattle.world_log.specs.Writing.{LogAfter, entered_items, entered_posts, entered_flight}
+use Rattle.world_log.specs.declared.log.Log.{Log}
 use Rattle.world.specs.declared.parts.Parts.{Parts}
 use Rattle.refinement.proofs.AskingSwitch.{can_ask, within_here}
 use Rattle.refinement.proofs.CanAsk.{CanAsk}
-use Rattle.refinement.proofs.HopRefines.{hop_piece_of, hop_refines}
+use Rattle.refinement.proofs.HopRefines.{hop_left, hop_piece_of, hop_refines}
 use Rattle.refinement.proofs.IncomingTie.{come_piece, come_refines}
 use Rattle.refinement.proofs.NetworkSwitches.{switch_is, switch_there}
+use Rattle.world.proofs.StepFrame.{files_stay, goes_one, goes_quiet, none_in, plane_stays, with_posts}
 
--- ---- a packet that comes in
+-- ---- a packet that enters
 
-module _ (parts : Parts) (before : List Item) (row s : ℕ) (header : Header) (own : SwitchValue)
-    (ready : IsReadyForStep before (PacketStep s header) parts)
+module _ {parts : Parts} {before : List Item} {row s : ℕ} {header : Header}
+    (begins : BeginsStep before row (PacketStep s header) parts) (own : SwitchValue)
     (its : own ≡ get_or parts.switches.items s own) where
-  pub come_is : piece (setting_in parts) before row (PacketStep s header)
-      ≡ item.Row row (PacketStep s header) ∷ entered_items (length parts.log.bag + 1)
-      (coming_in (parts.packets + 1) header own.number)
-      (entry own (slice_index parts.near s) parts.ports (parts.packets + 1) header)
-  come_is = come_piece ready.refines row s header parts.ports own ready.may ready.sound.owners its
+  abbrev what : Option Answer
+  what = entry own (slice_index parts.near s) parts.ports (parts.packets + 1) header
 
-  pub entries_refine : {T E : Type 0} (r : Result T E) (changed : SwitchValue) (after : Flights)
-      (bag : List Post) → changed ≡ call_counted own
-      → OnOk r (WithOne parts.log.travelling (parts.packets + 1) (entered_flight
-      (entry own (slice_index parts.near s) parts.ports (parts.packets + 1) header)) after)
-      → OnOk r (bag ≡ parts.log.bag
-      ++ entered_posts (coming_in (parts.packets + 1) header own.number)
-      (entry own (slice_index parts.near s) parts.ports (parts.packets + 1) header))
-      → OnOk r (RefineJournal (setting_in parts) (before ++ item.Row row (PacketStep s header)
-      ∷ entered_items (length parts.log.bag + 1) (coming_in (parts.packets + 1) header own.number)
-      (entry own (slice_index parts.near s) parts.ports (parts.packets + 1) header))
-      (record (state_in parts) {
-        switches = set parts.switches.items s changed;
-        travelling = after;
+  abbrev at : Standing
+  at = coming_in (parts.packets + 1) header own.number
+
+  pub packet_goes : {T E : Type 0} (r : Result T E) (log : Log) (switches : Vec SwitchValue Global)
+      (changed : SwitchValue) → switches.items ≡ set parts.switches.items s changed
+      → changed ≡ call_counted own
+      → LogAfter r (entered_items (length parts.log.bag + 1) at what) (entered_posts at what)
+      (parts.packets + 1) (entered_flight what) parts.log log
+      → Goes r before row (PacketStep s header) parts (record parts {
+        log = log;
+        switches = switches;
         packets = parts.packets + 1;
-        posts = bag;
-      }))
-  entries_refine r changed after bag changed_is travels posted =
-      both_ok r (λ same entered. subst (λ posts. RefineJournal (setting_in parts)
-      (before ++ item.Row row (PacketStep s header) ∷ entered_items (length parts.log.bag + 1)
-      (coming_in (parts.packets + 1) header own.number)
-      (entry own (slice_index parts.near s) parts.ports (parts.packets + 1) header))
-      (record (state_in parts) {
-        switches = set parts.switches.items s changed;
-        travelling = after;
+      })
+  packet_goes r log switches changed set_is changed_is entered =
+      let ready = begins.ready in
+      goes_quiet begins (files_stay refl refl) _ (plane_stays refl refl refl)
+      (come_piece ready.refines row s header parts.ports own ready.may ready.sound.owners its)
+      (on_ok_weaker r (λ done. refl) entered.written) entered.written entered.part
+      (both_ok r (λ posted left. subst (λ bag. RefineJournal (setting_in parts)
+      (before ++ item.Row row (PacketStep s header)
+      ∷ entered_items (length parts.log.bag + 1) at what) (with_posts parts (record parts {
+        log = log;
+        switches = switches;
         packets = parts.packets + 1;
-        posts = posts;
-      })) (sym same) (come_refines ready.refines row s header parts.ports own
-      ready.may ready.sound.owners its after changed (switch_there ready.refines s ready.may.0)
-      (switch_is ready.refines s own ready.may.0 its) changed_is entered)) posted travels
+      }) bag)) (sym posted) (rw set_is (come_refines ready.refines row s header parts.ports own
+      ready.may ready.sound.owners its log.travelling changed
+      (switch_there ready.refines s ready.may.0) (switch_is ready.refines s own ready.may.0 its)
+      changed_is left))) entered.posted entered.travels)
 
 -- ---- a packet that moves on
 
-module _ (parts : Parts) (before : List Item) (row i : ℕ) (t : Flight) (s : ℕ)
-    (switch : SwitchValue) (ready : IsReadyForStep before (Hop i) parts)
-    (its : flight parts.log.travelling i ≡ Some t) (at : s ≡ here t.tunnel)
-    (own : switch ≡ get_or parts.switches.items s switch) where
-  can : CanAsk (setting_in parts) before i t s (slice_index parts.near s) switch parts.ports
-  can = can_ask ready.refines i t s switch parts.ports ready.sound.owners its at own
+-- the switch that is found there
+own_of : (switches : List SwitchValue) (s : ℕ) (switch : SwitchValue)
+    → slice_get switches s ≡ Some switch → switch ≡ get_or switches s switch
+own_of switches s switch found = sym (get_or_from_slice_get switches s switch switch found)
 
-  pub hop_is : piece (setting_in parts) before row (Hop i) ≡ item.Row row (Hop i)
-      ∷ hop_written (length parts.log.bag + 1) switch (slice_index parts.near s) parts.ports t
-  hop_is = hop_piece_of ready.refines row i t s (slice_index parts.near s) switch parts.ports
-      ready.may can
+module _ {parts : Parts} {before : List Item} {row i : ℕ}
+    (begins : BeginsStep before row (Hop i) parts) where
+  -- its switch can be asked
+  can : (t : Flight) (switch : SwitchValue) → flight parts.log.travelling i ≡ Some t
+      → slice_get parts.switches.items (here t.tunnel) ≡ Some switch
+      → CanAsk (setting_in parts) before i t (here t.tunnel)
+      (slice_index parts.near (here t.tunnel)) switch parts.ports
+  can t switch its found =
+      can_ask begins.ready.refines i t (here t.tunnel) switch parts.ports begins.ready.sound.owners
+      its refl (own_of parts.switches.items (here t.tunnel) switch found)
 
-  pub hops_refine : {T E : Type 0} (r : Result T E) (changed : SwitchValue) (after : Flights)
-      (bag : List Post) → OnOk r (changed ≡ hopped_switch switch (slice_index parts.near s) t)
-      → OnOk r (WithOne parts.log.travelling i
-      (hop_flight switch (slice_index parts.near s) parts.ports t) after)
-      → OnOk r (bag ≡ parts.log.bag ++ hop_posts switch (slice_index parts.near s) parts.ports t)
-      → OnOk r (RefineJournal (setting_in parts) (before ++ item.Row row (Hop i)
-      ∷ hop_written (length parts.log.bag + 1) switch (slice_index parts.near s) parts.ports t)
-      (record (state_in parts) {
-        switches = set parts.switches.items s changed;
-        travelling = after;
-        posts = bag;
-      }))
-  hops_refine r changed after bag changed_is travels posted =
-      let there : s < length (setting_in parts).net.switches =
-      omega (arith, can.at, can.standing.stands.there) in
-      three_ok r (λ answered same left. subst (λ posts. RefineJournal (setting_in parts)
-      (before ++ item.Row row (Hop i) ∷ hop_written (length parts.log.bag + 1) switch
-      (slice_index parts.near s) parts.ports t) (record (state_in parts) {
-        switches = set parts.switches.items s changed;
-        travelling = after;
-        posts = posts;
-      })) (sym same) (hop_refines ready.refines row i t s
-      (slice_index parts.near s) switch parts.ports ready.may can after changed
-      (within_here ready.refines i t s its at) (switch_is ready.refines s switch there own) answered
-      left)) changed_is posted travels
+  pub may_go_on : (t : Flight) (switch : SwitchValue) → flight parts.log.travelling i ≡ Some t
+      → slice_get parts.switches.items (here t.tunnel) ≡ Some switch
+      → MayGoOn i switch (slice_index parts.near (here t.tunnel)) t
+  may_go_on t switch its found =
+      let can = can t switch its found in
+      record {
+        known = ap (λ (u : Flight). u.tunnel.packet) can.standing.is;
+        here = can.stands;
+        serving = can.serving;
+        stamped = can.stamped;
+        authority = can.authority;
+        ingress = omega (
+          arith,
+          ap (λ (u : Flight). u.tunnel.ingress) can.standing.is,
+          can.standing.stands.at_first,
+          begins.ready.sound.sound.few_switches,
+        );
+      }
+
+  module _ {T E : Type 0} (r : Result T E) (log : Log) (switches : Vec SwitchValue Global)
+      (after : List SwitchValue) (same : switches.items ≡ after) where
+    -- and says what the journal's definitions say
+    pub hop_goes : (o : Option Flight) → flight parts.log.travelling i ≡ o
+        → Hops r i parts.near parts.ports parts.log parts.switches.items log after o
+        → Goes r before row (Hop i) parts (record parts { log = log; switches = switches })
+    hop_goes None none nothing =
+        let left = hop_left begins.ready.refines row i begins.ready.may (ap is_some none) in
+        goes_one begins (files_stay refl refl) item.Nothing parts.log.bag
+        (plane_stays refl refl refl) (ap (λ (l : Log). l.bag) nothing.rest) (none_in _)
+        (left.0, rw (same ∙ nothing.switches, ap (λ (l : Log). l.travelling) nothing.rest) left.1)
+        nothing.written nothing.unwritten
+    hop_goes (Some t) its there =
+        let s = here t.tunnel in
+        let ready = begins.ready in
+        let can = can t there.switch its there.own in
+        let log_is = there.hopped.log in
+        let known : s < length (setting_in parts).net.switches =
+        omega (arith, can.at, can.standing.stands.there) in
+        goes_quiet begins (files_stay refl refl) _ (plane_stays refl refl refl)
+        (hop_piece_of ready.refines row i t s (slice_index parts.near s) there.switch parts.ports
+        ready.may can) (on_ok_weaker r (λ done. none_in _) log_is.written) log_is.written log_is.part
+        (three_ok r (λ answered posted left. subst (λ bag. RefineJournal (setting_in parts)
+        (before ++ item.Row row (Hop i) ∷ hop_written (length parts.log.bag + 1) there.switch
+        (slice_index parts.near s) parts.ports t)
+        (with_posts parts (record parts { log = log; switches = switches }) bag)) (sym posted)
+        (rw (same ∙ there.only) (hop_refines ready.refines row i t s (slice_index parts.near s)
+        there.switch parts.ports ready.may can log.travelling there.asked
+        (within_here ready.refines i t s its refl)
+        (switch_is ready.refines s there.switch known
+        (own_of parts.switches.items s there.switch there.own)) answered left)))
+        there.hopped.counted log_is.posted log_is.travels)

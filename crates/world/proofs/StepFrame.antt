@@ -86,7 +86,7 @@ pub by_posts : (old new : Parts) (journal : List Item) → KeepControl old new
 by_posts old new journal keeps refines =
     rw (keeps.same_controller, keeps.same_links, keeps.same_near) refines
 
--- no packet comes in
+-- no packet enters
 pub none_in : (n : ℕ) → n ≡ n + 0
 none_in n = omega arith
 
@@ -135,7 +135,7 @@ module _ {T E : Type 0} {r : Result T E} {before : List Item} {row : ℕ} {step 
       (ap newest_policy control.same_controller)) items is counted written part
       (on_ok_weaker r (by_posts old new (before ++ item.Row row step ∷ items) control) refines)
 
-  -- it writes one item, and no packet comes in
+  -- it writes one item, and no packet enters
   pub goes_one : (one : Item) (posts : List Post) → KeepControl old new → new.log.bag ≡ posts
       → new.packets ≡ old.packets + comes_in step
       → (piece (setting_in old) before row step ≡ item.Row row step ∷ one ∷ [])
@@ -150,7 +150,7 @@ module _ {T E : Type 0} {r : Result T E} {before : List Item} {row : ℕ} {step 
 
 module _ {T E : Type 0} {r : Result T E} {before : List Item} {row : ℕ} {step : Step}
     {old new : Parts} (keeps : KeepNet old new) where
-  -- it gives up for want of memory, and a part of its items is written
+  -- it gives up when memory runs out, and a part of its items is written
   pub part_goes : IsErr r → IsPart before (piece (setting_in old) before row step) new.log.journal
       → Goes r before row step old new
   part_goes failed part = record {

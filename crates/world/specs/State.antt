@@ -20,7 +20,7 @@ pub record WorldValue : Type 0 where
   pub travelling : Flights
   -- the frames of the messages that were sent, and what became of each
   pub bag : List Post
-  -- how many packets came in or were refused
+  -- how many packets entered or were refused
   pub packets : ℕ
   pub controller : ControllerValue
   -- for each switch, as masks, the switches to which it has a link that is up, and those to which

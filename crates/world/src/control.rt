@@ -46,7 +46,7 @@ impl Parts {
         self.log.journal.push(Item::Refused { file, code })
     }
 
-    /// The controller is told that the switch is down, and no longer waits for it. Nothing happens
+    /// The controller learns that the switch is down, and no longer waits for it. Nothing happens
     /// if the switch is up.
     ///
     /// # Errors

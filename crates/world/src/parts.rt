@@ -22,7 +22,7 @@ pub struct Parts {
     pub near: [u64; 64],
     pub switches: Vec<Switch>,
     pub log: Log,
-    /// How many packets came in or were refused.
+    /// How many packets entered or were refused.
     pub packets: u32,
     pub controller: Controller,
 }
@@ -55,7 +55,7 @@ impl Parts {
         }
     }
 
-    // A packet comes in.
+    // A packet enters.
     fn packet(&mut self, alloc: Global, switch: u32, header: &Header) -> Result<(), AllocError>
         requires { HasBegun (PacketStep switch header.now) self.old }
         ensures { Plays (PacketStep switch header.now) result self.old self.new }
@@ -79,15 +79,8 @@ impl Parts {
         requires { HasBegun (HopStep packet) self.old }
         ensures { Plays (HopStep packet) result self.old self.new }
     {
-        let here = match self.log.travelling.look(packet) {
-            None => return self.log.journal.push(Item::Nothing),
-            Some(kept) => kept.here() as usize,
-        };
-        let site = Site {
-            near: self.near[here],
-            ports: &self.ports,
-        };
-        self.log.hop(alloc, packet, &mut self.switches[here], site)
+        self.log
+            .hop(alloc, packet, &mut self.switches, &self.near, &self.ports)
     }
 
     // A packet is lost on its way.

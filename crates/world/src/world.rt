@@ -59,7 +59,7 @@ impl Model for World {
 
 impl World {
     /// The network with the policy of the first file in force as version 1: every switch is up and
-    /// serves, and no packet came in yet. The later files may be changes.
+    /// serves, and no packet entered yet. The later files may be changes.
     ///
     /// # Errors
     /// Why the first policy has no plan on the network.
@@ -208,7 +208,7 @@ impl World {
         &self.parts.controller
     }
 
-    /// How many packets came in or were refused.
+    /// How many packets entered or were refused.
     pub fn packets(&self) -> u32
         ensures { result ≡ self.now.packets }
     {

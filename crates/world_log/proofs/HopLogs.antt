@@ -1,6 +1,7 @@
 -- What a hop wrote, by the link that it found down, if any, and by where it ended.
-use Rattle.std.proofs.Common.{ℕ, ◌≡◌, ◌+◌, Option, Some, None, List, ◌∷◌, [], ◌++◌, refl, ap, sym, subst, ◌∙◌}
+use Rattle.std.proofs.Common.{ℕ, ◌≡◌, ◌+◌, Option, Some, None, List, ◌∷◌, [], ◌++◌, refl, ap, length, sym, subst, ◌∙◌}
 use Rattle.std.specs.Prelude.{Result, option_map, slice_get}
+use Rattle.std.proofs.lemmas.Result.{on_ok_weaker}
 use Rattle.journal.specs.declared.item.Item.{Item}
 use Rattle.journal.specs.declared.item.Item.TheVariants as item
 use Rattle.message_bag.specs.Posts.{Post}
@@ -17,7 +18,7 @@ use Rattle.switch_core.specs.declared.tunnel_calls.HopEnd.TheVariants as hop
 use Rattle.tunnel.specs.Moves.{advanced_tunnel, next}
 use Rattle.tunnel.specs.Tunnel.{TunnelValue}
 use Rattle.travelling.specs.Travelling.{Flight, Standing, placed_at, standing_at}
-use Rattle.world_log.specs.Packets.{arrival, arrival_items, arrival_posts, ended_items, ended_posts, ended_switch, ended_flight, hop_posts, hop_flight, hop_written, hopped_switch, turned_items}
+use Rattle.world_log.specs.Packets.{HasHopped, arrival, arrival_items, arrival_posts, ended_items, ended_posts, ended_switch, ended_flight, hop_posts, hop_flight, hop_written, turned_items}
 use Rattle.world_log.specs.Writing.{IsPart, LogAfter, arrived_items, arrived_posts, arrived_flight, packet_standing}
 use Rattle.world_log.specs.declared.log.Log.{Log}
 use Rattle.world_log.proofs.StepWrites.{part_first}
@@ -65,34 +66,33 @@ module _ (s : SwitchValue) (near : ℕ) (ports : Ports) (t : Flight) where
   unfolding hop_answer
   free_hop onward free is = ap (hopped_to s near t.tunnel) free ∙ ap (move_answer t.tunnel) is
 
-  pub passed_log : {T E : Type 0} (r : Result T E) (number packet : ℕ) (onward : Option ℕ)
-      (old new : Log) → link_found_down near (next t.tunnel) ≡ None → next t.tunnel ≡ onward
-      → LogAfter r (items_by number None (move_answer t.tunnel onward))
+  pub passed_hop : {T E : Type 0} (r : Result T E) (packet : ℕ) (onward : Option ℕ)
+      (old new : Log) (after : SwitchValue) → link_found_down near (next t.tunnel) ≡ None
+      → next t.tunnel ≡ onward
+      → LogAfter r (items_by (length old.bag + 1) None (move_answer t.tunnel onward))
       (posts_by (move_answer t.tunnel onward))
       packet (flight_by (move_answer t.tunnel onward)) old new
-      → LogAfter r (hop_written number s near ports t) (hop_posts s near ports t) packet
-      (hop_flight s near ports t) old new
-  passed_log r number packet onward old new free is =
-      hop_log r number packet None (move_answer t.tunnel onward) old new free
-      (free_hop onward free is)
-
-  pub passed_switch : (onward : Option ℕ) → link_found_down near (next t.tunnel) ≡ None
-      → next t.tunnel ≡ onward
-      → hopped_switch s near t ≡ ended_switch (call_counted s) (move_answer t.tunnel onward).end
-  passed_switch onward free is =
-      ap (λ (m : Moved). ended_switch (call_counted s) m.end) (free_hop onward free is)
+      → after ≡ ended_switch (call_counted s) (move_answer t.tunnel onward).end
+      → HasHopped r packet s near ports old after new t
+  passed_hop r packet onward old new after free is log asked =
+      let to = free_hop onward free is in
+      record {
+        log = hop_log r (length old.bag + 1) packet None (move_answer t.tunnel onward) old new free
+            to log;
+        counted = on_ok_weaker r (λ _. asked
+            ∙ ap (λ (m : Moved). ended_switch (call_counted s) m.end) (sym to)) log.written;
+      }
 
 -- it moved on over a usable link
-pub move_log : {T E : Type 0} (r : Result T E) (s : SwitchValue) (near : ℕ) (ports : Ports)
-    (t : Flight) (number packet place other : ℕ) (there : Option Flight) (old new : Log)
+pub move_hop : {T E : Type 0} (r : Result T E) (s : SwitchValue) (near : ℕ) (ports : Ports)
+    (t : Flight) (packet place other : ℕ) (there : Option Flight) (old new : Log)
+    (after : SwitchValue)
     → Some t ≡ there → t.tunnel.packet ≡ packet → place ≡ t.tunnel.place + 1
     → link_found_down near (next t.tunnel) ≡ None → next t.tunnel ≡ Some other
     → LogAfter r (item.Hopped packet other ∷ []) [] packet (option_map (placed_at place) there)
-    old new
-    → LogAfter r (hop_written number s near ports t) (hop_posts s near ports t) packet
-    (hop_flight s near ports t) old new
-move_log r s near ports t number packet place other there old new its same place_is free is log =
-    passed_log s near ports t r number packet (Some other) old new free is
+    old new → after ≡ call_counted s → HasHopped r packet s near ports old after new t
+move_hop r s near ports t packet place other there old new after its same place_is free is log =
+    passed_hop s near ports t r packet (Some other) old new after free is
     (subst (λ k. LogAfter r (item.Hopped k other ∷ []) [] packet
     (Some (record t { tunnel = advanced_tunnel t.tunnel })) old new) (sym same)
     (subst (λ o. LogAfter r (item.Hopped packet other ∷ []) [] packet
@@ -132,54 +132,36 @@ turned_along packet here other t (Some next) = refl
 
 -- ---- at the end of its route
 
--- what was written of the packet by its switch's answer, which says this
-pub settled_log : {T E : Type 0} (r : Result T E) (number : ℕ) (at : Standing) (version : ℕ)
-    (rule : Option ℕ) (packet : ℕ) (old new : Log) (said what : Arrival) → said ≡ what
-    → LogAfter r (arrived_items number at version rule said) (arrived_posts at said) packet
-    (arrived_flight version rule said) old new
-    → LogAfter r (arrived_items number at version rule what) (arrived_posts at what) packet
-    (arrived_flight version rule what) old new
-settled_log r number at version rule packet old new said what is log =
-    subst (λ what. LogAfter r (arrived_items number at version rule what) (arrived_posts at what)
-    packet (arrived_flight version rule what) old new) is log
-
 -- what holds at the packet's place of its route holds at this place of this route
 pub placed : (P : List ℕ → ℕ → Type 0) (route : List ℕ) (place : ℕ) (t : TunnelValue)
     → route ≡ t.route → place ≡ t.place → P t.route t.place → P route place
 placed P route place t route_is place_is holds =
     subst (λ way. P way place) (sym route_is) (subst (P t.route) (sym place_is) holds)
 
--- what was written of the packet that stands there is what its arrival writes
+-- what was written of the packet that stands there, by its switch's answer, is what its arrival
+-- writes
 pub arrival_log : {T E : Type 0} (r : Result T E) (number : ℕ) (w : SwitchValue) (near : ℕ)
     (ports : Ports) (t : Flight) (at : Standing) (version : ℕ) (rule : Option ℕ) (leg : Leg)
-    (packet : ℕ) (old new : Log)
+    (packet : ℕ) (said : Arrival) (old new : Log)
     → at ≡ standing_at w.number t → version ≡ t.version → rule ≡ t.rule → leg ≡ t.tunnel.leg
-    → LogAfter r (arrived_items number at version rule
-    (arrived_on w (around near ports) (packet_standing at) leg))
-    (arrived_posts at (arrived_on w (around near ports) (packet_standing at) leg))
-    packet (arrived_flight version rule
-    (arrived_on w (around near ports) (packet_standing at) leg)) old new
+    → at.packet ≡ packet → said ≡ arrived_on w (around near ports) (packet_standing at) leg
+    → LogAfter r (arrived_items number at version rule said) (arrived_posts at said) at.packet
+    (arrived_flight version rule said) old new
     → LogAfter r (arrival_items number w near ports t) (arrival_posts w near ports t) packet
     (arrival w near ports t) old new
 unfolding arrival_items arrival_posts arrival received
-arrival_log r number w near ports t at version rule leg packet old new at_is version_is rule_is
-    leg_is log =
-    let P : Standing → ℕ → Option ℕ → Arrival → Type 0 = λ at version rule what.
+arrival_log r number w near ports t at version rule leg packet said old new at_is version_is rule_is
+    leg_is packet_is said_is log =
+    let P : ℕ → Standing → ℕ → Option ℕ → Arrival → Type 0 = λ packet at version rule what.
     LogAfter r (arrived_items number at version rule what) (arrived_posts at what) packet
     (arrived_flight version rule what) old new in
-    subst (λ leg. P (standing_at w.number t) t.version t.rule
-    (arrived_on w (around near ports) (packet_standing (standing_at w.number t)) leg)) leg_is
-    (subst (λ rule. P (standing_at w.number t) t.version rule
-    (arrived_on w (around near ports) (packet_standing (standing_at w.number t)) leg)) rule_is
-    (subst (λ version. P (standing_at w.number t) version rule
-    (arrived_on w (around near ports) (packet_standing (standing_at w.number t)) leg)) version_is
-    (subst (λ at. P at version rule (arrived_on w (around near ports) (packet_standing at) leg))
-    at_is log)))
-
--- what holds of the packet that was looked up holds of any that is there
-pub of_kept : (P : Flight → Type 0) (there : Option Flight) (kept : Flight)
-    → Some kept ≡ there → P kept → (t : Flight) → there ≡ Some t → P t
-of_kept P there kept is holds t its =
-    let both : ◌≡◌ {A = Option Flight} (Some kept) (Some t) = is ∙ its in
-    let same : kept ≡ t = cc in
-    subst P same holds
+    let now = standing_at w.number t in
+    subst (λ leg. P packet now t.version t.rule (arrived_on w (around near ports)
+    (packet_standing now) leg)) leg_is
+    (subst (λ rule. P packet now t.version rule (arrived_on w (around near ports)
+    (packet_standing now) leg)) rule_is
+    (subst (λ version. P packet now version rule (arrived_on w (around near ports)
+    (packet_standing now) leg)) version_is
+    (subst (λ at. P packet at version rule (arrived_on w (around near ports) (packet_standing at)
+    leg)) at_is
+    (subst (P packet at version rule) said_is (subst (λ k. P k at version rule said) packet_is log)))))

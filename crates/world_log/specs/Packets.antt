@@ -1,5 +1,5 @@
--- What becomes of the journal and of the packets on their way when a packet comes in or moves on.
-use Rattle.std.specs.Prelude.{ℕ, ◌≡◌, ◌+◌, ◌-◌, ◌^◌, ◌<◌, IsSomeAnd, IsTrue, Option, Some, None, List, [], ◌∷◌, ◌++◌, length, Result, OnOk}
+-- What becomes of the journal and of the packets on their way when a packet enters or moves on.
+use Rattle.std.specs.Prelude.{ℕ, ◌≡◌, ◌+◌, ◌<◌, IsTrue, Option, Some, None, List, [], ◌∷◌, ◌++◌, length, set, slice_get, slice_index, Result, OnErr, OnOk}
 use Rattle.message_bag.specs.Posts.{Post}
 use Rattle.failover.specs.Links.{no_links}
 use Rattle.five_tuple.specs.declared.header.Header.{Header}
@@ -12,15 +12,14 @@ use Rattle.switch_core.specs.Ends.{around}
 use Rattle.switch_core.specs.Moving.{Moved, StandsAt, link_found_down, hop_answer, move_answer}
 use Rattle.switch_core.specs.State.{SwitchValue, call_counted, serves}
 use Rattle.switch_core.specs.Answers.{Answer}
-use Rattle.switch_core.specs.declared.site.Site as given
 use Rattle.switch_core.specs.declared.tunnel_calls.HopEnd.{HopEnd}
 use Rattle.switch_core.specs.declared.tunnel_calls.HopEnd.TheVariants as hop
-use Rattle.tunnel.specs.Moves.{next}
+use Rattle.tunnel.specs.Moves.{here, next}
 use Rattle.travelling.specs.Travelling.{Flight, Standing, flight, standing_at}
 use Rattle.world_log.specs.Writing.{LogAfter, arrived_items, arrived_posts, arrived_flight}
 use Rattle.world_log.specs.declared.log.Log.{Log}
 
--- a packet that comes in at a switch
+-- a packet that enters at a switch
 abbrev pub coming_in : ℕ → Header → ℕ → Standing
 coming_in packet header switch = record {
   packet = packet;
@@ -142,21 +141,18 @@ pub record MeetsDownLink (at : Standing) (its_version : ℕ) (its_rule : Option 
       → IsAtAuthority before t.tunnel.header t.tunnel.leg
   pub ingress : t.tunnel.ingress < 64
 
--- ---- what a hop needs, and all that it does to a log
+-- ---- what a hop needs, and all that it does to a log and to the switches
 
--- the packet of this number is at the switch, whose calls for it may be made, and which can decide
--- it if it arrives there; and the log has room for a message
-pub record MayGoOn (log : Log) (packet : ℕ) (s : SwitchValue) (near : ℕ) : Type 0 where
-  pub known : IsSomeAnd (flight log.travelling packet) (λ t. t.tunnel.packet ≡ packet)
-  pub here : (t : Flight) → flight log.travelling packet ≡ Some t
-      → StandsAt s t.tunnel.route t.tunnel.place
+-- the packet, which has this number, is at the switch, whose calls for it may be made, and which can
+-- decide it if it arrives there
+pub record MayGoOn (packet : ℕ) (s : SwitchValue) (near : ℕ) (t : Flight) : Type 0 where
+  pub known : t.tunnel.packet ≡ packet
+  pub here : StandsAt s t.tunnel.route t.tunnel.place
   pub serving : IsTrue (serves s)
   pub stamped : CanLookUp s
-  pub authority : (t : Flight) → flight log.travelling packet ≡ Some t
-      → (hop_answer s near t.tunnel).end ≡ hop.Arrive
+  pub authority : (hop_answer s near t.tunnel).end ≡ hop.Arrive
       → IsAtAuthority s t.tunnel.header t.tunnel.leg
-  pub ingress : (t : Flight) → flight log.travelling packet ≡ Some t → t.tunnel.ingress < 64
-  pub few : length log.bag < 2 ^ 32 - 1
+  pub ingress : t.tunnel.ingress < 64
 
 -- what its hop wrote and posted, where it is then, and how often its switch was called
 pub record HasHopped {T E : Type 0} (result : Result T E) (packet : ℕ) (before : SwitchValue)
@@ -166,8 +162,25 @@ pub record HasHopped {T E : Type 0} (result : Result T E) (packet : ℕ) (before
       (hop_posts before near ports t) packet (hop_flight before near ports t) old new
   pub counted : OnOk result (after ≡ hopped_switch before near t)
 
--- this is true of the packet of this number, after the hop at this switch and site
-abbrev pub Hops : {T E : Type 0} → Result T E → ℕ → SwitchValue → given.Site → Log → SwitchValue
-    → Log → Type 0
-Hops result packet before site old after new = (t : Flight) → flight old.travelling packet ≡ Some t
-    → HasHopped result packet before site.near site.ports.now old after new t
+module _ {T E : Type 0} (result : Result T E) (packet : ℕ) (near : List ℕ) (ports : Ports)
+    (old : Log) (before : List SwitchValue) (new : Log) (after : List SwitchValue) where
+  -- this is true of the packet at its switch; no other switch changed
+  pub record HopsThere (t : Flight) : Type 0 where
+    pub switch : SwitchValue
+    pub asked : SwitchValue
+    pub own : slice_get before (here t.tunnel) ≡ Some switch
+    pub only : after ≡ set before (here t.tunnel) asked
+    pub hopped : HasHopped result packet switch (slice_index near (here t.tunnel)) ports old asked
+        new t
+
+  -- only the item `Nothing` is written
+  pub record DoesNothing : Type 0 where
+    pub written : OnOk result (new.journal ≡ old.journal ++ item.Nothing ∷ [])
+    pub unwritten : OnErr result (new.journal ≡ old.journal)
+    pub rest : new ≡ record old { journal = new.journal }
+    pub switches : after ≡ before
+
+  -- after the hop of a packet, if it was on its way
+  abbrev pub Hops : Option Flight → Type 0
+  Hops None = DoesNothing
+  Hops (Some t) = HopsThere t

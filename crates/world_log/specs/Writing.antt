@@ -98,7 +98,7 @@ abbrev pub message_list : Option Message → List Message
 message_list None = []
 message_list (Some message) = message ∷ []
 
--- a cache rule is sent to the switch where the packet came in
+-- a cache rule is sent to the switch where the packet entered
 abbrev pub cache_message : ℕ → Option Body → Option Message
 cache_message ingress cache =
     option_map (λ body. record { to = receiver.Switch ingress; body = body }) cache
@@ -130,7 +130,7 @@ answer_flight version rule (answer.Seek tunnel) =
     Some (record { tunnel = tunnel; version = version; rule = rule })
 answer_flight version rule (answer.Stuck cause leg) = None
 
--- ---- when it comes in
+-- ---- when it enters
 
 abbrev pub entered_items : ℕ → Standing → Option Answer → List Item
 entered_items number at None = item.Closed at.packet at.switch ∷ []

@@ -3,8 +3,9 @@
 //!
 //! A `Log` promises that each call writes exactly the items that the definitions state for the
 //! result, posts the messages that it sends under the next numbers, and changes, of the packets on
-//! their way, only the one that it names, or at a crash those that are there. If memory runs out,
-//! the journal has a part of the items. How the items depend on earlier ones is stated by the
+//! their way, only the one that it names, or at a crash those that are there. `hop` takes all
+//! switches, and changes only the packet's own. If memory runs out, the journal has a part of the
+//! items. How the items depend on earlier ones is stated by the
 //! crates above.
 //!
 //! A link is usable if it is up and both of its ends serve. `usable` promises these links as
@@ -14,11 +15,9 @@
 //! again.
 //!
 //! ```text
-//! let site = Site { near, ports: &ports };
-//! log.enter(alloc, 1, &header, &mut switch, site)?;
-//! if log.travelling.has(1) {
-//!     log.hop(alloc, 1, &mut switch, site)?;
-//! }
+//! let site = Site { near: near[0], ports: &ports };
+//! log.enter(alloc, 1, &header, &mut switches[0], site)?;
+//! log.hop(alloc, 1, &mut switches, &near, &ports)?;
 //! log.send(alloc, message)?;
 //! let now = usable(&links, &switches);
 //! for message in relink(alloc, &mut switches, &near, &now)? { .. }

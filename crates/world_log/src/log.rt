@@ -52,7 +52,7 @@ impl Log {
     {
         let packet = at.packet;
         let switch = at.switch;
-        let down = at.into_links(alloc)?;
+        let down = self.travelling.links_of(alloc, at)?;
         self.end(
             packet,
             Item::Stuck {

@@ -1,9 +1,9 @@
-ghost use Rattle.std.specs.Prelude.{◌≡◌, ◌≢◌, ◌+◌, ◌-◌, ◌^◌, ◌<◌, ◌++◌, [], ◌∷◌, None, IsTrue, OnOk, OnErr, length, map};
+ghost use Rattle.std.specs.Prelude.{◌≡◌, ◌≢◌, ◌+◌, ◌-◌, ◌^◌, ◌<◌, ◌++◌, [], ◌∷◌, None, Some, IsTrue, OnOk, OnErr, length, map, slice_get, slice_index};
 ghost use Rattle.message_bag.specs.Posts.{new_post};
 ghost use Rattle.switch_core.specs.Exports.{CanLookUp, IsAtAuthority, StandsAt, answer_of, cached_by, call_counted, next_of, serves, set_out, site_of};
 ghost use Rattle.switch_core.specs.State.{SwitchValue};
-ghost use Rattle.travelling.specs.Travelling.{Flight, standing_kept};
-ghost use Rattle.tunnel.specs.Moves.{next};
+ghost use Rattle.travelling.specs.Travelling.{Flight, flight, standing_kept};
+ghost use Rattle.tunnel.specs.Moves.{here, next};
 ghost use Rattle.update_machine.specs.Exports.{sent_from};
 ghost use Rattle.world_log.specs.Packets.{HasHopped, Hops, MeetsDownLink, MayGoOn, coming_in, ended_switch, entry, followed, followed_flight, followed_items, followed_posts};
 ghost use Rattle.world_log.specs.Writing.{LogAfter, arrived_items, arrived_posts, arrived_flight, cache_message, decided_flight, end_item, entered_items, entered_posts, entered_flight, message_list, packet_standing, set_flight, set_item};
@@ -12,6 +12,7 @@ use crate::log::{Log, leaves, takes_route};
 use base::Failure;
 use five_tuple::Header;
 use journal::{Item, Message, Place};
+use net_file::Ports;
 use policy_rules::{Action, Cause, Leg, Targets};
 use std::alloc::{AllocError, Global};
 use switch_core::{Arriving, Decision, Forwarding, Onward, Site, Switch};
@@ -19,7 +20,7 @@ use ternary::Word;
 use travelling::{Standing, StoredFlight};
 
 impl Log {
-    /// A packet comes in at the switch, which is asked what becomes of it there.
+    /// A packet enters at the switch, which is asked what becomes of it there.
     ///
     /// # Errors
     /// Only out of memory; then a part of the items is written.
@@ -73,9 +74,10 @@ impl Log {
         }
     }
 
-    /// The packet of this number, which is on its way and at the switch, moves on, or is at the
-    /// end of its route. If the link to the next switch is found down, it takes another route on
-    /// its leg, or is stuck.
+    /// The packet of this number, if it is on its way, moves on from the switch where it is, or is
+    /// at the end of its route; otherwise only `Nothing` is written. If the link to the next switch
+    /// is found down, it takes another route on its leg, or is stuck. `near` has for each switch
+    /// those to which it has a usable link.
     ///
     /// A move over a usable link allocates only the journal's memory.
     ///
@@ -85,16 +87,30 @@ impl Log {
         &mut self,
         alloc: Global,
         packet: u32,
-        switch: &mut Switch,
-        site: Site,
+        switches: &mut [Switch],
+        near: &[u64; 64],
+        ports: &Ports,
     ) -> Result<(), AllocError>
-        requires { MayGoOn self.old packet switch.old site.near }
-        ensures { Hops result packet switch.old site.entry self.old switch.new self.new }
+        requires there { (t : Flight) → flight self.old.travelling packet ≡ Some t
+            → here t.tunnel < length switches.old }
+        requires may { (t : Flight) (s : SwitchValue) → flight self.old.travelling packet ≡ Some t
+            → slice_get switches.old (here t.tunnel) ≡ Some s
+            → MayGoOn packet s (slice_index near.now (here t.tunnel)) t }
+        requires few { length self.old.bag < 2 ^ 32 - 1 }
+        ensures { Hops result packet near.now ports.now self.old switches.old self.new switches.new
+            (flight self.old.travelling packet) }
     {
-        let kept = self.travelling.look(packet).unwrap();
+        let kept = match self.travelling.look(packet) {
+            None => return self.journal.push(Item::Nothing),
+            Some(kept) => kept,
+        };
+        let here = kept.here() as usize;
+        let switch = &mut switches[here];
+        let near = near[here];
         let route = kept.route();
         let place = kept.place();
-        match switch.pass(route, place, site.near) {
+        let site = Site { near, ports };
+        match switch.pass(route, place, near) {
             Onward::Next(next) => self.move_on(packet, place + 1, next),
             Onward::AtEnd => {
                 let leg = kept.leg();
@@ -288,7 +304,7 @@ impl Log {
     }
 
     // The rule of the decision with this word, if there is one, is sent to the switch where the
-    // packet came in.
+    // packet entered.
     fn send_rule(
         &mut self,
         alloc: Global,

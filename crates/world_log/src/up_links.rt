@@ -1,4 +1,4 @@
-//! Which links are up: all of the network as it begins, and then those that didn't fail.
+//! Which links are up: all at the beginning, later those that didn't fail, or came back since.
 ghost use Rattle.std.specs.Prelude.{ℕ, ◌≡◌, ◌^◌, ◌<◌, if◌then◌else◌, ◌==◌, slice_index};
 ghost use Rattle.base.specs.Masks.{has};
 ghost use Rattle.net_file.specs.Net.{IsNet};

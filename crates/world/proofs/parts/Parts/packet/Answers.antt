@@ -1,9 +1,7 @@
 use Rattle.std.proofs.Common.{refl, arith}
-use Rattle.std.proofs.lemmas.Result.{on_ok_weaker}
-use Rattle.world.proofs.StepFrame.{files_stay, goes_quiet, plane_stays}
 use Rattle.refinement.proofs.AskingSwitch.{can_look_up}
 use Rattle.refinement.proofs.IncomingTie.{come_fits}
-use Rattle.world.proofs.OverParts.{come_is, entries_refine}
+use Rattle.world.proofs.OverParts.{packet_goes}
 use Rattle.world.proofs.OverSwitches.{place_in}
 use Rattle.world.proofs.parts.Parts.packet.Goals as goal
 
@@ -27,14 +25,5 @@ enter-requires c =
 
 pub returns : goal.returns
 returns c = λ before row begins.
-    let self = c.args.self.now in
-    goes_quiet begins (files_stay refl refl) _ (plane_stays refl refl refl)
-    (come_is self before row c.args.switch c.args.header.now c.index_mut.result.now begins.ready
-    c.index_mut.ensures.value)
-    (on_ok_weaker c.enter.result (λ done. refl) c.enter.ensures.log.written)
-    c.enter.ensures.log.written c.enter.ensures.log.part
-    (entries_refine self before row c.args.switch c.args.header.now c.index_mut.result.now
-    begins.ready
-    c.index_mut.ensures.value c.enter.result c.enter.new.switch c.enter.new.self.travelling
-    c.enter.new.self.bag c.enter.ensures.counted c.enter.ensures.log.travels
-    c.enter.ensures.log.posted)
+    packet_goes begins c.index_mut.result.now c.index_mut.ensures.value c.enter.result
+    c.enter.new.self _ c.enter.new.switch refl c.enter.ensures.counted c.enter.ensures.log

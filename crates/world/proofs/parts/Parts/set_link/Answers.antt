@@ -19,7 +19,7 @@ use Rattle.refinement.proofs.LinksChange.{numbers_left}
 use Rattle.refinement.proofs.LinkRows.{ends_below, same_refines, set_may, set_piece, set_refines}
 use Rattle.world.proofs.parts.Parts.set_link.Goals as goal
 
--- no packet comes in
+-- no packet enters
 none_come : (one two : ℕ) (up : Bool) → comes_in (link_step up one two) ≡ 0
 none_come one two true = refl
 none_come one two false = refl

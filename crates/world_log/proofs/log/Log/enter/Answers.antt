@@ -1,4 +1,4 @@
--- What was written of a packet that comes in is its switch's answer.
+-- What was written of a packet that enters is its switch's answer.
 use Rattle.std.proofs.Common.{ℕ, ◌≡◌, ◌+◌, ◌∷◌, [], append-nil, length, option_map, refl, subst, sym, Option, Some, None}
 use Rattle.std.specs.Prelude.{Result}
 use Rattle.journal.specs.declared.item.Item.TheVariants as item

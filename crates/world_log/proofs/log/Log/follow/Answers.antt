@@ -5,17 +5,17 @@ use Rattle.std.proofs.lemmas.Option.{slice_get_within}
 use Rattle.std.proofs.lemmas.Result.{on_ok_weaker}
 use Rattle.journal.specs.declared.item.Item.TheVariants as item
 use Rattle.net_file.specs.declared.ports.Ports.{Ports}
-use Rattle.switch_core.specs.Answering.{IsAtAuthority, arrived_on}
+use Rattle.switch_core.specs.Answering.{IsAtAuthority}
 use Rattle.switch_core.specs.Ends.{around}
 use Rattle.switch_core.specs.Moving.{StandsAt, move_answer}
 use Rattle.switch_core.specs.State.{SwitchValue}
 use Rattle.travelling.specs.Travelling.{Flight, Standing, WithOne, placed_at, standing_at, standing_kept}
 use Rattle.tunnel.specs.Moves.{next}
 use Rattle.world_log.specs.Packets.{ended_flight, ended_items, ended_posts, ended_switch, followed, followed_flight, followed_items, followed_posts}
-use Rattle.world_log.specs.Writing.{LogAfter, arrived_flight, arrived_items, arrived_posts, packet_standing}
+use Rattle.world_log.specs.Writing.{LogAfter}
 use Rattle.world_log.specs.declared.log.Log.{Log}
 use Rattle.world_log.proofs.LogCalls.{log_one, log_unwritten}
-use Rattle.world_log.proofs.HopLogs.{arrival_log, placed, settled_log}
+use Rattle.world_log.proofs.HopLogs.{arrival_log, placed}
 use Rattle.world_log.proofs.log.Log.follow.Goals as goal
 
 -- by the next switch of its route
@@ -116,23 +116,13 @@ returns-in_ok-at-in-None-clause-log c =
     let says = c.in_ok-at-in-None.ensures in
     let stands : standing_kept at ≡ standing_at s.number t =
     says.at ∙ ap (λ n. standing_at n t) c.number.ensures.number in
-    let Q : ℕ → Type 0 = λ packet. LogAfter c.settle.result
-    (arrived_items n (standing_kept at) at.version at.rule
-    (arrived_on s (around near ports) (packet_standing (standing_kept at)) c.leg-leg.result))
-    (arrived_posts (standing_kept at)
-    (arrived_on s (around near ports) (packet_standing (standing_kept at)) c.leg-leg.result))
-    packet (arrived_flight at.version at.rule
-    (arrived_on s (around near ports) (packet_standing (standing_kept at)) c.leg-leg.result))
-    self c.settle.new.self in
     by_next c.settle.result n s near ports t t.tunnel.packet self c.settle.new.self None
     (sym c.next.ensures ∙ c.in-None.is)
     (arrival_log c.settle.result n s near ports t (standing_kept at) at.version at.rule
-    c.leg-leg.result t.tunnel.packet self c.settle.new.self stands says.version says.rule
-    c.leg-leg.ensures
-    (subst Q (ap (λ (a : Standing). a.packet) stands)
-    (settled_log c.settle.result n (standing_kept at) at.version at.rule at.packet self
-    c.settle.new.self _ _ (c.receive-forwarding.ensures.answer (around near ports) at.packet
-    (standing_kept at).down) c.settle.ensures.log)))
+    c.leg-leg.result t.tunnel.packet _ self c.settle.new.self stands says.version says.rule
+    c.leg-leg.ensures (ap (λ (a : Standing). a.packet) stands)
+    (c.receive-forwarding.ensures.answer (around near ports) at.packet (standing_kept at).down)
+    c.settle.ensures.log)
 
 pub returns-in_ok-at-in-None-clause-asked : goal.returns-in_ok-at-in-None-clause-asked
 returns-in_ok-at-in-None-clause-asked c =

@@ -1,5 +1,6 @@
 use Rattle.std.proofs.Common.{None, [], ◌∷◌, refl, subst}
 use Rattle.journal.specs.declared.item.Item.TheVariants as item
+use Rattle.travelling.specs.Travelling.{Flights}
 use Rattle.world_log.specs.Writing.{LogAfter}
 use Rattle.world_log.proofs.LogCalls.{log_unwritten}
 use Rattle.world_log.proofs.log.Log.stuck.Goals as goal
@@ -9,6 +10,13 @@ returns-in_err-down c = log_unwritten c.from_residual.ensures.0 refl
 
 pub returns : goal.returns
 returns c =
+    let kept : LogAfter c.end.result
+    (item.Stuck c.args.at.packet c.args.at.switch c.args.cause c.args.leg c.in_ok-down.down ∷ []) []
+    c.args.at.packet None c.args.self.now c.end.new.self =
+    subst (λ (travelling : Flights). LogAfter c.end.result
+    (item.Stuck c.args.at.packet c.args.at.switch c.args.cause c.args.leg c.in_ok-down.down ∷ []) []
+    c.args.at.packet None (record c.args.self.now { travelling = travelling }) c.end.new.self)
+    c.in_ok-down.ensures.same c.end.ensures in
     subst (λ down. LogAfter c.end.result
     (item.Stuck c.args.at.packet c.args.at.switch c.args.cause c.args.leg down ∷ []) []
-    c.args.at.packet None c.args.self.now c.end.new.self) c.in_ok-down.ensures c.end.ensures
+    c.args.at.packet None c.args.self.now c.end.new.self) c.in_ok-down.ensures.links kept
