@@ -1,14 +1,15 @@
--- A word at the beginning of a text, with a blank behind it.
-use Rattle.std.proofs.Common.{◌≡◌, ◌∙◌, ◌+◌, ◌<◌, ◌==◌, ◌++◌, ℕ, List, [], ◌∷◌, length, get_or, take, drop, ap, arith, refl, sym, suc, true, false, not, drop-cons}
+-- A word at the beginning of a text, with a blank after it.
+use Rattle.std.proofs.Common.{◌≡◌, ◌≢◌, ◌∙◌, ◌+◌, ◌<◌, ◌==◌, ◌++◌, ℕ, List, [], ◌∷◌, length, get_or, take, drop, ap, arith, refl, sym, suc, true, false, not, drop-cons}
 use Rattle.std.specs.Prelude.{Option, None, Some, MatchBool, is_some}
 use Rattle.std.specs.Borrow.{Bor}
-use Rattle.std.specs.List.{All}
-use Rattle.std.proofs.lemmas.Bool.{not-true}
+use Rattle.std.specs.List.{All, join_with_byte}
+use Rattle.std.proofs.lemmas.Bool.{false_from_ne_true, not-true}
 use Rattle.std.proofs.lemmas.List.{take-append-drop}
 use Rattle.std.proofs.lemmas.List.Elements.{All-weaker}
-use Rattle.std.proofs.lemmas.List.Splits.{slice_split_at}
+use Rattle.std.proofs.lemmas.List.Splits.{join_with_byte-slice_split, slice_split_at}
 use Rattle.std.proofs.lemmas.List.Sums.{AllPass-from_list_all}
-use Rattle.trace_audit.specs.Told.{has_no_blank, words_left, words_of}
+use Rattle.std.proofs.lemmas.Slice.Eq.{bytes_eq-Decides}
+use Rattle.trace_audit.specs.Told.{IsWordTaken, begins_with, has_no_blank, words_left, words_of}
 use Rattle.trace_audit.proofs.TraceLines.{first_part}
 
 pub word_before : (word text : List ℕ) → has_no_blank word ≡ true → length word < length text
@@ -27,6 +28,23 @@ word_before word text plain room front blank =
     let whole : text ≡ word ++ 32 ∷ rest =
     sym (take-append-drop n text) ∙ ap (λ x. x ++ drop n text) front ∙ ap (λ x. word ++ x) back in
     ap words_of whole ∙ slice_split_at (λ b. b == 32) word 32 rest lacks refl
+
+-- a text that doesn't begin with the word and a blank
+pub not_begun : (word text : List ℕ) → ((rest : List ℕ) → text ≢ word ++ 32 ∷ rest)
+    → begins_with word (words_of text) ≡ false
+not_begun word text lacks = by (words_of text) (join_with_byte-slice_split 32 text)
+  where
+    by : (words : List (List ℕ)) → join_with_byte 32 words ≡ text → begins_with word words ≡ false
+    by [] e = refl
+    by (first ∷ []) e = refl
+    by (first ∷ next ∷ more) e = false_from_ne_true _ (λ same.
+        let rest = join_with_byte 32 (next ∷ more) in
+        lacks rest (sym e ∙ ap (λ w. w ++ 32 ∷ rest) ((bytes_eq-Decides first word).0 same)))
+
+pub words_taken : (word rest : List ℕ) (old : List (List ℕ)) → old ≡ word ∷ words_of rest
+    → IsWordTaken word old (words_of rest)
+words_taken word rest old e =
+    let w = first_part 32 rest in (w.0, w.1, e ∙ ap (λ ws. word ∷ ws) w.2, w.2)
 
 -- of a text that is left there are words
 pub more_left : (rest : Option (Bor (List ℕ))) → MatchBool (is_some rest)

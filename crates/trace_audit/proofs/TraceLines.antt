@@ -1,12 +1,13 @@
--- Lines of a trace: taken off one at a time, and read as they tell.
-use Rattle.std.proofs.Common.{◌≡◌, ℕ, ◌<◌, ◌==◌, Bool, true, false, IfOk, Some, None, Result, Ok, Err, List, [], ◌∷◌, length, refl, ap, subst, cond, ◌∙◌, arith}
+-- Lines of a trace: taken one at a time, and what they say.
+use Rattle.std.proofs.Common.{◌≡◌, ℕ, ◌<◌, ◌==◌, Bool, true, false, IfOk, Option, Some, None, Result, Ok, Err, List, [], ◌∷◌, length, refl, ap, subst, cond, ◌∙◌, arith}
+use Rattle.std.specs.Prelude.{codes}
 use Rattle.std.specs.List.{onto_first}
 use Rattle.std.proofs.lemmas.List.Splits.{length-slice_split}
 use Rattle.five_tuple.specs.Texts.{parts_round}
 use Rattle.policy_rules.specs.declared.file.PolicyFile.{PolicyFile}
 use Rattle.trace_audit.specs.Reading.{Follows, Whole, Open, TraceState, lines_of, lines_of_parts, open_line}
 use Rattle.trace_audit.specs.Seen.{IsLineRead, IsTaken}
-use Rattle.trace_audit.specs.Told.{Told, is_row_number, told_of}
+use Rattle.trace_audit.specs.Told.{Told, begins_with, decided_told, indented_told, is_row_number, item_told, silent_told, told_by_words, told_of}
 
 -- ---- parts
 
@@ -21,7 +22,7 @@ pub first_part : (byte : ℕ) (text : List ℕ)
 first_part byte text = some_parts (parts_round byte text)
     (omega (arith, length-slice_split (λ b. b == byte) text))
 
--- where something stands behind the colon, a word is no row's number
+-- a word in which something follows the colon is no row's number
 row_number_by : (digits : List ℕ) (b : ℕ) (is_end : Bool) (parts : List (List ℕ)) (part : List ℕ)
     (more : List (List ℕ)) → parts ≡ part ∷ more
     → is_row_number (digits ∷ cond is_end ([] ∷ parts) (onto_first b parts)) ≡ false
@@ -63,7 +64,7 @@ pub lines_open : (rest : List ℕ) → (rest ≡ [] → ⊥) → parts_round 10 
 unfolding lines_of
 lines_open rest some e = ap lines_of_parts e ∙ open_some rest some
 
--- ---- what a line tells
+-- ---- what a line says
 
 read_by : (files : List PolicyFile) (old new : TraceState) (text : List ℕ) (t : Told) (good : Bool)
     → told_of text ≡ Some t → IsTaken files old t new good → IsLineRead files old (Whole text) new good
@@ -80,3 +81,46 @@ line_read files old new text t (Err error) e h = tt
 pub line_unread : (files : List PolicyFile) (old new : TraceState) (text : List ℕ)
     → told_of text ≡ None → IsLineRead files old (Whole text) new false
 line_unread files old new text e = λ other r. absurd cc
+
+-- ---- by its first words
+
+either_way : (b : Bool) (t : Option Told) → cond b t t ≡ t
+either_way true t = refl
+either_way false t = refl
+
+-- a line that begins with no word of these is bad
+pub other_line : (words : List (List ℕ)) → begins_with [] words ≡ false
+    → begins_with (codes "row") words ≡ false → begins_with (codes "meter") words ≡ false
+    → begins_with (codes "quiet") words ≡ false → told_by_words words ≡ None
+other_line [] blank row meter quiet = refl
+other_line (word ∷ []) blank row meter quiet = simp either_way
+other_line (word ∷ next ∷ more) blank row meter quiet = rw (blank, row, meter, quiet) refl
+
+-- a decision that names no rule, or not what decided, is bad
+pub no_rule : (packet version : List ℕ) (words : List (List ℕ))
+    → begins_with (codes "rule") words ≡ false → decided_told (packet ∷ version ∷ words) ≡ None
+no_rule packet version (word ∷ rule ∷ action ∷ how ∷ more ∷ others) e = rw e refl
+no_rule packet version (word ∷ rule ∷ action ∷ how ∷ []) e = refl
+no_rule packet version (word ∷ rule ∷ action ∷ []) e = refl
+no_rule packet version (word ∷ rule ∷ []) e = refl
+no_rule packet version (word ∷ []) e = refl
+no_rule packet version [] e = refl
+
+pub no_how : (packet version rule action : List ℕ) (words : List (List ℕ))
+    → begins_with (codes "authority") words ≡ false → begins_with (codes "cache") words ≡ false
+    → decided_told (packet ∷ version ∷ codes "rule" ∷ rule ∷ action ∷ words) ≡ None
+no_how packet version rule action (how ∷ more ∷ others) authority cache = rw (authority, cache) refl
+no_how packet version rule action (how ∷ []) authority cache = refl
+no_how packet version rule action [] authority cache = refl
+
+-- an item that begins with no word of a move is none
+pub other_item : (words : List (List ℕ)) → begins_with (codes "decided") words ≡ false
+    → begins_with (codes "entered") words ≡ false → begins_with (codes "dropped") words ≡ false
+    → begins_with (codes "out") words ≡ false → begins_with (codes "submitted") words ≡ false
+    → begins_with (codes "retired") words ≡ false → begins_with (codes "lost") words ≡ false
+    → begins_with (codes "stuck") words ≡ false → indented_told ([] ∷ words) ≡ silent_told words
+unfolding item_told
+other_item [] decided entered dropped out submitted retired lost stuck = refl
+other_item (word ∷ []) decided entered dropped out submitted retired lost stuck = simp either_way
+other_item (word ∷ next ∷ more) decided entered dropped out submitted retired lost stuck =
+    rw (decided, entered, dropped, out, submitted, retired, lost, stuck) refl

@@ -44,6 +44,22 @@ words_left (Some text) = words_of text.now
 abbrev pub has_no_blank : List ℕ → Bool
 has_no_blank word = list_all (λ b. not (b == 32)) word
 
+-- this is the first word, and more words follow it
+abbrev pub begins_with : List ℕ → List (List ℕ) → Bool
+begins_with word (first ∷ next ∷ more) = bytes_eq first word
+begins_with word _ = false
+
+-- what is after the word and a blank, if the text begins with them
+abbrev pub IsRestAfter : List ℕ → List ℕ → Option (Bor (List ℕ)) → Type 0
+IsRestAfter word text after = MatchOption after
+    (begins_with word (words_of text) ≡ false)
+    (λ rest. words_of text ≡ word ∷ words_of rest.now)
+
+-- the first word is taken, and more follow
+abbrev pub IsWordTaken : List ℕ → List (List ℕ) → List (List ℕ) → Type 0
+IsWordTaken word old new = (next : List ℕ) × (more : List (List ℕ))
+    × (old ≡ word ∷ next ∷ more) × (new ≡ next ∷ more)
+
 -- the first word is taken, and said is whether it passes
 abbrev pub TakesWord : List (List ℕ) → (List ℕ → Bool) → List (List ℕ) → Bool → Type 0
 TakesWord old passes new said = (next : List ℕ) × (old ≡ next ∷ new) × (said ≡ passes next)
@@ -153,9 +169,17 @@ silent_words = codes "closed" ∷ codes "tunnelled" ∷ codes "exit" ∷ codes "
     ∷ codes "refused" ∷ codes "current" ∷ codes "booted" ∷ codes "opened" ∷ codes "down"
     ∷ codes "over" ∷ codes "link" ∷ []
 
+-- an item that is no move
+abbrev pub silent_told : List (List ℕ) → Option Told
+silent_told (word ∷ args) =
+    if bytes_eq word (codes "nothing") then alone_told args else
+    if list_any (bytes_eq word) silent_words then any_told args else None
+silent_told [] = None
+
 -- an item, by its word and the words after it
 unfoldable pub item_told : List ℕ → List (List ℕ) → Option Told
 item_told word args =
+    if bytes_eq word (codes "nothing") then alone_told args else
     if bytes_eq word (codes "entered") then entered_told args else
     if bytes_eq word (codes "submitted") then submitted_told args else
     if bytes_eq word (codes "retired") then retired_told args else
@@ -164,7 +188,6 @@ item_told word args =
     if bytes_eq word (codes "out") then left_told args else
     if bytes_eq word (codes "lost") then ended_told Lost args else
     if bytes_eq word (codes "stuck") then stuck_told args else
-    if bytes_eq word (codes "nothing") then alone_told args else
     if list_any (bytes_eq word) silent_words then any_told args else None
 
 -- after a first empty word: an item follows two blanks

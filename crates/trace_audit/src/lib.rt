@@ -9,8 +9,8 @@
 //! decision before (`specs/Decided.antt`).
 //!
 //! ```text
-//! let verdict = audit(alloc, b"row 1: packet a 10.0.0.1 10.0.0.2 1 2 tcp\n  closed 1 a\n", &files)?;
-//! // Verdict::Yes: nothing is said of a packet that no switch took
+//! let verdict = audit(alloc, b"row 1: packet a 1.1.1.1 2.2.2.2 1 2 tcp\n  closed 1 a\n", &files)?;
+//! // Verdict::Yes: a packet row without an entry is no fault
 //! ```
 #![tactic(auto)]
 

@@ -34,7 +34,7 @@ pub(crate) enum PacketEnd {
 pub(crate) struct TracePacket {
     src: u32,
     dst: u32,
-    // The mark when it came in.
+    // The mark when it entered.
     entry_mark: u32,
     // The priority of the row that decided it.
     priority: u32,
@@ -51,7 +51,7 @@ pub(crate) struct TracePacket {
 const _: () = prove!(size_of::<TracePacket>() <= 28);
 
 impl TracePacket {
-    /// A packet that came in with this header under this mark.
+    /// A packet that entered with this header under this mark.
     pub fn new(header: Header, mark: u32) -> TracePacket
         ensures { packet_seen result ≡
             record { header = header; entry_mark = mark; decision = None; end = None } }
@@ -85,7 +85,7 @@ impl TracePacket {
         })
     }
 
-    /// The mark when it came in.
+    /// The mark when it entered.
     pub fn entry_mark(&self) -> u32
         ensures { result ≡ (packet_seen self.now).entry_mark }
     {

@@ -1,9 +1,9 @@
-ghost use Rattle.std.specs.Prelude.{◌≡◌, ◌∷◌, ◌==◌, ◌<◌, ◌^◌, [], IfSome, option_map, bytes_eq};
+ghost use Rattle.std.specs.Prelude.{◌≡◌, ◌∷◌, ◌==◌, ◌<◌, ◌^◌, [], IfSome, bytes_eq, codes, false, option_map};
 ghost use Rattle.std.specs.List.{list_any};
 ghost use Rattle.five_tuple.specs.Texts.{number_up_to, parts_round};
 ghost use Rattle.update_machine.specs.Machine as machine;
 ghost use Rattle.trace_audit.specs.Seen.{end_seen, told_seen};
-ghost use Rattle.trace_audit.specs.Told.{alone_told, any_told, decided_told, ended_told, entered_told, indented_told, is_row_number, item_told, left_told, number_of_word, packet_row_told, retired_told, row_told, silent_words, stuck_told, submitted_told, told_by_words, told_of, version_of_word};
+ghost use Rattle.trace_audit.specs.Told.{begins_with, decided_told, ended_told, entered_told, indented_told, is_row_number, left_told, number_of_word, packet_row_told, retired_told, row_told, silent_told, stuck_told, submitted_told, told_of, version_of_word};
 
 use crate::words::{Words, cut_near};
 use five_tuple::{Header, read_fields, read_number};
@@ -97,6 +97,8 @@ fn read_packet_row<'a>(row: &[u8], mut words: Words<'a>) -> Option<LineMeaning<'
     Some(LineMeaning::Row(Some(Header::pack(&fields))))
 }
 
+// Inlined, this and others below would slow down the loop over the lines.
+#[inline(never)]
 fn read_row<'a>(mut words: Words<'a>) -> Option<LineMeaning<'a>>
     ensures { option_map told_seen result ≡ row_told words.entry }
 {
@@ -109,6 +111,7 @@ fn read_row<'a>(mut words: Words<'a>) -> Option<LineMeaning<'a>>
 
 // ---- moves
 
+#[inline(never)]
 fn read_entered<'a>(mut words: Words<'a>) -> Option<LineMeaning<'a>>
     ensures { option_map told_seen result ≡ entered_told words.entry }
 {
@@ -143,16 +146,19 @@ fn read_retired<'a>(words: Words<'a>) -> Option<LineMeaning<'a>>
     Some(LineMeaning::Retired(version))
 }
 
+#[tactic(auto, using(crate::proofs::TraceLines::no_how, crate::proofs::TraceLines::no_rule))]
+#[inline(never)]
 fn read_decided<'a>(mut words: Words<'a>) -> Option<LineMeaning<'a>>
     ensures { option_map told_seen result ≡ decided_told words.entry }
 {
     let packet = words.next()?;
     let version = words.next()?;
-    let is_rule = words.next_is(b"rule".as_slice())?;
+    if !words.take(b"rule".as_slice()) {
+        return None;
+    }
     let rule = words.next()?;
     let action = words.next()?;
-    let is_how = words.next_is_either(b"authority".as_slice(), b"cache".as_slice())?;
-    if !words.has_more() || !is_rule || !is_how {
+    if !words.take(b"authority".as_slice()) && !words.take(b"cache".as_slice()) {
         return None;
     }
     Some(LineMeaning::Decided {
@@ -201,25 +207,7 @@ fn read_stuck<'a>(mut words: Words<'a>) -> Option<LineMeaning<'a>>
 
 // ---- lines
 
-// Any bytes after a blank.
-fn read_any<'a>(mut words: Words<'a>) -> Option<LineMeaning<'a>>
-    ensures { option_map told_seen result ≡ any_told words.entry }
-{
-    let _more = words.next()?;
-    Some(LineMeaning::Nothing)
-}
-
-// Nothing more.
-fn read_alone<'a>(mut words: Words<'a>) -> Option<LineMeaning<'a>>
-    ensures { option_map told_seen result ≡ alone_told words.entry }
-{
-    match words.next() {
-        None => Some(LineMeaning::Nothing),
-        Some(_) => None,
-    }
-}
-
-// The words of items that are no moves.
+// The words of items that are no moves, but for `nothing`.
 const SILENT: [&[u8]; 17] = [
     b"closed",
     b"tunnelled",
@@ -247,46 +235,52 @@ fn is_among(words: &[&[u8]], word: &[u8]) -> bool
     words.iter().any(|w| word == *w)
 }
 
-fn is_silent(word: &[u8]) -> bool
-    ensures { result ≡ list_any (bytes_eq word.now) silent_words }
+// An item that is no move: `nothing` and no more, or another such word and any bytes.
+fn read_silent<'a>(mut words: Words<'a>) -> Option<LineMeaning<'a>>
+    ensures { option_map told_seen result ≡ silent_told words.entry }
 {
-    is_among(&SILENT, word)
+    let word = words.next()?;
+    let is_good = if word == b"nothing".as_slice() {
+        !words.has_more()
+    } else {
+        words.has_more() && is_among(&SILENT, word)
+    };
+    is_good.then_some(LineMeaning::Nothing)
 }
 
-#[tactic(auto, unfolding(crate::specs::Told::item_told))]
-fn read_item<'a>(word: &[u8], words: Words<'a>) -> Option<LineMeaning<'a>>
-    ensures { option_map told_seen result ≡ item_told word.now words.entry }
+// An item whose word isn't `decided`, `entered` or `dropped`.
+#[tactic(auto, using(crate::proofs::TraceLines::other_item), unfolding(crate::specs::Told::item_told))]
+#[inline(never)]
+fn read_rare<'a>(mut words: Words<'a>) -> Option<LineMeaning<'a>>
+    requires decided { begins_with (codes "decided") words ≡ false }
+    requires entered { begins_with (codes "entered") words ≡ false }
+    requires dropped { begins_with (codes "dropped") words ≡ false }
+    ensures { option_map told_seen result ≡ indented_told ([] ∷ words.entry) }
 {
-    if word == b"entered".as_slice() {
-        read_entered(words)
-    } else if word == b"submitted".as_slice() {
-        read_submitted(words)
-    } else if word == b"retired".as_slice() {
-        read_retired(words)
-    } else if word == b"decided".as_slice() {
-        read_decided(words)
-    } else if word == b"dropped".as_slice() {
-        read_ended(End::Dropped, words)
-    } else if word == b"out".as_slice() {
+    if words.take(b"out".as_slice()) {
         read_left(words)
-    } else if word == b"lost".as_slice() {
+    } else if words.take(b"submitted".as_slice()) {
+        read_submitted(words)
+    } else if words.take(b"retired".as_slice()) {
+        read_retired(words)
+    } else if words.take(b"lost".as_slice()) {
         read_ended(End::Lost, words)
-    } else if word == b"stuck".as_slice() {
+    } else if words.take(b"stuck".as_slice()) {
         read_stuck(words)
-    } else if word == b"nothing".as_slice() {
-        read_alone(words)
-    } else if is_silent(word) {
-        read_any(words)
     } else {
-        None
+        read_silent(words)
     }
 }
 
-// An item, after its two blanks. Those that each packet has are tried first.
+// An item, after the first of its two blanks, each of which ends an empty word. The words that
+// each packet has are tried first.
 #[tactic(auto, unfolding(crate::specs::Told::item_told))]
-fn read_known_item<'a>(mut words: Words<'a>) -> Option<LineMeaning<'a>>
-    ensures { option_map told_seen result ≡ indented_told ([] ∷ words.entry) }
+fn read_item<'a>(mut words: Words<'a>) -> Option<LineMeaning<'a>>
+    ensures { option_map told_seen result ≡ indented_told words.entry }
 {
+    if !words.take(b"".as_slice()) {
+        return None;
+    }
     if words.take(b"decided".as_slice()) {
         return read_decided(words);
     }
@@ -296,46 +290,23 @@ fn read_known_item<'a>(mut words: Words<'a>) -> Option<LineMeaning<'a>>
     if words.take(b"dropped".as_slice()) {
         return read_ended(End::Dropped, words);
     }
-    let word = words.next()?;
-    read_item(word, words)
-}
-
-// An item follows two blanks.
-fn read_indented<'a>(mut words: Words<'a>) -> Option<LineMeaning<'a>>
-    ensures { option_map told_seen result ≡ indented_told words.entry }
-{
-    let second = words.next()?;
-    let word = words.next()?;
-    if !second.is_empty() {
-        return None;
-    }
-    read_item(word, words)
+    read_rare(words)
 }
 
 /// What a line says; `None` if it is bad whatever comes before it.
-#[tactic(auto, unfolding(crate::specs::Told::told_of))]
+#[tactic(auto, using(crate::proofs::TraceLines::other_line), unfolding(crate::specs::Told::told_of))]
 pub(crate) fn read_line<'a>(line: &'a [u8]) -> Option<LineMeaning<'a>>
     ensures { option_map told_seen result ≡ told_of line.now }
 {
-    match line {
-        [b' ', b' ', item @ ..] => read_known_item(Words::of(item)),
-        [b'r', b'o', b'w', b' ', row @ ..] => read_row(Words::of(row)),
-        _ => read_words(Words::of(line)),
+    let mut words = Words::of(line);
+    if words.take(b"".as_slice()) {
+        return read_item(words);
     }
-}
-
-// What a line says, by its words.
-fn read_words<'a>(mut words: Words<'a>) -> Option<LineMeaning<'a>>
-    ensures { option_map told_seen result ≡ told_by_words words.entry }
-{
-    let first = words.next()?;
-    if first == b"row".as_slice() {
-        read_row(words)
-    } else if first == b"meter".as_slice() || first == b"quiet".as_slice() {
-        read_any(words)
-    } else if first.is_empty() {
-        read_indented(words)
-    } else {
-        None
+    if words.take(b"row".as_slice()) {
+        return read_row(words);
     }
+    if words.take(b"meter".as_slice()) || words.take(b"quiet".as_slice()) {
+        return Some(LineMeaning::Nothing);
+    }
+    None
 }

@@ -1,5 +1,5 @@
-ghost use Rattle.std.specs.Prelude.{◌≡◌, ◌∷◌, ◌==◌, ◌||◌, [], IfNone, IfSome, IsTrue, List, MatchBool, bytes_eq, position, ℕ};
-ghost use Rattle.trace_audit.specs.Told.{IsCut, IsNoSingle, TakesWord, has_no_blank, words_of};
+ghost use Rattle.std.specs.Prelude.{◌≡◌, ◌∷◌, ◌==◌, [], IfNone, IfSome, IsTrue, List, MatchBool, bytes_eq, false, position, ℕ};
+ghost use Rattle.trace_audit.specs.Told.{IsRestAfter, IsCut, IsNoSingle, IsWordTaken, TakesWord, begins_with, has_no_blank, words_of};
 
 use memchr::memchr;
 use std::marker::Model;
@@ -48,9 +48,9 @@ pub(crate) fn cut_near(text: &[u8], byte: u8) -> Option<(&[u8], &[u8])>
 
 // What follows the word and a blank, if the text begins with them.
 #[inline(always)]
-fn behind<'a>(text: &'a [u8], word: &[u8]) -> Option<&'a [u8]>
+fn after<'a>(text: &'a [u8], word: &[u8]) -> Option<&'a [u8]>
     requires { IsTrue (has_no_blank word.now) }
-    ensures { IfSome result (λ rest. words_of text.now ≡ word.now ∷ words_of rest.now) }
+    ensures { IsRestAfter word.now text.now result }
 {
     if text.len() <= word.len() {
         return None;
@@ -134,15 +134,18 @@ impl<'a> Words<'a> {
     }
 
     /// Takes the next word if it is this one and more words follow it, and returns whether it did.
+    #[tactic(auto, using(crate::proofs::FirstWords::words_taken))]
     #[inline(always)]
     pub fn take(&mut self, word: &[u8]) -> bool
         requires { IsTrue (has_no_blank word.now) }
-        ensures { MatchBool result (self.old ≡ word.now ∷ self.new) (self.new ≡ self.old) }
+        ensures { MatchBool result
+            (IsWordTaken word.now self.old self.new)
+            ((begins_with word.now self.old ≡ false) × (self.new ≡ self.old)) }
     {
         let Some(rest) = self.rest else {
             return false;
         };
-        match behind(rest, word) {
+        match after(rest, word) {
             Some(rest) => {
                 self.rest = Some(rest);
                 true
@@ -163,24 +166,5 @@ impl<'a> Words<'a> {
         }
         let next = self.next()?;
         Some(next == word)
-    }
-
-    /// The same for one of two words.
-    #[inline(always)]
-    pub fn next_is_either(&mut self, one: &[u8], other: &[u8]) -> Option<bool>
-        requires one { IsTrue (has_no_blank one.now) }
-        requires other { IsTrue (has_no_blank other.now) }
-        ensures some { IfSome result
-            (TakesWord self.old (λ next. bytes_eq next one.now || bytes_eq next other.now) self.new) }
-        ensures none { IfNone result (self.old ≡ []) }
-    {
-        if self.take(one) {
-            return Some(true);
-        }
-        if self.take(other) {
-            return Some(true);
-        }
-        let next = self.next()?;
-        Some(next == one || next == other)
     }
 }
