@@ -1,5 +1,5 @@
--- The bits that stay fixed: each has its reason, and no earlier rule is met any more. They are those
--- of the word whose bits were freed in turn.
+-- The bits that stay fixed: each has its reason, and no earlier rule is met any more. They are
+-- those of the word whose bits were freed in turn.
 use Rattle.std.proofs.Common.{ℕ, suc, zero, ◌≡◌, ◌≢◌, ◌+◌, ◌-◌, ◌*◌, ◌/◌, ◌%◌, ◌^◌, ◌<◌, ◌≤◌, min, max, Bool, true, false, ◌&&◌, ◌||◌, ◌⊎◌, List, All, get_or, set, length, take, replicate, cond, refl, ap, sym, ◌∙◌, subst, arith, inl, inr}
 use Rattle.std.specs.Prelude.{IsTrue, IsFalse, IsSomeAnd, slice_get, not, ◌==◌, bit_or, bit_and, bit_xor, is_none}
 use Rattle.std.specs.Int.{bit_at}

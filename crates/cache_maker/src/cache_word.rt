@@ -19,14 +19,14 @@ const HALF: u128 = 1 << 64;
 /// hold.
 ///
 /// From the header's own word each bit is freed one after another, from the lowest, if the freed
-/// word is still covered by the region and by the rule and meets no earlier rule. So a bit stays
+/// word is still covered by the region and by the rule and overlaps no earlier rule. So a bit stays
 /// fixed if the region or the rule fixes it, or if it is the highest bit by which an earlier rule
 /// differs from the header, and none of the bits below by which it does stays fixed: that rule is
 /// the bit's reason. Of the fixed bits, those with reasons are few, and only they are looked at.
 ///
-/// As long as the word of the fixed bits meets an earlier rule, the highest bit by which that rule
-/// differs is fixed too, and the bits whose reasons have it no longer are. Each time the bits come
-/// later in an order in which the lowest bit counts most, so this ends.
+/// As long as the word of the fixed bits overlaps an earlier rule, the highest bit by which that
+/// rule differs is fixed too, and the bits whose reasons have it no longer are. Each time the bits
+/// come later in an order in which the lowest bit counts most, so this ends.
 pub fn widen(h: &Header, region: &Word, rules: &[Rule], index: u32) -> Word
     requires region { IsTrue (holds region.now (number_of h.now)) }
     requires first_hit { position (is_held (number_of h.now)) rules.now ≡ Some index }

@@ -1,8 +1,8 @@
 //! The word of a cache rule: as wide as can be, with every header that it holds decided as before.
 //!
 //! An authority switch that decided a header hands the ingress a rule for more headers than this
-//! one: all that its word holds. The word promises that the same rule of the partition is the
-//! first hit of each of them, so it meets no earlier rule; and that none of its fixed bits can be
+//! one: all that its word holds. The word promises that the same rule of the partition is the first
+//! hit of each of them, so it overlaps no earlier rule; and that none of its fixed bits can be
 //! freed. These are the independent rules of Yu, Rexford, Freedman and Wang, "Scalable Flow-Based
 //! Networking with DIFANE". Nothing here allocates.
 //!

@@ -1,4 +1,4 @@
--- The arguments of a line: which options stand in front of its names and behind them.
+-- The arguments of a line: which options are before its names and after them.
 use Rattle.std.specs.Prelude.{eqb, bytes_eq, codes, unwrap_or}
 use Rattle.std.specs.List.{list_all, prefix_len, starts_with}
 use Rattle.std.specs.Cmp.Lexicographic.{pointwise}

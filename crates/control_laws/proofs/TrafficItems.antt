@@ -46,7 +46,7 @@ use Rattle.control_laws.proofs.ItemFacts.{Has, have_weaker}
 use Rattle.control_laws.proofs.MessageSends.{each_of_network}
 use Rattle.control_laws.proofs.ResentBySwitches.{sends_each}
 
--- the switch where some packet came in
+-- the switch where some packet entered
 pub record IsIngress (before : List Item) (s : ℕ) : Type 0 where
   pub packet : ℕ
   pub ingress : s ≡ unwrap_or (ingress_of before packet) 0
@@ -73,7 +73,7 @@ pub record KnowsNoRoute (setting : Setting) (before : List Item) (i s : ℕ) (le
   pub found : down ≡ found_down before i
   pub none : route_from setting before s (targets_of setting before leg) down ≡ None
 
--- what becomes of packets once they came in, and of messages and cache rules that end: nothing is
+-- what becomes of packets once they entered, and of messages and cache rules that end: nothing is
 -- sent but cache rules, nothing is forgotten that can't be delivered, no link changes, a packet is
 -- stuck only where its switch knows no route, and finds down only links that can't be used
 abbrev pub IsWork : Setting → List Item → Item → Type 0
@@ -312,7 +312,7 @@ move_work : (setting : Setting) (i s : ℕ) (journal : List Item)
 unfolding move_items
 move_work setting i s journal = grind (arith, arrive_work, reroute_work)
 
--- a packet that comes in is no work yet: its cause is to be given
+-- a packet that enters is no work yet: its cause is to be given
 pub packet_works : (setting : Setting) (cause : List Item → Item → Type 0) →
     ((before : List Item) (next : Item) → IsWork setting before next → cause before next) →
     (i s : ℕ) (header : Header) (journal : List Item) → cause journal (item.Entered i s header)

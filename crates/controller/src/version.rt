@@ -43,7 +43,7 @@ impl Model for Version {
 }
 
 impl Version {
-    /// This version with this plan, whose change touches this, and the tables of this many
+    /// A version: this plan, the words that its change touches, and the tables of this many
     /// switches.
     ///
     /// # Errors

@@ -21,7 +21,7 @@ pub enum Place {
 /// What a message says. The first six are for a switch, the others for the controller.
 #[derive(Clone, Debug, Drop)]
 pub enum Body {
-    /// In this boot, keep these tables beside those of other versions.
+    /// In this boot, keep these tables, and those of other versions too.
     Install {
         boot: u32,
         tables: SharedTables,

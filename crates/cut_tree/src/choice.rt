@@ -133,8 +133,8 @@ fn fix_many(one: &Rule, other: &Rule, region: &Word) -> bool
     !fixes_few(&one.word, region) && !fixes_few(&other.word, region)
 }
 
-/// Of each pair of halves of a region the one with this value of the bit that separates them: how
-/// many rules it keeps.
+/// One half of a region for each bit: that in which the bit has this value. How many rules each of
+/// these halves keeps.
 #[derive(Clone, Copy)]
 pub struct Side {
     pub one: bool,

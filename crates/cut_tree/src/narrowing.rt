@@ -33,7 +33,7 @@ pub fn narrow(alloc: Global, rules: &[Rule], region: &Word) -> Result<Vec<Rule>,
     Ok(kept)
 }
 
-/// The same for a half of a region that contains the rules: in order those that meet the half, up
+/// The same for a half of a region that contains the rules: in order those that overlap it, up
 /// to and including the first that covers it, each for its headers there.
 pub fn narrow_half(
     alloc: Global,

@@ -20,7 +20,8 @@ fn read_args<R: Env + AllocGlobal>(rt: &R) -> io::Result<Vec<String>> {
     Ok(args)
 }
 
-/// The status of a call whose arguments can't be read. If one is no text, its line is written.
+/// The status of a call whose arguments can't be read. If one isn't UTF-8, it is that of wrong
+/// arguments, and its line is written.
 fn unread<E: Sink>(kind: ErrorKind, errs: &mut E) -> Status {
     match kind {
         ErrorKind::OutOfMemory => Status::NoMemory,

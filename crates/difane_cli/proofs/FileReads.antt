@@ -17,7 +17,7 @@ use Rattle.difane_cli.specs.declared.status.Stop.TheVariants as stop
 
 -- ---- names
 
--- the next name stands in front of those that are left
+-- the next name is before those that are left
 next_name : (names : List (List ℕ)) (i : ℕ) → i < length names
     → drop i names ≡ get_or names i [] ∷ drop (i + 1) names
 next_name names i within = rw (drop-cons names i [] within, add-one i) refl
@@ -58,7 +58,7 @@ none_read ports names shelf = record {
   most = omega arith;
 }
 
--- so it stands in front of what is left
+-- so it is before what is left
 pub at_next : (ports : ℕ) (names : List (Bor (List ℕ))) (i : ℕ) (own : List PolicyFile)
     (old now : ShelfState)
     → HasRead ports (names_seen names) (drop i (names_seen names)) own old now

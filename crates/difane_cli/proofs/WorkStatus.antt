@@ -30,7 +30,7 @@ by_failed (Ok done) (Some row) is = absurd (cc is)
 by_failed (Err sink.Failed) full is = refl
 by_failed (Err sink.NoMemory) full is = absurd (cc is)
 
--- and want of memory of a write that found none
+-- and out of memory, of a write that ran out of it
 pub by_memory : (written : Result (⊤) SinkError) (full : Option ℕ)
     → status_after written full ≡ status.NoMemory → IsErrOf written sink.NoMemory
 by_memory (Ok done) None is = absurd (cc is)

@@ -146,7 +146,8 @@ abbrev pub ReadsFor : {V : Type 0} → Command → (old new : ShelfState) → Re
 ReadsFor command old new result =
     ReadsFiles (names_in (Some command)) (most_reads old.files (Some command)) old new result
 
--- no file is read: arguments off the grammar name no file that is read, and a load case has none
+-- no file is read: arguments that the grammar refuses name no file that is read, and a load case
+-- has none
 abbrev pub ReadsNothing : Option Command → Type 0
 ReadsNothing None = ⊤
 ReadsNothing (Some (asked.Load n)) = ⊤

@@ -188,13 +188,13 @@ pub fn read_files<F: Shelf>(
 pub struct PlayInputs {
     pub events: Vec<Event>,
     pub net: Net,
-    /// The network with the first policy in force, on which nothing happened yet.
+    /// The network with the first policy in force, on which nothing has happened yet.
     pub world: World,
     pub report: Report,
 }
 
-/// The inputs of a replay: the network is read and checked, then the schedule, then the policies and
-/// changes in their order, and last the first policy is planned.
+/// The inputs of a replay: the network is read and checked, then the schedule, then the policies
+/// and changes in their order, and last the first policy is planned.
 pub fn read_inputs<F: Shelf>(
     alloc: Global,
     shelf: &mut F,

@@ -1,7 +1,7 @@
 -- The texts of a policy's and a packet's fields, as they are read. An address is in dotted decimal
 -- (RFC 1123, section 2.1), and a block has a slash and its length after it (RFC 4632, section 3.1).
--- That a number has neither sign nor leading zero, and the keywords and the dash, are this project's
--- own.
+-- That a number has neither sign nor leading zero, and the keywords and the dash, are this
+-- project's own.
 use Rattle.std.specs.Prelude.{ℕ, ◌≡◌, ◌*◌, ◌+◌, ◌^◌, Bool, not, ◌&&◌, ◌==◌, nat_lt, nat_le, if◌then◌else◌, List, [], ◌∷◌, length, slice_index, Option, Some, None, option_map, codes, bytes_eq, ◌-◌, ◌/◌}
 use Rattle.std.specs.List.{list_all, slice_split}
 use Rattle.std.specs.Char.{is_ascii_digit}

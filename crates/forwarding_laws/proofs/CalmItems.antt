@@ -1,6 +1,6 @@
 -- The items of confirmations, resends and deliveries: no switch goes down or comes up, no link
--- changes, nothing is forgotten and no policy is submitted. What they leave as it was, and what only
--- grows.
+-- changes, nothing is forgotten and no policy is submitted. What they leave as it was, and what
+-- only grows.
 use Rattle.std.proofs.Common.{ℕ, ◌≡◌, ◌≤◌, ◌<◌, ◌==◌, Bool, true, false, if◌then◌else◌, Some, None, List, [], ◌∷◌, ◌++◌, refl, ap, sym, subst, ◌∙◌, append-nil, append_assoc, arith}
 use Rattle.std.specs.Prelude.{⊤, IsTrue, IsFalse, unwrap_or}
 use Rattle.std.specs.Option.{option_or}

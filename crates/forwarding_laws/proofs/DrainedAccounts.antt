@@ -1,4 +1,4 @@
--- Behind a drain no packet travels, so each that came in has ended.
+-- Behind a drain no packet travels, so each that entered has ended.
 use Rattle.std.proofs.Common.{ℕ, ◌≡◌, ◌⊎◌, ◌==◌, Bool, true, false, if◌then◌else◌, Option, Some, None, option_map, List, [], ◌∷◌, ◌++◌, refl, ap, sym, subst, ◌∙◌, inl, inr}
 use Rattle.std.specs.Prelude.{unwrap_or}
 use Rattle.std.specs.Option.{option_or}
@@ -97,7 +97,7 @@ ends_so setting i before (item.Stuck packet switch cause leg down) known ends =
     (same, subst (λ n. IsStuckCutOff setting before n switch leg) same known.second.second)
 ends_so setting i before x known ends = absurd cc
 
--- a packet that came in and doesn't travel has ended
+-- a packet that entered and doesn't travel has ended
 entered_ended : (setting : Setting) (journal : List Item) (i s : ℕ) (header : Header)
     → HaveCauses (IsKnownEnd setting) [] journal → IsIn (item.Entered i s header) journal
     → travels journal i ≡ false → HasItem (EndsOrIsCutOff setting i) journal

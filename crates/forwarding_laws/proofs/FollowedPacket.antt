@@ -1,4 +1,5 @@
--- A packet that came in behind a quiet journal, followed item by item as long as packets alone move.
+-- A packet that entered behind a quiet journal, followed item by item as long as packets alone
+-- move.
 use Rattle.std.proofs.Common.{ℕ, ◌≡◌, ◌<◌, ◌==◌, ◌∙◌, if◌then◌else◌, Bool, true, false, Some, None, List, [], ◌∷◌, ◌++◌, All, refl, ap, sym, subst, arith, inl, inr, ◌⊎◌}
 use Rattle.std.specs.Prelude.{IsFalse, IsTrue, find, option_map, unwrap_or}
 use Rattle.std.specs.Option.{option_or}
@@ -104,7 +105,7 @@ IsFollowed setting =
     Both (Passes setting)
     (Both (Behind (Past (IsWayItem setting)) (AllKept setting)) (StrongCause setting))
 
--- ---- another packet comes in
+-- ---- another packet enters
 
 comes_other : (packet i next : ℕ) → packet ≡ next → i < next → (packet == i) ≡ false
 comes_other packet i next number below = ne_eqb packet i (λ same. omega (arith, same, number, below))

@@ -1,4 +1,4 @@
--- A packet that comes in behind a quiet journal is followed over its step and the hops of a drain,
+-- A packet that enters behind a quiet journal is followed over its step and the hops of a drain,
 -- and has ended then.
 use Rattle.std.proofs.Common.{ℕ, ◌≡◌, ◌+◌, ◌-◌, ◌<◌, ◌≤◌, ◌==◌, ◌∙◌, true, false, Option, Some, None, List, [], ◌∷◌, ◌++◌, Contains, length, refl, ap, sym, subst, append_assoc, arith, inl, inr, ◌⊎◌}
 use Rattle.std.specs.Prelude.{IsTrue, find, option_map}
@@ -113,7 +113,7 @@ serves_there setting journal s updated there up =
     updated.serving (in_range 0 (length setting.net.switches) s (omega arith) (omega (arith, there)))
     up
 
--- ---- as it comes in
+-- ---- as it enters
 
 module _ (setting : Setting) (journal : List Item) (row s : ℕ) (header : Header) where
   abbrev i : ℕ

@@ -1,5 +1,5 @@
--- No premise of recovery and of rollouts is idle: schedules of two switches that lack one, computed;
--- and three that recover, though their networks aren't quiet.
+-- No premise of recovery and of rollouts is idle: schedules of two switches that lack one,
+-- computed; and three that recover, though their networks aren't quiet.
 use Rattle.std.proofs.Common.{ℕ, ◌≡◌, ◌+◌, ◌∙◌, ◌⊎◌, inl, inr, Some, None, List, [], ◌∷◌, ◌++◌, zero, suc, true, false, Bool, take, drop, Contains, Option, option_map, map, refl, ap, sym, true≢false, append-nil, arith}
 use Rattle.std.specs.Prelude.{◌&&◌, ◌||◌, ◌==◌, IsTrue, Ok, codes, not}
 use Rattle.std.proofs.lemmas.Bool.{and_parts}

@@ -1,4 +1,4 @@
--- What the steps of packets write once a packet came in: no switch, link, policy or mark changes.
+-- What the steps of packets write once a packet entered: no switch, link, policy or mark changes.
 use Rattle.std.proofs.Common.{ℕ, ◌≡◌, List, [], ◌∷◌, refl, ◌∙◌, rules}
 use Rattle.std.specs.Prelude.{⊤, IsFalse, IsTrue}
 use Rattle.five_tuple.specs.declared.header.Header.{Header}
@@ -17,7 +17,7 @@ use Rattle.convergence_laws.proofs.CallerLemmas.{AreKept, Both, IsWork, Walks, h
 use Rattle.packet_laws.proofs.SparedPackets.{IsNoRow}
 use Rattle.packet_laws.proofs.RestingPackets.{no_rows}
 
--- items of packets that come in and move
+-- items of packets that enter and move
 abbrev pub Comes : Setting → List Item → Item → Type 0
 Comes setting before (item.Entered packet s header) = ⊤
 Comes setting before next = IsWork setting before next

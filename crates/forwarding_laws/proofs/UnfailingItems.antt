@@ -1,5 +1,5 @@
--- Items that crash no switch and fail no link: all links of the network can be used, and each advert
--- names all links of its origin.
+-- Items that crash no switch and fail no link: all links of the network can be used, and each
+-- advert names all links of its origin.
 use Rattle.std.proofs.Common.{ℕ, ◌≡◌, ◌<◌, ◌==◌, ◌&&◌, ◌||◌, min, max, Bool, true, false, if◌then◌else◌, Some, None, List, [], ◌∷◌, ◌++◌, refl, ap, ◌∙◌}
 use Rattle.std.specs.Prelude.{⊤, IsTrue, unwrap_or}
 use Rattle.std.specs.List.{list_any}

@@ -1,4 +1,4 @@
--- A network forwards: a packet that comes in, and is drained, is decided by the newest version and
+-- A network forwards: a packet that enters, and is drained, is decided by the newest version and
 -- is dropped or leaves by its port, or it is stuck if no links lead on. Packets are those of Yu,
 -- Rexford, Freedman and Wang, "Scalable Flow-Based Networking with DIFANE", SIGCOMM 2010; that
 -- they end like this is our own notion.
@@ -37,7 +37,7 @@ pub record IsDecidedByNewest (setting : Setting) (before after : List Item) (pac
   pub first_match : IsFirstMatch (policy_at setting before (version_count before)) header
       (record { rule = rule; action = act })
 
--- the packet is stuck on this leg, and usable links led from where it came in to none of the
+-- the packet is stuck on this leg, and usable links led from where it entered to none of the
 -- targets
 pub record IsStuckApart (setting : Setting) (before after : List Item) (packet ingress : ℕ)
     (leg : Leg) : Type 0 where
@@ -48,7 +48,7 @@ pub record IsStuckApart (setting : Setting) (before after : List Item) (packet i
   pub apart : All (λ target. ¬ Reaches setting before ingress target)
       (targets_of setting before leg)
 
--- the packet leaves by the port, to whose switch such links led from where it came in
+-- the packet leaves by the port, to whose switch such links led from where it entered
 pub record LeavesThere (setting : Setting) (before after : List Item) (packet ingress port : ℕ)
     : Type 0 where
   pub leaving : Leaving
@@ -82,7 +82,7 @@ pub record FindsNoTarget (setting : Setting) (before after : List Item) (packet 
   pub stuck : IsStuckApart setting before after packet ingress
       (Seek (version_count before) partition)
 
--- this is true of each packet that comes in after the journal at a switch that is up, once all
+-- this is true of each packet that enters after the journal at a switch that is up, once all
 -- hops that a drain then takes are taken
 abbrev pub QuietForwards : Setting → List Item → Type 0
 QuietForwards setting before = (row later ingress : ℕ) (header : Header) (hops : List StepOfRow)

@@ -103,7 +103,7 @@ pub record HasItem (is : List Item → Item → Type 0) (journal : List Item) : 
   pub stands : journal ≡ before ++ found ∷ rest
   pub own : is before found
 
--- each packet that came in ended rightly
+-- each packet that entered ended rightly
 abbrev pub AllAccounted : Setting → List Item → Type 0
 AllAccounted setting journal = (packet switch : ℕ) (header : Header)
     → Contains journal (item.Entered packet switch header)

@@ -10,7 +10,7 @@ use Rattle.forwarding_laws.specs.Forwards.{QuietForwards}
 
 -- the network is quiet: so the switches know the usable links, a packet that had found no link
 -- down gets stuck in the next step only if no target is reachable, and the switches that are up
--- stamp with the newest version; and a packet that comes in then is decided by that version, and is
+-- stamp with the newest version; and a packet that enters then is decided by that version, and is
 -- dropped or leaves, or is stuck if usable links lead to no target of its partition or not to its
 -- port
 pub record HasComeToRest (setting : Setting) (journal : List Item) : Type 0 where

@@ -8,7 +8,7 @@ use convergence_laws::{
     packets_get_stuck_apart, quiet_networks_are_updated, quiet_networks_have_converged,
 };
 
-/// A network that has converged and is updated forwards. A packet that comes in at a switch that
+/// A network that has converged and is updated forwards. A packet that enters at a switch that
 /// is up, and is drained with no other event between, is decided by the newest version, and is
 /// dropped or leaves by its port. Only if usable links lead to no target of its partition, or not
 /// to its port's switch, it is stuck.

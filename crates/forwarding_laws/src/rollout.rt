@@ -29,7 +29,7 @@ pub fn connected_rollouts_leave_none_stuck()
     rollouts_drop_nothing();
 }
 
-/// And if the schedule ends with a drain, each packet that came in was dropped by its decision,
+/// And if the schedule ends with a drain, each packet that entered was dropped by its decision,
 /// left by the port of its decision, or was lost by its own row; or it is stuck because the
 /// network's links lead from where it is to no target of its leg.
 pub fn drained_rollouts_account_or_cut_off()

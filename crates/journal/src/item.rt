@@ -7,7 +7,7 @@ use steps::Step;
 
 /// One record of a journal.
 ///
-/// Packets and messages are numbered from 1 in the order in which they came in or were sent,
+/// Packets and messages are numbered from 1 in the order in which they entered or were sent,
 /// switches from 0, policy versions, files and boots from 1.
 #[derive(Drop)]
 pub enum Item {
@@ -16,7 +16,7 @@ pub enum Item {
         row: u32,
         step: Step,
     },
-    /// The packet came in at the switch.
+    /// The packet entered at the switch.
     Entered {
         packet: u32,
         switch: u32,

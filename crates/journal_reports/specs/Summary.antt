@@ -50,7 +50,7 @@ is_sent _ = false
 
 -- ---- the summary
 
--- how many items of each kind there are, and the marks at the end; all that came in count as
+-- how many items of each kind there are, and the marks at the end; all that entered count as
 -- travelling
 abbrev pub item_counts : List Item → Summary
 item_counts journal = record {
@@ -67,7 +67,7 @@ item_counts journal = record {
   retired = retired_mark journal;
 }
 
--- a packet that came in and neither left, nor was dropped or lost, nor is stuck, still travels
+-- a packet that entered and neither left, nor was dropped or lost, nor is stuck, still travels
 abbrev pub with_travelling : Summary → Summary
 with_travelling s = record s { travelling = s.travelling - (s.delivered + s.dropped + s.lost + s.stuck) }
 

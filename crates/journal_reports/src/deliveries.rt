@@ -1,4 +1,4 @@
-//! Which messages were delivered, by their numbers: those beyond the last place were not.
+//! Which messages were delivered, by their numbers: a number beyond the end wasn't.
 ghost use Rattle.std.specs.Prelude.{ℕ, ◌≡◌, ◌||◌, false, OnOk, slice_index_or};
 ghost use Rattle.update_machine.specs.Messages.{is_delivery};
 ghost use Rattle.journal_reports.specs.Judging.{MarksOneMore};

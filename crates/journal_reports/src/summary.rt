@@ -6,16 +6,16 @@ use journal::{How, Item, Journal};
 /// What became of the packets of a play, what was sent in it, and the versions that it ended with.
 #[derive(Clone, Copy)]
 pub struct Summary {
-    /// Packets that came in, or were refused at a switch that did not serve.
+    /// Packets that entered, or were refused at a switch that did not serve.
     pub packets: usize,
-    /// Packets that were refused so.
+    /// Packets that were refused at a switch that did not serve.
     pub closed: usize,
     /// Packets that left the network by a port.
     pub delivered: usize,
     pub dropped: usize,
     pub lost: usize,
     pub stuck: usize,
-    /// Packets that came in, minus the four counts above; 0 if these are more.
+    /// Packets that entered, minus the four counts above; 0 if these are more.
     pub travelling: usize,
     /// Decisions by cached rules.
     pub cached: usize,
@@ -34,7 +34,7 @@ pub fn summarize(journal: &Journal) -> Summary
     count(journal.items()).with_travelling()
 }
 
-// Counts the items in one pass: `travelling` gets all that came in.
+// Counts the items in one pass: `travelling` gets all that entered.
 fn count(items: &[Item]) -> Summary
     ensures { result ≡ item_counts items.now }
 {
@@ -87,7 +87,7 @@ impl Summary {
         }
     }
 
-    // The counts, with the packets that still travel: those that came in, minus those that ended.
+    // The counts, with the packets that still travel: those that entered, minus those that ended.
     fn with_travelling(self) -> Summary
         ensures { result ≡ with_travelling self }
     {

@@ -1,4 +1,5 @@
--- How long printed forms are: each has a bound, and the bounds of parts, one behind another, are added.
+-- How long printed forms are: each has a bound, and the bounds of parts, one behind another, are
+-- added.
 use Rattle.std.proofs.Common.{ℕ, zero, suc, ◌≡◌, ◌+◌, ◌*◌, ◌/◌, ◌%◌, ◌^◌, ◌<◌, ◌≤◌, ◌==◌, true, false, List, [], ◌∷◌, ◌++◌, length, get_or, subst, inl, inr, arith}
 use Rattle.std.specs.Prelude.{◌⊎◌, Option, Some, None, codes, decimal, if◌then◌else◌, slice_get}
 use Rattle.std.specs.Fmt.{digit_glyph}

@@ -27,7 +27,7 @@ pub enum NetRefusal {
     #[error("an earlier switch has the name")]
     DuplicateName = 6,
     /// A port is named before in this switch or in an earlier one.
-    #[error("the port stands twice")]
+    #[error("the port occurs twice")]
     DuplicatePort = 7,
     /// Both ends of a link are one switch.
     #[error("both ends are one switch")]

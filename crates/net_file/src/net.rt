@@ -50,7 +50,7 @@ pub struct Net {
     pub links: Links,
     /// The most rules of a leaf of a cut tree.
     pub leaf_rules: u32,
-    /// How many switches beside the first one host each region.
+    /// How many switches besides the first one host each region.
     pub backups: u32,
     /// The most entries of a switch's cache.
     pub cache: u32,

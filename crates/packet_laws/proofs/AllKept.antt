@@ -197,9 +197,9 @@ packets_on setting before next known cause grow i = by_name (is_of_packet i next
         (sym (stage_stays before next i (unnamed_stage i next e)))
         (kept_on setting before (before ++ next ∷ []) _ _ grow (known.kept.packets i)))
 
--- ---- packets that didn't come in
+-- ---- packets that didn't enter
 
--- an item names a packet that travels, or the next one, which comes in
+-- an item names a packet that travels, or the next one, which enters
 named_travels : (setting : Setting) (before : List Item) (next : Item) (i : ℕ)
     → PacketCause setting before next → is_of_packet i next ≡ true
     → IsTrue (travels before i)

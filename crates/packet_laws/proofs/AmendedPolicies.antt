@@ -70,7 +70,7 @@ decision_more : (before : List Item) (next : Item) (i : ℕ)
 unfolding decision_of
 decision_more before next i = last_given_append (gives_decision i) before (next ∷ [])
 
--- what didn't come in is undecided
+-- what didn't enter is undecided
 new_undecided : (setting : Setting) (before : List Item) (packet : ℕ) (decision : Decision)
     → Before setting before → decision_of before packet ≡ Some decision
     → next_packet before ≤ packet → ⊥

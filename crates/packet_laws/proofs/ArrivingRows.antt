@@ -10,7 +10,7 @@ use Rattle.update_machine.proofs.ExampleNetworks.{one}
 use Rattle.packet_laws.specs.Arriving.{IsAtEnd}
 use Rattle.packet_laws.specs.Stages.{stage_of}
 
--- a packet came in at switch 0, and seeks an authority at switch 1
+-- a packet entered at switch 0, and seeks an authority at switch 1
 abbrev seeking : List Item
 seeking = item.Entered 1 0 one ∷ item.Seeking 1 1 0 (0 ∷ 1 ∷ []) ∷ []
 

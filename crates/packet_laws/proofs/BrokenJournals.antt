@@ -41,7 +41,7 @@ use Rattle.packet_laws.specs.PacketCauses.{IsLostInCrash, MovesOver}
 abbrev cut : List Item → List Item
 cut items = item.Row 1 (LinkDown 0 1) ∷ item.LinkIs 0 1 false ∷ items
 
--- version 1 was retired before the packet came in; version 2 isn't current yet; it was decided
+-- version 1 was retired before the packet entered; version 2 isn't current yet; it was decided
 abbrev retired : List Item
 retired = cut (item.Row 2 (Update 2) ∷ item.Submitted 2 2 ∷ item.Current 2 ∷ item.Retired 1
     ∷ item.Row 3 (Packet 0 one) ∷ item.Entered 1 0 one ∷ [])
@@ -175,7 +175,7 @@ not_stuck_where_a_way_is_known cause =
     sym own.9 ∙ its_part there.0 own.5 there.1 there.2 in
     subst (All (no_way_to entered)) targets cause.no_path 0 0 (omega arith) (1 ∷ []) (refl, refl)
 
--- ---- packets that come in
+-- ---- packets that enter
 
 -- with another header than its row's
 not_with_another_header : StrongCause open_net (item.Row 1 (Packet 0 one) ∷ [])

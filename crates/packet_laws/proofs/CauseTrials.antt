@@ -22,7 +22,7 @@ use Rattle.packet_laws.specs.Stages.{stage_of}
 use Rattle.packet_laws.specs.StrongCauses.{StrongCause}
 use Rattle.packet_laws.specs.PacketCauses.{IsBlockedOn, IsLookedUp, TakesLeg, PacketCause}
 
--- a packet came in at switch 0
+-- a packet entered at switch 0
 abbrev in_at_0 : List Item
 in_at_0 = item.Row 1 (Packet 0 one) ∷ item.Entered 1 0 one ∷ []
 

@@ -216,7 +216,7 @@ hop_done setting i journal takes done = by_travelling (travels journal i) refl
     by_travelling true e =
         move_done setting i (unwrap_or (standing journal i) 0) (takes e).0 journal (takes e).1 done
 
--- a packet that comes in is done with where each rule of its lookup is there
+-- a packet that enters is done with where each rule of its lookup is there
 pub packet_done : (setting : Setting) (i s : ℕ) (header : Header) (journal : List Item)
     → (IsTrue (serves journal s) → (partition place : ℕ)
     → let entered = journal ++ item.Entered i s header ∷ [] in

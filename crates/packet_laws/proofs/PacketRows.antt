@@ -44,7 +44,7 @@ event_rows setting row Flush before steps all = none_rows steps
 event_rows setting row Drain before steps all = none_rows steps
     (event_steps_are BringsNone nexts_bring_none setting row Drain before steps tt all)
 
--- what stands in front of a step of the event
+-- what is before a step of the event
 record Front (row : ℕ) (steps : List StepOfRow) (last : StepOfRow) : Type 0 where
   none : rows_of steps ≡ []
   of_row : last.row ≡ row

@@ -225,7 +225,7 @@ piece_causes setting before row step own rests =
           (no_rows setting before row step))))),
     )
 
--- ---- packets that come in
+-- ---- packets that enter
 
 header_now : (journal : List Item) (i s : ℕ) (header : Header)
     → header_in (journal ++ item.Entered i s header ∷ []) i ≡ Some header

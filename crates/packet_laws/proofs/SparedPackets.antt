@@ -32,7 +32,7 @@ abbrev pub IsNoRow : Item → Type 0
 IsNoRow (item.Row row step) = ⊥
 IsNoRow _ = ⊤
 
--- nor does a packet come in, nor is one refused
+-- nor does a packet enter, nor is one refused
 abbrev pub IsInStep : Item → Type 0
 IsInStep (item.Row row step) = ⊥
 IsInStep (item.Entered packet switch header) = ⊥

@@ -1,4 +1,4 @@
--- Packets come in by a row of their own, and are lost in a crash that happened: on journals of few
+-- Packets enter by a row of their own, and are lost in a crash that happened: on journals of few
 -- items.
 use Rattle.std.proofs.Common.{◌≡◌, ◌⊎◌, false, true, Some, None, List, [], ◌∷◌, refl, inl, inr}
 use Rattle.journal.specs.declared.item.Item.{Item}

@@ -1,6 +1,6 @@
 -- First tier. The steps of a journal are the rows of its schedule that were played, one by one,
 -- except for the hops and deliveries that rows of a drain or a flush cause too. Each packet that
--- came in or was refused is that of a packet row: a journal without packets is that of a play
+-- entered or was refused is that of a packet row: a journal without packets is that of a play
 -- without packet rows. The notion is our own.
 use Rattle.std.specs.Prelude.{⊤, ℕ, Bool, IsTrue, IsFalse, ◌≡◌, ◌+◌, ◌-◌, Option, Some, None, List, [], ◌∷◌, ◌++◌, take}
 use Rattle.five_tuple.specs.declared.header.Header.{Header}
@@ -49,7 +49,7 @@ gives_row _ = []
 abbrev pub step_rows_in : List Item → List StepRow
 step_rows_in journal = all_given gives_row journal
 
--- the item says that packet i came in with this header at the switch, which serves, or that the
+-- the item says that packet i entered with this header at the switch, which serves, or that the
 -- switch was closed to it, which doesn't
 abbrev pub IsEntryOf : Bool → ℕ → ℕ → Header → Item → Type 0
 IsEntryOf serving i s header (item.Entered packet switch came) =
@@ -59,7 +59,7 @@ IsEntryOf serving i s header (item.Closed packet switch) =
 IsEntryOf serving i s header _ = ⊥
 
 -- after this journal each packet row among the items has its entry right after it, under the next
--- number, and nothing else comes in or is refused
+-- number, and nothing else enters or is refused
 abbrev pub EachEnters : List Item → List Item → Type 0
 EachEnters before [] = ⊤
 EachEnters before (item.Row row (Packet s header) ∷ []) = ⊥

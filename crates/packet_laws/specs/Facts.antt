@@ -19,7 +19,7 @@ changes_mark i before mark (item.Entered packet switch header) =
     if packet == i then retired_mark before else mark
 changes_mark i before mark _ = mark
 
--- the mark up to which versions were retired when the packet came in
+-- the mark up to which versions were retired when the packet entered
 unfoldable pub entry_mark : List Item → ℕ → ℕ
 entry_mark journal i = folded_value (changes_mark i) 0 journal
 

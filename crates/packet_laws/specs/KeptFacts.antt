@@ -24,7 +24,7 @@ abbrev pub Avoids : List ℕ → List ℕ → Type 0
 Avoids down route = (k one two : ℕ) → slice_get route k ≡ Some one
     → slice_get route (k + 1) ≡ Some two → IsFalse (has_link down one two)
 
--- it was decided by the first match of a version that wasn't retired when it came in and is at
+-- it was decided by the first match of a version that wasn't retired when it entered and is at
 -- most the current one
 pub record IsRightlyDecided (setting : Setting) (journal : List Item) (facts : PacketFacts)
     (header : Header) : Type 0 where
@@ -58,7 +58,7 @@ BringsRight setting journal (CacheRule version word rule action) =
     IsRightRule setting journal version word rule action
 BringsRight setting journal _ = ⊤
 
--- all packets, those that didn't come in, all messages that were sent, and all caches
+-- all packets, those that didn't enter, all messages that were sent, and all caches
 pub record AllKept (setting : Setting) (journal : List Item) : Type 0 where
   pub packets : (i : ℕ) → HasKeptFacts setting journal (what_is_known journal i) (stage_of journal i)
   pub unknown : (i : ℕ) → next_packet journal ≤ i → IsUnknown (what_is_known journal i)

@@ -56,7 +56,7 @@ pub record IsPartitionOf (setting : Setting) (journal : List Item) (header : Hea
   pub holds : IsTrue (is_in header (part_of hosted))
 
 -- a packet of this mark seeks the partition whose region holds its header, by a version that
--- wasn't retired when it came in and is at most the current one
+-- wasn't retired when it entered and is at most the current one
 pub record IsSought (setting : Setting) (journal : List Item) (mark : ℕ) (header : Header)
     (version partition : ℕ) : Type 0 where
   pub not_retired : mark < version
@@ -94,7 +94,7 @@ IsOnLeg setting journal facts header leg =
 
 -- ---- travelling packets
 
--- it came in with a header, at a switch
+-- it entered with a header, at a switch
 pub record HasComeIn (setting : Setting) (told : Option Header) (first : Option ℕ) : Type 0 where
   pub header : Header
   pub ingress : ℕ
@@ -109,7 +109,7 @@ pub record StandsThere (setting : Setting) (place : Option ℕ) : Type 0 where
   pub stands : place ≡ Some switch
   pub now : switch < length setting.net.switches
 
--- a travelling packet has a header, came in at a switch, and is at one
+-- a travelling packet has a header, entered at a switch, and is at one
 pub record IsUnderWay (setting : Setting) (journal : List Item) (facts : PacketFacts) : Type 0 where
   pub entry : HasComeIn setting facts.header facts.ingress
   pub open entry use *
@@ -125,7 +125,7 @@ pub record IsOnWay (setting : Setting) (journal : List Item) (facts : PacketFact
   pub on_leg : IsOnLeg setting journal facts under_way.header leg
   pub stands : slice_get facts.route facts.hops ≡ Some under_way.switch
 
--- nothing is known of a packet that didn't come in
+-- nothing is known of a packet that didn't enter
 pub record IsUnknown (facts : PacketFacts) : Type 0 where
   pub header : facts.header ≡ None
   pub travels : facts.travels ≡ false

@@ -50,7 +50,7 @@ gives_row_test _ = Some false
 unfoldable pub ends_with_row : List Item → Bool
 ends_with_row journal = unwrap_or (last_given gives_row_test journal) false
 
--- it comes in, or is refused, right after its row, under the next number
+-- it enters, or is refused, right after its row, under the next number
 pub record IsOfRow (before : List Item) (packet switch : ℕ) (header : Header) : Type 0 where
   pub number : packet ≡ next_packet before
   pub row : present_step before ≡ Some (Packet switch header)
@@ -69,7 +69,7 @@ pub record Misses (before : List Item) (packet switch : ℕ) : Type 0 where
   pub seeks : leg_of before packet ≡ Some (Seek version partition)
   pub missing : IsFalse (holds_version before switch version)
 
--- the switch looks it up: it just came in, or arrived with a version that the switch doesn't have
+-- the switch looks it up: it just entered, or arrived with a version that the switch doesn't have
 abbrev pub IsLookedUp : List Item → ℕ → ℕ → Type 0
 IsLookedUp before packet switch =
     (stage_of before packet ≡ Some CameIn) ⊎ Misses before packet switch

@@ -4,7 +4,7 @@ use Rattle.journal.specs.declared.item.Item.{Item}
 use Rattle.journal.specs.declared.item.Item.TheVariants as item
 use Rattle.update_machine.specs.Folds.{last_given}
 
--- a packet came in, was decided, or found a link down, and what its switch does with it follows in
+-- a packet entered, was decided, or found a link down, and what its switch does with it follows in
 -- the next items; or it is on its way on a route
 pub data Stage : Type 0 where
   CameIn : Stage

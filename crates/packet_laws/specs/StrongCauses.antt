@@ -1,5 +1,5 @@
 -- Causes as strong as a reader may require. With them a run whose rows are the schedule's keeps
--- the promise: each packet is decided by one whole version that wasn't retired when it came in, or
+-- the promise: each packet is decided by one whole version that wasn't retired when it entered, or
 -- was lost by a row, or was stuck because no route was known.
 use Rattle.std.specs.Prelude.{⊤, ℕ, ◌≡◌, ◌≢◌, ◌<◌, ◌≤◌, Some, None, List, IsFalse}
 use Rattle.failover.specs.Paths.{IsRoute}
@@ -34,7 +34,7 @@ pub record FindsLinkDown (setting : Setting) (before : List Item) (packet one tw
     pub linked : HasLink setting.net one two
 
 -- on its way to an authority, and until it is decided, the packet is undecided, and its version
--- wasn't retired when it came in and is at most the current one
+-- wasn't retired when it entered and is at most the current one
 pub record SeeksRightly (before : List Item) (packet version : ℕ) : Type 0 where
   pub undecided : decision_of before packet ≡ None
   pub not_retired : entry_mark before packet < version

@@ -33,7 +33,7 @@ pub fn items_keep_packets()
 {}
 
 /// Between steps a travelling packet is at a serving switch; its version wasn't retired when it
-/// came in, is at most the current one, and each switch that serves has it or stamps with a
+/// entered, is at most the current one, and each switch that serves has it or stamps with a
 /// greater one; and its route leads to a target of its leg, over no link that it found down.
 pub fn packets_travel()
     ensures { HoldsBetween (λ setting journal. IsSetting setting → PacketsTravel setting journal) }
@@ -52,9 +52,9 @@ pub fn cache_rules_are_right()
 {}
 
 /// When a `Stamp` message raises a switch to the version that an amendment made, each entry of the
-/// version before whose word meets no touched word stays in the cache, of the same message and in
-/// its place in the order, under the new version; if an entry of that version has its word already,
-/// that one stays instead. It then decides as the policy of that version does.
+/// version before whose word overlaps no touched word stays in the cache, of the same message and
+/// in its place in the order, under the new version; if an entry of that version has its word
+/// already, that one stays instead. It then decides as the policy of that version does.
 pub fn untouched_rules_stay()
     ensures { HoldsReached (λ setting journal. IsSetting setting → UntouchedStay setting journal) }
 {}
@@ -77,15 +77,15 @@ pub fn ends_have_causes()
 {}
 
 /// The journal is a run of the machine: each packet is decided once, by the first match of one
-/// whole version that wasn't retired when it came in, and ends as it was decided.
+/// whole version that wasn't retired when it entered, and ends as it was decided.
 pub fn answers_are_runs()
     ensures { HoldsReached (λ setting journal. IsSetting setting → IsRun setting journal) }
 {}
 
 /// And their causes are so strong that a run with them whose rows are the schedule's keeps the
 /// promise. A packet that is stuck on its way to an authority is undecided, and its version wasn't
-/// retired when it came in and is at most the current one; the same is true of the version of each
-/// decision. Links found down are links of the network; packets come in, and are lost, by the row
+/// retired when it entered and is at most the current one; the same is true of the version of each
+/// decision. Links found down are links of the network; packets enter, and are lost, by the row
 /// of the step that is taken.
 pub fn causes_are_strong()
     ensures { HoldsReached (λ setting journal.
@@ -122,7 +122,7 @@ pub fn packets_take_few_hops()
 
 /// A drain ends, after any steps of the network: each hop of the packet with the least number that
 /// travels leaves fewer hops to take. So the drain has all its hops, at most 20,544 for each
-/// packet that came in.
+/// packet that entered.
 pub fn drains_end()
     ensures fewer { (setting : Setting) (journal : List Item) (row i : ℕ)
         → IsSetting setting → IsReached setting journal → next_travelling journal ≡ Some i
@@ -159,8 +159,8 @@ pub fn plays_exist()
 
 /// The rows of a play's journal are those of its events that were played, in order, except for
 /// hops and deliveries, which drains and flushes cause too. Right after each packet row is what
-/// became of the packet: the packet with the next number came in with that header at that switch,
-/// which serves, or the switch was closed to it, which doesn't. No other packet comes in or is
+/// became of the packet: the packet with the next number entered with that header at that switch,
+/// which serves, or the switch was closed to it, which doesn't. No other packet enters or is
 /// refused.
 pub fn packet_rows_are_entered()
     ensures { (setting : Setting) (events : List Event) (journal : List Item)

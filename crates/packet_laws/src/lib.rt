@@ -1,5 +1,5 @@
 //! Packets on their way, and the cache rules that they bring: each journal is a run of the
-//! machine, what ends packets has its cause, and the packets that came in are those of the
+//! machine, what ends packets has its cause, and the packets that entered are those of the
 //! schedule's packet rows. A packet takes few routes and few hops, drains and flushes end, and
 //! each list of events has a play. And what every item keeps during an update, all of it in one
 //! law (Reitblatt, Foster, Rexford, Schlesinger and Walker, "Abstractions for Network Update"): so

@@ -67,8 +67,8 @@ pub record AreFirst (held load : ℕ → ℕ) (rooms : List ℕ) (size count : �
 
 -- ---- partitions one after another
 
--- how partitions take their turns: by falling keys, then by number. Each puts its size on all of its
--- targets, and its key on those that it loads
+-- how partitions take their turns: by falling keys, then by number. Each puts its size on all of
+-- its targets, and its key on those that it loads
 pub record TurnRule : Type 0 where
   pub keys : List ℕ
   pub sizes : List ℕ

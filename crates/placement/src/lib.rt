@@ -33,7 +33,7 @@ pub struct NoRoom {
 /// each partition an authority switch and this many backups.
 ///
 /// Partitions come by falling size, then by number. Each is put on the switches of least load, and
-/// then of least number, among those that have room for it beside the partitions that they have.
+/// then of least number, among those that have room for it besides the partitions that they have.
 ///
 /// # Errors
 /// `NoRoom` with the first partition, by falling size and then by number, that finds fewer switches

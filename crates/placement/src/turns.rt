@@ -22,7 +22,7 @@ impl Load {
     /// rooms, in rules: for each partition an authority switch and this many backups.
     ///
     /// Partitions come by falling key, then by number. Each is put on the switches of least load,
-    /// and then of least number, among those that have room for it beside the partitions that they
+    /// and then of least number, among those that have room for it besides the partitions that they
     /// have.
     ///
     /// # Errors

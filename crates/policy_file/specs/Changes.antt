@@ -1,5 +1,5 @@
--- The change of a policy that a text states, as CSV records, and what a policy file states: a policy
--- or a change of one.
+-- The change of a policy that a text states, as CSV records, and what a policy file states: a
+-- policy or a change of one.
 use Rattle.std.specs.Prelude.{ℕ, Bool, false, if◌then◌else◌, Result, Ok, Err, List, [], ◌∷◌, length, codes, bytes_eq}
 use Rattle.std.specs.Result.{result_map_both}
 use Rattle.csv_records.specs.Texts.{is_heading, records_of}

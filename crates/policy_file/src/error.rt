@@ -29,7 +29,7 @@ pub enum PolicyRefusal {
     /// The destination ports are no range.
     #[error("the destination ports are no range")]
     Dport = 7,
-    /// The protocol has no such name or number.
+    /// No protocol has this name or number.
     #[error("there is no such protocol")]
     Proto = 8,
     /// The action is neither `drop` nor `out:` and a port from 0 to 63.
@@ -38,7 +38,7 @@ pub enum PolicyRefusal {
     /// An earlier row has the priority; in a change, an earlier one that does the same.
     #[error("an earlier row has the priority")]
     SamePriority = 10,
-    /// There is a row 2,001.
+    /// There are more than 2,000 rows.
     #[error("there are too many rows")]
     TooManyRows = 11,
     /// The first field of the row of a change is neither `remove` nor `add`.

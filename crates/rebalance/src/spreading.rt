@@ -11,7 +11,7 @@ use std::alloc::Global;
 /// rooms, in rules: for each partition an authority switch and this many backups.
 ///
 /// Partitions come by falling weight, then by number. Each is put on the switches of least
-/// traffic, and then of least number, among those that have room for it beside the partitions that
+/// traffic, and then of least number, among those that have room for it besides the partitions that
 /// they have. The traffic of the first rises by its weight.
 ///
 /// # Errors

@@ -120,7 +120,7 @@ asked hops rise world row Drain is_begun step refines is =
           (reached_of world refines) at.is;
     })
 
--- ---- packets that come in
+-- ---- packets that enter
 
 pub none_yet : (event : Event) → brought_so_far event false ≡ 0
 none_yet (One own) = refl

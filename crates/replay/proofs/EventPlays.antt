@@ -88,7 +88,7 @@ plays_on setting before after whole row event events (Some at) happens rest = re
   of_row = rest.of_row;
 }
 
--- the next event stands in front of those that are left
+-- the next event is before those that are left
 pub plays_on_by : (setting : Setting) (before after whole : List Item) (row : ℕ)
     (events : List Event) (i : ℕ) (d : Event) (stop : Option ℕ) → i < length events
     → Happens setting row (get_or events i d) before after

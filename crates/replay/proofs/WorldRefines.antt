@@ -15,7 +15,7 @@ pub reached_of : (world : WorldValue) → RefinesJournal world
     → IsReached (setting_at world) world.journal
 reached_of world refines = (tie_of world refines).reached
 
--- few packets came in, so that another one may
+-- few packets entered, so that another one may
 pub few_packets : (world : WorldValue) (count : ℕ) → RefinesJournal world → world.packets ≤ count
     → count ≤ max_events → next_packet world.journal ≤ 4_000_000_000
 few_packets world count refines few most = omega (arith, (tie_of world refines).counted, few, most)

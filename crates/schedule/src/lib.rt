@@ -1,4 +1,4 @@
-//! Schedules as CSV text: a heading, and a record for each event. And the load cases.
+//! Schedules as CSV text, a heading and a record for each event; and the load cases.
 //!
 //! `read_schedule` promises the events that the text states for a network and this many policy
 //! files, or the text's first refusal and its row. In a row the kind is looked at first, then the

@@ -83,7 +83,7 @@ impl Block {
         Ok(())
     }
 
-    /// Writes the end of a text, which waits.
+    /// Writes what the block still has: the end of a text.
     pub fn finish<K: Sink>(self, sink: &mut K) -> Result<(), SinkError>
         ensures whole { (text : List ℕ) (before : Option (List ℕ))
             → IsGathered text before (K.state sink.old).bytes self

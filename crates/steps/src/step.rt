@@ -9,7 +9,7 @@ pub const MAX_NUMBER: u32 = 999_999_999;
 /// What one step does to the network.
 #[derive(Clone, Copy, Debug, PartialEq, Eq)]
 pub enum Step {
-    /// A packet with this header comes in at the switch.
+    /// A packet with this header enters at the switch.
     Packet { switch: u32, header: Header },
     /// The packet moves on over one link of its route, or arrives where the route ends.
     Hop { packet: u32 },
@@ -31,7 +31,7 @@ pub enum Step {
     Crash { switch: u32 },
     /// The switch comes up again, in a new boot.
     Restart { switch: u32 },
-    /// The controller is told that the switch is down.
+    /// The controller learns that the switch is down.
     Confirm { switch: u32 },
     /// What the switch and the controller have to say to each other is sent again.
     Resend { switch: u32 },

@@ -29,7 +29,7 @@ answer_counted s after site packet forwarding is =
 
 module _ (s after : SwitchValue) (site : Site) (number : ℕ) (header : Header)
     (forwarding : Forwarding) where
-  -- what is said of a packet that comes in at a switch that serves
+  -- what is said of a packet that enters at a switch that serves
   pub was_admitted : (ingress : ℕ) → after ≡ call_counted s → serves s ≡ true → ingress ≡ s.number →
       answer_of s site (packet_with number header ingress no_links) forwarding
       ≡ Answered (looked_up s site (packet_with number header ingress no_links)) →
@@ -64,7 +64,7 @@ module _ (s after : SwitchValue) (site : Site) (number : ℕ) (header : Header)
           let own : what s.number no_links ≡ Answered answer = cc in
           is answer (ap (λ i. what i down) here ∙ ap (what s.number) none ∙ own)
 
--- of a packet that comes in there is a lookup
+-- of a packet that enters there is a lookup
 pub by_lookup : (s : SwitchValue) (site : Site) (packet : Packet) (forwarding : Forwarding)
     (answer : Option Answer) →
     Some (answer_of s site packet forwarding) ≡ option_map Answered answer → IsByLookup forwarding

@@ -191,7 +191,7 @@ lookup_is s site packet ready = record {
   redirect = λ partition targets. lookup_redirect s site packet partition targets ready;
 }
 
--- ---- nothing goes to a cache as a packet comes in
+-- ---- nothing goes to a cache as a packet enters
 
 pub lookup_uncached : (s : SwitchValue) (site : Site) (packet : Packet) →
     packet.ingress ≡ s.number → IsUncached (Some (looked_up s site packet))

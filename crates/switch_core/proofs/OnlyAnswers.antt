@@ -99,7 +99,7 @@ pub one_answer : (s : SwitchValue) (site : Site) (packet : Packet) (answer : Ans
 one_answer s site packet answer ready law =
     same_answer s site packet answer _ law (lookup_is s site packet ready)
 
--- ---- of a packet that comes in
+-- ---- of a packet that enters
 
 pub one_entry : (s : SwitchValue) (site : Site) (packet : Packet) (answer : Entered) →
     (IsTrue (serves s) → IsReady s packet.header) → IsEntry s site packet answer →

@@ -1,4 +1,4 @@
--- What a switch answers as a packet comes in and as it arrives.
+-- What a switch answers as a packet enters and as it arrives.
 use Rattle.std.proofs.Common.{ℕ, ◌≡◌, ◌∙◌, ◌↔◌, Bool, true, false, cond, Option, Some, None, is_some, unwrap_or, refl, ap, subst}
 use Rattle.std.specs.Bool.{IsTrue, IsFalse}
 use Rattle.std.specs.Option.{IfSome, IsSomeAnd, option_map_or}
@@ -20,7 +20,7 @@ use Rattle.switch_core.specs.declared.tunnel_calls.Packet.{Packet}
 use Rattle.switch_core.proofs.LookupAnswers.{hit_in, lookup_is, sound_held, version_held}
 use Rattle.switch_core.proofs.OwnTables.{own_hit}
 
--- ---- a packet comes in
+-- ---- a packet enters
 
 pub entry_by : (s : SwitchValue) (site : Site) (packet : Packet) (test : Bool) →
     serves s ≡ test → admitted s site packet ≡ cond test (Some (looked_up s site packet)) None

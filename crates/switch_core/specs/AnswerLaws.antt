@@ -158,7 +158,7 @@ pub record LookupLaws : Type 0 where
       (answer : Answer) → IsReady s packet.header → IsRightAnswer s site packet answer →
       answer ≡ looked_up s site packet
 
--- ---- a packet comes in
+-- ---- a packet enters
 
 pub record IsEntry (s : SwitchValue) (site : Site) (packet : Packet)
     (enter_answer : Entered) : Type 0 where
@@ -216,7 +216,7 @@ pub record IsArrival (s : SwitchValue) (site : Site) (t : TunnelValue)
       (answer : Answer) × (arrive_answer ≡ arrived_with answer)
       × IsDecidedIn s site (packet_of t) version tables partition answer
   -- if the switch doesn't have the leg's version, it is looked up again under the stamp, as if it
-  -- came in here with the links that it found down
+  -- entered here with the links that it found down
   pub anew : (version partition : ℕ) →
       IsArriving s t → t.leg ≡ SeekLeg version partition → IsFalse (holds_version s version) →
       (answer : Answer) × (arrive_answer ≡ arrived_with answer)
@@ -252,7 +252,7 @@ pub record IsDecision (s : SwitchValue) (site : Site) (packet : Packet)
       × (body ≡ rule_to_cache decision.version by.own)
 
 pub record DecisionLaws : Type 0 where
-  -- this is true of every decision of a packet that comes in or arrives
+  -- this is true of every decision of a packet that enters or arrives
   pub on_entry : (s : SwitchValue) (site : Site) (packet : Packet)
       (decision : Decision) (way : Next) → IsReady s packet.header →
       enter_answer s site packet ≡ entry.Decided decision way →

@@ -1,4 +1,4 @@
--- What a switch returns for a packet that comes in, or that is at the end of its route, as
+-- What a switch returns for a packet that enters, or that is at the end of its route, as
 -- functions: both by the result of one lookup (Yu, Rexford, Freedman and Wang, "Scalable
 -- Flow-Based Networking with DIFANE", SIGCOMM 2010). What they say are the relations of
 -- `AnswerLaws`, which allow no other result.
@@ -62,13 +62,13 @@ decided_in s site packet partition tables =
     let part = part_numbered tables partition in
     decided_at s site packet tables.version part (place_of_first packet.header part)
 
--- ---- a packet comes in
+-- ---- a packet enters
 
 -- a switch that serves has the tables of its stamp
 abbrev pub CanLookUp : SwitchValue → Type 0
 CanLookUp s = IsTrue (serves s) → IsTrue (holds_version s s.stamp)
 
--- a packet that comes in at this switch, and found no link down
+-- a packet that enters at this switch, and found no link down
 abbrev pub incoming_packet : SwitchValue → ℕ → Header → Packet
 incoming_packet s number header = packet_with number header s.number no_links
 

@@ -1,5 +1,5 @@
 -- Where a packet moves once it is decided, and why it is stuck: both rules in one place. What the
--- first one says is the relation `IsWayOn`, which allows no other way.
+-- first one says is the relation `IsNextOf`, which allows no other way.
 use Rattle.std.specs.Prelude.{ℕ, Bool, true, false, ◌&&◌, ◌==◌, if◌then◌else◌, Option, Some, None, option_map, Result, Ok, Err, List, [], ◌∷◌}
 use Rattle.std.specs.List.{list_all}
 use Rattle.std.specs.Option.{ok_or}

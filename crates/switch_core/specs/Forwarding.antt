@@ -27,7 +27,7 @@ answer_of s site packet (Decided decision word) =
 answer_of s site packet (Seek leg targets) =
     answer.Answered (seek_by leg (set_out s site.near packet leg targets))
 
--- the result for a packet that comes in
+-- the result for a packet that enters
 abbrev pub admitted_as : SwitchValue → Site → Packet → Option Forwarding → Option Arrival
 admitted_as s site packet forwarding = option_map (answer_of s site packet) forwarding
 

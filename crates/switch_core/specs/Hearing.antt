@@ -20,7 +20,7 @@ use Rattle.ctrl_msg.specs.declared.message.Place.TheVariants.{Switch}
 use Rattle.ctrl_msg.specs.Kinds.{is_for_controller, to_controller}
 use Rattle.switch_core.specs.State.{SwitchValue, holds_version}
 
--- tables that come in are sound
+-- tables that arrive are sound
 abbrev pub IsSoundBody : Body → Type 0
 IsSoundBody (Install boot tables) = AreSoundTables tables
 IsSoundBody _ = ⊤

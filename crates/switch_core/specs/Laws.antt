@@ -45,7 +45,7 @@ pub record SwitchLaws : Type 0 where
       IsHeard s (with_message s number body)
   pub not_obeyed : (s : SwitchValue) (number : ℕ) (body : Body) → obeys s body ≡ false →
       with_message s number body ≡ s
-  -- tables that come in are kept, unless the switch has those of their version or its collect mark
+  -- tables that arrive are kept, unless the switch has those of their version or its collect mark
   -- is at least that
   pub after_install : (s : SwitchValue) (tables : Tables) (version : ℕ) →
       held_tables (with_installed s tables) version

@@ -64,7 +64,8 @@ pub fn rule_in(part: &Partition, place: u32) -> &Rule
     &part.rules.items()[place as usize]
 }
 
-/// The word of the rule for the cache of the switch where the packet entered, unless it is this one.
+/// The word of the rule for the cache of the switch where the packet entered, unless it is this
+/// one.
 #[tactic(auto, unfolding(crate::specs::Deciding::rule_for_cache))]
 pub fn cache_word(
     switch: u32,

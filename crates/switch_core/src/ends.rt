@@ -18,7 +18,7 @@ impl Switch {
     /// `near` has a bit for each switch to which there is a usable link.
     ///
     /// # Errors
-    /// Why there is none.
+    /// Why there is none, or out of memory.
     pub fn shared_route(
         &mut self,
         alloc: Global,

@@ -5,7 +5,7 @@
 //! many packet calls it counted. The laws say what those steps are in terms of lookups, rules,
 //! routes and tunnels. Only `begin`, `hear` and `shared_route` allocate.
 //!
-//! A packet comes in by `admit` and moves on by `pass`; `receive` says what becomes of it at the
+//! A packet enters by `admit` and moves on by `pass`; `receive` says what becomes of it at the
 //! end of its route, and `shared_route` finds the route of a leg. `enter`, `hop` and `arrive` are
 //! the same calls for whole tunnels.
 //!

@@ -18,10 +18,10 @@ pub struct Arriving<'a> {
 /// Where a packet moves on from a switch of its route.
 #[derive(Clone, Copy, Debug, PartialEq, Eq)]
 pub enum Onward {
-    /// Nowhere: it is at the end of its route.
+    /// It stays: it is at the end of its route.
     AtEnd,
     /// To this next switch of its route.
     Next(u32),
-    /// Not on along its route, because the link to this next switch is down.
+    /// It can't move on: the link to this next switch isn't usable.
     LinkDown(u32),
 }

@@ -120,7 +120,7 @@ impl Switch {
         self.held_tables(version).is_some()
     }
 
-    /// How many packet calls it counted: of `admit` for a packet that comes in here, of `pass` for
+    /// How many packet calls it counted: of `admit` for a packet that enters here, of `pass` for
     /// one that is here at a place of its route, and of `receive` for one that is here at its
     /// route's end. `enter`, `hop` and `arrive` make one of these each. A call counts only with
     /// the packet's header, or with its route and its place there, which has to be this switch.

@@ -202,7 +202,7 @@ impl Switch {
         }
     }
 
-    /// The result for a packet that comes in, with this forwarding.
+    /// The result for a packet that enters, with this forwarding.
     fn answer_entry(&self, site: Site, packet: &Packet, forwarding: Forwarding) -> Entered
         requires { IsByLookup forwarding }
         ensures { (answer : Answer)

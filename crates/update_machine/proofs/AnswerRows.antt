@@ -9,7 +9,7 @@ use Rattle.update_machine.specs.Handled.{handled_count}
 use Rattle.update_machine.proofs.ComputedSteps.{left_by}
 use Rattle.update_machine.proofs.ExampleNetworks.{at, one, shielded}
 
--- a packet comes in and is drained; then the cache rule that it brought is delivered
+-- a packet enters and is drained; then the cache rule that it brought is delivered
 abbrev entering : List StepOfRow
 entering = at 1 (step.Packet 0 one) ∷ []
 

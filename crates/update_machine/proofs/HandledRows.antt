@@ -24,7 +24,7 @@ unfolding handled_count steps_in travels standing
 round_at_b = refl
 
 -- a switch that is down refuses the packet, which is a call too; the hop of a packet that didn't
--- come in is none
+-- enter is none
 pub closed_at_b :
     handled_count
     (item.Row 1 (step.Crash 1) ∷ item.Down 1 ∷ item.Row 2 (step.Packet 1 one) ∷ item.Closed 1 1

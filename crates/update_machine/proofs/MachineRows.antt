@@ -118,7 +118,7 @@ is_run = (
   ),
 )
 
--- no packet is decided by a version that was retired as it came in
+-- no packet is decided by a version that was retired as it entered
 pub retired_decides_nothing :
     (old : Machine) (packet : Packet) (new : Machine) → old.packets 1 ≡ Some packet
     → packet.entry_mark ≡ 1

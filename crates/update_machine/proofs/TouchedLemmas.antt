@@ -1,4 +1,5 @@
--- What the change of a version touches: it stays so, and what it doesn't touch is decided as before.
+-- What the change of a version touches: it stays so, and what it doesn't touch is decided as
+-- before.
 use Rattle.std.proofs.Common.{ℕ, zero, suc, ◌≡◌, ◌≤◌, ◌∙◌, ◌||◌, Bool, true, false, if◌then◌else◌, nat_lt, Option, Some, None, Result, Ok, Err, List, [], ◌∷◌, ◌++◌, length, refl, ap, sym, subst, arith, ◌+◌}
 use Rattle.std.specs.Prelude.{All, IsTrue, IsFalse, IfSome, option_and_then}
 use Rattle.std.specs.List.{list_any}

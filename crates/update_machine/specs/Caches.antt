@@ -59,7 +59,7 @@ changes_cache setting s before cache (item.Delivered number) =
     cache
 changes_cache setting s before cache _ = cache
 
--- the cache of the switch: what its deliveries and timeouts made of the empty one in its boot
+-- the cache of the switch: what its deliveries and expiries made of the empty one in its boot
 unfoldable pub cache_of : Setting → List Item → ℕ → CacheValue
 cache_of setting journal s =
     folded_value (changes_cache setting s) (record { entries = []; capacity = setting.net.cache }) journal

@@ -24,7 +24,7 @@ abbrev pub is_message_to : List Item → ℕ → ℕ → Bool
 is_message_to before s number =
     option_map_or (λ message. is_to_switch s message.to) (message_of before number) false
 
--- its boots, its opening, its timeouts and what is delivered to it
+-- its boots, its opening, its expiries and what is delivered to it
 abbrev pub concerns_switch : ℕ → List Item → Item → Bool
 concerns_switch s before (item.Down switch) = switch == s
 concerns_switch s before (item.Booted switch boot) = switch == s
@@ -96,7 +96,7 @@ concerns_waiting s before (item.Down switch) = switch == s
 concerns_waiting s before (item.OverNow switch) = switch == s
 concerns_waiting s before _ = false
 
--- the calls of a switch: packets that come in there, hops of those that are there, and how a hop
+-- the calls of a switch: packets that enter there, hops of those that are there, and how a hop
 -- ends
 abbrev pub concerns_calls : ℕ → List Item → Item → Bool
 concerns_calls s before (item.Entered packet switch header) = switch == s
@@ -108,7 +108,7 @@ concerns_calls s before _ = false
 
 -- ---- packets, messages and steps as wholes
 
--- a packet comes in, is refused or ends
+-- a packet enters, is refused or ends
 abbrev pub concerns_packets : List Item → Item → Bool
 concerns_packets before (item.Entered packet switch header) = true
 concerns_packets before (item.Closed packet switch) = true

@@ -32,7 +32,7 @@ use Rattle.update_machine.specs.PacketRoutes.{found_down, next_switch, route_in,
 use Rattle.update_machine.specs.LinkMasks.{near, adverts_begun, adverts_heard, links_known}
 use Rattle.update_machine.specs.Touched.{touched_by}
 
--- nothing is said of a packet that didn't come in
+-- nothing is said of a packet that didn't enter
 pub record PacketStarts (i : ℕ) : Type 0 where
   pub header : header_in [] i ≡ None
   pub ingress : ingress_of [] i ≡ None

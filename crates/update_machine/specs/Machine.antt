@@ -20,7 +20,7 @@ pub data End : Type 0 where
   Lost : End
   Stuck : End
 
--- what the machine knows of a packet: its header, the mark when it came in, its decision and its
+-- what the machine knows of a packet: its header, the mark when it entered, its decision and its
 -- end
 pub record Packet : Type 0 where
   pub header : Header
@@ -68,13 +68,13 @@ pub record Retires (old : Machine) (mark : ℕ) (new : Machine) : Type 0 where
   pub below_newest : mark < length old.policies
   pub after : new ≡ record old { mark = mark }
 
--- a new packet comes in under the present mark
+-- a new packet enters under the present mark
 pub record Enters (old : Machine) (number : ℕ) (header : Header) (new : Machine) : Type 0 where
   pub unknown : old.packets number ≡ None
   pub after : new ≡ with_packet old number
       (record { header = header; entry_mark = old.mark; decision = None; end = None })
 
--- a packet gets the first match of one whole version that wasn't retired when it came in, and gets
+-- a packet gets the first match of one whole version that wasn't retired when it entered, and gets
 -- it once
 pub record Decides (old : Machine) (number version : ℕ) (hit : Hit) (new : Machine) : Type 0 where
   pub packet : Packet

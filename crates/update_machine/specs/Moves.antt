@@ -49,7 +49,7 @@ in_turn (block ∷ blocks) journal = items_then (block journal) (in_turn blocks)
 
 -- ---- legs
 
--- a packet that finds no route is stuck for lack of an authority exactly if it seeks one and no
+-- a packet that finds no route is stuck without an authority exactly if it seeks one and no
 -- known link ends at any target
 abbrev pub cause_at : Setting → List Item → ℕ → List ℕ → Leg → Cause
 cause_at setting journal s down (Seek version partition) =

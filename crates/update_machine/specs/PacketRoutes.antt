@@ -1,5 +1,5 @@
 -- The ways of packets: their routes, the links that they found down, and the targets of their legs.
--- They come in at an ingress switch, seek an authority switch and exit by a switch of their port,
+-- They enter at an ingress switch, seek an authority switch and exit by a switch of their port,
 -- as in Yu, Rexford, Freedman and Wang, "Scalable Flow-Based Networking with DIFANE", SIGCOMM 2010.
 use Rattle.std.specs.Prelude.{ℕ, ◌+◌, ◌==◌, if◌then◌else◌, Option, Some, None, option_map, unwrap_or, List, [], ◌∷◌, slice_get}
 use Rattle.failover.specs.Links.{no_links, with_link}

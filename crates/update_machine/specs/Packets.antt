@@ -24,7 +24,7 @@ abbrev pub gives_header : ℕ → Item → Option Header
 gives_header i (item.Entered packet switch header) = if packet == i then Some header else None
 gives_header i _ = None
 
--- the header with which the packet came in
+-- the header with which the packet entered
 unfoldable pub header_in : List Item → ℕ → Option Header
 header_in journal i = last_given (gives_header i) journal
 

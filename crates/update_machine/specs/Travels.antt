@@ -1,4 +1,4 @@
--- Which packets travel, where they came in, and on which leg they are: more about the packets of
+-- Which packets travel, where they entered, and on which leg they are: more about the packets of
 -- `Packets`.
 use Rattle.std.specs.Prelude.{ℕ, Bool, true, false, ◌&&◌, ◌==◌, if◌then◌else◌, Option, Some, None, option_and_then, unwrap_or, List, filter, find}
 use Rattle.std.specs.List.{range_with_len}
@@ -15,7 +15,7 @@ abbrev pub gives_ingress : ℕ → Item → Option ℕ
 gives_ingress i (item.Entered packet switch header) = if packet == i then Some switch else None
 gives_ingress i _ = None
 
--- the switch where it came in
+-- the switch where it entered
 unfoldable pub ingress_of : List Item → ℕ → Option ℕ
 ingress_of journal i = last_given (gives_ingress i) journal
 
@@ -28,7 +28,7 @@ gives_travelling i (item.Stuck packet switch cause leg down) =
     if packet == i then Some false else None
 gives_travelling i _ = None
 
--- it came in and hasn't ended
+-- it entered and hasn't ended
 unfoldable pub travels : List Item → ℕ → Bool
 travels journal i = unwrap_or (last_given (gives_travelling i) journal) false
 

@@ -293,7 +293,7 @@ not_refused held f joins whole (another_count place g at other) = other (held_co
 not_refused held f joins whole (another_frame g at other) = other (joins.same g at)
 not_refused held f joins whole (no_message all none) = whole all none
 
--- want of memory, or a frame that is refused, changes nothing
+-- running out of memory, or a frame that is refused, changes nothing
 fed_err : (held : List (List ℕ)) (f : List ℕ) (after : List (List ℕ)) (error : Failure Malformed)
     → AreTogether held → IfRefused (λ _. IsRefusedFrame held f) error → after ≡ held → IsFed held f after (Err error)
 fed_err held f after error together refused unchanged = record {

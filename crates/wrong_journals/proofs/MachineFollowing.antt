@@ -9,7 +9,7 @@ use Rattle.journal.specs.declared.item.Item.TheVariants as item
 use Rattle.update_machine.specs.Machine.{Dropped, End, IsRun, LeftBy, Lost, Machine, Packet, Runs, Stuck, Takes, first_machine, submitted_policy, with_packet}
 use Rattle.update_machine.specs.Setting.{Setting, policy_by}
 
--- what the machine knows of a packet changes, if it came in
+-- what the machine knows of a packet changes, if it entered
 abbrev pub changed : Machine → ℕ → (Packet → Packet) → Machine
 changed old number change = elim (old.packets number) [
   | None ↦ old

@@ -1,4 +1,4 @@
--- Moves of the machine with one packet: it comes in, is decided, and ends.
+-- Moves of the machine with one packet: it enters, is decided, and ends.
 use Rattle.std.proofs.Common.{ℕ, ◌≡◌, ◌<◌, Some, None, List, refl, arith}
 use Rattle.five_tuple.specs.declared.header.Header.{Header}
 use Rattle.policy_rules.specs.Policy.{IsFirstMatch}
@@ -9,7 +9,7 @@ use Rattle.update_machine.specs.Machine.{Decides, End, Ends, Enters, Machine, Ma
 use Rattle.wrong_journals.specs.Office.{allowed, office_policy}
 use Rattle.wrong_journals.proofs.FirstMatches.{by_100, first_of_allowed}
 
--- a packet that came in under this mark
+-- a packet that entered under this mark
 abbrev pub comer : Header → ℕ → Packet
 comer header mark =
     record { header = header; entry_mark = mark; decision = None; end = None }

@@ -16,7 +16,7 @@ abbrev pub PrintsAs : List Item → List (List ℕ) → Type 0
 PrintsAs journal lines = journal_text two_switches journal ≡ text_of lines
 
 -- the schedule of the rows that a journal has: then the only way its entries can fail is that a
--- packet comes in by no row
+-- packet enters by no row
 abbrev pub event_in : Item → List Event
 event_in (item.Row row step) = One step ∷ []
 event_in _ = []

@@ -78,7 +78,7 @@ denied = header_to 167838981
 
 -- ---- how journals begin
 
--- a packet comes in at a
+-- a packet enters at a
 abbrev pub in_at_a : Header → List Item
 in_at_a header = item.Row 1 (Packet 0 header) ∷ item.Entered 1 0 header ∷ []
 
@@ -94,7 +94,7 @@ gets version action = item.Decided 1 version (Some 100) action (Authority 0 0)
 
 -- ---- in print
 
--- an allowed packet comes in at a
+-- an allowed packet enters at a
 abbrev pub printed_in_at_a : List (List ℕ)
 printed_in_at_a = codes "row 1: packet a 1.2.3.4 10.2.0.1 5000 80 tcp" ∷ codes "  entered 1 a" ∷ []
 

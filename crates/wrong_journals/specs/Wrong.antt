@@ -15,7 +15,7 @@ use Rattle.wrong_journals.specs.Office.{allowed, denied, gets, in_at_a, in_behin
 abbrev pub another_row : List Item
 another_row = in_at_a denied ++ gets 1 (Out 2) ∷ []
 
--- a packet is decided by version 1, which was retired before it came in
+-- a packet is decided by version 1, which was retired before it entered
 abbrev pub retired_version : List Item
 retired_version =
     item.Row 1 (Update 2) ∷ item.Submitted 2 2 ∷ item.Retired 1 ∷ item.Row 2 (Packet 0 allowed)
@@ -56,6 +56,6 @@ stuck_beside_a_route =
 
 -- ---- entries
 
--- a packet comes in that no row of the schedule has
+-- a packet enters that no row of the schedule has
 abbrev pub entered_unasked : List Item
 entered_unasked = item.Entered 1 0 allowed ∷ []

@@ -36,11 +36,11 @@ pub fn wrong_journals_print()
 {}
 
 /// A packet is decided once, only by the first match and by no other row that matches it: not by a
-/// version that was retired when it came in, nor by one that was never submitted; not by an old
+/// version that was retired when it entered, nor by one that was never submitted; not by an old
 /// version and then by a new one, nor by the rule of the new one with the old one's action. One
 /// that wasn't decided isn't dropped, and a packet leaves only by the port of its decision. It is
 /// lost only by its row or by the crash of its switch, isn't stuck if its switch knows a way to a
-/// target of its leg, and comes in only by a row of the schedule.
+/// target of its leg, and enters only by a row of the schedule.
 #[tactic(auto, using(crate::proofs::NoRuns::another_row_is_no_run, crate::proofs::NoRuns::retired_version_is_no_run, crate::proofs::NoRuns::unknown_version_is_no_run, crate::proofs::NoRuns::decided_twice_is_no_run, crate::proofs::NoRuns::half_and_half_is_no_run, crate::proofs::NoRuns::other_port_is_no_run, crate::proofs::NoRuns::dropped_undecided_is_no_run, crate::proofs::ComputedRuns::lost_by_nothing_is_run, crate::proofs::ComputedRuns::stuck_beside_a_way_is_run, crate::proofs::ComputedRuns::entered_unasked_is_run, crate::proofs::WrongCauses::other_port_has_no_cause, crate::proofs::WrongCauses::lost_by_nothing_has_no_cause, crate::proofs::WrongCauses::stuck_beside_a_way_has_no_cause), unfolding(update_machine::specs::Causes::present_step, update_machine::specs::Links::serves, update_machine::specs::Packets::next_packet))]
 pub fn wrong_journals_are_refused()
     ensures no_runs { IsNoRun another_row × IsNoRun retired_version × IsNoRun unknown_version

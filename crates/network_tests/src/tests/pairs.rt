@@ -39,7 +39,7 @@ pub const DROPPED: &str = "  decided 1 v1 rule default drop authority b part 0\n
     rule default drop\n\
     \x20 dropped 1\n";
 
-/// What is printed of a packet with this header that comes in at a in this row, and hops to b in
+/// What is printed of a packet with this header that enters at a in this row, and hops to b in
 /// the next one, up to the row in which b decides it by this version.
 pub fn hopped(
     alloc: Global,

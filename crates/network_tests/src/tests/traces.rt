@@ -167,17 +167,17 @@ const MORNING: &str = "  decided 1 v1 rule 600 out:2 authority b part 0\n\
     \x20 link b d down\n\
     \x20 sent 2 a advert b boot 1 seq 2 up a\n";
 
-/// .. of the third packet after its hop, and in the row of the update, ..
+/// The lines of the third packet after its hop, and the row of the update.
 const FORENOON: &str = "  decided 3 v1 rule 300 out:3 authority b part 0\n\
     \x20 exit 3 via b a c d\n\
     row 9: hop 3\n\
     \x20 out 3 port 3\n\
     row 10: update 2\n";
 
-/// .. when the second policy is submitted, ..
+/// The line of the second policy, as it is submitted.
 const SUBMITTED: &str = "  submitted file 2 version 2\n";
 
-/// .. until the first version is retired, ..
+/// The lines until the first version is retired.
 const NOON: &str = "  sent 15 a install boot 1 version 2\n\
     row 11: deliver 15\n\
     \x20 delivered 15\n\

@@ -42,7 +42,7 @@ fn take(rt: &impl Abort, world: &mut World, row: u32, step: &Step) -> Result<(),
     Ok(())
 }
 
-// Three packets come in at a.
+// Three packets enter at a.
 fn play(rt: &impl Abort, world: &mut World) -> Result<(), Fail>
     requires { 1 ≤ length world.old.net.switches }
 {

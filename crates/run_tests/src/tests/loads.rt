@@ -17,7 +17,7 @@ const SECOND: &[u8] = b"priority,src,dst,sport,dport,proto,action\n\
 const SUMMARY: &str = "packets 4\nclosed 0\ndelivered 0\ndropped 4\nlost 0\nstuck 0\n\
     travelling 0\ncached 0\nmessages 80\ncurrent 2\nretired 1\n";
 
-/// The switches at which packets come in.
+/// The switches at which packets enter.
 fn entries(alloc: Global, events: &[Event]) -> Result<Vec<u32>, AllocError> {
     let mut switches = Vec::new(alloc);
     for event in events {
@@ -67,7 +67,7 @@ fn unmatched_at(alloc: Global, items: &[Item], authority: u32) -> Result<Vec<u32
     Ok(packets)
 }
 
-/// The play is that of the case: each packet meets no row, at the authority n1.
+/// The play is that of the case: no row matches a packet, at the authority n1.
 #[test]
 fn plays_the_case(rt: HostRuntime) -> Result<(), Fail> {
     let alloc = rt.alloc();
@@ -79,7 +79,7 @@ fn plays_the_case(rt: HostRuntime) -> Result<(), Fail> {
     Ok(())
 }
 
-/// No meter has a line, and each run prints the same.
+/// No line of a meter is printed, and each run prints the same.
 #[test]
 fn prints_the_same_each_time(rt: HostRuntime) -> Result<(), Fail> {
     let once = recorded(rt.alloc(), &["load", "5"], &[])?;

@@ -62,9 +62,8 @@ const FIRST_FLOW: &str = "flow port 3 10.1.1.1 9.9.9.9 5000 80 tcp packets ";
 
 const SECOND_FLOW: &str = "flow port 3 10.1.1.2 9.9.9.9 5000 80 tcp packets 1\n";
 
-/// Flow records are printed of a meter that left, as they were when it left, and of those that
-/// stayed: here one that is complete with its first header or its second, or none, and its records
-/// come before those of the meters that stay.
+/// `flows` prints the records of a meter that left, as they were then, and after them those of the
+/// meters that stayed. Here one meter is complete with its first header or its second, or none is.
 #[test]
 fn flows_are_told(rt: HostRuntime) -> Result<(), Fail> {
     let alloc = rt.alloc();

@@ -205,7 +205,7 @@ fn stopped(ran: &Ran) -> bool {
 // For runs in which an allocation fails (`rt try --test --fail-alloc N`); the other tests assert
 // that there is enough memory.
 #[test]
-fn ends_whole_or_for_want_of_memory(rt: HostRuntime) {
+fn ends_whole_or_out_of_memory(rt: HostRuntime) {
     let Ok(ran) = played(rt.alloc(), &PLAIN) else {
         return;
     };

@@ -24,9 +24,9 @@ fn played(alloc: Global, args: &[&str], failing_read: u64) -> Result<Ran, AllocE
     ran(alloc, args, shelf)
 }
 
-/// Arguments, the read that fails, and how the run ends: its status, its output and its line of errors.
-/// Each policy is read and checked before the next one is read, and the first one is planned last;
-/// a later one may have no plan.
+/// Arguments, the read that fails, and how the run ends: its status, its output and its line of
+/// errors. Each policy is read and checked before the next one is read, and the first one is
+/// planned last; a later one may have no plan.
 const READ: [(&[&str], u64, u8, &str, &str); 5] = [
     (
         &["replay", "s.csv", "row.csv", "wide.csv"],

@@ -207,7 +207,7 @@ const fn by_authority() -> How {
     }
 }
 
-// Whether a packet that comes in is decided by this version, in this way.
+// Whether a packet that enters is decided by this version, in this way.
 fn enters(b: &mut Switch, ports: &Ports, version: u32, how: How) -> bool {
     if !b.holds_version(b.stamp()) {
         return false;
@@ -267,7 +267,7 @@ fn an_authority_switch_decides(rt: HostRuntime) -> Result<(), Fail> {
     Ok(())
 }
 
-// A packet that comes in at a, and sets out.
+// A packet that enters at a, and sets out.
 fn setting_out(a: &mut Switch, ports: &Ports) -> Option<Tunnel> {
     if !a.holds_version(a.stamp()) {
         return None;
