@@ -24,7 +24,7 @@ _difane() {
 complete -o filenames -o plusdirs -F _difane difane
 
 # A script of the desk completes what its --help has: after a dash the options, and after FOLDER
-# the words that stand there. For FOLDER itself there are the examples, and else files.
+# the words that go there. For FOLDER itself there are the examples, and else files.
 _difane_desk() {
     local word=${COMP_WORDS[COMP_CWORD]} help words=
     help=$("${COMP_WORDS[0]}" --help 2> /dev/null < /dev/null)

@@ -7,13 +7,13 @@ HOSTS = {"nw_src": 72, "nw_dst": 40}  # the lowest bit of each address in a word
 REGISTERS = {"reg0": (24, 16), "reg1": (8, 16), "reg2": (0, 8)}  # and of the others, with its width
 TOP = 65535  # the priority of cache rules
 
-# What a flow stands for is the upper half of its cookie, and a number the lower one: the rank of a
+# What a flow means is the upper half of its cookie, and a number the lower one: the rank of a
 # rule, the part of a region, the message of a cache rule.
 RULE, SENT_ON, CACHED, COPYING, TAGGED = (kind << 32 for kind in range(1, 6))
 
 
 def kind_of(cookie):
-    """What a flow stands for, and its number."""
+    """What a flow means, and its number."""
     number = cookie & (1 << 32) - 1
     return cookie - number, number
 

@@ -3,6 +3,7 @@ import re
 from collections import Counter
 
 from parts.journal import said_by
+from parts.table import plural
 
 from . import daemon, flows, tables
 
@@ -10,11 +11,11 @@ TUNNEL = "to-"
 
 
 def read_text(text):
-    """The tables of a switch, and the lines of the journal that stands behind them, if any."""
+    """The tables of a switch, and the lines of the journal after them, if any."""
     held, journal = tables.read_tables(text)
     for number, line in enumerate(journal, text.count("\n") - len(journal) + 1):
         if said_by(line.removeprefix("  ")) is None:
-            raise tables.Refused(f"line {number}: no line of a journal stands here: {line[:60]!r}")
+            raise tables.Refused(f"line {number}: this is no line of a journal: {line[:60]!r}")
     return held, journal
 
 
@@ -91,7 +92,7 @@ def told_of(switch, journal):
 
 
 def all_flows(held, journal):
-    """The flows of tables, and of the cache rules of the journal that stands behind them."""
+    """The flows of tables, and of the cache rules of the journal after them."""
     cached = {}
     for what, number, *rest in told_of(held.switch, journal):
         if what == "learn":
@@ -193,7 +194,7 @@ def play(bridge, told, names):
 
 
 def name_of(cookie, names):
-    """What a flow of table 1 stands for; a rank has the name of its row."""
+    """What a flow of table 1 means; a rank has the name of its row."""
     if cookie is None:
         return None
     kind, number = flows.kind_of(cookie)
@@ -215,8 +216,9 @@ def compare(path):
         names = {rule.rank: rule.name for rule in held.rules}
         same, wrong, unseen = play(bridge, told, names)
     print(
-        f"{path.parent.resolve().name}/{path.name}: {rules} rules and {regions} regions in {count} "
-        f"flows; {same} lookups as in the journal, {wrong} others, {unseen} not sent",
+        f"{path.parent.resolve().name}/{path.name}: {plural(rules, 'rule')} and "
+        f"{plural(regions, 'region')} in {plural(count, 'flow')}; {plural(same, 'lookup')} as in the "
+        f"journal, {wrong} others, {unseen} not sent",
         flush=True,
     )
     return wrong > 0 or count != rules + regions

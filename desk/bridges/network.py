@@ -1,4 +1,4 @@
-"""A network of bridges beside a journal: each packet goes through it from where it came in."""
+"""A network of bridges beside a journal: each packet goes through it from where it entered."""
 import re
 import time
 from collections import Counter
@@ -6,6 +6,7 @@ from typing import NamedTuple
 
 from parts.folder import Case
 from parts.plays import Player
+from parts.table import plural
 
 from . import daemon, flows, tables
 from .told import told_of
@@ -18,7 +19,7 @@ PATIENCE = 5.0  # seconds until the ports have counted what was sent
 
 
 class Seen(NamedTuple):
-    """What a network does with a packet: the name of the rule, the end, and the way."""
+    """What a network does with a packet: the name of the rule, the end, and the path."""
 
     rule: str | None
     end: str
@@ -58,7 +59,7 @@ class Network(daemon.OpenVSwitch):
         return count
 
     def enters(self, packet):
-        """The bridge and the port by which a packet comes in."""
+        """The bridge and the port by which a packet enters."""
         here = self.net.names.index(packet.at)
         return f"switch{here}", f"in{here}-{packet.version}"
 
@@ -186,8 +187,8 @@ def compare(folder):
     others = ", ".join(f"{count} {why}" for why, count in reasons.items()) or "none"
     print(*wrong, sep="\n", end="\n" if wrong else "")
     print(
-        f"{folder.resolve().name}: {len(net.names)} switches, {network.count} flows; "
-        f"{len(seen)} packets ({cached} of caches), {len(wrong)} differences; "
+        f"{folder.resolve().name}: {plural(len(net.names), 'switch')}, {network.count} flows; "
+        f"{plural(len(seen), 'packet')} ({cached} of caches), {plural(len(wrong), 'difference')}; "
         f"not compared: {others}",
         flush=True,
     )

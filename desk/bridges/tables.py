@@ -74,11 +74,11 @@ class Lines:
         """The fields of the next line, which must have this shape."""
         self.taken += 1
         if self.taken > len(self.lines):
-            self.refuse(f"the text ends where a line `{shape}` must stand")
+            self.refuse(f"the text ends, and a line `{shape}` must follow")
         found = re.fullmatch(SHAPES[shape], self.lines[self.taken - 1], re.ASCII)
         if found is None:
             line = self.lines[self.taken - 1]
-            self.refuse(f"a line `{shape}` must stand here, and not {line[:60]!r}")
+            self.refuse(f"a line `{shape}` must be here, and not {line[:60]!r}")
         for field in found.groups():
             if re.fullmatch(WORD, field) and bits(field)[0] & ~bits(field)[1]:
                 self.refuse("the word has a bit that its mask leaves free")
@@ -102,7 +102,7 @@ def own_block(lines):
 
 
 def read_tables(text):
-    """The tables of a whole text of `show`, and the lines that stand behind it."""
+    """The tables of a whole text of `show`, and the lines after it."""
     lines = Lines(text)
     (switch,) = lines.take(TITLE)
     (count,) = lines.take(OWN)
@@ -112,20 +112,20 @@ def read_tables(text):
     for number in range(int(count)):
         part, word, targets = lines.take(REGION)
         if int(part) != number:
-            lines.refuse(f"part {number} must stand here")
+            lines.refuse(f"part {number} must be here")
         regions.append(Region(number, word, targets.split(" ")))
     own = [(part, word) for part, word, targets in regions if switch in targets]
     if own != [block for block, _ in blocks]:
-        lines.refuse(f"the parts with the target {switch} aren't those whose rules stand above")
+        lines.refuse(f"the parts with the target {switch} aren't those whose rules are above")
     return Tables(switch, [rule for _, rules in blocks for rule in rules], regions), lines.left()
 
 
 def read_file(path):
-    """The tables that stand in a file."""
+    """The tables in a file."""
     try:
-        held, behind = read_tables(path.read_text("ascii", "backslashreplace"))
+        held, after = read_tables(path.read_text("ascii", "backslashreplace"))
     except Refused as refused:
         raise Refused(f"{path} {refused}") from refused
-    if behind:
-        raise Refused(f"{path}: more stands behind the tables")
+    if after:
+        raise Refused(f"{path}: there are lines after the tables")
     return held

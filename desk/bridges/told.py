@@ -1,14 +1,14 @@
-"""What a journal tells of packets, and the version by which each one came in."""
+"""What a journal says of packets, and the version under which each one entered."""
 from typing import NamedTuple
 
 from . import flows, tables
 
-LOST, IN_FLIGHT = "lost or on their way", "looked up by another version"
+LOST, IN_FLIGHT = "lost or still travelling", "looked up by another version"
 UNSEEN = "with ports that a switch doesn't see"
 
 
 class Packet(NamedTuple):
-    """A packet of a journal: where and by which version it came in, and what became of it."""
+    """A packet of a journal: where and under which version it entered, and how it ended."""
 
     number: int
     at: str
@@ -30,7 +30,7 @@ class Packet(NamedTuple):
         return None if flows.is_seen(self.header) else UNSEEN
 
     def is_as(self, seen):
-        """Whether this became of the packet; a cache takes it another way."""
+        """Whether the packet ended so; a cache lets it take another route."""
         same = (self.rule, self.end) == (seen.rule, seen.end)
         return same and (self.cached or self.way == seen.way)
 

@@ -19,7 +19,7 @@ class Net:
         self.toward = [self.ways_to(target) for target in range(len(rows))]
 
     def ways_to(self, target):
-        """For each switch that can reach the target, the next one on its least shortest way."""
+        """For each switch that can reach the target, the next one on its least shortest path."""
         ahead, level = {target: target}, [target]
         while level:
             fresh = {}
@@ -47,12 +47,12 @@ class Wiring:
         self.net, self.here = net, here
 
     def onward(self, target):
-        """The action that sends a packet over the next link to a switch; none without a way."""
+        """The action that sends a packet over the next link to a switch; none without a route."""
         ahead = self.net.toward[target].get(self.here)
         return None if ahead is None else f"output:link{self.here}-{ahead}"
 
     def tagged(self, tag, target):
-        """The actions that tag a packet and send it to a switch; it ends here without a way."""
+        """The actions that tag a packet and send it to a switch; it ends here without a route."""
         onward = self.onward(target)
         return f"mod_vlan_vid:{tag[0]},mod_vlan_pcp:{tag[1]},{onward}" if onward else "drop"
 
@@ -80,11 +80,11 @@ class Wiring:
             yield flows.flow(flows.TAGGED, 0, 1, match, actions)
 
     def looking_up(self, version):
-        """The actions that look a packet up by a version; it may leave by where it came in."""
+        """The actions that look a packet up by a version; it may leave where it entered."""
         return f"load:{version}->NXM_NX_REG3[],load:0->NXM_OF_IN_PORT[],resubmit(,1)"
 
     def entering(self, versions):
-        """The flows of table 0: packets come in, or go from bridge to bridge with a tag."""
+        """The flows of table 0: packets enter, or go from bridge to bridge with a tag."""
         for version, targets in versions.items():
             look = self.looking_up(version)
             yield flows.flow(flows.TAGGED, 0, 2, f"in_port=in{self.here}-{version}", look)

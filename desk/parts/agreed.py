@@ -1,5 +1,7 @@
 """Whether a journal agrees with the files beside it; nothing is said of one that doesn't."""
 import sys
+from bisect import bisect_left
+from collections import Counter
 
 from .boxes import Ranked, point_of
 from .packets import HEADER
@@ -8,7 +10,7 @@ from .records import lines_of, records_of
 from .script import Mistake
 
 PLAYED = {"drain": "hop", "flush": "deliver"}  # each of their steps is a line of this kind
-FULL = 990_000  # a play that stopped full has sent so many messages, each in a line
+FULL = 990_000  # messages that a play which stopped full has sent
 INPUTS = ("net.toml", "schedule.csv", "policy*.csv")
 
 
@@ -44,10 +46,10 @@ def schedule_of(case):
     return {one.row: one.fields for one in records_of(lines_of(path)) if one.row}
 
 
-def check_row(case, schedule, item):
+def check_row(case, item):
     """That the schedule has the row of which the journal's line tells."""
     kind, *said = item.text.split(" ")[2:]
-    there, *fields = schedule.get(item.row, ["none"])
+    there, *fields = case.schedule.get(item.row, ["none"])
     if there in PLAYED:
         agrees = kind == PLAYED[there]
     else:
@@ -68,15 +70,39 @@ def plain(kind, fields):
         return fields
 
 
-def check_all(case, schedule, seen):
-    """That the journal has each row of the schedule; only drains and flushes may do nothing."""
-    for row, (kind, *_) in schedule.items():
-        if kind not in PLAYED and row not in seen:
+def check_all(case, play):
+    """That the journal has each row of the schedule; a drain or a flush may have nothing to do."""
+    for row, (kind, *_) in case.schedule.items():
+        if kind not in PLAYED and row not in case.seen:
             raise Mistake(f"{case.journal.name} has no row {row}, and schedule.csv has: {kind}; "
                           f"{is_from(case)}")
+    packets, messages = play.packets.values(), play.network.messages.values()
+    check_left(case, "drain", ((f"packet {one.number} travels", one.row, one.end_row)
+                               for one in packets))
+    check_left(case, "flush", ((f"message {one.number} waits", one.sent,
+                                one.delivered or one.forgotten) for one in messages))
 
 
-# ---- decisions, and the network
+def check_left(case, kind, found):
+    """That each that was found, with its first and last row, ended by the next row of this kind."""
+    rows = [row for row, (event, *_) in case.schedule.items() if event == kind]
+    for what, first, last in found:
+        after = rows[bisect_left(rows, first):][:1]
+        if after and not (last and last <= after[0]):
+            raise Mistake(f"{what} after row {after[0]} of schedule.csv, a {kind}; {is_from(case)}")
+
+
+# ---- meters, decisions, and the network
+
+
+def check_meters(case, play):
+    """That the last lines count the packets that left; a caution where there are none."""
+    left = Counter(packet.port for packet in play.packets.values() if packet.end == "out")
+    if play.meters and play.meters != left:
+        raise Mistake(f"{case.journal}: the meters count other packets than those that left")
+    if left and not play.meters:
+        print(f"{case.journal} has no lines `meter` at its end: it is cut, or its play stopped full",
+              file=sys.stderr)
 
 
 def check_decisions(case, play):
@@ -118,4 +144,7 @@ def check(case, play):
     """That the journal, as the play followed it to its end, agrees with the files beside it."""
     if (case.folder / "net.toml").is_file():
         check_network(case, play)
+    check_meters(case, play)
     check_decisions(case, play)
+    if case.schedule is not None and len(play.network.messages) < FULL:
+        check_all(case, play)

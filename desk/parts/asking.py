@@ -38,15 +38,15 @@ class Options:
         while left:
             word = left.pop(0)
             if word in COMMANDS and (word != "load" or not self.folders):
-                self.commands.append([word, *self.behind(word, left)])
+                self.commands.append([word, *self.after(word, left)])
             elif self.commands:
-                raise Mistake(f"{word!r} is behind a command: put folders in front")
+                raise Mistake(f"{word!r} is after a command: put folders before it")
             else:
                 self.folders.append(word)
         self.commands = self.commands or [["replay"]]
         self.check()
 
-    def behind(self, word, left):
+    def after(self, word, left):
         """The word that belongs to a command, if it takes one."""
         if word == "show":
             return [self.next(left, "show", f"the name of a switch{names_in(self.folders)}")]
@@ -156,7 +156,7 @@ def questions_of(options):
         return [Question(runners.TOP, "", options.commands[0], [], "", runners.TOP)]
     folders = [folder_of(name, at) for at, name in enumerate(options.folders)]
     if not folders:
-        raise Mistake("put a folder, or the name of an example, in front of the commands")
+        raise Mistake("put a folder, or the name of an example, before the commands")
     return [
         question_of(folder, label, command, options)
         for folder, label in zip(folders, labels_of(folders))

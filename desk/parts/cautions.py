@@ -43,7 +43,7 @@ def unknown_keys(table, known, lines, what, start=None):
 def key_hint(key, known):
     """Which key may be meant, or where it belongs."""
     if key in KEYS and known != KEYS:
-        return f": behind a [[..]] it belongs to that; put {key} in front of the first [[switch]]"
+        return f": after a [[..]] it belongs to that; put {key} before the first [[switch]]"
     near = get_close_matches(key.lower(), known, 1)
     return f": perhaps {near[0]} is meant" if near else ""
 
@@ -64,11 +64,11 @@ def lonely_switches(net, lines, name):
         if reached and one not in reached:
             at = header_line(lines, "switch", number)
             yield (f"{name}, line {at or 1}: no link joins {one} to an authority: packets that "
-                   "come in there are stuck")
+                   "enter there are stuck")
 
 
 def schedule_cautions(path, name, has_network):
-    """That nothing moves the last packet, which on a network may stand on its way then."""
+    """That nothing moves the last packet, which on a network may still travel then."""
     last, moved, packets = None, False, 0
     for record in records_of(lines_of(path)):
         if record.row and record.fields[0] == "packet":
@@ -79,13 +79,13 @@ def schedule_cautions(path, name, has_network):
             moved = True
     if has_network and last is not None and not moved:
         yield (
-            f"{name}, line {last.line}: no row drain stands behind the last packet: "
-            "where it takes a tunnel it stays on its way"
+            f"{name}, line {last.line}: there is no row drain after the last packet: "
+            "if it is sent on it never arrives"
         )
 
 
 def prefix_cautions(path, name):
-    """The prefixes that have bits behind their length, which count for nothing."""
+    """The prefixes that have bits after their length, which count for nothing."""
     for record in records_of(lines_of(path)):
         for text in record.fields:
             try:
@@ -94,7 +94,7 @@ def prefix_cautions(path, name):
             except ValueError:
                 continue
             if meant != text:
-                yield (f"{name}, line {record.line}: {text} has bits behind its length: "
+                yield (f"{name}, line {record.line}: {text} has bits after its length: "
                        f"it is read as {meant}")
 
 
@@ -140,7 +140,7 @@ def folder_cautions(folder, schedule):
 
 
 def played_cautions(text):
-    """What a journal says of updates, and its status doesn't: refused ones, and one left alone."""
+    """What a journal says of updates and its status doesn't: refused or unfinished ones."""
     row, waiting = "", ""
     for line in text.splitlines():
         if line.startswith("row "):
@@ -153,5 +153,5 @@ def played_cautions(text):
             why = REFUSED.get(int(code), "its policy has no plan")
             yield f"{row}: the update to policy file {file} is refused, code {code}: {why}"
     if waiting:
-        yield (f"{waiting}: no row flush stands behind this update: its messages are never "
+        yield (f"{waiting}: there is no row flush after this update: its messages are never "
                "delivered, and the old version stays")

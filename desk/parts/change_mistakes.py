@@ -2,10 +2,10 @@
 import re
 
 from . import fields
-from .policy_mistakes import POLICY, absent_port
+from .policy_mistakes import POLICY, row_fault
 from .records import lines_of, quoted, record_at, records_of
 from .row_mistakes import CHANGE_HEADING, EDIT_FORMS, POLICY_HEADING
-from .row_mistakes import at_row, heading_fault, no_row_meant, said_record, wrong_width
+from .row_mistakes import at_row, heading_fault, no_row_meant, said_record
 
 CHANGE = {
     **{code: POLICY[code] for code in (3, 4, 5, 6, 7, 8, 9, 13)},
@@ -24,7 +24,7 @@ REPLACE = ("replace", "change", "modify", "update", "set", "swap")
 
 
 def explain_change(asked, name, code, row):
-    """What stands in a change for a code and its row."""
+    """What a change has for a code and its row."""
     if code == 1:
         return heading_fault(asked, name, CHANGE_HEADING)
     if code == 23:
@@ -32,29 +32,21 @@ def explain_change(asked, name, code, row):
     record, lines = at_row(asked, name, row)
     if record is None:
         return lines
-    if code == 11:
-        lines.append("this is the first row that is too many")
-    elif code == 22:
-        lines.append(f"the first field {quoted(record.fields[0])}: {edit_hint(record)}")
-    elif code == 2:
-        lines += wrong_width(asked, name, record, EDIT_FORMS[record.fields[0]])
-    elif code == 10:
-        lines += earlier_edit(asked, name, record)
-    elif code == 13:
-        lines += absent_port(asked, record.fields[7])
-    elif 3 <= code <= 9:
-        lines.append(fields.first_fault(fields.OF_POLICY, record.fields[1:]))
-    return lines
+    first, *rule = record.fields
+    if code == 22:
+        return [*lines, f"the first field {quoted(first)}: {edit_hint(record)}"]
+    earlier = earlier_edit(asked, name, record)
+    return lines + row_fault(asked, name, code, record, EDIT_FORMS.get(first), earlier, rule)
 
 
 def first_change(asked, name):
-    """That a whole policy stands first, and which of those that are named is one."""
+    """That a whole policy comes first, and which of those that are named is one."""
     yield said_record(name, record_at(asked.path(name), 0))
     yield "a change says what to remove from the policy before it, and what to add"
     others = (other for other in asked.policies if asked.heading(other) == POLICY_HEADING)
     whole = next(others, None)
     if whole is not None:
-        yield f"{whole} is a whole policy, which may stand first"
+        yield f"{whole} is a whole policy, which may come first"
 
 
 def edit_hint(record):

@@ -11,7 +11,7 @@ def answer(case, name):
     """The packets whose fates differ, and how many have the same fate by another row."""
     one, two = case.play().packets, case_of(name).play().packets
     if len(one) != len(two):
-        raise Mistake(f"the traffic isn't the same: {len(one)} packets and {len(two)}")
+        raise Mistake(f"the traffic isn't the same: {plural(len(one), 'packet')} and {len(two)}")
     pairs = [(one[number], two.get(number)) for number in one]
     for left, right in pairs:
         if right is None or (left.ingress, left.header) != (right.ingress, right.header):

@@ -1,4 +1,4 @@
-"""What fails, the rows that let it fail in front of a schedule, and what becomes of the packets."""
+"""What fails, the rows that let it fail before a schedule, and what becomes of the packets."""
 from collections import Counter
 from itertools import combinations
 from typing import NamedTuple
@@ -32,7 +32,7 @@ class Failure(NamedTuple):
         return [*map(list, self.rows), *confirmed, ["flush"]]
 
     def schedule(self, rows, sent):
-        """The rows behind its own; messages have higher numbers by those that it sent."""
+        """The rows after its own; messages have higher numbers by those that it sent."""
         own = {(row[0], frozenset(row[1:])) for row in self.rows}
         left = (row for row in rows if (MENDS.get(row[0]), frozenset(row[1:])) not in own)
         return self.first_rows() + [moved(row, sent) for row in left]
@@ -72,7 +72,7 @@ def failure_in(words, net):
         if (row[0], frozenset(row[1:])) not in known:
             raise Mistake(f"{word!r} is no failure of this network: crash,SWITCH or linkdown,S,T")
     if not rows or len(set(rows)) < len(rows):
-        raise Mistake("behind --rows stand one or more rows, each once: crash,S or linkdown,S,T")
+        raise Mistake("--rows takes one or more rows, each once: crash,S or linkdown,S,T")
     return Failure(tuple(rows))
 
 
@@ -89,7 +89,7 @@ def fate(packet):
 
 
 def fares_otherwise(packet, there):
-    """Whether a packet ends in another way; one that doesn't leave in either is no news."""
+    """Whether a packet ends otherwise; one that doesn't leave in either is no news."""
     return fate(packet) != fate(there) and not {packet.end, there.end} <= {*WORSE}
 
 
@@ -103,7 +103,7 @@ def changed(before, after):
 
 
 def outcome(failure, before, after):
-    """How many packets fare worse, and how; how many otherwise, or the same by a longer way."""
+    """How many packets fare worse, and how; how many otherwise, or the same by more hops."""
     worse, otherwise, longer = Counter(), 0, 0
     for number, packet in before.items():
         there = after[number]
@@ -127,5 +127,5 @@ def outcome(failure, before, after):
 
 
 def badness(found):
-    """What comes first: most packets worse off, then most otherwise, then most by a longer way."""
+    """What comes first: most packets worse off, then most otherwise, then most by more hops."""
     return -sum(found[end] for end in WORSE), -found["otherwise"], -found["longer"]

@@ -65,7 +65,7 @@ def prefix_fault(text):
     if text == "*":
         return "all addresses are any"
     if slash and "." in length:
-        return "behind the slash stands a length from 0 to 32, and no mask"
+        return "a length from 0 to 32 follows the slash, and no mask"
     if base == "any":
         return "any has no length"
     return address_fault(base) or (slash and part_fault(length, 32, "length"))
@@ -155,9 +155,9 @@ def name_fault(text):
 def looks(text):
     """What of a text is seen badly: blanks, capitals and quotes."""
     inside = text.strip()
-    front, behind = text[: len(text) - len(text.lstrip())], text[len(text.rstrip()) :]
-    blanks = [f"{blank_name(front)} in front"] * (front != "")
-    blanks += [f"{blank_name(behind)} behind"] * (behind != "")
+    front, after = text[: len(text) - len(text.lstrip())], text[len(text.rstrip()) :]
+    blanks = [f"{blank_name(front)} before it"] * (front != "")
+    blanks += [f"{blank_name(after)} after it"] * (after != "")
     blanks += ["a blank inside"] * (len(inside.split()) > 1)
     found = [" and ".join(blanks) + ", and blanks count"] * (blanks != [])
     found += ["capitals, and only lower case is read"] * (text != text.lower())

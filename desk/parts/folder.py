@@ -1,7 +1,4 @@
 """The folder of a journal, and the files beside it."""
-import sys
-from collections import Counter
-
 from . import agreed
 from .journal import read_items
 from .mistakes import mistake_of
@@ -19,7 +16,7 @@ SOLO = {"switch": [{"name": "s0", "ports": list(range(64)), "authority": 8192}]}
 
 
 class Case:
-    """A journal with the network and the policies that stand in its folder, if they do."""
+    """A journal with the network and the policies in its folder, if they are there."""
 
     def __init__(self, journal, name):
         self.journal, self.folder, self.name = journal, journal.parent, name
@@ -31,28 +28,22 @@ class Case:
 
     def items(self):
         """The items of the journal, one at a time; its rows are those of the schedule."""
-        schedule, seen, line = agreed.schedule_of(self), set(), 0
-        for line, item in enumerate(read_items(self.journal), 1):
-            if item.kind == "row" and schedule is not None:
-                agreed.check_row(self, schedule, item)
-                seen.add(item.row)
+        self.schedule, self.seen = agreed.schedule_of(self), set()
+        for item in read_items(self.journal):
+            if item.kind == "row" and self.schedule is not None:
+                agreed.check_row(self, item)
+                self.seen.add(item.row)
             yield item
-        if line < agreed.FULL:
-            agreed.check_all(self, schedule or {}, seen)
 
     def followed(self, play):
         """The items, each as the play has followed it; at the end all has to agree."""
-        meters = {}
         for item in self.items():
             play.follow(item)
-            if item.kind == "meter":
-                meters[item.said["port"]] = item.said["count"]
             yield item
-        self.check_end(play, meters)
         agreed.check(self, play)
 
     def net(self):
-        """What the network's file says; without one, the switch s0 alone."""
+        """What the network's file says; without one, only the switch s0."""
         path = self.folder / "net.toml"
         if not path.is_file():
             return SOLO
@@ -116,16 +107,6 @@ class Case:
         for _ in self.followed(play):
             pass
         return play
-
-    def check_end(self, play, meters):
-        """That the lines behind the journal count the packets that left; without them, a caution.
-        """
-        left = Counter(packet.port for packet in play.packets.values() if packet.end == "out")
-        if meters and meters != left:
-            raise Mistake(f"{self.journal}: the meters count other packets than those that left")
-        if left and not meters:
-            print(f"{self.journal}: no line `meter` counts the packets that left: the journal is "
-                  "cut, or its play stopped full", file=sys.stderr)
 
 
 def case_of(name):

@@ -1,7 +1,7 @@
 """Reads journals, a line at a time.
 
-The forms are those of docs/FORMATS.md. A name in capitals stands for a value; `by=cache` stands
-for the text `cache`, and is kept as `by`.
+The forms are those of docs/FORMATS.md. A name in capitals means a value; `by=cache` means the
+text `cache`, which is kept as `by`.
 """
 import re
 from typing import NamedTuple
@@ -82,7 +82,7 @@ VALUES = {
     "NEWS": "up|down",
     "VERDICT": "yes|no",
 }
-FACTS_BEHIND = ("meter", "quiet")  # the lines that stand behind a journal, at the left edge
+FACTS_AFTER = ("meter", "quiet")  # the lines after a journal, at the left edge
 
 
 class Item(NamedTuple):
@@ -129,7 +129,7 @@ READERS = readers()
 
 
 def said_by(text):
-    """What a line without its blanks in front says, or None where no form fits."""
+    """What a line without its first blanks says, or None where no form fits."""
     for pattern, numbers, lists in READERS.get(text.partition(" ")[0], ()):
         match = pattern.fullmatch(text)
         if match:
@@ -143,8 +143,8 @@ def said_by(text):
 
 
 def is_indented(kind):
-    """Whether lines of this kind stand behind two blanks."""
-    return kind != "row" and kind not in FACTS_BEHIND
+    """Whether lines of this kind begin with two blanks."""
+    return kind != "row" and kind not in FACTS_AFTER
 
 
 def items_of(lines, name="the journal"):
@@ -157,12 +157,12 @@ def items_of(lines, name="the journal"):
         said = said_by(bare) if is_indented(kind) == (bare != text) else None
         if said is None or (row == 0 and is_indented(kind)):
             raise Mistake(f"{name}, line {number}: {text[:60]!r} is no line of a journal")
-        if kind in FACTS_BEHIND:
+        if kind in FACTS_AFTER:
             row, ended = 0, True
         elif kind == "row":
             row = said["row"]
             if ended or row < last:
-                raise Mistake(f"{name}, line {number}: row {row} stands behind the journal's end")
+                raise Mistake(f"{name}, line {number}: row {row} is after the journal's end")
             last = row
         yield Item(number, row, kind, said, bare)
 

@@ -31,7 +31,7 @@ def sources():
 
 
 def add(found, content):
-    """Adds a text behind its length, so that no two lists of texts have one sum by their form."""
+    """Adds a text after its length, so that no two lists of texts have one sum by their form."""
     found.update(len(content).to_bytes(8, "big") + content)
 
 

@@ -1,4 +1,4 @@
-"""Where the switches of a network stand in a drawing."""
+"""Where the switches of a network are placed in a drawing."""
 from itertools import combinations
 from math import atan2, cos, hypot, pi, sin
 
@@ -117,7 +117,7 @@ def angles(points, links):
 
 
 def facing(points):
-    """The points mirrored so that of a network's switches the first ones stand left and above."""
+    """The points mirrored so that of a network's switches the first ones are left and above."""
     sides = []
     for k in (0, 1):
         values = [point[k] for point in points.values()]
@@ -174,7 +174,7 @@ def area(drawing):
 
 
 def bends(at, links):
-    """How many switches stand in the way of links."""
+    """How many switches links would run through."""
     half = half_wide(at)
     boxes = [(name, box_of(point, half)) for name, point in at.items()]
     return sum(
@@ -195,7 +195,7 @@ def whole_cost(drawing, links):
 
 
 def placed(names, links, ports):
-    """The middle of each switch, and the drawing's size: of two ways the one that is clearer."""
+    """The middle of each switch, and the drawing's size: of two layouts the one that is clearer."""
     near, wide = neighbours_of(names, links), max(WIDE, BESIDE + 2 * half_wide(names))
     free = spread(names, near)
     turns = (scaled(facing(turned(free, angle)), wide) for angle in angles(free, links))

@@ -1,18 +1,21 @@
-"""The lines of links in a drawing: straight, or bent around the switches that stand between."""
+"""The lines of links in a drawing: straight, or bent around the switches between."""
 from heapq import heappop, heappush
 from itertools import chain, pairwise
 from math import dist, hypot
 
 HALF_HIGH, TEXT = 24, 18  # of a box, and the room of the text below it
-LETTER = 4.75  # half the width of a letter of a name
+LETTERS = {**dict.fromkeys("mwMW", 8.3), **dict.fromkeys("fijlrtIJ-", 4)}  # half their widths
+CAPITAL, LETTER = 6.4, 5.4  # half the widths of all others
 CLEAR = 9  # from a box to the lines of other switches, at least; an arrow has room beside them
-PADS = (14, 18, 22, 26)  # from a box to the corners of lines that bend around it, one behind another
-ASIDE = 7  # from a line to an arrow along it, so that the two directions stand apart
+PADS = (14, 18, 22, 26)  # from a box to the corners of lines that bend around it, one after another
+ASIDE = 7  # from a line to an arrow along it, so that the two directions are apart
 
 
 def half_wide(names):
-    """Half the width of a box, in which the longest name has room."""
-    return max(48, 10 + LETTER * max(map(len, names)))
+    """Half the width of a box, in which the widest name has room."""
+    wide = (sum(LETTERS.get(one, CAPITAL if one.isupper() else LETTER) for one in name)
+            for name in names)
+    return round(max(54, 8 + max(wide)))
 
 
 def box_of(point, half, pad=CLEAR):
@@ -115,7 +118,7 @@ def arrow_of(points, half):
 
 
 def spot(points, share):
-    """The point behind this share of a line."""
+    """The point after this share of a line."""
     left = share * sum(dist(*leg) for leg in pairwise(points))
     for (a, b), (c, d) in pairwise(points):
         long = dist((a, b), (c, d))

@@ -41,7 +41,7 @@ def filters_of(words):
         if not value or not re.fullmatch(FILTERS[name], value[0], re.ASCII):
             form = FILTERS[name].replace("|", ", ") if "|" in FILTERS[name] else "its value"
             form = form.replace("[0-9]{1,10}", "a number")
-            raise Mistake(f"behind the filter {name} comes {form}")
+            raise Mistake(f"the filter {name} takes {form}")
         wanted[name] = value[0]
     return wanted
 
@@ -81,7 +81,7 @@ def text(found):
 
 
 def csv_lines(found):
-    """A line for each packet, behind a heading."""
+    """A line for each packet, after a heading."""
     columns = ["packet", "came", "switch", *HEADER, "version", "rule", "action", "by", "decided",
                "end", "ended"]
     out = io.StringIO()

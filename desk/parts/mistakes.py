@@ -1,7 +1,7 @@
 """Explains in words what the program refuses: its line, and then what it means and where to look.
 
 `explain(told, args, folder)` takes the line that the program wrote, the arguments that it had, and
-the folder in which their file names stand. Nothing here decides whether a file is refused.
+the folder of their file names. Nothing here decides whether a file is refused.
 """
 import os
 import re
@@ -27,7 +27,7 @@ ANY_FILE = {0: "there is no such file", 20: "the file has more than 16,777,216 b
 
 
 def explain(told, args, folder):
-    """The lines that explain the program's line, each behind two blanks."""
+    """The lines that explain the program's line, each after two blanks."""
     found = REFUSED.fullmatch(told)
     if found:
         name, code, row = found[1], int(found[2]), int(found[3])

@@ -80,9 +80,7 @@ class Switch:
 class Message:
     """A message: what it says, and the rows that sent it, first delivered it and forgot it.
 
-    A cache rule has the number of the packet that was decided as it was sent. `boot` is that of the
-    switch at its ends as it was sent.
-    """
+    `packet`, of a cache rule, was decided as it was sent; `boot` is that of its switch then."""
 
     def __init__(self, item):
         self.said, self.body = item.said, item.said["body"]
@@ -93,9 +91,7 @@ class Message:
 
 
 class Version:
-    """A version of the policy: its file, the version before it or None, and the rows by which it
-    came, was current, went.
-    """
+    """A version of the policy: its file, the one before it or None, the rows that changed it."""
 
     def __init__(self, number, file, row, before):
         self.number, self.file, self.submitted, self.before = number, file, row, before
@@ -105,8 +101,7 @@ class Version:
 class Network:
     """The network as the journal tells it; its names and the room of a cache are the file's.
 
-    What the change of a version touches is told by its policies: everything, where they aren't there.
-    """
+    Without its policies the change of a version touches everything."""
 
     def __init__(self, names=(), capacity=CACHE, touches=lambda version: EVERYTHING):
         self.switches = {name: Switch() for name in names}
@@ -232,7 +227,7 @@ class Network:
     def unusable(self, ends=None):
         """The links and switches that can't be used, each in words, since which row.
 
-        Where two ends are given, those alone that keep packets from the link between them.
+        Where two ends are given, only those that keep packets from the link between them.
         """
         words = {DOWN: "down", CLOSED: "not yet opened"}
         links = [

@@ -15,21 +15,21 @@ import refusals
 LINK_ROWS = 100
 NETWORK = {
     1: "the file is no TOML document in UTF-8",
-    2: "a key is absent that must stand there",
+    2: "a key that must be there is absent",
     3: "a value isn't of its key's type",
     4: "a number or a name is outside what its key takes, or there is no switch",
     5: "an end of a link is no switch's name",
     6: "an earlier switch has the name",
-    7: "a port stands twice: each has one place in the whole file",
+    7: "a port occurs twice: each is at one place in the whole file",
     8: "both ends of a link are one switch",
     9: "an earlier link has these ends, in either order",
     10: "there are more than 64 switches or more than 256 links",
 }
-# What stands behind a line of Python's reader of TOML.
+# What is added to a line of Python's reader of TOML.
 TOML_HINTS = {
     "Illegal character '\\n'": ": a text in quotes ends in its line",
-    "Cannot overwrite a value": ": the key stands twice",
-    "Invalid value": ": texts stand in double quotes, and each key has a value",
+    "Cannot overwrite a value": ": the key occurs twice",
+    "Invalid value": ": texts are in double quotes, and each key has a value",
     "Expected ']]' at the end of an array declaration": ", which begins with two brackets",
 }
 TYPES = {
@@ -39,7 +39,7 @@ TYPES = {
 
 
 def explain_network(asked, name, code, row):
-    """What stands in a network for a code and its row."""
+    """What a network has for a code and its row."""
     lines = lines_of(asked.path(name))
     if code == 1:
         return no_document(asked.path(name), name, lines)
@@ -56,13 +56,13 @@ def explain_network(asked, name, code, row):
 
 
 class Place:
-    """Where a switch or a link stands in the network's file."""
+    """Where a switch or a link is in the network's file."""
 
     def __init__(self, name, lines, start):
         self.name, self.lines, self.start = name, lines, start
 
     def of(self, key):
-        """The line and the text of a key; the key alone where it has no line of its own."""
+        """The line and the text of a key; only the key where it has no line of its own."""
         at = self.start and key_line(self.lines, key, self.start)
         return f"{self.name}, line {at}: {self.lines[at - 1].strip()[:200]}" if at else key
 
@@ -81,7 +81,7 @@ def no_document(path, name, lines):
     heading = lines[0].strip() if lines else ""
     if heading in HEADINGS:
         yield f"{name}, line 1: {heading}"
-        yield "this is no network: the name behind --net is that of a TOML file"
+        yield "this is no network: --net takes the name of a TOML file"
         return
     try:
         tomllib.loads("".join(lines))
@@ -178,7 +178,7 @@ def value_faults(table, place):
 
 
 def twice(net, table, number):
-    """The first port that stands twice, and where it stands before."""
+    """The first port that occurs twice, and where it occurs before."""
     seen = {
         port: f"switch {at}, {row['name']}, has it too"
         for at, row in enumerate(net["switch"][: number - 1], 1)
@@ -186,7 +186,7 @@ def twice(net, table, number):
     }
     counts = Counter(table["ports"])
     port = next(port for port in table["ports"] if port in seen or counts[port] > 1)
-    return f"the port {port}: {seen.get(port, 'it stands twice in this switch')}"
+    return f"the port {port}: {seen.get(port, 'this switch has it twice')}"
 
 
 def link_fault(net, table, code, number, place):
@@ -213,5 +213,5 @@ def link_fault(net, table, code, number, place):
     if code == 8:
         return [f"{place.of('ends')}: both ends are {ends[0]}"]
     first = [set(row["ends"]) for row in net["link"]].index(set(ends)) + 1
-    said = f"link {first} joins {ends[0]} and {ends[1]} too, and one link is both ways"
+    said = f"link {first} joins {ends[0]} and {ends[1]} too, and one link serves both directions"
     return [f"{place.of('ends')}: {said}"]

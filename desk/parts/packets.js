@@ -1,5 +1,5 @@
-// The packets as a table and as CSV, the policy's rows, the way of a packet, and what is asked for.
-// It stands behind page.js in one script.
+// The packets as a table and as CSV, the policy's rows, a packet's path, and what is asked for.
+// It follows page.js in one script.
 
 // ---- the packets
 
@@ -73,7 +73,7 @@ const COLUMNS = {
     [name, ({ header }) => header[k]])),
   version: ({ version }) => version || "", rule: ({ rule }) => rule, action: ({ action }) => action,
   by: ({ by }) => by, end: ({ end }) => end, port: ({ port }) => port ?? "",
-  end_row: ({ endRow }) => endRow ?? "", way: ({ stood }) => stood.map((k) => names[k]).join(" "),
+  end_row: ({ endRow }) => endRow ?? "", path: ({ stood }) => stood.map((k) => names[k]).join(" "),
   cause: ({ cause }) => cause,
 };
 
@@ -139,9 +139,9 @@ function showChosen() {
   const row = data.rules[packet.version]?.[packet.rule];
   const decided = packet.rule ? `Version ${packet.version} decided it by rule ${ruleText(packet)}`
     + `${row ? ` (${row})` : ""}, ${foundText(packet)}.` : "It was not decided.";
-  const way = packet.stood.map((k) => names[k]).join(" > ");
+  const path = packet.stood.map((k) => names[k]).join(" > ");
   byId("packet-says").textContent = `${headerText(packet).join(" to ")}, in at ${packet.in}. `
-    + `${decided} Its way: ${way}; ${wholeEndText(packet)}.`;
+    + `${decided} Its path: ${path}; ${wholeEndText(packet)}.`;
   showLines("packet-lines", packet.lines);
 }
 
@@ -152,7 +152,7 @@ function arrowOf(here, there) {
   return link[0] === here ? link[3] : link[4];
 }
 
-// Each hop is an arrow right of its link; those behind the row of the slider are pale.
+// Each hop is an arrow right of its link; those after the row of the slider are pale.
 function drawWay(packet) {
   const arrows = [], numbers = [], taken = {};
   const stood = packet ? packet.stood : [];
@@ -168,7 +168,7 @@ function drawWay(packet) {
     numbers.push(make("circle", { class: leg + pale, cx: x, cy: y, r: 10 }),
       make("text", { class: "order", x, y: y + 4 }, String(k + 1)));
   });
-  fill("way", arrows);
+  fill("path", arrows);
   fill("numbers", numbers);
 }
 

@@ -7,7 +7,7 @@ OF_MESSAGE = {*"sent delivered forgotten expired".split()}
 
 
 class Packet:
-    """A packet: its header, where it came in, who decided it, where it is, how it ended."""
+    """A packet: its header, where it entered, who decided it, where it is, how it ended."""
 
     def __init__(self, asked, item):
         self.number, self.row = item.said["packet"], item.row
@@ -34,7 +34,7 @@ class Play:
 
     def __init__(self, network):
         self.packets, self.network = {}, network
-        self.asked, self.decided = {}, None
+        self.asked, self.decided, self.meters = {}, None, {}
 
     def follow(self, item):
         """Does what the item says; the name of the switch that it changed, if any."""
@@ -48,7 +48,7 @@ class Play:
         """The packet of which the item tells."""
         number = item.said["packet"]
         if number not in self.packets:
-            raise item.mistake(f"no packet {number} came in before")
+            raise item.mistake(f"no packet {number} entered before")
         return self.packets[number]
 
     def about(self, item):
@@ -66,7 +66,7 @@ class Play:
         if self.asked.get("event") != "packet":
             raise item.mistake("no row brought a packet in")
         if item.said["packet"] in self.packets:
-            raise item.mistake(f"packet {item.said['packet']} came in before")
+            raise item.mistake(f"packet {item.said['packet']} entered before")
         self.packets[item.said["packet"]] = Packet(self.asked, item)
 
     def on_closed(self, item):
@@ -112,8 +112,11 @@ class Play:
     def on_lost(self, item):
         """A row `lose` names the packet; otherwise its switch crashed."""
         packet = self.packet(item)
-        crashed = f"the switch {packet.at} crashed, where it stood"
+        crashed = f"the switch {packet.at} crashed, where it was"
         packet.finish(item, "its row says so" if self.asked["event"] == "lose" else crashed)
+
+    def on_meter(self, item):
+        self.meters[item.said["port"]] = item.said["count"]
 
     def on_stuck(self, item):
         self.packet(item).finish(item, item.said["cause"], self.network.unusable())

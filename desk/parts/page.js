@@ -1,6 +1,6 @@
 "use strict";
-// What the page shows: a row of the schedule, a packet, filters, and a page of the table. It all
-// stands in the address too. The state behind a row is that of all changes up to its last line.
+// What the page shows: a row of the schedule, a packet, filters, and a page of the table. It is
+// all in the address too. The state after a row is that of all changes up to its last line.
 
 const PAGE = 50, MOST_LINES = 300, LARGE = 8;
 const FILTERS = ["end", "switch", "rule", "version", "from", "to"];
@@ -33,7 +33,7 @@ function plural(count, noun) {
   return `${count} ${noun}${count === 1 ? "" : "s"}`;
 }
 
-// ---- the state behind a row
+// ---- the state after a row
 
 const APPLY = {
   switch: (number, values) => { state.switches[number] = values; },
@@ -79,7 +79,7 @@ const drawn = { nodes: [], links: [] };
 
 const pointsText = (points) => points.map((point) => point.join(",")).join(" ");
 
-// The point behind a share of a line.
+// The point after a share of a line.
 function spot(points, share) {
   const longs = points.slice(1).map(([x, y], k) => Math.hypot(x - points[k][0], y - points[k][1]));
   let left = share * longs.reduce((one, other) => one + other), k = 0;
@@ -240,7 +240,7 @@ function drawMarks() {
     + " restarts and links");
 }
 
-// The place of the next mark behind the slider's row, or of the last one before it.
+// The place of the next mark after the slider's row, or of the last one before it.
 function markBeside(side) {
   return side > 0 ? marks.find(({ place }) => place > view.row)?.place
     : marks.findLast(({ place }) => place < view.row)?.place;

@@ -162,7 +162,7 @@ def data_of(case):
     for item in case.items():
         record.take(item)
     agreed.check_network(case, record.play)
-    agreed.check_decisions(case, record.play)
+    agreed.check(case, record.play)
     ports = {row["name"]: row.get("ports", []) for row in net["switch"]}
     at, size = placed(record.names, record.links, {name for name in ports if ports[name]})
     return {

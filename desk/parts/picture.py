@@ -8,7 +8,7 @@ from .lines import (
     spot,
 )
 
-LEFT, TOP = 30, 44  # of the network, for the key and for arrows that come in
+LEFT, TOP = 30, 44  # of the network, for the key and for arrows of packets that enter
 WIDER, HIGHER = 1.4, 1.15  # than a page's drawing, for numbers and arrows
 BESIDE, SLANT = 56, 34  # from a box to the end of an arrow to its side, or to its corner
 ROOM = 30  # around such an end nothing more is won
@@ -58,7 +58,7 @@ class Picture:
         self.numbers.append((*point, number, colour))
 
     def number_at(self, switch, number, colour):
-        """A number above the switch, right of those that stand there."""
+        """A number above the switch, right of those that are there."""
         (x, y), k = self.at[switch], self.above.get(switch, 0)
         self.above[switch] = k + 1
         self.later((x - self.half + 10 + 22 * k, y - HALF_HIGH - 13), number, colour)
@@ -101,7 +101,7 @@ class Picture:
         self.line(self.way(one, two), f'class="hop" data-ends="{one} {two}" {look}')
 
     def plan(self, one, two, colour):
-        """Dots a link that a packet's way has, and that it doesn't take."""
+        """Dots a link that a packet's route has, and that it doesn't take."""
         self.said["dotted: not taken"] = INK
         look = f'stroke="{colour}" stroke-width="4" stroke-dasharray="1 7" stroke-linecap="round"'
         self.line(self.way(one, two), look)
@@ -118,7 +118,7 @@ class Picture:
         self.line(points, f"{more} {head}".strip())
 
     def come_in(self, switch, number, colour):
-        """An arrow that comes to a switch from outside."""
+        """An arrow to a switch from outside."""
         end = self.outside(switch, LEFTMOST)
         self.arrow(clipped([end, self.at[switch]], self.half), colour)
         self.later(end, number, colour)
@@ -174,7 +174,7 @@ class Picture:
         return around(self.at[one], self.at[two], boxes, ROUND)
 
     def is_inside(self, x, y):
-        """Whether a point, and a number there, stand within the picture."""
+        """Whether a point, and a number there, are within the picture."""
         return 12 < x < self.width - 12 and TOP < y < self.height - 12
 
 
@@ -183,7 +183,7 @@ def is_in(point, box):
 
 
 def told_of(switch, phases):
-    """What stands below a switch: its ports, whether it has rules, and what is wrong with it."""
+    """The text below a switch: its ports, whether it has rules, and what is wrong with it."""
     told = [f"port {port}" for port in switch.get("ports", [])]
     told = told if len(told) < 4 else [f"{len(told)} ports"]
     told += ["authority"] if switch.get("authority") else []

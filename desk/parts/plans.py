@@ -7,14 +7,14 @@ from .script import Mistake
 from .table import plural, table
 from .words import spelled
 
-SAYS = {"program": "by the program that was there", "model": "by the slow model"}
+SAYS = {"program": "by the program", "model": "by the slow model"}
 PART = re.compile(r"part (\d+) region (\S+) rules \d+ targets (.+)")
 RULE = re.compile(r"  rank (\d+) rule (\S+) word (\S+) (\S+)")
 
 
-def answer(case, file="policy.csv"):
+def answer(case, program, file="policy.csv"):
     """The partitions with their rules, and for each switch what it holds, beside its room."""
-    compiled = answer_for(case, file)
+    compiled = answer_for(case, program, file)
     parts = parts_of(compiled.text)
     rooms = {row["name"]: row.get("authority", 0) for row in case.net()["switch"]}
     return {
@@ -28,18 +28,20 @@ def answer(case, file="policy.csv"):
     }
 
 
-def answer_for(case, file):
-    """What the program prints of the plan, where it is there, or the model."""
+def answer_for(case, program, file):
+    """The plan as the program prints it, or the model without one."""
     if not (case.folder / file).is_file():
         raise Mistake(f"there is no file {case.folder / file}")
     net = ["net.toml"] * (case.folder / "net.toml").is_file()
     args, folder = ["compile", file, *(["--net", *net] if net else [])], case.folder
     question = runners.Question(folder, "", args, [file, *net], "", folder)
-    found = runners.by_program(runners.PROVED, question) if runners.PROVED.is_file() else None
-    found = found or runners.forecast(question)
+    found = runners.by_program(program, question) if program else runners.forecast(question)
     if found.status:
         raise mistake_of(case.name, found.told, args, folder)
-    return runners.by_model(question) if found.by == "forecast" else found
+    found = runners.by_model(question) if found.by == "forecast" else found
+    if not re.match(r"words \d", found.text):
+        raise Mistake(f"{program} prints no plan, but {found.text[:40]!r}")
+    return found
 
 
 def parts_of(text):

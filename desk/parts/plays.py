@@ -95,7 +95,7 @@ class Player:
 
     def case(self, rows):
         """The journal of these rows, which are written as a schedule where a program plays them; else
-        none stands beside it."""
+        none is beside it."""
         text = self.by_program(rows) if self.program else self.by_model(rows)
         if not self.program:
             (self.folder / SCHEDULE).unlink(missing_ok=True)

@@ -41,7 +41,7 @@ class Change(NamedTuple):
     added: list
 
     def of(self, rows):
-        """The rows that stay of these, and behind them those that are added."""
+        """The rows that stay of these, and after them those that are added."""
         return [rule for rule in rows if rule.priority not in self.removed] + self.added
 
     def fault(self, rows):
@@ -66,7 +66,7 @@ def read_policy(path):
         added = [row for row in rows if row.fields[0] == "add"]
         return Change(removed, [rule_at(path, row, row.fields[1:]) for row in added])
     raise Mistake(f"{path} is no policy: {POLICY_HEADING} and rows of seven fields; nor is it a "
-                  "change, with op in front and rows that add or remove")
+                  "change, with op as its first column and rows that add or remove")
 
 
 def is_edit(fields):

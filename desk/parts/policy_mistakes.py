@@ -29,7 +29,7 @@ POLICY = {
 
 
 def explain_policy(asked, name, code, row):
-    """What stands in a policy for a code and its row."""
+    """What a policy has for a code and its row."""
     if code == 1:
         return [*heading_fault(asked, name, POLICY_HEADING), *change_hint(asked, name)]
     if code in (12, 14):
@@ -39,23 +39,25 @@ def explain_policy(asked, name, code, row):
     record, lines = at_row(asked, name, row)
     if record is None:
         return lines
+    earlier = earlier_priority(asked, name, record)
+    return lines + row_fault(asked, name, code, record, POLICY_HEADING, earlier, record.fields)
+
+
+def row_fault(asked, name, code, record, form, earlier, rule):
+    """What a row of this form has for a code, by the fields of its rule."""
     if code == 11:
-        lines.append("this is the first row that is too many")
-    elif code == 2:
-        lines += wrong_width(asked, name, record, POLICY_HEADING)
-    elif code == 10:
-        lines += earlier_priority(asked, name, record)
-    elif code == 13:
-        lines += absent_port(asked, record.fields[6])
-    elif 3 <= code <= 9:
-        lines.append(fields.first_fault(fields.OF_POLICY, record.fields))
-    return lines
+        return ["this is the first row that is too many"]
+    if code == 2:
+        return list(wrong_width(asked, name, record, form))
+    if code in (10, 13):
+        return list(earlier if code == 10 else absent_port(asked, rule[6]))
+    return [fields.first_fault(fields.OF_POLICY, rule)] if 3 <= code <= 9 else []
 
 
 def change_hint(asked, name):
-    """Where a change may stand."""
+    """Where a change may be."""
     if asked.schedule is None and asked.heading(name) == CHANGE_HEADING:
-        yield "plans are of whole policies: only replay takes changes, behind its first policy"
+        yield "plans are of whole policies: only replay takes changes, after its first policy"
     elif name in asked.policies[1:]:
         yield f"it may be a change too: then its first record is {CHANGE_HEADING}"
 

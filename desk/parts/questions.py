@@ -73,7 +73,7 @@ def is_changed(case, version):
 
 
 def caches(case):
-    """For each switch where packets came in, how many of those decided its cache decided."""
+    """For each switch where packets entered, how many of those decided its cache decided."""
     play = case.play()
     decided, cached, sent, used = Counter(), Counter(), Counter(), set()
     for packet in play.packets.values():

@@ -7,7 +7,7 @@ from .cover import cover
 from .dead import header_in
 from .packets import HEADER
 from .plans import SAYS
-from .plays import Player, proved
+from .plays import Player
 from .script import Mistake
 from .story import header_text
 from .table import table
@@ -15,10 +15,8 @@ from .table import table
 MOST = 5000  # packets of one question
 
 
-def answer(case, *words):
-    """For each switch and each header what becomes of its packet: over the network as it begins, or
-    behind the schedule.
-    """
+def answer(case, program, *words):
+    """What becomes of a packet of each header from each switch, at first or after the schedule."""
     if fault := fields.first_fault(fields.OF_POLICY[1:], words[:5]):
         raise Mistake(fault)
     box, is_after = box_of(words[:5]), words[5:] == ("after",)
@@ -28,13 +26,13 @@ def answer(case, *words):
         raise Mistake(f"{len(headers):,} rows decide such headers: from {len(names)} switches these "
                       f"are more than {MOST:,} packets, so name fewer headers")
     probes = [(name, header) for name in names for header in headers]
-    packets, by = played(case, probes, is_after)
+    packets = played(case, program, probes, is_after)
     ends = {name: Counter() for name in names}
     for (name, _), packet in zip(probes, packets, strict=True):
         ends[name][f"port {packet.port}" if packet.end == "out" else packet.end] += 1
     return {
         "after": is_after,
-        "by": by,
+        "by": "program" if program else "model",
         "headers": headers,
         "from": {name: dict(counts) for name, counts in ends.items()},
         "packets": [
@@ -73,15 +71,15 @@ def headers_in(ranked, box):
         yield header_in(free)
 
 
-def played(case, probes, is_after):
-    """The packets of these probes, each drained, and who played them."""
+def played(case, program, probes, is_after):
+    """The packets of these probes, each drained."""
     rows = [row for name, header in probes
             for row in (["packet", name, *(header[field] for field in HEADER)], ["drain"])]
-    player = Player(str(case.folder), proved())
+    player = Player(str(case.folder), program)
     rows = (player.own_rows() if is_after else []) + rows
     player.check(rows)
     packets = list(player.case(rows).play().packets.values())
-    return packets[len(packets) - len(probes) :], "program" if player.program else "model"
+    return packets[len(packets) - len(probes) :]
 
 
 def text(found):

@@ -1,4 +1,4 @@
-"""The records of CSV files and the keys of networks, each with the lines where it stands."""
+"""The records of CSV files and the keys of networks, each with its lines."""
 import csv
 import re
 from itertools import islice

@@ -1,4 +1,4 @@
-"""A schedule with the recovery rows behind it, and what the network comes to by them.
+"""A schedule with the recovery rows after it, and the state to which they bring the network.
 
 The rows are a `confirm` of each switch, a `resend` of each switch, and a `flush`.
 """
@@ -21,7 +21,7 @@ BODIES = {
 
 
 def prepared(question):
-    """The same question in a folder of its own, whose schedule has the recovery rows behind it."""
+    """The same question in a folder of its own, whose schedule has the recovery rows after it."""
     folder = joined({name: question.folder / name for name in question.files})
     schedule = (question.folder / SCHEDULE).read_bytes()
     end = b"" if schedule.endswith(b"\n") else b"\n"
@@ -81,7 +81,7 @@ class Report:
         if self.lost:
             yield from table(["message", "sent in row", "what it said", "lost"], self.lost)
         yield ""
-        yield f"behind the recovery rows (row {self.last + 1} and on):"
+        yield f"after the recovery rows (from row {self.last + 1} on):"
         yield self.version_line(network)
         down = [f"{one} {other}" for one, other in network.links_down]
         yield f"links that are down: {', '.join(down) or 'none'}"

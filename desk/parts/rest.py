@@ -1,4 +1,4 @@
-"""Why a network isn't quiet behind a journal, and which rows bring it to rest."""
+"""Why a network isn't quiet after a journal, and which rows bring it to rest."""
 from .network import DOWN
 from .table import table
 
@@ -61,9 +61,7 @@ def claim_of(message):
 
 
 def may_stay(network, links, message):
-    """Whether it is forgotten, and perhaps no one sends it again: a copy of what was received, or an
-    advert of a switch that is down, or cut off from its receiver.
-    """
+    """Whether no one may send it again: a copy, or an advert of a switch that isn't reachable."""
     if message.forgotten is None:
         return False
     if message.body != "advert":
@@ -96,7 +94,7 @@ def missing_of(message):
 
 
 def rows_to_rest(network, waited, missing):
-    """Rows of a schedule behind which the network is quiet; none where it is already."""
+    """Rows of a schedule after which the network is quiet; none if it is already."""
     up = [name for name, switch in network.switches.items() if switch.phase != DOWN]
     is_lost = any(message.forgotten is not None for message in missing)
     rows = [f"confirm,{name}" for name in waited]
@@ -106,9 +104,9 @@ def rows_to_rest(network, waited, missing):
 
 def text(found):
     if found["quiet"]:
-        yield "the network is quiet behind the last row"
+        yield "the network is quiet after the last row"
         return
-    yield "the network isn't quiet behind the last row"
+    yield "the network isn't quiet after the last row"
     for one in found["waited for"]:
         yield f"switch {one['switch']} is down since row {one['row']}, and no row confirms it"
     if found["missing"]:

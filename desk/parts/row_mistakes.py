@@ -50,14 +50,14 @@ def open_quote(asked, name):
 
 
 def is_row(fields, heading):
-    """Whether a record in the place of this heading looks like a row behind it."""
+    """Whether a record in the place of this heading looks like a row after it."""
     if heading == POLICY_HEADING:
         return len(fields) == heading.count(",") + 1 and fields[0][:1].isdigit()
     return fields[0] in (EDIT_FORMS if heading == CHANGE_HEADING else FORMS)
 
 
 def heading_fault(asked, name, heading):
-    """Of a file without its heading: what stands in its place."""
+    """Of a file without its heading: what it begins with."""
     record = record_at(asked.path(name), 0)
     if record is None:
         yield f"{name} has no record: it is empty, or has only blank lines"
@@ -72,7 +72,7 @@ def heading_fault(asked, name, heading):
         order = ": the schedule is named first, and then the policies" if asked.schedule else ""
         yield f"this is {HEADINGS[found]}{order}"
     elif re.match(r"\s*(\[|\w+\s*=)", found) or found[:1] == "#" and is_toml(asked.path(name)):
-        yield "this looks like TOML: the network's file stands behind --net"
+        yield "this looks like TOML: the network's file goes after --net"
     elif found.lstrip().startswith("#"):
         yield f"there are no comments in these files: begin with {heading}"
     elif bare == heading:
@@ -120,7 +120,7 @@ def wrong_width(asked, name, record, form):
     elif count == 1 and re.search("[;\t]", record.fields[0]):
         yield "the fields are joined by commas"
     elif count == wanted + 1 and record.fields[-1] == "":
-        yield "a comma behind the last field makes one more, which is empty"
+        yield "a comma after the last field makes one more, which is empty"
     if record.last > record.line:
         yield from open_quote(asked, name)
 

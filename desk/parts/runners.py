@@ -47,17 +47,14 @@ class Question(NamedTuple):
     home: Path
 
     def name(self):
-        """What is asked, in a word: the file of the answer, or the command, behind its folder."""
+        """What is asked, in a word: the folder, and the file of the answer or the command."""
         if self.args[0] == "load":
             return " ".join(self.args)
         return f"{self.home.resolve().name}/{self.output or self.args[0]}"
 
 
 class Answer(NamedTuple):
-    """What was printed, the line of standard error (or an empty one), the status, and by whom.
-
-    Where the status is NO_ANSWER the line says why there is none.
-    """
+    """What was printed, the line of standard error or why there is none, the status, by whom."""
 
     text: str
     told: str

@@ -7,7 +7,7 @@ from .records import quoted
 from .row_mistakes import FORMS, SCHEDULE_HEADING
 from .row_mistakes import at_row, heading_fault, no_row_meant, wrong_width
 
-# How many fields behind a kind name switches.
+# How many fields after a kind name switches.
 SWITCH_FIELDS = {kind: form.count("S,T") + 1 for kind, form in FORMS.items() if ",S" in form}
 SCHEDULE = {
     1: f"a schedule's first record is {SCHEDULE_HEADING}",
@@ -23,7 +23,7 @@ SCHEDULE = {
 
 
 def explain_schedule(asked, name, code, row):
-    """What stands in a schedule for a code and its row."""
+    """What a schedule has for a code and its row."""
     if code == 1:
         return heading_fault(asked, name, SCHEDULE_HEADING)
     record, lines = at_row(asked, name, row)

@@ -20,7 +20,7 @@ def rule_text(said):
 
 
 TEXTS = {
-    "entered": "it comes in at {switch} as packet {packet}",
+    "entered": "it enters at {switch} as packet {packet}",
     "closed": "{switch} takes no packets: {cause}",
     "tunnelled": "{first} has no rule for it: it is sent to {last}, an authority of part {part} of "
                  "version {version}, by {way}",
@@ -51,19 +51,19 @@ def facts_of(item, play):
 
 def tell_row(item, play):
     said = item.said
-    return f"{header_text(said)} comes to {said['switch']}"
+    return f"{header_text(said)} arrives at {said['switch']}"
 
 
 def tell_found(item, play):
     said, why = item.said, play.packet(item).found[-1][-1]
-    return f"it finds no way from {said['switch']} to {said['other']}: {', '.join(why)}"
+    return f"it can't go from {said['switch']} to {said['other']}: {', '.join(why)}"
 
 
 def tell_rerouted(item, play):
     route = item.said["route"]
     if len(route) == 1:
-        return f"it needs no other way, since {route[0]} is a target too"
-    return f"it takes another way to {route[-1]}, by {way(route)}"
+        return f"it needs no other route, since {route[0]} is a target too"
+    return f"it takes another route to {route[-1]}: {way(route)}"
 
 
 def tell_decided(item, play):
@@ -73,7 +73,7 @@ def tell_decided(item, play):
         return f"{by}; found at the authority {said['switch']}, in part {said['part']}"
     rule, at = play.network.message(item), play.packet(item).ingress
     brought = f"message {rule.number}, sent as packet {rule.packet} was decided"
-    brought += f", came in row {rule.delivered}"
+    brought += f", arrived in row {rule.delivered}"
     return f"{by}; found in the cache of {at}, for {spelled(rule.said['word'])} ({brought})"
 
 

@@ -2,7 +2,7 @@
 
 
 def table(heading, rows):
-    """Lines of columns; a column whose cells are all numbers stands to the right."""
+    """Lines of columns; a column whose cells are all numbers is aligned to the right."""
     cells = [list(map(str, row)) for row in [heading, *rows]]
     wide = [max(map(len, column)) for column in zip(*cells)]
     right = [all(isinstance(row[k], int) for row in rows) for k in range(len(heading))]

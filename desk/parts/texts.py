@@ -36,7 +36,7 @@ def rules(found):
 
 
 def change_text(before):
-    """What is said behind the file of a version, where it is a change of the one before."""
+    """What is said after the file of a version, where it is a change of the one before."""
     return "" if before is None else f", a change of version {before}"
 
 

@@ -21,7 +21,7 @@ def explain_words(args):
     """The first rule of the command line that the arguments break."""
     said = " ".join(map(quoted_if_odd, args))
     yield f"the arguments are off the grammar: {shorten(said, 90, placeholder=' ..') or 'none'}"
-    otherwise = "options stand in front of the names or behind them"
+    otherwise = "options come before the names or after them"
     yield next(filter(None, word_faults(args)), otherwise)
 
 
@@ -53,7 +53,7 @@ def count_fault(command, count):
 
 
 def names_among(rest):
-    """The arguments that are no options, nor the network behind one."""
+    """The arguments that are no options, nor the network after one."""
     return [
         arg for at, arg in enumerate(rest)
         if not arg.startswith("-") and not (at and rest[at - 1] == "--net")
@@ -66,9 +66,9 @@ def option_faults(rest, command):
         yield "an argument is empty"
     for option in ("--net", "--quiet"):
         if sum(arg == option or arg.startswith(f"{option}=") for arg in rest) > 1:
-            yield f"{option} stands twice"
+            yield f"{option} occurs twice"
     if rest and rest[-1] == "--net" or "--net=" in rest:
-        yield "behind --net stands the name of a network's file"
+        yield "--net takes the name of a network's file"
     if "--quiet" in rest and command != "replay":
         yield "--quiet goes with replay only"
     if command in ("load", "audit") and any(arg.startswith("--net") for arg in rest):

@@ -61,5 +61,5 @@ def ranges_of(word):
 
 
 def spelled(word):
-    """The match, and behind it the ranges of its ports."""
+    """The match, and after it the ranges of its ports."""
     return "; ".join([match_of(word), *ranges_of(word)])

@@ -31,7 +31,7 @@ NO_LIST, STRAY = "of no access list", "an entry of no access list"
 
 
 class Entry(NamedTuple):
-    """An entry of a list: its line, its words behind the sequence number, the kind of the list."""
+    """An entry of a list: its line, its words after the sequence number, the kind of the list."""
 
     line: int
     words: list

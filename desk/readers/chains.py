@@ -124,7 +124,7 @@ def rule_of(text, permits, most):
 
 
 def words_of(text):
-    """The words of a line, of which some stand in double quotes."""
+    """The words of a line, of which some are in double quotes."""
     try:
         return shlex.split(text)
     except ValueError as why:

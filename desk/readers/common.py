@@ -88,7 +88,7 @@ def address_of(text):
 
 
 def prefix_of(text):
-    """The address and the length of a prefix, or nothing; an address alone has the length 32."""
+    """The address and the length of a prefix, or nothing; 32 is the length of an address."""
     address, slash, length = text.partition("/")
     if slash and not re.fullmatch(r"[0-9]{1,2}", length) or address_of(address) is None:
         return None
@@ -141,11 +141,7 @@ def lines_of(data):
 
 
 def finish(name, args, rows, told, left, *others):
-    """Says what is told, what was left out and what else there is, with the word for it, and
-    writes the rows unless --strict forbids it.
-
-    It gives the status.
-    """
+    """Prints what is told and left out, and the rows unless --strict; returns the status."""
     shown = sys.maxsize if args.all else SHOWN
     lines = [*told, *left.lines("left out", shown)]
     for begin, named in others:

@@ -27,7 +27,7 @@ STARTS |= {"[|icmp": 1, "IP6": 41, "[|ip6": 41, "IP": 4, "CARP": 112}
 CUT = "the packet is cut short"
 LAST_PROTOCOL = 255
 FRAGMENT = "a later fragment, which has no ports"
-ALONE = "no addresses stand in the line behind it"
+ALONE = "no addresses are in the next line"
 NAMES = "names in the place of numbers, which `tcpdump -nn` prints"
 UNKNOWN = "not as `tcpdump -nn` prints a packet of IPv4"
 
@@ -35,7 +35,7 @@ UNKNOWN = "not as `tcpdump -nn` prints a packet of IPv4"
 def packets_of(lines):
     """Each packet's line, and the packet or why it can't be said; other lines are passed over.
 
-    With -v the addresses stand in the line behind that of the protocol.
+    With -v the addresses are in the line after that of the protocol.
     """
     pending = None
     for number, line in enumerate(lines, 1):
@@ -52,16 +52,16 @@ def packets_of(lines):
 
 
 def rest_of(line):
-    """What stands behind the words that say that a line is of IPv4, or nothing.
+    """What follows the words that say that a line is of IPv4, or nothing.
 
-    Behind a tab stands what is told of the packet above, as the header that an ICMP error cites.
+    A tab is followed by what is said of the packet above, as the header that an ICMP error cites.
     """
     found = None if line.startswith("\t") else PLAIN.match(line) or LINKED.match(line)
     return found and found[1]
 
 
 def details_of(number, line):
-    """The line, the protocol and the offset of -v, where the addresses stand in the next line."""
+    """The line, the protocol and the offset of -v, where the addresses are in the next line."""
     rest = rest_of(line)
     found = DETAILS.match(rest) if rest else None
     return (number, int(found[2]), int(found[1])) if found else None
@@ -113,7 +113,7 @@ def ports_of(protocol, sport, dport):
 
 
 def protocol_by(has_ports, rest):
-    """The protocol by the words behind the addresses."""
+    """The protocol by the words after the addresses."""
     if has_ports:
         starts = {"Flags [": 6, "tcp ": 6, "sctp": 132, "DCCP": 33}
         return next((number for start, number in starts.items() if rest.startswith(start)), 17)

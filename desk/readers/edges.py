@@ -53,7 +53,7 @@ class Edges:
 
 
 def named(text):
-    """The name of a switch: a number has the letter s in front."""
+    """The name of a switch: a number gets an s before it."""
     return f"s{text}" if text[0].isdigit() else text
 
 
@@ -72,7 +72,7 @@ def rows_of(lines):
 
 
 def check_columns(rows):
-    """That lines have as many further columns with letters in front: those of a text haven't."""
+    """That lines have as many further columns that begin with letters: those of a text haven't."""
     counts = {sum(text[:1].isalpha() for text in fields[2:]): number for number, fields in rows}
     if len(counts) > 1:
         lines = " and ".join(map(str, sorted(counts.values())[:2]))

@@ -45,7 +45,7 @@ def rule_of(line, most, ignore_flags):
 
 
 def block_of(text):
-    """A prefix, without the bits behind its length."""
+    """A prefix, without the bits after its length."""
     found = prefix_of(text)
     if found is None:
         raise Unsaid(f"{text} is no prefix of IPv4")
@@ -61,7 +61,7 @@ def range_of(first, last):
 
 
 def protocols_of(protocol, mask, most):
-    """The protocols that agree with this one where the mask has ones; nothing stands for all."""
+    """The protocols that agree with this one where the mask has ones; none means all."""
     if mask == 0:
         return [None]
     found = [number for number in range(256) if number & mask == protocol & mask]

@@ -57,12 +57,12 @@ def packets_of(lines):
 
 
 def flows_of(reader, heading, places):
-    """The flows behind the heading, which stands again where files were joined."""
+    """The flows after the heading, which is repeated where files were joined."""
     before = reader.line_num
     for fields in reader:
         first, before = before + 1, reader.line_num
         if [text.strip() for text in fields] == ["Summary"]:
-            next(reader, None), next(reader, None)  # nfdump's two lines behind it have no flow
+            next(reader, None), next(reader, None)  # nfdump's two lines after it have no flow
             before = reader.line_num
         elif before > first:
             yield from ((line, Unsaid(OPEN)) for line in range(first, before + 1))

@@ -71,7 +71,7 @@ class Groups:
 
 
 def is_member(line, text):
-    """Whether a line behind a group's head belongs to it: it is indented, or begins like one."""
+    """Whether a line after a group's head belongs to it: it is indented, or begins like one."""
     return bool(text) and (line[0].isspace() or STARTS.match(text) is not None)
 
 

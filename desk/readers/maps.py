@@ -4,6 +4,7 @@ import re
 import tomllib
 
 from parts.places import file_of
+from parts.table import plural
 from readers.common import Refused, address_text, prefix_of
 
 HEADING = ["prefix", "switch"]
@@ -11,7 +12,7 @@ NAME = re.compile(r"[A-Za-z][A-Za-z0-9_-]{0,15}")
 
 
 def checked_prefix(where, text):
-    """The address and the length of a prefix; `where` stands in front of what is wrong with it."""
+    """The address and the length of a prefix; `where` is printed before what is wrong with it."""
     found = prefix_of(text)
     if found is None:
         raise Refused(f"{where}: {text!r} is no prefix of IPv4")
@@ -19,18 +20,18 @@ def checked_prefix(where, text):
     start = address >> 32 - length << 32 - length
     if start != address:
         meant = address_text(start)
-        raise Refused(f"{where}: {text} has bits behind its length, {meant}/{length} none")
+        raise Refused(f"{where}: {text} has bits after its length: {meant}/{length} has none")
     return found
 
 
 class Map:
-    """Which switch each source comes in at: that of the longest prefix that has it."""
+    """At which switch each source enters: that of the longest prefix that has it."""
 
     def __init__(self):
         self.tables, self.known, self.places = {}, {}, {}
 
     def add(self, where, prefix, switch):
-        """Adds a prefix; `where` stands in front of what is wrong with it."""
+        """Adds a prefix; `where` is printed before what is wrong with it."""
         address, length = checked_prefix(where, prefix)
         if not NAME.fullmatch(switch) or switch == "controller":
             raise Refused(f"{where}: {switch!r} is no switch's name")
@@ -61,7 +62,7 @@ def pairs_of(name, heading):
                 where = f"{name}:{reader.line_num}"
                 if len(fields) != 2:
                     wanted = " and ".join(f"a {word}" for word in heading)
-                    raise Refused(f"{where}: {len(fields)} fields, not {wanted}")
+                    raise Refused(f"{where}: {plural(len(fields), 'field')}, not {wanted}")
                 yield where, *(text.strip() for text in fields)
         except csv.Error as why:
             raise Refused(f"{name}:{reader.line_num}: {why}") from why
@@ -99,10 +100,7 @@ def toml_pairs(name):
 
 
 def line_with(lines, first, value):
-    """The number of the first line from this one on that has a value, but in a comment.
-
-    Where none has it as it is written here, the value is taken to be in the first line.
-    """
+    """The number of the first line from this one on that has a value, or of this one."""
     text = re.compile(rf"(?<![\w.]){re.escape(str(value))}(?![\w./])")
     numbers = range(first, len(lines) + 1)
     return next((at for at in numbers if text.search(lines[at - 1].split("#")[0])), first)

@@ -36,7 +36,7 @@ class Options:
                 continue
             count = PASSED.get(word, 1)
             if len(words) < count:
-                raise Unsaid(f"nothing stands behind {word}")
+                raise Unsaid(f"nothing follows {word}")
             self.option(word, words[0], negated)
             del words[:count]
             negated = False

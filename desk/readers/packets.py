@@ -16,7 +16,7 @@ class Packet(NamedTuple):
     protocol: int
 
     def row(self, switch):
-        """The row of a schedule by which the packet comes in at the switch."""
+        """The row of a schedule by which the packet enters at the switch."""
         addresses = f"{address_text(self.source)},{address_text(self.target)}"
         ports = f"{self.sport},{self.dport},{protocol_text(self.protocol)}"
         return f"packet,{switch},{addresses},{ports}"

@@ -33,7 +33,7 @@ class Routes:
         return self.ports[max(found, key=lambda route: route[1])] if found else None
 
     def parts(self, target):
-        """The prefixes within a target that go by a port of their own, the longest first; behind
+        """The prefixes within a target that go by a port of their own, the longest first; after
         them the target itself. Each has its port, or nothing where no route has it."""
         inside = [route for route in self.ports if route != target and has(target, route)]
         inside.sort(key=lambda route: (-route[1], route[0]))

@@ -77,7 +77,7 @@ class Words:
         return found
 
     def end(self, passed=()):
-        """Passes over these words, and refuses what else there is behind the fields."""
+        """Passes over these words, and refuses what else follows the fields."""
         while self.next() in passed and self.words:
             self.take()
         if self.words:
