@@ -52,7 +52,7 @@ def changes(policy, count):
 
 
 def refused_behind_each():
-    """63 updates by a change of an action, behind each of which 62 changes would have one leaf too
+    """63 updates by a change of an action, after each of which 62 changes would have one leaf too
     many, and a flush."""
     policy = in_512_parts()
     first = policy.splitlines()[1].split(",", 1)[1]
@@ -101,7 +101,7 @@ def main():
     same = change([1], [other_row(1)])
     run(program, "100000 updates, 7 are live", [policy, same], ["update,2"] * 100_000, net)
     files, events = refused_behind_each()
-    run(program, "63 updates, 62 refused behind each", files, events, network(3, 0, 64))
+    run(program, "63 updates, 62 refused after each", files, events, network(3, 0, 64))
 
 
 main()

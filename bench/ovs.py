@@ -22,7 +22,7 @@ three runs.
 - *packet row*: a packet of `BIN replay`, by the difference of 20,000 and 100,000 rows, so without
   the start and the policy: its row is read as CSV and looked up, and three lines are written.
 
-It needs Open vSwitch's tools (Debian's package openvswitch-switch). What isn't compared stands in
+It needs Open vSwitch's tools (Debian's package openvswitch-switch). What isn't compared is listed in
 `bench/README.md`.
 """
 import os

@@ -63,7 +63,7 @@ def network(switches, links, authorities=(0,), cache=256, leaf_rules=8192, room=
 
 
 ONE = policy(["1,any,any,any,any,any,out:1"])
-HERE = policy(["1,any,any,any,any,any,out:0"])  # packets leave where they come in, at s0
+HERE = policy(["1,any,any,any,any,any,out:0"])  # packets leave where they enter, at s0
 WIDE = policy(f"{k},any,any,1-65534,1-65534,any,drop" for k in range(5))  # 4,500 words
 HOSTS = policy(f"{k},10.0.{k >> 8}.{k & 255},any,any,any,any,drop" for k in range(2000))
 ALL_PORTS = policy(f"{k},any,any,any,{k},any,out:{k % 64}" for k in range(1024))
@@ -121,7 +121,7 @@ def falling(number):
 
 
 def with_half(n, rows):
-    """Half of the rows are packets that stand; these follow."""
+    """Half of the rows are packets that don't move; these follow."""
     return play([*packets(n // 2), *rows])
 
 

@@ -9,7 +9,7 @@ from row_inputs import (
     of_network, packet, packets, play, policy, with_half,
 )
 
-# Of each kind what makes an input of a size. With it may stand the least of the three sizes, where
+# Of each kind what makes an input of a size. With it may come the least of the three sizes, where
 # it isn't 1,000, and what the time grows with, where that isn't the size.
 
 PACKETS = {
@@ -116,7 +116,7 @@ def corner(k):
 
 
 def cached(rules, rows, cache=65_536):
-    """So many cache rules come to s1, and these rows follow."""
+    """So many cache rules reach s1, and these rows follow."""
     net = lines(network(2, PAIR, cache=cache))
     return play([*map(corner, range(rules)), "drain", "flush", *rows], net, [corners()])
 
@@ -161,10 +161,10 @@ OTHERS = [f"{k},any,any,any,any,udp,drop" for k in range(3001, 5001)]
 FLUSHED = behind_each(each("update", [2, 1] * 31 + [2]), "flush")
 
 
-def updates(*files, first=BIG, net=TWO, behind=()):
-    """Updates by these files in turn, behind these rows."""
+def updates(*files, first=BIG, net=TWO, after=()):
+    """Updates by these files in turn, after these rows."""
     numbers = range(2, 2 + len(files))
-    return lambda n: play([*behind, *(each("update", numbers) * n)[:n]], net, [first, *files])
+    return lambda n: play([*after, *(each("update", numbers) * n)[:n]], net, [first, *files])
 
 
 REFUSED = {
@@ -177,13 +177,13 @@ REFUSED = {
     "refused by 14: leaves": updates(HOSTS, first=ONE, net=lines(network(2, PAIR, leaf_rules=1))),
     "refused by 15: room": updates(HOSTS, first=ONE, net=lines(network(2, PAIR, room=1000))),
     "refused by 16: eight versions live": updates(HOSTS),
-    "refused by 17: 64 versions": updates(HOSTS, behind=FLUSHED),
+    "refused by 17: 64 versions": updates(HOSTS, after=FLUSHED),
     "refused by 24, 26 and 12 in turn": updates(change([9999], []), change([], OTHERS), WIDE),
 }
 
 
 def versions(make, net=TWO):
-    """So many policies behind the first, each of which becomes a version."""
+    """So many policies after the first, each of which becomes a version."""
     return lambda n: play(
         behind_each(each("update", range(2, n + 2)), "flush"), net, map(make, range(n + 1))
     )
@@ -202,8 +202,8 @@ def last_row(k):
     return policy([*fields(FEW), f"4000,any,any,any,{k},any,out:1"])
 
 
-def refused_behind_each(n):
-    """Behind each of so many updates by a change of an action, 62 others would have one leaf too
+def refused_after_each(n):
+    """After each of so many updates by a change of an action, 62 others would have one leaf too
     many."""
     whole = in_512_parts()
     files = [change([1], [whole.split("\n")[1].replace("out:0", "drop")])]
@@ -221,7 +221,7 @@ UPDATES = {
     "policies, no cut parts many rows": (8, versions(last_row, all_hold(175))),
     "policies of 512 parts": (4, versions(lambda k: few_parts(1536 - k), all_hold(3))),
     "changes of one row": (8, versions(one_row)),
-    "updates, 62 refused behind each": (2, refused_behind_each),
+    "updates, 62 refused after each": (2, refused_after_each),
 }
 
 

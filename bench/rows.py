@@ -152,7 +152,7 @@ def taken(program, made, folder, with_model):
 
 
 def all_taken(program, kind):
-    """What each size took; the model is given up behind the first size for which it is too slow."""
+    """What each size took; the model is left out after the first size for which it is too slow."""
     found, with_model = [], kind.is_worst
     with tempfile.TemporaryDirectory() as home:
         for times in TIMES:

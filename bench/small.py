@@ -8,7 +8,7 @@
     routes     `Database::route` over a ring, a star, a fat tree, a full mesh and a random network
     rules      the reading of a policy of 2,000 rows, and the list of its 4,096 words
     schedules  `read_schedule` over 100,000 rows, for a network of 64 switches
-    switches   `Switch::enter` and `Switch::arrive` against tables of 512 partitions
+    switches   `Switch::admit`, `pass` and `receive`, with tables of 512 partitions
     widen      the word of a cache rule, after 0, 100 and 1,000 earlier rules
 
 For each it makes a small program over copies of the crates that it uses, in its own folder,
@@ -151,7 +151,7 @@ def peak(program, arg):
 
 
 def memory(folder):
-    """A policy in 512 partitions that stand at two of 64 switches each, and one of 2,000 rows on 16
+    """A policy in 512 partitions that are at two of 64 switches each, and one of 2,000 rows on 16
     switches."""
     write(folder, p_csv=in_512_parts(), n_toml=network(3, 1, 64))
     uses = ["anyhow", "controller", "ctrl_msg", "net_file", "policy_file"]
@@ -437,19 +437,18 @@ def schedules(folder, turns=20):
 
 # ---- the calls of a switch
 
-SWITCHES = """//! Lets packets enter at a switch again and again.
+SWITCHES = """//! Hands packets to a switch again and again.
 #![tactic(auto)]
 
 use controller::{compile, tables_of};
 use ctrl_msg::SharedTables;
-use failover::{Database, DownSet};
+use failover::{Database, DownSet, Route};
 use five_tuple::{Fields, Header};
-use net_file::{Ports, read_net};
+use net_file::read_net;
 use policy_file::read_policy;
 use policy_rules::{Leg, Targets};
 use std::{env, fs};
-use switch_core::{Arrived, Entered, Switch, switch_laws};
-use tunnel::Tunnel;
+use switch_core::{Arriving, Forwarding, Onward, Switch, switch_laws};
 
 // A header of one of the 512 blocks of destinations.
 fn header(turn: u32) -> Header {
@@ -462,13 +461,12 @@ fn header(turn: u32) -> Header {
     })
 }
 
-// How many packets of so many are decided at once.
-fn enter_all(switch: &mut Switch, near: u64, ports: &Ports, turns: u32) -> u32 {
+// How many packets of so many that come in are decided at once.
+fn admit_all(switch: &mut Switch, turns: u32) -> u32 {
     let mut decided = 0u32;
     for turn in 0..turns {
         if switch.holds_version(switch.stamp()) {
-            let entered = switch.enter(turn, &header(turn), near, ports);
-            if let Entered::Decided { .. } = entered {
+            if let Some(Forwarding::Decided { .. }) = switch.admit(&header(turn)) {
                 decided = decided.wrapping_add(1);
             }
         }
@@ -476,28 +474,46 @@ fn enter_all(switch: &mut Switch, near: u64, ports: &Ports, turns: u32) -> u32 {
     decided
 }
 
-// How many packets of so many that arrive for a version that isn't held are decided.
-fn arrive_all(switch: &mut Switch, base: &Database, near: u64, ports: &Ports, turns: u32) -> u32 {
+// How many packets of so many at the beginning of the route move on along it, where every second
+// one finds no link.
+fn pass_all(switch: &mut Switch, route: &Route, near: u64, turns: u32) -> u32 {
+    let mut moved = 0u32;
+    for turn in 0..turns {
+        let links = if turn & 1 == 0 { near } else { 0 };
+        if switch.serves() && route.items().get(0).copied() == Some(switch.number()) {
+            if let Onward::Next(_) = switch.pass(route, 0, links) {
+                moved = moved.wrapping_add(1);
+            }
+        }
+    }
+    moved
+}
+
+// How many packets of so many at the route's end, for a version that isn't held, are decided.
+fn receive_all(switch: &mut Switch, route: &Route, turns: u32) -> u32 {
     let mut decided = 0u32;
-    let down = DownSet::empty();
     let leg = Leg::Seek { version: 2, partition: 0 };
-    if let Some(targets) = Targets::new(&[0]) {
-        for turn in 0..turns {
-            if let Some(route) = base.route(0, &targets, near, &down) {
-                let tunnel = Tunnel::begin(turn, header(turn), 1, leg, targets, route, down);
-                if switch.serves()
-                    && switch.holds_version(switch.stamp())
-                    && !switch.holds_version(2)
-                {
-                    let arrived = switch.arrive(&tunnel, near, ports);
-                    if let Arrived::Decided { .. } = arrived {
-                        decided = decided.wrapping_add(1);
-                    }
-                }
+    for turn in 0..turns {
+        if switch.serves()
+            && switch.holds_version(switch.stamp())
+            && !switch.holds_version(2)
+            && route.items().get(0).copied() == Some(switch.number())
+            && route.items().get(1).is_none()
+        {
+            let header = header(turn);
+            let arriving = Arriving { header: &header, ingress: 1, leg, route, place: 0 };
+            if let Forwarding::Decided { .. } = switch.receive(arriving) {
+                decided = decided.wrapping_add(1);
             }
         }
     }
     decided
+}
+
+// The route from the first switch to this one.
+fn route_to(base: &Database, target: u32, near: u64) -> Option<Route> {
+    let targets = Targets::new(&[target])?;
+    base.route(0, &targets, near, &DownSet::empty())
 }
 
 fn main(rt: HostRuntime) -> anyhow::Result<()> {
@@ -516,17 +532,21 @@ fn main(rt: HostRuntime) -> anyhow::Result<()> {
     let base = Database::begin(&near, 64);
     let mut switch = Switch::begin(alloc, 0, 256, tables, base)?;
     let told = Database::begin(&near, 64);
-    let mut turns = [0u32; 2];
+    let mut turns = [0u32; 3];
     for (place, arg) in env::args(&rt)?.skip(1).enumerate() {
-        if place < 2 {
+        if place < 3 {
             turns[place] = arg.parse::<u32>()?;
         }
     }
-    let [entering, arriving] = turns;
-    let entered = enter_all(&mut switch, near[0], &net.ports(), entering);
-    let arrived = arrive_all(&mut switch, &told, near[0], &net.ports(), arriving);
-    let decided = entered.wrapping_add(arrived);
-    println!(rt; "{decided}")?;
+    let [admitted, passing, received] = turns;
+    let mut counted = admit_all(&mut switch, admitted);
+    if let Some(route) = route_to(&told, 1, near[0]) {
+        counted = counted.wrapping_add(pass_all(&mut switch, &route, near[0], passing));
+    }
+    if let Some(route) = route_to(&told, 0, near[0]) {
+        counted = counted.wrapping_add(receive_all(&mut switch, &route, received));
+    }
+    println!(rt; "{counted}")?;
     Ok(())
 }
 """
@@ -537,13 +557,15 @@ def switches(folder, turns=2_000_000):
     links = "".join(f'[[link]]\nends = ["s{s}", "s{(s + 1) % 64}"]\n' for s in range(64))
     write(folder, p_csv=in_512_parts(), n_toml=network(3, 1, 64) + links)
     uses = ["anyhow", "controller", "ctrl_msg", "failover", "five_tuple", "net_file"]
-    uses += ["policy_file", "policy_rules", "switch_core", "tunnel"]
+    uses += ["policy_file", "policy_rules", "switch_core"]
     text = SWITCHES.replace("FOLDER", str(folder))
-    program = build(folder, "switch_turns", uses, text, ["0", "0"])
-    none = seconds(program, 0, 0)
-    for name, calls in (("enter ", (turns, 0)), ("arrive", (0, turns))):
-        spent = (seconds(program, *calls) - none) / turns * 1e6
-        print(f"{name}, 512 partitions, 64 switches in a ring: {spent:.2f} microseconds a packet")
+    program = build(folder, "switch_turns", uses, text, ["0", "0", "0"])
+    none = seconds(program, 0, 0, 0)
+    for place, (name, many) in enumerate((("admit", 1), ("pass", 100), ("receive", 1))):
+        calls = [0, 0, 0]
+        calls[place] = many * turns
+        spent = (seconds(program, *calls) - none) / calls[place] * 1e9
+        print(f"{name:7}, 512 partitions, 64 switches in a ring: {spent:8.1f} ns a packet")
 
 
 # ---- the words of cache rules

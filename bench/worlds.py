@@ -53,11 +53,11 @@ def packet(rng):
     return "packet,n%d,%s,%s,%d,%d,tcp" % (switch, *ends, *ports)
 
 
-def schedule(rng, behind):
+def schedule(rng, after):
     lines = ["event,arguments"]
     for _ in range(PACKETS):
         lines.append(packet(rng))
-        lines += behind
+        lines += after
     return "\n".join(lines) + "\n"
 
 
@@ -102,9 +102,9 @@ def main():
     program = os.path.abspath(sys.argv[1])
     rng = random.Random(2010)
     for rows in (100, 2000):
-        for case, behind in CASES.items():
+        for case, after in CASES.items():
             files = {"n.toml": network(), "p.csv": policy(rng, rows)}
-            files["s.csv"] = schedule(rng, behind)
+            files["s.csv"] = schedule(rng, after)
             run(program, f"{PACKETS} packets{case}, {rows:4} rows", files)
     two = {"n.toml": network(), "p1.csv": policy(rng, 2000), "p2.csv": policy(rng, 2000)}
     run(program, "60 updates, 24000 packets, 2000 rows", {**two, "s.csv": updates(rng)})

@@ -17,7 +17,7 @@ SEED, FACTOR = 0x243F6A8885A308D3, 0x9E3779B97F4A7C15
 
 
 def folded(state, taken, length):
-    """The hasher's state behind so many bytes more."""
+    """The hasher's state after so many bytes more."""
     product = (state ^ taken) * (FACTOR ^ 2 * length)
     return (product ^ product >> 64) & 2**64 - 1
 
@@ -42,9 +42,9 @@ def ports():
     state = folded(SEED, 0x0A000001_0A000001, 4)
     state = folded(state, 0x0A000002_0A000002, 4)
     for sport in range(65_536):
-        behind = folded(state, port(sport), 2)
+        after = folded(state, port(sport), 2)
         for dport in range(65_536):
-            if group(folded(folded(behind, port(dport), 2), 0x060606, 1), 512) == 0:
+            if group(folded(folded(after, port(dport), 2), 0x060606, 1), 512) == 0:
                 yield sport, dport
 
 
@@ -101,8 +101,8 @@ def refused_changes(rows):
 
 
 COLLIDING = {
-    "cache rules of one hash": (1_000, cache_of_one_hash),
-    "flows of one group": (1_000, flows_of_one_group),
+    "cache rules of one hash": (1_000, cache_of_one_hash, "rows x entries"),
+    "flows of one group": (1_000, flows_of_one_group, "rows x entries"),
     "a policy, priorities of one group": (500, lambda n: compiled(with_keys(n))),
     "changes, priorities of one group": (500, refused_changes),
 }
@@ -147,7 +147,7 @@ def any_packet(rng):
 
 
 def learnt(text, make, rows):
-    """Half of the packets fill a cache, behind which these rows come."""
+    """Half of the packets fill a cache, and these rows follow."""
 
     def play_of(n):
         rng = Random(9)
@@ -187,13 +187,13 @@ def chords_down(n):
 
 
 def standing(n):
-    """Packets stand at 64 switches, which crash and come back in turn."""
+    """Packets are at 64 switches, which crash and come back in turn."""
     rows = [row for k in range(n // 4) for row in (f"crash,s{k % 64}", f"restart,s{k % 64}")]
     return play([*anywhere(n // 2), *rows], MESH)
 
 
 def in_turn(n):
-    """Packets that stand on a line move on in turn."""
+    """Packets on a line move on in turn."""
     few = n // 32
     hops = [f"hop,{k % few + 1}" for k in range(n - few)]
     return play([*packets(few, 0), *hops], LINE)
@@ -249,7 +249,7 @@ def one_port(k):
 
 
 def carried(make, number=60):
-    """So many cache rules, and this number of changes behind them."""
+    """So many cache rules, and this number of changes after them."""
 
     def play_of(n):
         rows = behind_each(each("update", range(2, number + 2)), "flush")

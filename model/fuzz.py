@@ -49,7 +49,7 @@ KINDS = {
     "expire": 2,
 }
 PRIORITIES = range(1, 11)
-ROUNDS = [1, 0, 0, 2, 0, 0]  # of recovery, behind the schedules of these seeds in turn
+ROUNDS = [1, 0, 0, 2, 0, 0]  # of recovery, after the schedules of these seeds in turn
 NO_PLAN = 3
 MOST_DIFFERENCES = 10
 

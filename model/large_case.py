@@ -2,7 +2,7 @@
 """Makes a folder with a large case: `model/large_case.py FOLDER PACKETS`.
 
 The network is the fat tree of the examples, and each edge switch has its own prefix. Packets
-come in at random edges, in flows that repeat, and hop by rows of their own; messages are delivered
+enter at random edges, in flows that repeat, and hop by rows of their own; messages are delivered
 in their order, and all that wait after two of the updates. On the way links fail and come back,
 and a switch crashes and restarts. The journal is that of `model/slow_replay.py`.
 """

@@ -51,7 +51,7 @@ def spread(sizes, weights, rooms, backups):
 
 
 def text_of(net, world):
-    """What is printed of the world behind a play."""
+    """What is printed of the world after a play."""
     version = world.controller.current
     plan = world.plans[version]
     weights = weights_of(world.journal.lines, version, len(plan.parts))

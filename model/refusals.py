@@ -29,7 +29,7 @@ SEVERAL = *PLAYS, "audit"
 MOST_ROWS, MOST_EVENTS, MOST_NUMBER = 2000, 100_000, 999_999_999
 NO_SWITCH, TOO_LARGE = 21, 20
 NO_EDIT, FIRST_CHANGE = 22, 23
-# The fields behind each kind of a schedule's rows: a switch, a number, a file; a link is two.
+# The fields after each kind of a schedule's rows: a switch, a number, a file; a link is two.
 KINDS = {
     "packet": "SH", "hop": "N", "lose": "N", "deliver": "N", "forget": "N", "expire": "SN",
     "update": "F", "linkdown": "L", "linkup": "L", "crash": "S", "restart": "S", "confirm": "S",
@@ -257,7 +257,7 @@ def check_switches(switches):
 
 
 def check_ends(link, names, seen, row):
-    """A link, behind the links that were seen."""
+    """A link, after the links that were seen."""
     if not isinstance(link, dict):
         raise Refusal(3, row)
     if "ends" not in link:
@@ -329,7 +329,7 @@ def check_plan(rows, net):
 
 
 class Line:
-    """The arguments behind a command: names, a network, and whether `--quiet` is there."""
+    """The arguments after a command: names, a network, and whether `--quiet` is there."""
 
     def __init__(self, args):
         self.names, self.net, self.quiet = [], None, False

@@ -75,7 +75,7 @@ class Reader:
 
     def row(self, words):
         self.pending = None
-        need(words, "nothing is behind the word row")
+        need(words, "nothing follows the word row")
         if words[1:2] == ["packet"]:
             need(len(words) == 8 and words[0][-1:] == ":", "a row of a packet has another form")
             need(number(words[0][:-1], MOST_ROW) >= 1, "rows are counted from 1")
@@ -85,8 +85,8 @@ class Reader:
     def entered(self, packet, switch):
         name(switch)
         packet = number(packet)
-        need(self.pending is not None, "no row of a packet is in front of it")
-        need(packet not in self.packets, f"packet {packet} came in before")
+        need(self.pending is not None, "no row of a packet is before it")
+        need(packet not in self.packets, f"packet {packet} entered before")
         self.packets[packet] = Packet(self.pending, self.mark)
         self.pending = None
 
@@ -108,9 +108,9 @@ class Reader:
         self.mark = version
 
     def packet_of(self, text):
-        """A packet that came in, and that didn't end."""
+        """A packet that entered, and that didn't end."""
         packet = self.packets.get(number(text))
-        need(packet, f"packet {text} didn't come in before")
+        need(packet, f"packet {text} didn't enter before")
         need(not packet.ended, f"packet {text} ended before")
         return packet
 
@@ -121,7 +121,7 @@ class Reader:
         version, packet = number(version[1:]), self.packet_of(packet)
         need(packet.action is None, f"packet {number_of} was decided before")
         need(version <= len(self.policies), f"version {version} wasn't submitted before")
-        need(packet.mark < version, f"version {version} was retired as the packet came in")
+        need(packet.mark < version, f"version {version} was retired as the packet entered")
         rules = self.rules_of(version)
         found = next(rule for rule in rules if slow_replay.holds(rule[0], packet.header))
         first = f"the first row of version {version} that the packet matches is {found[2]} {found[3]}"
@@ -158,7 +158,7 @@ class Reader:
         elif word == "nothing":
             need(not args, OTHER_FORM)
         else:
-            need(word in SILENT, f"no line of a journal begins with {word!r} behind two blanks")
+            need(word in SILENT, f"no line of a journal begins with {word!r} after two blanks")
             need(args, OTHER_FORM)
 
     def line(self, text):
@@ -166,10 +166,10 @@ class Reader:
         if first == "row":
             self.row(words)
         elif first in ("meter", "quiet"):
-            need(words, f"nothing is behind the word {first}")
+            need(words, f"nothing follows the word {first}")
         else:
-            behind = first == "" and words[:1] == [""] and len(words) > 1
-            need(behind, "no line of a journal begins so")
+            indented = first == "" and words[:1] == [""] and len(words) > 1
+            need(indented, "no line of a journal begins so")
             self.item(words[1], words[2:])
 
 

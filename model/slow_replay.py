@@ -83,7 +83,7 @@ class Change:
         self.added = [row for op, *row in edits if op == "add"]
 
     def of(self, rows):
-        """The rows that stay of these, and behind them those that are added."""
+        """The rows that stay of these, and after them those that are added."""
         if not self.removed <= {row[0] for row in rows}:
             raise Refused(ABSENT)
         stay = [row for row in rows if row[0] not in self.removed]
@@ -179,7 +179,7 @@ class Order(NamedTuple):
 
 
 class CacheRule(NamedTuple):
-    """From the authority that decided a packet to the switch where it came in."""
+    """From the authority that decided a packet to the switch where it entered."""
 
     version: int
     word: tuple
@@ -516,7 +516,7 @@ class Exit(NamedTuple):
 
 
 class Packet:
-    """A packet that came in. It stands at `place` of its route, as long as it travels."""
+    """A packet that entered. It stands at `place` of its route, as long as it travels."""
 
     def __init__(self, number, header, ingress):
         self.number = number
@@ -634,7 +634,7 @@ class World:
         self.say(f"decided {packet.number} v{version} rule {rule} {action} {source}")
 
     def decide_as_authority(self, packet, version, part):
-        """By the first rule that holds the header; a cache rule goes to where it came in."""
+        """By the first rule that holds the header; a cache rule goes to where it entered."""
         here = packet.at()
         region, rules = self.plans[version].parts[part]
         hit = next(k for k, rule in enumerate(rules) if holds(rule[0], packet.header))
@@ -962,7 +962,7 @@ class World:
 
 
 def played(net, schedule, policies):
-    """The world behind the schedule."""
+    """The world after the schedule."""
     try:
         world = World(net, policies)
     except Refused:
