@@ -92,7 +92,7 @@ def offered(crate):
 
 @cache
 def wants_of_memory(crate):
-    """The types of a crate that have a variant for want of memory, and std's."""
+    """The types of a crate that have a variant for running out of memory, and std's."""
     names = {"AllocError"}
     for file in sorted((HOME / "crates" / crate / "src").glob("**/*.rt")):
         enums = re.findall(r"^pub enum (\w+)[^{]*\{(.*?)^\}", file.read_text(), re.S | re.M)
@@ -151,7 +151,7 @@ def check_answer(crate, calls, clauses):
 
 
 def check_memory(crate, cell):
-    """The faults of a row of the calls that never want memory."""
+    """The faults of a row of the calls that never run out of memory."""
     named, _, others = cell.partition(" except ")
     left_out = names_in(others)
     yield from (missing_call(crate, call) for call in left_out)
@@ -162,7 +162,7 @@ def check_memory(crate, cell):
             yield f"no public call {pattern} in {crate}"
         for call in sorted(set(found) - set(left_out)):
             if calls[call].answer & wants_of_memory(crate):
-                yield f"{crate}::{call} may answer want of memory"
+                yield f"{crate}::{call} may report out of memory"
 
 
 def check_row(cells, crate, listed):

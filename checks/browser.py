@@ -1,6 +1,6 @@
 """Drives a browser without a window by its devtools protocol, over a pair of pipes.
 
-Messages are JSON, each behind it a byte 0: the browser reads them from file 3 and writes to file 4.
+Messages are JSON, each followed by a byte 0: the browser reads them from file 3 and writes to file 4.
 """
 import base64
 import fcntl

@@ -1,16 +1,16 @@
 #!/usr/bin/env python3
 """Checks desk/ask, desk/draw and the modules of desk/parts: `checks/desk.py [SEEDS]`.
 
-- Each output that stands in desk/README.md is what the command in front of it prints;
+- Each output in desk/README.md is what the command before it prints;
   `checks/desk.py --write` puts the present outputs there.
 - With --json the same values are printed.
 - Each form of a line that docs/FORMATS.md has is read as one.
 - The examples, and SEEDS random cases of `model/fuzz.py` (40 where no number is given), with
-  changes of policies: behind each row, switches, caches, links, messages and the newest version's
+  changes of policies: after each row, switches, caches, links, messages and the newest version's
   policy are those of `model/slow_replay.py`. Each answer is what `checks/journal_text.py` finds in
-  the text by patterns, and each row of a policy stands where it is said to stand.
+  the text by patterns, and each row of a policy is where it is said to be.
 - Matches, read bit by bit, are the words that they spell.
-- In each picture of desk/draw the numbers stand over the lines, and the key says what occurs.
+- In each picture of desk/draw the numbers are over the lines, and the key says what occurs.
 - Each wrong input is told in one line, with status 2; damaged journals raise nothing else.
 """
 import json
@@ -37,7 +37,7 @@ sys.path[:0] = [str(DESK), str(HOME / "model")]
 import fuzz
 import row_states
 import slow_replay
-from parts import compared, dead, journal, listed, page, plans, questions, reach, rest, words
+from parts import compared, dead, journal, listed, page, plans, plays, questions, reach, rest, words
 from parts.folder import case_of
 from parts.network import Network
 from parts.packets import Play
@@ -55,7 +55,7 @@ def ask(*args):
 
 
 def page_with_outputs(text):
-    """The page with each output as it is now, behind its command."""
+    """The page with each output as it is now, after its command."""
 
     def block(match):
         out, errors, _ = ask(*match[1].split())
@@ -83,7 +83,8 @@ def json_faults():
     for question, *further in ASKED:
         out, errors, status = ask(str(DESK / "ask"), "day", question, *further, "--json")
         args = [int(one) if question == "packet" else one for one in further]
-        wanted = answer_to(question)(case_of("day"), *args)
+        used = [plays.proved()] if question in ("plan", "reach") else []
+        wanted = answer_to(question)(case_of("day"), *used, *args)
         if status or json.loads(out) != json.loads(json.dumps(wanted)):
             yield f"--json of {question} is another value: {errors}"
 
@@ -152,7 +153,7 @@ def number(text):
 
 
 def mask_number(text, width):
-    """What stands behind the slash: nothing, a length of an address, or the bits themselves."""
+    """What follows the slash: nothing, a length of an address, or the bits themselves."""
     whole = (1 << width) - 1
     if text == "":
         return whole
@@ -214,7 +215,7 @@ def newest_told(case, play):
 
 
 def state_faults(world, rows, folder):
-    """The rows behind which a state, or the newest policy, is another one than the model's."""
+    """The rows after which a state, or the newest policy, is another one than the model's."""
     case = case_of(str(folder))
     play = Play(Network(world.network.names, world.network.cache, case.touches))
     wrong = []
@@ -266,7 +267,7 @@ def answer_faults(folder):
 
 
 def place_answers(folder, case):
-    """The rows of each version's policy, against the lines of the files where they stand."""
+    """The rows of each version's policy, against the lines of the files where they are."""
     for version in questions.rules(case)["versions"]:
         for rule in version["rules"][:-1]:
             said = f"{rule['file']} line {rule['line']}: {rule['rule']},{rule['says']}"
@@ -370,6 +371,7 @@ def write_journal(folder, first):
     except slow_replay.Refused:
         return None
     lines = [line for _, told in row_states.told(worlds[0], rows) for line in told]
+    lines += worlds[0].journal.meter_lines()
     (folder / "journal.txt").write_text("".join(f"{line}\n" for line in lines))
     return worlds[1]
 
@@ -381,7 +383,7 @@ def write_case(seed, folder, kinds=KINDS):
 
 
 def whole_policy(folder):
-    """The number of a policy that can stand first: of a later one, unless all are changes."""
+    """The number of a policy that can come first: of a later one, unless all are changes."""
     texts = {number: (folder / f"policy{number}.csv").read_text() for number in (2, 3)}
     return next((number for number, text in texts.items() if text.startswith("priority")), 1)
 
@@ -430,9 +432,9 @@ def faults_of_picture(svg, lines):
     texts = [one.text or "" for kind, one in shapes if kind == "text"]
     wanted = sorted(str(number) for number in range(1, len(lines) + 1)) * 2
     if sorted(text for text in texts if text.isdecimal()) != sorted(wanted):
-        yield "a number is missing, or stands too often"
+        yield "a number is missing, or there too often"
     if "circle" in kinds and {"path", "polyline", "rect"} & {*kinds[kinds.index("circle") :]}:
-        yield "a number stands below a line"
+        yield "a number is below a line"
     if any(kind == "path" and "marker-end" not in one.attrib for kind, one in shapes):
         yield "a curve has no head"
     told = {line.split()[0] for line in lines}
@@ -446,7 +448,7 @@ def faults_of_picture(svg, lines):
 
 KEY = {
     "tunnel to an authority": {"tunnelled"},
-    "way to its port": {"exit", "out"},
+    "path to its port": {"exit", "out"},
     "cache rule": {"sent"},
     "found down": {"found"},
 }

@@ -50,14 +50,14 @@ def play_faults():
     ended = len(re.findall(r"^  (?:out|dropped) ", done.stdout, re.M))
     packets = rows.read_text().count("packet,")
     if done.returncode or not entered == ended == packets:
-        yield f"of {packets} packets of a sample {entered} came in and {ended} ended"
+        yield f"of {packets} packets of a sample {entered} entered and {ended} ended"
 
 
 # ---- captures
 
 
 def drawn_packet(rng):
-    """An IPv4 packet, and the fields that its row is to have behind the switch, or nothing."""
+    """An IPv4 packet, and the fields that its row is to have after the switch, or nothing."""
     protocol = rng.choice([1, 2, 6, 6, 6, 17, 17, 47, 50, 89, 132])
     words, fragment = rng.choice([5, 5, 6, 9]), rng.choice([0, 0x4000, 0x4000, 0x2000, 0x2005, 7])
     ends = [10 << 24 | rng.getrandbits(24), 10 << 24 | rng.getrandbits(24)]
@@ -188,7 +188,7 @@ def text_faults(rng, folder):
 
 
 def damaged_faults(rng, folder):
-    """Files that are cut off or changed, and that end in another way than with 0 or 2."""
+    """Files that are cut off or changed, and that end otherwise than with 0 or 2."""
     path = folder / "damaged"
     for _ in range(DAMAGED):
         script = rng.choice(list(SAMPLES))

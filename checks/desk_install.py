@@ -2,7 +2,7 @@
 """Checks `desk/install`: `checks/desk_install.py`.
 
 Under a prefix of its own, from another folder and as another user where it is root's, each command
-of desk/README.md prints by its name what the page has behind it. Afterwards nothing is left. It
+of desk/README.md prints by its name what the page has after it. Afterwards nothing is left. It
 ends with 1 where that fails.
 """
 import os

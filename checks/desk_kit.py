@@ -46,7 +46,7 @@ def row_fits(row, header):
 
 
 def drawn_header(rng, texts):
-    """A header whose fields stand in these lines, or near to what stands there."""
+    """A header whose fields are in these lines, or near to them."""
     line = rng.choice(texts)
     addresses = re.findall(r"\d+\.\d+\.\d+\.\d+", line) or ["10.0.0.1"]
     ports = [int(text) for text in re.findall(r"(?<![\d./x])\d{1,5}(?![\d.])", line)]

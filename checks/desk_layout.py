@@ -4,7 +4,7 @@
 It draws random networks of up to 64 switches (200 where no number is given): rings, trees, grids,
 stars, and any links, with long and short names. In each a packet walks over links, and sends a
 cache rule back. No link, no hop and no message may run through a switch that it doesn't touch, no
-two switches may stand on each other, and each link must begin and end in its switches. The shapes
+two switches may overlap, and each link must begin and end in its switches. The shapes
 of desk/draw are those of its SVG; those of desk/view are the points that the page draws, which
 `checks/view_check.py` compares with a browser's.
 """
@@ -168,7 +168,7 @@ def faults_of(boxes, lines, links):
     """What is wrong with a drawing."""
     for (one, a), (two, b) in combinations(boxes.items(), 2):
         if a[0] < b[2] and b[0] < a[2] and a[1] < b[3] and b[1] < a[3]:
-            yield f"{one} and {two} stand on each other"
+            yield f"{one} and {two} overlap"
     drawn = [frozenset(ends) for kind, ends, _ in lines if kind == "link"]
     if sorted(map(sorted, drawn)) != sorted(map(sorted, links)):
         yield "other links are drawn than there are"

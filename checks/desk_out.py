@@ -1,7 +1,7 @@
 #!/usr/bin/env python3
 """Checks `desk/openvswitch`: `checks/desk_out.py`.
 
-- Whole texts of `show` alone are taken: none that is empty, cut anywhere, or has a line too many or
+- Only whole texts of `show` are taken: none that is empty, cut anywhere, or has a line too many or
   too few. What is refused is told in one line, with status 2; Ctrl-C is one line too.
 - The ports that are listed with the flows of the examples can be made as it says there; with them
   the flows are taken, and without them they aren't.
@@ -35,18 +35,18 @@ LOOKUPS = 29
 TEXT = (EXAMPLES / "campus/show-b.txt").read_text()
 REFUSED = {
     "": "the text is empty",
-    "\n": "line 1: a line `switch NAME version 1` must stand here, and not ''",
-    "# a page\n": "line 1: a line `switch NAME version 1` must stand here, and not '# a page'",
+    "\n": "line 1: a line `switch NAME version 1` must be here, and not ''",
+    "# a page\n": "line 1: a line `switch NAME version 1` must be here, and not '# a page'",
     TEXT[:-9]: "line 14: the text is cut, its last line has no end",
-    TEXT[: TEXT.index("partitions")]: "line 13: the text ends where a line `partitions K` must",
+    TEXT[: TEXT.index("partitions")]: "line 13: the text ends, and a line `partitions K` must",
     TEXT.replace("authority 1\n", "authority 1\n\n"): "line 3: a line `part N region WORD rules M`",
     TEXT.replace("authority 1\n", "authority 2\n"): "line 13: a line `part N region WORD rules M`",
     TEXT.replace("region 0", "region 3"): "line 3: the word has a bit that its mask leaves free",
     TEXT.replace("targets b", "targets c"): "line 14: the parts with the target b aren't those",
     TEXT.replace("drop", "out:64"): "line 11: a line `  rank R rule RULE word WORD ACTION` must",
-    TEXT + "\n": "line 15: no line of a journal stands here: ''",
-    TEXT + TEXT: "line 15: no line of a journal stands here: 'switch b version 1'",
-    TEXT.replace("\n", "\r\n"): "line 1: a line `switch NAME version 1` must stand here",
+    TEXT + "\n": "line 15: this is no line of a journal: ''",
+    TEXT + TEXT: "line 15: this is no line of a journal: 'switch b version 1'",
+    TEXT.replace("\n", "\r\n"): "line 1: a line `switch NAME version 1` must be here",
 }
 SEEDS = 10
 FAULTS = {
@@ -147,7 +147,7 @@ def ports_wrong():
 
 def lookups_wrong():
     done = run("--check")
-    counts = re.findall(r"flows; (\d+) lookups as in the journal, 0 others", done.stdout)
+    counts = re.findall(r"flows?; (\d+) lookups? as in the journal, 0 others", done.stdout)
     if done.returncode or sum(map(int, counts)) != LOOKUPS:
         yield f"--check: {done.stdout}{done.stderr}"
 
@@ -193,7 +193,7 @@ def faults_wrong(home):
     for right, (wrong, count) in FAULTS.items():
         (home / "fault/journal.txt").write_text(journal.replace(right, wrong))
         done = run("--network", str(home / "fault"))
-        if f" {count} differences;" not in done.stdout or done.returncode != bool(count):
+        if f" {count} difference{'s' * (count != 1)};" not in done.stdout or done.returncode != bool(count):
             yield f"campus with {wrong}: {done.stdout}{done.stderr}"
 
 
@@ -240,7 +240,7 @@ def fat_tree_wrong(home):
     subprocess.run(make, check=True)
     done = run("--network", str(home / "fat_tree"))
     print(f"    {done.stdout.strip()}", flush=True)
-    wanted = r"fat_tree: 20 switches, .* 1000 packets .* 0 differences; not compared: none\n"
+    wanted = r"fat_tree: 20 switches, .* 1,000 packets .* 0 differences; not compared: none\n"
     if done.returncode or not re.fullmatch(wanted, done.stdout):
         yield f"model/fat_tree.py: {done.stdout}{done.stderr}"
 

@@ -2,7 +2,7 @@
 """Checks questions of desk/ask against the model and the text: `checks/desk_questions.py [SEEDS]`.
 
 - On 200 cases in which messages are lost and switches crash: whether the network is quiet is what
-  the model says, and behind the rows that are told it is, but for messages that are told to stay.
+  the model says, and after the rows that are told it is, but for messages that are told to stay.
 - On SEEDS cases of `model/fuzz.py` (20 where no number is given): the packets that filters leave are
   those that patterns find in the text, and what the matrix says of a packet is what the model's
   journal of that one packet says. Each row that decides some header of the matrix has one there.
@@ -28,7 +28,7 @@ from desk_stale import EXAMPLES, HOME, write_model_journal
 import plan_model
 import row_states
 import slow_replay
-from parts import compared, listed, plans, reach, rest
+from parts import compared, listed, plans, plays, reach, rest
 from parts.folder import case_of, inputs_of
 
 SEEDS, NIGHTS = 20, 200
@@ -40,7 +40,7 @@ NIGHT = {"update": 10, "deliver": 40, "forget": 12, "crash": 6, "restart": 6, "c
 # ---- random cases
 
 def played(seed, folder, kinds):
-    """Leaves a random case and its journal; the world behind it, or None where it has no plan."""
+    """Leaves a random case and its journal; the world after it, or None where it has no plan."""
     desk.write_case(seed, folder, kinds)
     world = desk.write_journal(folder, 1)
     for _ in row_states.told(world, row_states.rows_of(folder / "schedule.csv")) if world else ():
@@ -49,7 +49,7 @@ def played(seed, folder, kinds):
 
 
 def night_faults():
-    """Nights in which messages are lost, and what is told of rest behind them."""
+    """Nights in which messages are lost, and what is told of rest after them."""
     quiet = Counter()
     for seed in range(NIGHTS):
         with tempfile.TemporaryDirectory() as name:
@@ -79,7 +79,7 @@ def rest_faults(folder, world):
         row_states.play_row(world, 0, *row.split(","))
     left = {number for number in lacking_in(world) if number not in found["may stay"]}
     if left or (not found["may stay"] and not world.is_quiet()):
-        yield f"behind the rows {found['rows']} the messages {left} are missing"
+        yield f"after the rows {found['rows']} the messages {left} are missing"
 
 
 def lacking_in(world):
@@ -139,7 +139,7 @@ def matrix_faults(folder, rng):
     case, words = inputs_of(str(folder)), [rng.choice(texts) for texts in FIELDS]
     policies = desk.policies_in(folder)
     for behind in ([], ["after"]):
-        found, cells = reach.answer(case, *words, *behind), {}
+        found, cells = reach.answer(case, plays.proved(), *words, *behind), {}
         for one in found["packets"]:
             end = f"port {one['port']}" if one["end"] == "out" else one["end"]
             cells.setdefault(one["switch"], Counter())[end] += 1
@@ -223,7 +223,7 @@ def plan_faults():
     """Sums by switch, against the model's plan; and what code 15 tells."""
     for path in sorted(EXAMPLES.glob("*/policy.csv")):
         folder, net = path.parent, path.parent / "net.toml"
-        found = plans.answer(inputs_of(str(folder)))
+        found = plans.answer(inputs_of(str(folder)), plays.proved())
         rows, net = plan_model.rows_of(path), net if net.is_file() else None
         names, words, parts, hosted = plan_model.plan_of(rows, net)
         rules = {name: [0, 0] for name in names}

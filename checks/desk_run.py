@@ -111,7 +111,7 @@ def updates_without_effect_are_told(desk):
     rows = text("update/schedule.csv").splitlines()
     (own / "schedule.csv").write_text("\n".join([*rows[:2], "update,2", "drain", ""]))
     _, errors, _ = desk.run("own", "--model")
-    assert "row 2: no row flush stands behind this update" in errors, errors
+    assert "row 2: there is no row flush after this update" in errors, errors
 
 
 @case

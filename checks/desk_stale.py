@@ -64,6 +64,24 @@ def stale_faults():
             for script in (["view", str(folder)], ["draw", str(folder), "1"]):
                 yield from desk.refusal_faults(f"{what}, {script[0]}", *script)
             (folder / file).write_text(text)
+        yield from last_row_faults(folder)
+
+
+def last_row_faults(folder):
+    """A journal whose schedule was shorter: its last drain or flush would have done something."""
+    whole = (folder / "schedule.csv").read_text()
+    for gone, told in (("flush\n", "message 35 waits after row 14"),
+                       ("drain\nflush\n", "packet 4 travels after row 13")):
+        (folder / "schedule.csv").write_text(whole.removesuffix(gone))
+        write_model_journal(folder)
+        if asked(folder, "ends")[2]:
+            yield f"a journal without {gone!r} is refused beside its own schedule"
+        (folder / "schedule.csv").write_text(whole)
+        os.utime(folder / "journal.txt")
+        yield from desk.refusal_faults(f"without {gone!r}", "ask", str(folder), "ends")
+        if told not in asked(folder, "ends")[1]:
+            yield f"without {gone!r}: {asked(folder, 'ends')[1]!r}, and not {told!r}"
+        yield from desk.refusal_faults(f"without {gone!r}, view", "view", str(folder))
 
 
 WRONG = [
@@ -73,7 +91,9 @@ WRONG = [
     ["dead", "x"], ["dead", "net.toml"], ["dead", "policy.csv", "x"], ["plan", "none.csv"], ["plan", "a", "b"], ["quiet", "x"], ["reach"],
     ["reach", "any", "any", "any", "any"], ["reach", "any", "any", "any", "any", "tcp", "x"],
     ["reach", "10.0.0.0/33", "any", "any", "any", "tcp"], ["reach", "any", "any", "9-1", "any", "1"],
-    ["plan", "schedule.csv"],
+    ["plan", "schedule.csv"], ["ends", "--model"], ["plan", "--program", "none"],
+    ["plan", "--program", "/bin/echo"], ["dead", "--program", "/bin/echo"],
+    ["reach", "any", "any", "any", "any", "tcp", "--program", "/bin/echo"],
 ]
 WRONG_POLICIES = [
     "1,10.0.0.0/40,any,any,any,any,drop", "x,any,any,any,any,any,drop",

@@ -3,11 +3,11 @@
 
 Over the examples and SEEDS random cases of `model/fuzz.py` (10 where no number is given):
 
-- `trace` sends packets into a fresh network and behind the schedule. The lines that it has are
+- `trace` sends packets into a fresh network and after the schedule. The lines that it has are
   those of the model's journal, the end is the same, and the words name what each line names.
 - `whatif` lets each switch and each link fail, and in one case each pair. The rows of each failure
   are put together here anew and played by the model; the counts are those of its journals, found by
-  patterns in the text, the worst stands first, and `--rows` prints the same schedule.
+  patterns in the text, the worst is first, and `--rows` prints the same schedule.
 - Wrong words and folders are told in one line, with status 2.
 
 With a program (`checks/desk_trace.py SEEDS BIN`) it asks that too, and compares.
@@ -117,7 +117,7 @@ def prefix(failure):
 
 
 def schedule_behind(folder, rows, failure):
-    """The rows behind a failure: none that mends it, and messages counted on."""
+    """The rows after a failure: none that mends it, and messages counted on."""
     sent = journal(folder, prefix(failure))[0].count("\n  sent ")
     made = prefix(failure)
     for row in rows:
@@ -140,7 +140,7 @@ def fates(text):
 
 
 def counts(before, after):
-    """How many packets are worse off, and how; fare otherwise; go a longer way."""
+    """How many packets are worse off, and how; fare otherwise; take more hops."""
     worse, otherwise, longer = Counter(), 0, 0
     for packet, (end, port, hops) in before.items():
         there = after[packet]

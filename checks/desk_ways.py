@@ -43,7 +43,7 @@ WRONG_ROUTES = {
     "another heading": "prefix,switch\n",
     "the port 64": "prefix,port\n10.0.0.0/8,64\n",
     "no prefix": "prefix,port\n10.0.0/8,1\n",
-    "bits behind the length": "prefix,port\n10.0.0.1/8,1\n",
+    "bits after the length": "prefix,port\n10.0.0.1/8,1\n",
     "a route twice": "prefix,port\n10.0.0.0/8,1\n10.0.0.0/8,2\n",
     "three fields": "prefix,port\n10.0.0.0/8,1,2\n",
 }

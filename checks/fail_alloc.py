@@ -45,7 +45,7 @@ def play(args, folder, **settings):
 
 
 def is_right(ended, whole):
-    """Whether a run ended whole, or for want of memory with a part of the output, not all."""
+    """Whether a run ended whole, or out of memory with a part of the output, not all."""
     status, out, line = ended
     if status == 0:
         return out == whole and line == LINES[0]

@@ -23,7 +23,7 @@ def rules(text):
 
 
 def caches(text):
-    """For each switch where packets came in, how many were decided, and how many by its cache."""
+    """For each switch where packets entered, how many were decided, and how many by its cache."""
     came = dict(re.findall(r"^  entered (\d+) (\S+)$", text, re.M))
     by = re.findall(r"^  decided (\d+) .* (authority|cache) ", text, re.M)
     decided, cached = Counter(), Counter()

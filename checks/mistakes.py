@@ -1,14 +1,14 @@
 #!/usr/bin/env python3
 """Checks what `desk/run` says of mistakes: `checks/mistakes.py [BIN]`.
 
-Each case of checks/mistakes.toml has the program's line and what desk/parts/mistakes.py says behind it.
+Each case of checks/mistakes.toml has the program's line and what desk/parts/mistakes.py says after it.
 Where BIN is given, the line is that of this program; otherwise it is that of `model/refusals.py`.
 `checks/mistakes.py --write` puts the present ones into the table. It ends with 1 where one differs.
 
 A case has `run`, the arguments, and files that differ from those of BASES: `policy`, `policy2`,
-`change` and `schedule` are rows behind a heading, `net` a text, `files` whole files by their names,
+`change` and `schedule` are rows after a heading, `net` a text, `files` whole files by their names,
 `latin` too, in Latin-1, `absent` names files that are not there, and `folders` has folders. `many`
-says how often a row, in which `{}` is its number, stands behind a file. A case without a line of
+says how often a row, in which `{}` is its number, comes after a file. A case without a line of
 the program has the cautions of its folder. Where `line` is there, it is the program's: no file
 causes it.
 """

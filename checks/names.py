@@ -127,7 +127,7 @@ def words_of_two_meanings():
 def one_word_files():
     for crate in libraries():
         for path in sources(crate, "proofs/*.antt"):
-            if path.stem != "Lib" and len(words_of(path.stem)) == 1:
+            if path.stem not in ("Lib", "Exports") and len(words_of(path.stem)) == 1:
                 yield str(path.relative_to(HOME))
 
 

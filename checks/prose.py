@@ -25,7 +25,9 @@ DIALECT = {
     r"[Tt]ests alone": "only tests",
     r"alone[.,;:]": "only",
     r"less (?:those|all|the links)": "except, without",
-    r"as (?:it|the packet|a packet) came in": "when it came in",
+    r"(?:comes|came) in(?! (?:an?|any|order|pairs|the order|their) )": "enters, entered",
+    r"timeouts?": "expiry, expiries",
+    r"off the grammar": "the grammar doesn't have",
     r"in the midst": "in the middle, half-way",
     r"however the journal goes on": "however the journal continues",
     r"[Bb]ehind (?:recovery|each step|steps|(?:the|this|its) journal|an update|a flush)": "after",
@@ -41,9 +43,11 @@ DIALECT = {
     r"[Ss]tands on": "depends on",
     r"stands? twice": "occurs twice, occur twice",
     r"(?:is|are|first) red": "is refused, isn't proved",
+    r"but for (?:an?|the|its|those|that)": "except for",
+    r"Let (?:an?|no|such|each|every|the)": "suppose",
+    r"less (?:its|their)": "minus",
 }
 PAGES_ONLY = {  # words that comments may have
-    r"off the grammar": "the grammar doesn't have",
     r"(?:None|false|no|exactly|Exactly)`? where": "if",
     r"behind a blank": "after a blank",
     r"by turns": "one after another",
@@ -61,6 +65,11 @@ PAGES_ONLY = {  # words that comments may have
     r"taken as it stands": "taken as given",
     r"come of (?:the|it|that)": "follow from, come from",
     r"[Tt]he judge": "the function, by its name",
+    r"for (?:lack|want) of": "because there is no",
+    r"(?:is|are|was|were) said of": "says about",
+    r"stands": "is, follows, means",
+    r"anew": "again",
+    r"of then": "of that moment",
 }
 
 

@@ -2,7 +2,7 @@
 """Checks `desk/run`: `checks/run.py [BIN]`.
 
 The program is BIN where it is given, and otherwise `checks/stand_in.py`, which says what the slow
-model says; it stands in for `rt` too, so what the kit prints is not checked here. Each case is a
+model says; it replaces `rt` too, so what the kit prints is not checked here. Each case is a
 function; those that failed are told, and it ends with 1.
 """
 import os

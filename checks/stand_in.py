@@ -1,5 +1,5 @@
 #!/usr/bin/env python3
-"""Stands in for the program, or for `rt`, in checks of the scripts around them.
+"""Replaces the program, or `rt`, in checks of the scripts around them.
 
 usage: checks/stand_in.py ARGUMENTS       as `difane`: what the slow model says
        checks/stand_in.py try FLAGS..     as `rt try`, with one run or with `--cases FOLDER`

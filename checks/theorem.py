@@ -66,7 +66,7 @@ STOPS = {
     "Accounts": "refusals",
     "NamesOneOf": "refusals",
     "names_in": "refusals",
-    "RanOut": "want of memory",
+    "RanOut": "running out of memory",
     "GivesBack": "meters",
     "NeedsReadFault": "faults",
     "MayFollowFault": "faults",
@@ -94,7 +94,7 @@ FIELD = re.compile(r"^  +pub [\w-]+ :|(?<=[{;] )[\w-]+ =|^ +[\w-]+ =(?= .*;$)", 
 DECLARED = re.compile(r"declared\.([a-z_.]+)\.([A-Z]\w*)(?:\.The\w+)?")
 STANDS = re.compile(r"((?:`[\w-]+`(?:,\s+|,?\s+and\s+)?)+)\s+of\s+`([^`\s]*)\.antt`")
 USE = re.compile(
-    r"^(?:pub |ghost )?use Rattle\.(\w+)\.specs\.([\w.]+?)(?:\.\{([^}]*)\}| as (\w+));?$", re.M
+    r"^(?:unfoldable )?(?:pub |ghost )?use Rattle\.(\w+)\.specs\.([\w.]+?)(?:\.\{([^}]*)\}| as (\w+));?$", re.M
 )
 VARIANT = re.compile(r"  ([A-Z]\w*) :")
 
@@ -111,7 +111,7 @@ class Module:
         self.definitions, self.variants = {}, {}
         comment, last = None, None
         for at, line in enumerate(self.lines):
-            if line.startswith(("use ", "pub use ", "-- ----")):
+            if line.startswith(("use ", "pub use ", "unfoldable pub use ", "-- ----")):
                 comment = None
             elif line.startswith("--"):
                 comment = at if comment is None else comment

@@ -2,7 +2,7 @@
 """Opens pages of desk/view in a browser: `checks/view_check.py [--shots FOLDER]`.
 
 Of each example with a journal it compares what the page says: how the packets ended, and the lines
-of each packet, with the text of the journal; the state behind each row with that of
+of each packet, with the text of the journal; the state after each row with that of
 `model/slow_replay.py`. It moves the slider by keys, by the field and from mark to mark, clicks a
 packet, chooses filters, saves packets as CSV, and reads the policy's rows with their counts. Each
 control must have a name, and the page must ask for nothing else. No table may be cut at any width,
@@ -128,7 +128,7 @@ def drawing_faults(page):
 
 
 def state_faults(case, view):
-    """The rows of the slider behind which the page shows another state than the model has."""
+    """The rows of the slider after which the page shows another state than the model has."""
     world, rows = case.world()
     wanted = {"before the first row": state_wanted(world)}
     for row, told in row_states.told(world, rows):
@@ -214,7 +214,7 @@ def hand_faults(case, view):
 
 
 def network_faults(case, view):
-    """The drawing of a random network, and of the way of its packet."""
+    """The drawing of a random network, and of the path of its packet."""
     links = re.findall(r'ends = \["(\S+)", "(\S+)"\]', (case.folder / "net.toml").read_text())
     view.open(case.address("packet=1"))
     yield from view_parts.drawn_faults(view, links)
@@ -224,15 +224,15 @@ def network_faults(case, view):
 
 
 def box_faults(view):
-    """Switches that stand on each other, or out of the drawing."""
+    """Switches that overlap, or are outside of the drawing."""
     boxes = view.evaluate(BOXES)
     wide, high = view.evaluate("data.size")
     for one, two in combinations(boxes, 2):
         if abs(one[0] - two[0]) < one[2] and abs(one[1] - two[1]) < one[3]:
-            yield f"switches stand on each other at {one} and {two}"
+            yield f"switches overlap at {one} and {two}"
     for x, y, width, height in boxes:
         if x < 0 or y < 0 or x + width > wide or y + height > high:
-            yield f"a switch stands outside of the drawing, at {x} {y}"
+            yield f"a switch is outside of the drawing, at {x} {y}"
 
 
 def name_faults(view):
@@ -290,7 +290,7 @@ def large_faults(case, view):
 
 
 def large_state(page):
-    """The state without the list of messages, of which a page shows the first ones alone."""
+    """The state without the list of messages, of which a page shows only the first ones."""
     waiting = page["waiting"].split(":")[0]
     return {**state_said(page), "waiting": 0 if waiting == "none" else int(waiting)}
 

@@ -16,7 +16,7 @@ DRAWN = """({
   boxes: [...document.querySelectorAll("#nodes .node")].map((node) => [node.dataset.switch,
     ["x", "y", "width", "height"].map((name) =>
       Number(node.querySelector("rect").getAttribute(name)))]),
-  lines: [...document.querySelectorAll("#links .link, #way .hop")].map((one) => [
+  lines: [...document.querySelectorAll("#links .link, #path .hop")].map((one) => [
     one.dataset.ends.split(" "), one.classList.contains("hop"),
     (one.querySelector("polyline") || one).getAttribute("points")]) })"""
 MARKS = """[...document.querySelectorAll("#marks line")].map((one) =>
@@ -27,6 +27,9 @@ SAVED = """(() => { let kept; const make = URL.createObjectURL, of = HTMLAnchorE
   const click = of.click; URL.createObjectURL = (blob) => { kept = blob; return ""; };
   of.click = () => {}; document.getElementById("save").click();
   URL.createObjectURL = make; of.click = click; return kept.text(); })()"""
+TEXTS = """[...document.querySelectorAll("#nodes .node")].flatMap((node) =>
+  [...node.querySelectorAll(".name, .inside")].map((text) => [text.textContent,
+    text.getComputedTextLength() - node.querySelector("rect").getAttribute("width")]))"""
 CUT = """[...document.querySelectorAll(".wide")].filter((one) =>
   one.scrollWidth > one.clientWidth + 1).map((one) => one.querySelector("table").id)"""
 KINDS = {"update": "update", "crash": "switch", "restart": "switch", "linkdown": "link",
@@ -46,7 +49,7 @@ def mark_faults(case, view):
     if not {*told} <= {(KINDS[kind], line) for line, _, kind in events}:
         yield f"there are the marks {told}"
     if not {KINDS[kind] for _, _, kind in events} == {kind for kind, _ in told}:
-        yield f"marks of {told} alone"
+        yield f"only marks of {told}"
     view.evaluate('(() => { const one = document.getElementById("go"); one.value = 0;'
                   'one.dispatchEvent(new Event("change")); })()')
     rows = sorted({int(row) for _, row, _ in events})
@@ -108,7 +111,7 @@ def row_wanted(text, packet):
         **dict(zip(("src", "dst", "sport", "dport", "proto"), header)),
         "version": version, "rule": rule, "action": action, "by": by,
         "end": journal_text.outcomes(text)[packet][1] or "travelling",
-        "port": port[1] if port else "", "way": " ".join(way),
+        "port": port[1] if port else "", "path": " ".join(way),
     }
 
 
@@ -128,3 +131,4 @@ def drawn_faults(view, links):
     lines = [("hop" if hops else "link", ends, desk_layout.points_in(points))
              for ends, hops, points in said["lines"]]
     yield from desk_layout.faults_of(boxes, lines, links)
+    yield from (f"{text} runs out of its box" for text, over in view.evaluate(TEXTS) if over > -4)
