@@ -1,16 +1,12 @@
 -- Masks number by number.
-use Rattle.std.proofs.Common.{◌≡◌, ◌≢◌, ℕ, zero, suc, ◌+◌, ◌^◌, ◌<◌, ◌≤◌, min, max, Bool, true, false, ◌&&◌, ◌||◌, ◌==◌, List, [], ◌∷◌, length, get_or, refl, sym, ◌∙◌, ap, arith, ◌%◌, not}
-use Rattle.std.specs.Int.{w64, bit_at}
-use Rattle.std.specs.Int.Bits.{bit_and, bit_or, bit_xor}
+use Rattle.std.proofs.Common.{[], ◌%◌, ◌&&◌, ◌+◌, ◌<◌, ◌==◌, ◌^◌, ◌||◌, ◌∙◌, ◌∷◌, ◌≡◌, ◌≢◌, ◌≤◌, Bool, List, ap, arith, bit_and, bit_or, bit_xor, eq-eqb, false, get_or, length, max, min, not, pow_pos, refl, suc, sym, true, w64, zero, ℕ}
+use Rattle.std.specs.Int.{bit_at}
 use Rattle.std.proofs.lemmas.Bool.Decides.{nat_tests}
-use Rattle.std.proofs.lemmas.Nat.{pow_below, pow_pos, or_lt}
+use Rattle.std.proofs.lemmas.Nat.{pow_below, or_lt}
 use Rattle.std.proofs.lemmas.Nat.Bits.{bit_at_and, bit_at_or, bit_at-lt, bit_at-zero, bit_at-pow_same, bit_at-pow_other, bit_at_above, same_from_bits, same_from_bits_below, bit_at-trailing_zeros, bit_at_xor}
 use Rattle.std.proofs.lemmas.List.FromFn.{get_or-range_with_len}
 use Rattle.std.proofs.Math.Bool.{or-false}
-use Rattle.std.proofs.lemmas.Bool.{eq-eqb}
-use Rattle.base.specs.Masks.{has, switches}
-use Rattle.base.specs.ComputedMasks.{mask_of, mask_where, only_if, least_in}
-use Rattle.base.specs.MaskLaws.{MaskLaws}
+use Rattle.base.specs.Exports.{MaskLaws, has, least_in, mask_of, mask_where, only_if, switches}
 
 -- ---- one switch of a mask
 

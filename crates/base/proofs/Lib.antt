@@ -12,3 +12,4 @@ pub mod ListsOfRanges
 pub mod OptionsByTest
 pub mod OptionsMade
 pub mod ResultsMade
+pub mod Exports

@@ -1,5 +1,5 @@
 -- What proofs above cite of lists and options of any kind.
-use Rattle.std.proofs.Common.{◌≡◌, ℕ, suc, ◌+◌, ◌≤◌, Bool, true, false, cond, not, Option, Some, None, is_some, List, [], ◌∷◌, ◌++◌, Contains, count_by, filter, filter_map, find, length, refl, true≢false, arith}
+use Rattle.std.proofs.Common.{[], ◌++◌, ◌+◌, ◌∷◌, ◌≡◌, ◌≤◌, Bool, Contains, List, None, Option, Some, arith, cond, count_by, false, filter, filter_map, find, is_some, length, not, refl, suc, true, true≢false, ℕ}
 use Rattle.std.specs.List.{AllByRecursion, cons_option}
 use Rattle.std.proofs.lemmas.List.Sums.{sum_by-cons}
 use Rattle.std.proofs.lemmas.List.Filters.{sum_by-filter_both}

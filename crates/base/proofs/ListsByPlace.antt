@@ -1,10 +1,8 @@
 -- What stands at a place of a list that was changed at one.
-use Rattle.std.proofs.Common.{List, None, Option, Some, [], add-one, ap, arith, drop, get_or, length, map, refl, replicate, set, slice_get, suc, sym, take, zero, ℕ, ◌++◌, ◌+◌, ◌-◌, ◌<◌, ◌∙◌, ◌∷◌, ◌≡◌}
-use Rattle.std.specs.List.{remove, swap_remove}
+use Rattle.std.proofs.Common.{[], if◌then◌else◌, ◌++◌, ◌+◌, ◌-◌, ◌<◌, ◌==◌, ◌∙◌, ◌∷◌, ◌≡◌, List, None, Option, Some, add-one, ap, arith, drop, drop-cons, drop-set-lt, get_or, length, length-set, length-take-le, map, option_map, refl, remove, replicate, set, slice_get, suc, swap_remove, sym, take, take_at, zero, ℕ}
 use Rattle.std.specs.Option.{option_map_or}
-use Rattle.std.specs.Prelude.{if◌then◌else◌, option_map, ◌==◌}
-use Rattle.std.proofs.Math.Seq.{drop-append_seam, drop-cons, take-append_seam}
-use Rattle.std.proofs.lemmas.List.{at_drop_more, drop-map, drop-set-lt, get_or_push, length-set, length-take-le, length_push, map-append, set-append_left, take-map, take-set, take_at}
+use Rattle.std.proofs.Math.Seq.{drop-append_seam, take-append_seam}
+use Rattle.std.proofs.lemmas.List.{at_drop_more, drop-map, get_or_push, length_push, map-append, set-append_left, take-map, take-set}
 use Rattle.std.proofs.lemmas.Option.{same_Some}
 use Prim.Native.Nat.compare.{suc-suc}
 use Rattle.base.proofs.OptionsByTest.{either_way_same}

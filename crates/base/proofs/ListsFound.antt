@@ -1,9 +1,7 @@
 -- The first element that passes a test, and its place.
-use Rattle.std.proofs.Common.{All, Bool, Contains, IfSome, IsSome, List, MatchOption, None, Option, Some, [], ap, arith, cond, count_by, false, filter, find, get_or, inl, inr, length, map, min, nat_lt, not, option_map, position, refl, slice_get, subst, suc, sym, true, zero, ℕ, ◌&&◌, ◌++◌, ◌+◌, ◌<◌, ◌||◌, ◌∙◌, ◌∷◌, ◌≡◌, ◌≤◌}
+use Rattle.std.proofs.Common.{[], ◌&&◌, ◌++◌, ◌+◌, ◌<◌, ◌||◌, ◌∙◌, ◌∷◌, ◌≡◌, ◌≤◌, All, Bool, Contains, IfSome, IsSome, List, MatchOption, None, Option, Some, ap, arith, cond, count_by, false, filter, find, get_or, inl, inr, is_some, le-ltb, length, lt-ltb, map, min, nat_lt, not, option_and_then, option_map, position, refl, slice_get, subst, suc, sym, true, zero, ℕ}
 use Rattle.std.specs.List.{list_any, position_from, position_or_len}
-use Rattle.std.specs.Option.{option_and_then}
-use Rattle.std.specs.Prelude.{is_some}
-use Rattle.std.proofs.lemmas.Bool.{both_ways, cases_lt, le-ltb, lt-ltb}
+use Rattle.std.proofs.lemmas.Bool.{both_ways, cases_lt}
 use Rattle.std.proofs.lemmas.Iterator.Adapters.{position_from-zero}
 use Rattle.std.proofs.lemmas.List.{length-map}
 use Rattle.std.proofs.lemmas.List.Elements.{All-cons, All-head, All-nil, All-tail}

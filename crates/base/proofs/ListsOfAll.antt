@@ -1,10 +1,8 @@
 -- What holds of all elements, of all pairs of them, or of one that is there.
-use Rattle.std.proofs.Common.{AllPairs, Contains, IfSome, List, None, Option, Some, [], ap, arith, drop, filter_map, get_or, inl, inr, length, length-append, map, refl, remove, subst, suc, sym, take, zero, ℕ, ◌++◌, ◌+◌, ◌<◌, ◌∙◌, ◌∷◌, ◌≡◌}
-use Rattle.std.specs.List.{All, AllZip, cons_option, range_with_len, slice_get}
-use Rattle.std.specs.Option.{IsSomeAnd}
-use Rattle.std.specs.Prelude.{flat_map}
+use Rattle.std.proofs.Common.{[], ◌++◌, ◌+◌, ◌<◌, ◌∙◌, ◌∷◌, ◌≡◌, All, AllPairs, Contains, IfSome, IsSomeAnd, List, None, Option, Some, ap, arith, drop, filter_map, flat_map, get_or, get_or-append-add, inl, inr, length, length-append, map, refl, remove, slice_get, subst, suc, sym, take, zero, ℕ}
+use Rattle.std.specs.List.{AllZip, cons_option, range_with_len}
 use Rattle.std.proofs.lemmas.Bool.{cases_lt}
-use Rattle.std.proofs.lemmas.List.{get_or-append-add, get_or-map, get_or_append_left, length-map}
+use Rattle.std.proofs.lemmas.List.{get_or-map, get_or_append_left, length-map}
 use Rattle.std.proofs.lemmas.List.Elements.{All-append, All-cons, All-contains, All-contains_itself, All-drop, All-head, All-nil, All-tail, All-take, All-weaker, Contains-append_left, Contains-append_right}
 use Rattle.std.proofs.lemmas.List.Kept.{AllPairs-cons}
 use Rattle.std.proofs.lemmas.Option.{get_or_from_slice_get, slice_get-get_or, slice_get_past, slice_get_within}

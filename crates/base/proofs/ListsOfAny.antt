@@ -1,7 +1,6 @@
 -- Whether an element passes a test.
-use Rattle.std.proofs.Common.{Bool, List, [], ap, arith, cond, eqb, false, filter, get_or, length, map, refl, sym, true, ℕ, ◌&&◌, ◌<◌, ◌||◌, ◌∙◌, ◌∷◌, ◌≡◌}
-use Rattle.std.specs.List.{All, flat_map, list_any}
-use Rattle.std.specs.Prelude.{IsTrue}
+use Rattle.std.proofs.Common.{[], ◌&&◌, ◌<◌, ◌||◌, ◌∙◌, ◌∷◌, ◌≡◌, All, Bool, IsTrue, List, ap, arith, cond, eqb, false, filter, flat_map, get_or, length, map, refl, sym, true, ℕ}
+use Rattle.std.specs.List.{list_any}
 use Rattle.std.proofs.Math.Bool.{and-false}
 use Rattle.std.proofs.lemmas.Bool.{both_ways, false_from_ne_true}
 use Rattle.std.proofs.lemmas.List.Elements.{All-tail}

@@ -1,7 +1,7 @@
 -- What holds of each element, by recursion over the list.
-use Rattle.std.proofs.Common.{Bool, List, None, Option, Some, [], false, if◌then◌else◌, map, refl, true, ◌&&◌, ◌++◌, ◌∷◌, ◌≡◌}
-use Rattle.std.specs.List.{AllByRecursion, flat_map, list_all}
-use Rattle.std.specs.Prelude.{IsTrue, filter, option_to_list, ⊤}
+use Rattle.std.proofs.Common.{[], if◌then◌else◌, ◌&&◌, ◌++◌, ◌∷◌, ◌≡◌, Bool, IsTrue, List, None, Option, Some, false, filter, flat_map, map, option_to_list, refl, true}
+use Rattle.std.specs.List.{AllByRecursion, list_all}
+use Rattle.std.specs.Prelude.{⊤}
 
 pub each_map : {X Y : Type 0} (P : Y → Type 0) (f : X → Y) (xs : List X)
     → AllByRecursion (λ x. P (f x)) xs → AllByRecursion P (map f xs)

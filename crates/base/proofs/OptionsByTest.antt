@@ -1,7 +1,5 @@
 -- Values that a test chooses, and those that are there where it passes.
-use Rattle.std.proofs.Common.{Bool, None, Option, Some, ap, arith, cond, false, if◌then◌else◌, inl, inr, is_some, ltb, refl, sym, true, true≢false, ℕ, ◌<◌, ◌==◌, ◌∙◌, ◌≡◌, ◌≢◌, ◌≤◌, ◌⊎◌}
-use Rattle.std.specs.Prelude.{IsSome}
-use Rattle.std.proofs.lemmas.Bool.{ne_eqb}
+use Rattle.std.proofs.Common.{if◌then◌else◌, ◌<◌, ◌==◌, ◌∙◌, ◌≡◌, ◌≢◌, ◌≤◌, ◌⊎◌, Bool, IsSome, None, Option, Some, ap, arith, cond, false, inl, inr, is_some, ltb, ne_eqb, refl, sym, true, true≢false, ℕ}
 use Rattle.std.proofs.lemmas.Bool.Decides.{nat_tests}
 
 pub passes_from_is_some : {X : Type 0} (b : Bool) (o : Option X) → is_some (cond b o None) ≡ true → b ≡ true

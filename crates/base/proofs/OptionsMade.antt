@@ -1,7 +1,6 @@
 -- Options of any kind: what is there, and what is made of it.
-use Rattle.std.proofs.Common.{None, Ok, Option, Some, ap, arith, false, is_some, length, option_map, refl, sym, true, ℕ, ◌∙◌, ◌≡◌, ◌≤◌}
-use Rattle.std.specs.Option.{IfNone, MatchOption, option_or}
-use Rattle.std.specs.Prelude.{IsSome, ok_or, option_and_then, option_to_list}
+use Rattle.std.proofs.Common.{◌∙◌, ◌≡◌, ◌≤◌, IfNone, IsSome, MatchOption, None, Ok, Option, Some, ap, arith, false, is_some, length, ok_or, option_and_then, option_map, option_to_list, refl, sym, true, ℕ}
+use Rattle.std.specs.Option.{option_or}
 
 pub the_some : {A : Type 0} (o : Option A) → IsSome o → (x : A) × (o ≡ Some x)
 the_some None some = absurd (cc some)

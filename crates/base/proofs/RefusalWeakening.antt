@@ -1,5 +1,5 @@
 -- What proofs above cite.
-use Rattle.base.specs.Refusals.{IfRefused}
+use Rattle.base.specs.Exports.{IfRefused}
 use Rattle.base.specs.declared.error.Failure.{Failure}
 use Rattle.base.specs.declared.error.Failure.TheVariants.{Refused, NoMemory}
 

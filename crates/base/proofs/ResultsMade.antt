@@ -1,6 +1,5 @@
 -- What holds where a result is a value, and where it is an error.
-use Rattle.std.proofs.Common.{Err, IsErrAnd, IsErrOf, Ok, OnErr, Result, ap, sym, ◌∙◌, ◌≡◌}
-use Rattle.std.specs.Prelude.{IsErr, OnOk}
+use Rattle.std.proofs.Common.{◌∙◌, ◌≡◌, Err, IsErr, IsErrAnd, IsErrOf, Ok, OnErr, OnOk, Result, ap, sym}
 use Rattle.std.specs.Result.{result_unwrap_or}
 
 pub on_ok : {T E P : Type 0} (r : Result T E) → P → OnOk r P

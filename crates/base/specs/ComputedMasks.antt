@@ -1,5 +1,5 @@
 -- Sets of the numbers that pass a test, as masks, and the least number of a set.
-use Rattle.std.specs.Prelude.{ℕ, ◌+◌, ◌^◌, Bool, if◌then◌else◌, List, [], ◌∷◌, bit_or}
+use Rattle.std.specs.Prelude.{[], if◌then◌else◌, ◌+◌, ◌^◌, ◌∷◌, Bool, List, bit_or, ℕ}
 use Rattle.std.specs.Int.{trailing_zeros, w64}
 use Rattle.base.specs.Masks.{switches}
 

@@ -1,6 +1,6 @@
 -- A list in the first of many places, with 0 in the others.
-use Rattle.std.specs.Prelude.{ℕ, ◌≡◌, ◌-◌, ◌≤◌, List, ◌++◌, length, take, drop, replicate}
-use Rattle.std.proofs.Common.{arith, length-take, take-append-drop, ap, sym, ◌∙◌}
+use Rattle.std.specs.Prelude.{◌++◌, ◌-◌, ◌≡◌, ◌≤◌, List, drop, length, replicate, take, ℕ}
+use Rattle.std.proofs.Common.{◌∙◌, ap, arith, length-take, sym, take-append-drop}
 
 -- the places that contain this list
 abbrev pub filled_places : ℕ → List ℕ → List ℕ

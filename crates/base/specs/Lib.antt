@@ -3,3 +3,4 @@ pub mod Filled
 pub mod Masks
 pub mod ComputedMasks
 pub mod MaskLaws
+pub mod Exports

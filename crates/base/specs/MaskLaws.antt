@@ -1,5 +1,5 @@
 -- The laws of masks: `mask_laws` of the crate ensures them.
-use Rattle.std.specs.Prelude.{ℕ, ◌≡◌, ◌^◌, ◌<◌, ◌≤◌, Bool, false}
+use Rattle.std.specs.Prelude.{◌<◌, ◌^◌, ◌≡◌, ◌≤◌, Bool, false, ℕ}
 use Rattle.base.specs.Masks.{has}
 use Rattle.base.specs.ComputedMasks.{mask_of}
 

@@ -1,5 +1,5 @@
 -- What a call refuses, and the result of reading a text that may be refused in a row.
-use Rattle.std.specs.Prelude.{⊤, ℕ, ◌≡◌, Result, Ok, Err}
+use Rattle.std.specs.Prelude.{◌≡◌, Err, Ok, Result, ℕ, ⊤}
 use Rattle.base.specs.declared.error.Failure.{Failure}
 use Rattle.base.specs.declared.error.Failure.TheVariants.{Refused, NoMemory}
 use Rattle.base.specs.declared.row.InRow.{InRow}

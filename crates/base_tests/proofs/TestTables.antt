@@ -1,15 +1,10 @@
 -- The tables of the tests are sound: of three regions, one has each header.
-use Rattle.std.proofs.Common.{◌≡◌, ◌+◌, ◌<◌, ◌==◌, ◌&&◌, ◌∙◌, ap, ℕ, false, true, cond, List, [], ◌∷◌, refl, arith, lit<}
-use Rattle.std.specs.Bool.{IsFalse}
-use Rattle.std.specs.Int.{bit_at}
-use Rattle.std.specs.List.{count_by}
-use Rattle.std.proofs.lemmas.Bool.Decides.{nat_tests}
-use Rattle.std.proofs.lemmas.Nat.Bits.{bit_at-lt}
-use Rattle.five_tuple.specs.Header.{number_of}
-use Rattle.ternary.specs.Word.{holds}
-use Rattle.ternary.specs.Meets.{any_word, fix_of, is_fixed_of}
+use Rattle.std.proofs.Common.{[], ◌&&◌, ◌+◌, ◌<◌, ◌==◌, ◌∙◌, ◌∷◌, ◌≡◌, IsFalse, List, ap, arith, cond, count_by, false, lit<, refl, true, ℕ}
+use Rattle.base.proofs.Exports.{bit_at, bit_at-lt, nat_tests}
+use Rattle.five_tuple.specs.Exports.{number_of}
+use Rattle.ternary.specs.Exports.{any_word, fix_of, holds, is_fixed_of}
 use Rattle.ternary.proofs.CallerLemmas.{any_holds, any_unfixed, fix_holds}
-use Rattle.switch_table.specs.Tables.{AreSoundTables}
+use Rattle.switch_table.specs.Exports.{AreSoundTables}
 use Rattle.switch_table.specs.declared.tables.PartRow.{PartRow}
 use Rattle.switch_table.specs.declared.tables.Tables.{Tables}
 

@@ -1,16 +1,12 @@
 -- The bits by which a rule differs from a header, and whether a word that is widened meets it.
-use Rattle.std.proofs.Common.{ℕ, suc, zero, ◌≡◌, ◌≢◌, ◌+◌, ◌/◌, ◌%◌, ◌^◌, ◌<◌, ◌≤◌, min, Bool, true, false, ◌&&◌, ◌||◌, List, get_or, length, take, cond, ap, sym, ◌∙◌, subst, arith, inl, inr}
-use Rattle.std.specs.Prelude.{IsTrue, IsSomeAnd, not, ◌==◌, bit_and, bit_xor}
+use Rattle.std.proofs.Common.{◌%◌, ◌&&◌, ◌+◌, ◌/◌, ◌<◌, ◌==◌, ◌^◌, ◌||◌, ◌∙◌, ◌≡◌, ◌≢◌, ◌≤◌, Bool, IsSomeAnd, IsTrue, List, ap, arith, bit_and, bit_xor, cond, eq-eqb, eqb-true, false, get_or, inl, inr, length, min, ne_eqb, not, subst, suc, sym, take, true, zero, ℕ}
 use Rattle.std.specs.Int.{bit_at}
-use Rattle.std.proofs.lemmas.Bool.{cases_eq, eq-eqb, eqb-true, ne_eqb}
+use Rattle.std.proofs.lemmas.Bool.{cases_eq}
 use Rattle.std.proofs.lemmas.Bool.Decides.{nat_tests}
 use Rattle.std.proofs.lemmas.Option.{slice_get-get_or}
 use Rattle.std.proofs.lemmas.Nat.{and_mod, and_shr, xor_mod, xor_shr}
 use Rattle.std.proofs.lemmas.Nat.Bits.{bit_at_and, bit_at_xor, bit_at-lt, bit_at_above}
-use Rattle.ternary.specs.Word.{WordValue}
-use Rattle.ternary.specs.WordBits.{IsWord}
-use Rattle.ternary.specs.Laws.{CoversLaws, ExactLaws, FreeLaws}
-use Rattle.ternary.specs.Meets.{covers_of, is_fixed_of, free_of, agrees_at, exact_word}
+use Rattle.ternary.specs.Exports.{CoversLaws, ExactLaws, FreeLaws, IsWord, WordValue, agrees_at, covers_of, exact_word, free_of, is_fixed_of}
 use Rattle.policy_rules.specs.declared.rules.Rule.{Rule}
 use Rattle.cache_maker.specs.Independent.{IsIndependent, is_apart, is_independent, widening_of}
 use Rattle.cache_maker.specs.Differing.{differing_bits, is_met}

@@ -1,25 +1,21 @@
 -- The bits that stay fixed: each has its reason, and no earlier rule is met any more. They are
 -- those of the word whose bits were freed in turn.
-use Rattle.std.proofs.Common.{ℕ, suc, zero, ◌≡◌, ◌≢◌, ◌+◌, ◌-◌, ◌*◌, ◌/◌, ◌%◌, ◌^◌, ◌<◌, ◌≤◌, min, max, Bool, true, false, ◌&&◌, ◌||◌, ◌⊎◌, List, All, get_or, set, length, take, replicate, cond, refl, ap, sym, ◌∙◌, subst, arith, inl, inr}
-use Rattle.std.specs.Prelude.{IsTrue, IsFalse, IsSomeAnd, slice_get, not, ◌==◌, bit_or, bit_and, bit_xor, is_none}
+use Rattle.std.proofs.Common.{◌%◌, ◌&&◌, ◌*◌, ◌+◌, ◌-◌, ◌/◌, ◌<◌, ◌==◌, ◌^◌, ◌||◌, ◌∙◌, ◌≡◌, ◌≢◌, ◌≤◌, ◌⊎◌, All, Bool, IsFalse, IsSomeAnd, IsTrue, List, ap, arith, bit_and, bit_or, bit_xor, cond, eq-eqb, eqb-true, false, get_or, get_or-set_other, get_or-set_same, inl, inr, is_none, length, length-set, max, min, ne_eqb, not, pow_pos, refl, replicate, set, slice_get, subst, suc, sym, take, true, zero, ℕ}
 use Rattle.std.specs.Int.{bit_at}
 use Rattle.std.specs.Int.Bits.{xor_add_and}
-use Rattle.std.proofs.lemmas.Bool.{both_ways, cases_Bool, cases_lt, cases_eq, eq-eqb, eqb-true, ne_eqb, not-true}
+use Rattle.std.proofs.lemmas.Bool.{both_ways, cases_Bool, cases_lt, cases_eq, not-true}
 use Rattle.std.proofs.lemmas.Bool.Decides.{nat_tests}
-use Rattle.std.proofs.lemmas.List.{get_or-replicate, get_or-set_other, get_or-set_same, length-replicate, length-set}
+use Rattle.std.proofs.lemmas.List.{get_or-replicate, length-replicate}
 use Rattle.std.proofs.lemmas.Option.{slice_get-get_or}
 use Rattle.std.proofs.lemmas.List.Elements.{All-take}
 use Rattle.std.proofs.lemmas.List.Sums.{AllPass-from_list_all, list_all-from_AllPass}
 use Rattle.std.proofs.Math.ListN.{get_or-eq_default}
 use Rattle.std.proofs.Math.Nat.{div-eq_of_lt-le}
 use Rattle.std.proofs.Math.Pow.{pow-lt}
-use Rattle.std.proofs.lemmas.Nat.{or_lt, pow_pos, xor_lt}
+use Rattle.std.proofs.lemmas.Nat.{or_lt, xor_lt}
 use Rattle.std.proofs.lemmas.Nat.Bits.{and_pow, bit_at_and, bit_at_or, bit_at_xor, bit_at-lt, bit_at-zero, bit_at_above, bit_at-pow_other, bit_at-pow_same, same_from_bits}
 use Rattle.ternary.proofs.CallerLemmas.{or_left, or_right}
-use Rattle.ternary.specs.Word.{WordValue}
-use Rattle.ternary.specs.WordBits.{IsWord}
-use Rattle.ternary.specs.Laws.{CoversLaws, MeetLaws, ExactLaws, FreeLaws}
-use Rattle.ternary.specs.Meets.{agrees_at, exact_word, is_fixed_of, free_of, meets, meet_of}
+use Rattle.ternary.specs.Exports.{CoversLaws, ExactLaws, FreeLaws, IsWord, MeetLaws, WordValue, agrees_at, exact_word, free_of, is_fixed_of, meet_of, meets}
 use Rattle.policy_rules.specs.declared.rules.Rule.{Rule}
 use Rattle.cache_maker.specs.Independent.{IsIndependent, is_apart, is_independent, widening_of}
 use Rattle.cache_maker.specs.Differing.{IsWithout, differing_bits, rule_is_met}

@@ -1,18 +1,13 @@
 -- Independent words: the test, what they hold, and smaller ones.
-use Rattle.std.proofs.Common.{ℕ, ◌≡◌, ◌<◌, ◌^◌, Bool, true, false, ◌&&◌, Option, Some, None, List, [], ◌∷◌, length, All, get_or, take, refl, ap, sym, ◌∙◌, subst, arith, cond}
-use Rattle.std.specs.Prelude.{nat_lt, IsTrue, IsSomeAnd, is_some, is_none, IsNone, not, slice_get, position}
+use Rattle.std.proofs.Common.{[], ◌&&◌, ◌<◌, ◌^◌, ◌∙◌, ◌∷◌, ◌≡◌, All, Bool, IsNone, IsSomeAnd, IsTrue, List, None, Option, Some, ap, arith, cond, false, get_or, get_or-take, is_none, is_some, length, length-take, lt-ltb, nat_lt, not, position, refl, slice_get, subst, sym, take, true, ℕ}
 use Rattle.std.specs.Option.{option_map_or}
-use Rattle.std.proofs.lemmas.Bool.{and_parts, lt-ltb, not-true}
+use Rattle.std.proofs.lemmas.Bool.{and_parts, not-true}
 use Rattle.std.proofs.lemmas.Option.{slice_get_within, slice_get-get_or, get_or_from_slice_get}
-use Rattle.std.proofs.lemmas.List.{get_or-take, length-take}
 use Rattle.std.proofs.lemmas.List.Quantifiers.{position-Some}
 use Rattle.std.proofs.lemmas.List.Sums.{AllPass-from_list_all, list_all-from_AllPass, position_or_len_is}
-use Rattle.ternary.specs.Word.{WordValue, holds}
-use Rattle.ternary.specs.WordBits.{IsWord}
-use Rattle.ternary.specs.Laws.{CoversLaws, MeetLaws}
-use Rattle.ternary.specs.Meets.{exact_word, covers_of, meet_of}
+use Rattle.ternary.specs.Exports.{CoversLaws, IsWord, MeetLaws, WordValue, covers_of, exact_word, holds, meet_of}
 use Rattle.policy_rules.specs.declared.rules.Rule.{Rule}
-use Rattle.policy_rules.specs.Rules.{is_held}
+use Rattle.policy_rules.specs.Exports.{is_held}
 use Rattle.policy_rules.proofs.CallerLemmas.{none_from_not_some}
 use Rattle.cache_maker.specs.Independent.{IsIndependent, is_apart, is_independent}
 

@@ -1,9 +1,8 @@
 -- The first place at which a test passes, from a place on and before it.
-use Rattle.std.proofs.Common.{ℕ, ◌≡◌, ◌+◌, ◌<◌, Bool, List, [], ◌∷◌, Option, Some, None, All, length, take, drop, cond, ap, sym, ◌∙◌, subst, arith, inl, inr, refl}
-use Rattle.std.specs.Prelude.{IfSome, IsFalse, IsSomeAnd, IsTrue, position, slice_get}
+use Rattle.std.proofs.Common.{[], ◌+◌, ◌<◌, ◌∙◌, ◌∷◌, ◌≡◌, All, Bool, IfSome, IsFalse, IsSomeAnd, IsTrue, List, None, Option, Some, ap, arith, cond, drop, get_or-drop, get_or-take, inl, inr, length, length-drop, length-take, lt-ltb, position, refl, slice_get, subst, sym, take, take-append-drop, take_all, ℕ}
 use Rattle.std.specs.List.{position_or_len}
-use Rattle.std.proofs.lemmas.Bool.{cases_lt, lt-ltb}
-use Rattle.std.proofs.lemmas.List.{drop_all, get_or-drop, get_or-take, length-drop, length-take, take-append-drop, take_all}
+use Rattle.std.proofs.lemmas.Bool.{cases_lt}
+use Rattle.std.proofs.lemmas.List.{drop_all}
 use Rattle.std.proofs.lemmas.List.Elements.{All-append}
 use Rattle.std.proofs.lemmas.List.Quantifiers.{position-Some}
 use Rattle.std.proofs.lemmas.List.Sums.{fails_before_first}

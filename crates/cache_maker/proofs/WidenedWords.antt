@@ -1,12 +1,8 @@
 -- The word after the bits below n were freed in turn.
-use Rattle.std.proofs.Common.{ℕ, suc, zero, ◌≡◌, ◌<◌, ◌≤◌, ◌^◌, Bool, true, false, List, cond, refl, sym, subst, arith, inl, inr}
-use Rattle.std.specs.Prelude.{IsTrue}
+use Rattle.std.proofs.Common.{◌<◌, ◌^◌, ◌≡◌, ◌≤◌, Bool, IsTrue, List, arith, cond, eq-eqb, eqb-true, false, inl, inr, refl, subst, suc, sym, true, zero, ℕ}
 use Rattle.std.specs.Int.{bit_at}
-use Rattle.std.proofs.lemmas.Bool.{cases_lt, eq-eqb, eqb-true}
-use Rattle.ternary.specs.Word.{WordValue, holds}
-use Rattle.ternary.specs.WordBits.{IsWord}
-use Rattle.ternary.specs.Laws.{CoversLaws, MeetLaws, ExactLaws, FreeLaws}
-use Rattle.ternary.specs.Meets.{covers_of, exact_word, is_fixed_of, free_of}
+use Rattle.std.proofs.lemmas.Bool.{cases_lt}
+use Rattle.ternary.specs.Exports.{CoversLaws, ExactLaws, FreeLaws, IsWord, MeetLaws, WordValue, covers_of, exact_word, free_of, holds, is_fixed_of}
 use Rattle.policy_rules.specs.declared.rules.Rule.{Rule}
 use Rattle.cache_maker.specs.Independent.{IsIndependent, is_independent, with_bit_freed, widening_of}
 use Rattle.cache_maker.proofs.IndependentWords.{test_true, test_of, smaller}

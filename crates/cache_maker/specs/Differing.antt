@@ -1,7 +1,7 @@
 -- The bits by which rules differ from a header.
-use Rattle.std.specs.Prelude.{ℕ, ◌≡◌, ◌==◌, ◌<◌, ◌^◌, Bool, List, bit_and, bit_xor, get_or}
+use Rattle.std.specs.Prelude.{◌<◌, ◌==◌, ◌^◌, ◌≡◌, Bool, List, bit_and, bit_xor, get_or, ℕ}
 use Rattle.std.specs.Int.{bit_at}
-use Rattle.ternary.specs.Word.{WordValue}
+use Rattle.ternary.specs.Exports.{WordValue}
 use Rattle.policy_rules.specs.declared.rules.Rule.{Rule}
 
 -- the bits that the word fixes to another value than that of h

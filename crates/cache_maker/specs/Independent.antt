@@ -1,11 +1,10 @@
 -- The word of a cache rule, which has to decide as the rules that it replaces: the independent
 -- rules of Yu, Rexford, Freedman and Wang, "Scalable Flow-Based Networking with DIFANE". The order
 -- of the bits is our own.
-use Rattle.std.specs.Prelude.{ℕ, zero, suc, Bool, false, ◌&&◌, if◌then◌else◌, List, All, take, slice_get, is_none, IsNone, IsTrue, IsSomeAnd}
+use Rattle.std.specs.Prelude.{if◌then◌else◌, ◌&&◌, All, Bool, IsNone, IsSomeAnd, IsTrue, List, false, is_none, slice_get, suc, take, zero, ℕ}
 use Rattle.std.specs.List.{list_all}
 use Rattle.std.specs.Option.{option_map_or}
-use Rattle.ternary.specs.Word.{WordValue}
-use Rattle.ternary.specs.Meets.{exact_word, covers_of, meet_of, free_of}
+use Rattle.ternary.specs.Exports.{WordValue, covers_of, exact_word, free_of, meet_of}
 use Rattle.policy_rules.specs.declared.rules.Rule.{Rule}
 
 -- the region and the rule at this place cover the word, and it meets no earlier rule's

@@ -1,10 +1,8 @@
 -- The laws of independent words: `independent_laws` of the crate ensures the record.
-use Rattle.std.specs.Prelude.{ℕ, ◌≡◌, ◌↔◌, ◌<◌, ◌^◌, List, All, Some, position, IsTrue}
-use Rattle.ternary.specs.Word.{WordValue, holds}
-use Rattle.ternary.specs.WordBits.{IsWord}
-use Rattle.ternary.specs.Meets.{covers_of, is_fixed_of, free_of}
+use Rattle.std.specs.Prelude.{◌<◌, ◌^◌, ◌↔◌, ◌≡◌, All, IsTrue, List, Some, position, ℕ}
+use Rattle.ternary.specs.Exports.{IsWord, WordValue, covers_of, free_of, holds, is_fixed_of}
 use Rattle.policy_rules.specs.declared.rules.Rule.{Rule}
-use Rattle.policy_rules.specs.Rules.{is_held}
+use Rattle.policy_rules.specs.Exports.{is_held}
 use Rattle.cache_maker.specs.Independent.{IsIndependent, is_independent, widen}
 
 pub record IndependentLaws : Type 0 where

@@ -1,12 +1,8 @@
 -- The arguments of a line: which options are before its names and after them.
-use Rattle.std.specs.Prelude.{eqb, bytes_eq, codes, unwrap_or}
-use Rattle.std.specs.List.{list_all, prefix_len, starts_with}
-use Rattle.std.specs.Cmp.Lexicographic.{pointwise}
-use Rattle.std.specs.Option.{option_map_or}
-use Rattle.std.proofs.Common.{◌≡◌, ℕ, Bool, true, false, cond, ◌&&◌, Option, Some, None, is_some, List, [], ◌∷◌, ◌++◌, length, take, drop, refl, sym, ap, ap₂, ◌∙◌, subst, append_assoc, append-nil, suc, ◌+◌, true≢false, eqb-true, arith}
-use Rattle.std.proofs.lemmas.Slice.Eq.{bytes_eq-Decides}
+use Rattle.std.proofs.Common.{[], ◌&&◌, ◌++◌, ◌+◌, ◌∙◌, ◌∷◌, ◌≡◌, Bool, List, None, Option, Some, ap, append-nil, append_assoc, ap₂, arith, bytes_eq, codes, cond, drop, eqb, eqb-true, false, is_some, length, refl, subst, suc, sym, take, true, true≢false, unwrap_or, ℕ}
+use Rattle.base.proofs.Exports.{bytes_eq-Decides, list_all, option_map_or, pointwise, prefix_len, starts_with}
 use Rattle.clap.proofs.WalkLemmas.{both}
-use Rattle.command_line.specs.Grammar.{Cut, cut_net, cut_options, cut_pair, cut_quiet, is_file_name, joined_net, net_and_quiet, quiet_and_net}
+use Rattle.command_line.specs.Exports.{Cut, cut_net, cut_options, cut_pair, cut_quiet, is_file_name, joined_net, net_and_quiet, quiet_and_net}
 
 -- an option, as it is written
 pub data Given : Type 0 where

@@ -1,10 +1,6 @@
 -- The crate `clap` takes the arguments of a line, and gives what they are to the grammar.
-use Rattle.std.specs.Prelude.{codes, option_map, slice_index, fold, unwrap_or}
-use Rattle.std.specs.List.{list_all, prefix_len}
-use Rattle.std.specs.Option.{option_or}
-use Rattle.std.proofs.Common.{◌≡◌, ℕ, ◌==◌, ◌<◌, Bool, true, false, cond, not, ◌&&◌, ◌||◌, Option, Some, None, is_some, List, [], ◌∷◌, ◌++◌, length, zero, suc, take, drop, refl, sym, ap, ◌∙◌, subst, append-nil, true≢false, eqb-true, arith}
-use Rattle.std.proofs.lemmas.List.Folds.{length-prefix_len}
-use Rattle.std.proofs.lemmas.Bool.{not-true}
+use Rattle.std.proofs.Common.{[], ◌&&◌, ◌++◌, ◌<◌, ◌==◌, ◌||◌, ◌∙◌, ◌∷◌, ◌≡◌, Bool, List, None, Option, Some, ap, append-nil, arith, codes, cond, drop, eqb-true, false, fold, is_some, length, not, option_map, refl, slice_index, subst, suc, sym, take, true, true≢false, unwrap_or, zero, ℕ}
+use Rattle.base.proofs.Exports.{length-prefix_len, list_all, not-true, option_or, prefix_len}
 use Rattle.clap.specs.Simple.{App, HasMatchesOf, Shape, argument_words, built, is_simple, matches_of, names_of}
 use Rattle.clap.specs.Matches.{first_value, found_of, matched_of, one_text, raw_values}
 use Rattle.clap.specs.declared.parser.matches.ArgMatches.{ArgMatches}
@@ -16,8 +12,7 @@ use Rattle.clap.specs.Walk.{Row, Walk, all_of, finished, first_of, nothing_held,
 use Rattle.clap.proofs.OnLiterals.{clap_on_literals}
 use Rattle.clap.proofs.TakesLemmas.{leaf_takes}
 use Rattle.clap.proofs.WalkLemmas.{both, first_value-rows, one_text-rows, raw_values-rows}
-use Rattle.command_line.specs.Line.{IsFlagRead, IsNetRead, Options, app_with, net_and, none}
-use Rattle.command_line.specs.Grammar.{Cut, StatedLine, cut_options, end_together, is_file_name, line_of}
+use Rattle.command_line.specs.Exports.{Cut, IsFlagRead, IsNetRead, Options, StatedLine, app_with, cut_options, end_together, is_file_name, line_of, net_and, none}
 use Rattle.command_line.proofs.ArgumentShapes.{IsCut, cut_is, given_in, names_good, spelled}
 use Rattle.command_line.proofs.ClapWalks.{At, Goes, IsFew, MayStand, apart, goes_far, may_give, name_first, named, names_rule, names_walk, net_rule, options_walk, quiet_rule, rows_at, rules, settles, shape, shape_is, takes_flag, takes_net, use_all, valued, walk_at}
 

@@ -1,8 +1,6 @@
 -- What the crate `clap` makes of the arguments of a line, one after another.
-use Rattle.std.specs.Prelude.{nat_lt, nat_le, bytes_eq, codes, fold}
-use Rattle.std.specs.Bool.{⊤}
-use Rattle.std.specs.List.{list_all}
-use Rattle.std.proofs.Common.{◌≡◌, ℕ, ◌==◌, ◌<◌, ◌^◌, Bool, true, false, not, ◌&&◌, ◌||◌, Option, Some, None, List, [], ◌∷◌, ◌++◌, length, refl, sym, ap, ◌∙◌, subst, append_assoc, append-nil, true≢false, le-leb, arith}
+use Rattle.std.proofs.Common.{[], ◌&&◌, ◌++◌, ◌<◌, ◌==◌, ◌^◌, ◌||◌, ◌∙◌, ◌∷◌, ◌≡◌, Bool, List, None, Option, Some, ap, append-nil, append_assoc, arith, bytes_eq, false, le-leb, length, nat_le, nat_lt, not, refl, subst, sym, true, true≢false, ℕ}
+use Rattle.base.proofs.Exports.{codes, fold, list_all, ⊤}
 use Rattle.clap.specs.Lexer.{long_of, short_of, usize_max}
 use Rattle.clap.specs.Simple.{Shape, built, help_rule, new_shape}
 use Rattle.clap.specs.Takes.{settle_passes, turn_passes, use_passes, values_pass, walk_passes}
@@ -10,8 +8,7 @@ use Rattle.clap.specs.Walk.{Row, Rule, Waiting, Walk, has_row, idle, positional,
 use Rattle.clap.specs.Walk as clap
 use Rattle.clap.specs.declared.builder.value_parser.ValueParser.TheVariants as vp
 use Rattle.clap.proofs.WalkLemmas.{both}
-use Rattle.command_line.specs.Line.{Options, app_with, names_arg, net_and, net_arg, none, quiet_arg}
-use Rattle.command_line.specs.Grammar.{is_file_name}
+use Rattle.command_line.specs.Exports.{Options, app_with, is_file_name, names_arg, net_and, net_arg, none, quiet_arg}
 use Rattle.command_line.proofs.ArgumentShapes.{Given, is_good, joined, pair, quiet, spell, spelled}
 
 -- the arguments as they are built

@@ -1,20 +1,15 @@
 -- The commands of the grammar, by their lines.
-use Rattle.std.specs.Prelude.{nat_le, option_and_then}
-use Rattle.std.proofs.Common.{ap, drop, ◌≡◌, ℕ, ◌==◌, ◌<◌, ◌≤◌, ◌^◌, Bool, true, false, cond, ◌||◌, Option, Some, None, is_some, List, [], ◌∷◌, ◌∙◌, length, refl, sym, true≢false, eqb-true, leb-true, arith}
-use Rattle.std.proofs.lemmas.Bool.{not-true}
-use Rattle.base.proofs.OptionsByTest.{passes_from_is_some}
+use Rattle.std.proofs.Common.{[], ◌<◌, ◌==◌, ◌^◌, ◌||◌, ◌∙◌, ◌∷◌, ◌≡◌, ◌≤◌, Bool, List, None, Option, Some, ap, arith, cond, drop, eqb-true, false, is_some, leb-true, length, nat_le, option_and_then, refl, sym, true, true≢false, ℕ}
+use Rattle.base.proofs.Exports.{not-true, passes_from_is_some}
 use Rattle.clap.specs.Matches.{found_of}
 use Rattle.clap.specs.Simple.{App, HasMatchesOf}
 use Rattle.clap.specs.Takes.{takes}
 use Rattle.clap.specs.Walk.{rows_of}
 use Rattle.clap.specs.declared.parser.matches.ArgMatches.{ArgMatches}
 use Rattle.clap.proofs.WalkLemmas.{both}
-use Rattle.command_line.specs.Line.{line_app, net_and, none, options_of}
-use Rattle.command_line.specs.Named.{command_in, kind_name}
-use Rattle.command_line.specs.Grammar.{StatedLine, audit_from, audit_of, command_by, line_of, load_from, load_number, load_of, play_from, print_of}
+use Rattle.command_line.specs.Exports.{Command, StatedLine, audit_from, audit_of, command_by, command_in, kind_name, line_app, line_of, load_from, load_number, load_of, net_and, none, options_of, play_from, print_of}
 use Rattle.command_line.proofs.ClapParses.{Found, IsWithin, WalksTo, matches_found, reads, taken}
 use Rattle.command_line.specs.declared.grammar.CommandKind.{CommandKind}
-use Rattle.command_line.specs.Commands.{Command}
 use Rattle.command_line.specs.declared.grammar.CommandKind.TheVariants as kind
 use Rattle.command_line.specs.declared.report.Report.{Report}
 use Rattle.command_line.specs.declared.report.Report.TheVariants as report

@@ -1,8 +1,7 @@
 -- The grammar of arguments, tried on literals by computing.
-use Rattle.std.proofs.Common.{◌≡◌, true, false, Some, None, [], ◌∷◌, codes, refl, replicate}
-use Rattle.five_tuple.specs.Texts.{number_up_to}
-use Rattle.command_line.specs.Grammar.{command_of}
-use Rattle.command_line.specs.Commands.{Print, Replay}
+use Rattle.std.proofs.Common.{[], ◌∷◌, ◌≡◌, None, Some, codes, false, refl, replicate, true}
+use Rattle.five_tuple.specs.Exports.{number_up_to}
+use Rattle.command_line.specs.Exports.{Print, Replay, command_of}
 use Rattle.command_line.specs.declared.report.Report.TheVariants.{Flows, Lines, Placement}
 
 two_names : command_of (codes "replay" ∷ codes "s.csv" ∷ codes "p.csv" ∷ []) ≡ Some

@@ -1,6 +1,6 @@
 -- First tier. The commands, by their arguments.
-use Rattle.std.specs.Prelude.{ℕ, Option, List, map, string_bytes, String, Vec}
-use Rattle.std.specs.Global.{Global}
+use Rattle.std.specs.Prelude.{List, Option, String, Vec, map, string_bytes, ℕ}
+use Rattle.base.specs.Exports.{Global}
 use Rattle.command_line.specs.declared.report.Report.{Report}
 pub use Rattle.command_line.specs.Others.{AuditCommand, PrintCommand}
 

@@ -1,8 +1,7 @@
 -- The grammar of the command line: a command, then options, then names, then options.
-use Rattle.std.specs.Prelude.{ℕ, Bool, true, false, not, ◌&&◌, ◌||◌, ◌==◌, nat_le, nat_lt, eqb, if◌then◌else◌, Option, Some, None, is_some, option_and_then, List, [], ◌∷◌, length, drop, take, slice_index, codes, bytes_eq}
-use Rattle.std.specs.List.{prefix_len, starts_with}
-use Rattle.std.specs.Option.{option_map_or, option_or}
-use Rattle.five_tuple.specs.Texts.{number_up_to}
+use Rattle.std.specs.Prelude.{[], if◌then◌else◌, ◌&&◌, ◌==◌, ◌||◌, ◌∷◌, Bool, List, None, Option, Some, bytes_eq, codes, drop, eqb, false, is_some, length, nat_le, nat_lt, not, option_and_then, slice_index, take, true, ℕ}
+use Rattle.base.specs.Exports.{option_map_or, option_or, prefix_len, starts_with}
+use Rattle.five_tuple.specs.Exports.{number_up_to}
 use Rattle.command_line.specs.Commands.{Command, Replay, Print, Load, Audit}
 use Rattle.command_line.specs.declared.report.Report.{Report}
 use Rattle.command_line.specs.declared.report.Report.TheVariants as report

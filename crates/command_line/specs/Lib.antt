@@ -3,3 +3,4 @@ pub mod Commands
 pub mod Others
 pub mod Named
 pub mod Line
+pub mod Exports

@@ -1,7 +1,6 @@
 -- What the arguments that were read are to the grammar.
-use Rattle.std.specs.Prelude.{⊤, ℕ, ◌≤◌, Option, option_map, option_and_then, List, length, map, codes, string_bytes, String}
-use Rattle.std.specs.Borrow.{Bor}
-use Rattle.std.specs.Global.{Global}
+use Rattle.std.specs.Prelude.{◌≤◌, List, Option, String, codes, length, map, option_and_then, option_map, string_bytes, ℕ, ⊤}
+use Rattle.base.specs.Exports.{Bor, Global}
 use Rattle.command_line.specs.Grammar as grammar
 use Rattle.command_line.specs.Commands as grammar_commands
 use Rattle.command_line.specs.Grammar.{command_by, line_of, most_load, most_policies}

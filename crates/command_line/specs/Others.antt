@@ -1,5 +1,5 @@
 -- The arguments of commands that play nothing.
-use Rattle.std.specs.Prelude.{ℕ, Option, List}
+use Rattle.std.specs.Prelude.{List, Option, ℕ}
 
 -- `compile POLICY`, or `show POLICY SWITCH`; on the network of a file, or on that of one switch
 pub record PrintCommand : Type 0 where

@@ -1,17 +1,10 @@
 -- A member acknowledged each version from the one at which it was opened to the current one.
-use Rattle.std.proofs.Common.{ℕ, ◌≡◌, ◌||◌, ◌≤◌, ◌<◌, ◌==◌, true, if◌then◌else◌, Some, List, [], ◌∷◌, ◌++◌, length, refl, ap, sym, subst, ◌∙◌, arith, inl, inr, append_assoc}
-use Rattle.std.specs.Prelude.{IsTrue, nat_eq, unwrap_or}
-use Rattle.std.specs.List.{list_any}
-use Rattle.std.proofs.lemmas.Bool.{cases_lt}
-use Rattle.std.proofs.lemmas.List.Folds.{list_any-append}
-use Rattle.base.proofs.ListsOfEach.{each_of_all}
-use Rattle.ctrl_msg.specs.declared.message.Message.{Message}
-use Rattle.journal.specs.declared.item.Item.{Item}
+use Rattle.std.proofs.Common.{[], if◌then◌else◌, ◌++◌, ◌<◌, ◌==◌, ◌||◌, ◌∙◌, ◌∷◌, ◌≡◌, ◌≤◌, IsTrue, List, Some, ap, append_assoc, arith, inl, inr, length, nat_eq, refl, subst, sym, true, unwrap_or, ℕ}
+use Rattle.base.proofs.Exports.{cases_lt, each_of_all, list_any, list_any-append}
+use Rattle.update_machine.specs.Exports.{Item, MayRise, Message, Setting, controller_heard, current_mark, has_acked, installed_in, is_member, known_boot, members, open_version, opened_at}
 use Rattle.journal.specs.declared.item.Item.TheVariants as item
-use Rattle.update_machine.specs.Marks.{MayRise, controller_heard, current_mark, has_acked, installed_in, is_member, known_boot, members, open_version, opened_at}
-use Rattle.update_machine.specs.Setting.{Setting}
-use Rattle.update_machine.proofs.CallerLemmas.{start_laws}
-use Rattle.control_laws.specs.ItemCauses.{IsFirstOpening}
+use Rattle.update_machine.proofs.Exports.{start_laws}
+use Rattle.control_laws.specs.Exports.{IsFirstOpening}
 use Rattle.control_laws.proofs.FactsGrown.{current_more, known_more}
 use Rattle.control_laws.proofs.ToldToController.{tells, told_by, told_by_more, each_in_range}
 use Rattle.control_laws.proofs.MemberFacts.{LeavesMember, MemberFact, member_was, open_was}

@@ -1,25 +1,12 @@
 -- Acknowledgements of one kind, of tables or of stamps: what is acknowledged in a boot stays true
 -- while the switch is up in it.
-use Rattle.std.proofs.lemmas.Bool.{cases_lt}
-use Rattle.std.proofs.lemmas.Bool.Decides.{nat_tests}
-use Rattle.std.proofs.Common.{ℕ, ◌≡◌, ◌≤◌, ◌<◌, Option, Some, None, List, [], ◌∷◌, ◌++◌, refl, ap, sym, subst, ◌∙◌, arith, inl, inr}
-use Rattle.std.specs.Prelude.{IfSome, IsTrue, IsFalse, option_and_then, option_to_list}
-use Rattle.std.specs.List.{AllByRecursion, list_any}
-use Rattle.base.proofs.ListsOfEach.{each_append, each_option}
-use Rattle.ctrl_msg.specs.declared.message.Body.{Body}
-use Rattle.ctrl_msg.specs.declared.message.Body.TheVariants.{Installed, Stamped}
-use Rattle.ctrl_msg.specs.Kinds.{to_controller}
-use Rattle.journal.specs.declared.item.Item.{Item}
+use Rattle.base.proofs.Exports.{AllByRecursion, cases_lt, each_append, each_option, list_any, nat_tests}
+use Rattle.std.proofs.Common.{[], ◌++◌, ◌<◌, ◌∙◌, ◌∷◌, ◌≡◌, ◌≤◌, IfSome, IsFalse, IsTrue, List, None, Option, Some, ap, arith, inl, inr, option_and_then, option_to_list, refl, subst, sym, ℕ}
+use Rattle.update_machine.specs.Exports.{Body, Installed, Item, Setting, Stamped, body_to_controller, boot_of, controller_heard, heard, installed_in, installs_version, is_up, message_of, speaker, stamp_of, stamped_in}
+use Rattle.ctrl_msg.specs.Exports.{to_controller}
 use Rattle.journal.specs.declared.item.Item.TheVariants as item
-use Rattle.update_machine.specs.Boots.{boot_of, heard, is_up}
-use Rattle.update_machine.specs.Marks.{controller_heard, installed_in, body_to_controller, stamped_in}
-use Rattle.update_machine.specs.Quiet.{speaker}
-use Rattle.update_machine.specs.Setting.{Setting}
-use Rattle.update_machine.specs.Versions.{installs_version, stamp_of}
-use Rattle.update_machine.specs.Links.{message_of}
-use Rattle.update_machine.proofs.CallerLemmas.{start_laws}
-use Rattle.control_laws.specs.BootLaws.{BootsAreKnown}
-use Rattle.control_laws.specs.ItemCauses.{HasItemCause, IsPresentIn, IsRightFrom}
+use Rattle.update_machine.proofs.Exports.{start_laws}
+use Rattle.control_laws.specs.Exports.{BootsAreKnown, HasItemCause, IsPresentIn, IsRightFrom}
 use Rattle.control_laws.proofs.BootsKnown.{boot_rises, by_number}
 use Rattle.control_laws.proofs.SwitchKeeps.{GoesOn, goes_on, heard_kept, stamp_kept, turns}
 use Rattle.control_laws.proofs.ToldToController.{each_weaker, tells, told_by, told_by_more, told_sent}

@@ -1,17 +1,10 @@
 -- What switches acknowledged holds.
-use Rattle.std.proofs.Common.{ℕ, ◌≡◌, ◌==◌, Bool, true, false, if◌then◌else◌, List, [], ◌∷◌, ◌++◌, refl, sym, subst, ◌∙◌, inl, inr}
-use Rattle.std.specs.Prelude.{◌||◌, IsTrue, nat_eq}
-use Rattle.std.specs.List.{list_any}
-use Rattle.std.proofs.lemmas.Bool.{eqb-true}
-use Rattle.journal.specs.declared.item.Item.{Item}
-use Rattle.update_machine.specs.Boots.{boot_of, heard, is_up}
-use Rattle.update_machine.specs.Marks.{has_acked, installed_in, known_boot}
-use Rattle.update_machine.specs.Setting.{Setting}
-use Rattle.update_machine.specs.Versions.{installs_version}
-use Rattle.control_laws.specs.ItemCauses.{HasItemCause}
+use Rattle.std.proofs.Common.{[], if◌then◌else◌, ◌++◌, ◌==◌, ◌||◌, ◌∙◌, ◌∷◌, ◌≡◌, Bool, IsTrue, List, eqb-true, false, inl, inr, nat_eq, refl, subst, sym, true, ℕ}
+use Rattle.base.proofs.Exports.{list_any}
+use Rattle.update_machine.specs.Exports.{Item, Setting, boot_of, has_acked, heard, installed_in, installs_version, is_up, known_boot}
+use Rattle.control_laws.specs.Exports.{AcksHold, HasItemCause, HasTables}
 use Rattle.control_laws.proofs.ItemFacts.{AreKept, FromCauses, from_causes}
 use Rattle.control_laws.proofs.SwitchOpenings.{IsKnown, known_at_first, known_kept}
-use Rattle.control_laws.specs.Heard.{HasTables, AcksHold}
 use Rattle.control_laws.proofs.AcknowledgementKinds.{AreTrue, of_stamps, of_tables, true_at_first, true_on}
 use Rattle.control_laws.proofs.ToldToController.{each_at, told_by}
 

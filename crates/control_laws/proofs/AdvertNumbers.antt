@@ -1,40 +1,14 @@
 -- How far boots and the numbers of own adverts rise with the messages that are sent.
-use Rattle.std.proofs.Common.{ℕ, zero, suc, ◌≡◌, ◌+◌, ◌*◌, ◌^◌, ◌<◌, ◌≤◌, ◌==◌, Bool, true, false, not, ◌&&◌, cond, if◌then◌else◌, Some, None, List, [], ◌∷◌, ◌++◌, length, map, get_or, refl, ap, sym, subst, ◌∙◌, arith, inl, inr, append_assoc, sum_by}
-use Rattle.std.specs.Prelude.{All, count_by, filter, unwrap_or}
-use Rattle.std.specs.List.{range_with_len}
-use Rattle.std.proofs.lemmas.Bool.{eqb-true, ne_eqb}
-use Rattle.std.proofs.lemmas.List.{length-map}
-use Rattle.std.proofs.lemmas.List.Concat.{length-flat_map}
-use Rattle.std.proofs.lemmas.List.Elements.{All-cons, All-head, All-nil, All-tail, All-weaker}
-use Rattle.std.proofs.lemmas.List.FromFn.{get_or-range_with_len, length-range_with_len}
-use Rattle.std.proofs.lemmas.List.Sums.{get_or-le-sum_by, sum_by-cons}
-use Rattle.ctrl_msg.specs.declared.message.Message.{Message}
-use Rattle.failover.specs.Adverts.{held_advert}
-use Rattle.base.specs.Masks.{has, switches}
-use Rattle.base.specs.ComputedMasks.{least_in}
-use Rattle.base.proofs.CallerLemmas.{has_least, mask_of_lt}
-use Rattle.base.proofs.ListsFiltered.{sum_filter}
-use Rattle.base.proofs.ListsOfRanges.{given_some}
-use Rattle.net_file.specs.Net.{IsNet}
-use Rattle.net_file.specs.Joins.{are_linked}
+use Rattle.std.proofs.Common.{[], if◌then◌else◌, ◌&&◌, ◌*◌, ◌++◌, ◌+◌, ◌<◌, ◌==◌, ◌^◌, ◌∙◌, ◌∷◌, ◌≡◌, ◌≤◌, All, Bool, List, None, Some, ap, append_assoc, arith, cond, count_by, eqb-true, false, filter, get_or, inl, inr, length, map, ne_eqb, not, refl, subst, suc, sum_by, sym, true, unwrap_or, zero, ℕ}
+use Rattle.base.proofs.Exports.{All-cons, All-head, All-nil, All-tail, All-weaker, get_or-le-sum_by, get_or-range_with_len, given_some, has_least, length-flat_map, length-map, length-range_with_len, mask_of_lt, range_with_len, sum_by-cons, sum_filter}
+use Rattle.update_machine.specs.Exports.{HaveCauses, Item, LinksKeep, Message, NoneConcern, Setting, StepItems, StepOfRow, advert_to, adverts_known, after_steps, boot_of, changes_steps, concerns_links, has_change, has_changed, held_adverts, is_sending, is_up, link_changes, messages_of, messages_over, near, own_advert, own_seq, piece, steps_in, switches_of, usable_links, with_item}
+use Rattle.failover.specs.Exports.{held_advert}
+use Rattle.base.specs.Exports.{has, least_in, switches}
+use Rattle.net_file.specs.Exports.{IsNet, are_linked}
 use Rattle.net_file.proofs.RowPlaces.{links}
-use Rattle.journal.specs.declared.item.Item.{Item}
 use Rattle.journal.specs.declared.item.Item.TheVariants as item
-use Rattle.update_machine.specs.Adverts.{adverts_known, has_change, held_adverts, own_advert, own_seq}
-use Rattle.update_machine.specs.Answers.{StepOfRow, after_steps}
-use Rattle.update_machine.specs.Boots.{boot_of, is_up}
-use Rattle.update_machine.specs.Causes.{HaveCauses}
-use Rattle.update_machine.specs.Concerns.{NoneConcern, concerns_links}
-use Rattle.update_machine.specs.Deliveries.{advert_to, has_changed, link_changes, messages_of, messages_over}
-use Rattle.update_machine.specs.Laws.{LinksKeep}
-use Rattle.update_machine.specs.LinkMasks.{near, usable_links}
-use Rattle.update_machine.specs.Messages.{is_sending}
-use Rattle.update_machine.specs.Pieces.{piece}
-use Rattle.update_machine.specs.Setting.{Setting}
-use Rattle.update_machine.specs.SwitchNumbers.{switches_of}
-use Rattle.update_machine.specs.Steps.{StepItems, changes_steps, steps_in, with_item}
-use Rattle.update_machine.proofs.CallerLemmas.{count_of_append, folded_append, have_append, known_link_laws, links_keep, start_laws}
-use Rattle.control_laws.specs.ItemCauses.{HasItemCause}
+use Rattle.update_machine.proofs.Exports.{count_of_append, folded_append, have_append, known_link_laws, links_keep, start_laws}
+use Rattle.control_laws.specs.Exports.{HasItemCause}
 use Rattle.control_laws.proofs.BootsKnown.{boot_rises}
 use Rattle.control_laws.proofs.ItemFacts.{AreKept, FromCauses, from_causes}
 use Rattle.control_laws.proofs.FactsGrown.{boot_more, up_more}

@@ -1,18 +1,11 @@
 -- Each advert that is told is of a switch of the network: those that tell have neighbours.
-use Rattle.std.proofs.Common.{ℕ, ◌≡◌, List, [], sym, subst, ◌∙◌}
-use Rattle.std.specs.Prelude.{IsTrue}
-use Rattle.base.specs.Masks.{has}
-use Rattle.failover.specs.declared.advert.Advert.{Advert}
-use Rattle.net_file.specs.Net.{IsNet}
+use Rattle.std.proofs.Common.{[], ◌∙◌, ◌≡◌, IsTrue, List, subst, sym, ℕ}
+use Rattle.base.specs.Exports.{has}
+use Rattle.update_machine.specs.Exports.{Advert, HaveCauses, Item, Setting, advert_to, near, own_advert}
+use Rattle.net_file.specs.Exports.{IsNet}
 use Rattle.net_file.proofs.RowPlaces.{links}
-use Rattle.steps.specs.Steps.{HasSwitch}
-use Rattle.journal.specs.declared.item.Item.{Item}
-use Rattle.update_machine.specs.Adverts.{own_advert}
-use Rattle.update_machine.specs.Causes.{HaveCauses}
-use Rattle.update_machine.specs.Deliveries.{advert_to}
-use Rattle.update_machine.specs.LinkMasks.{near}
-use Rattle.update_machine.specs.Setting.{Setting}
-use Rattle.control_laws.specs.Adverts.{AdvertsAreOfSwitches}
+use Rattle.steps.specs.Exports.{HasSwitch}
+use Rattle.control_laws.specs.Exports.{AdvertsAreOfSwitches}
 use Rattle.control_laws.proofs.AllAdverts.{AreSuch, IsAdvertFact, known_such, such_on}
 use Rattle.control_laws.proofs.BothCauses.{HasBothCauses}
 use Rattle.control_laws.proofs.NetLinks.{known_origin, near_linked, own_origin}

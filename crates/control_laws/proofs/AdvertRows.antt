@@ -1,29 +1,14 @@
 -- Adverts of small journals, computed.
-use Rattle.std.proofs.Common.{ℕ, ◌≡◌, ◌<◌, ◌≤◌, true, false, Some, None, List, [], ◌∷◌, refl, ap, subst, arith, inl, inr}
-use Rattle.std.specs.Prelude.{◌==◌}
-use Rattle.std.proofs.lemmas.Bool.{eq-eqb}
-use Rattle.std.proofs.lemmas.List.Elements.{All-from_recursion}
-use Rattle.ctrl_msg.specs.declared.message.Body.TheVariants.{Hello}
-use Rattle.failover.specs.Adverts.{after_hearing, first_adverts, is_news}
-use Rattle.base.specs.Masks.{has, switches}
-use Rattle.failover.specs.declared.advert.Advert.{Advert}
-use Rattle.base.specs.ComputedMasks.{mask_of, mask_where}
-use Rattle.journal.specs.declared.item.Item.{Item}
+use Rattle.std.proofs.Common.{[], ◌<◌, ◌==◌, ◌∷◌, ◌≡◌, ◌≤◌, List, None, Some, ap, arith, eq-eqb, false, inl, inr, refl, subst, true, ℕ}
+use Rattle.base.proofs.Exports.{All-from_recursion}
+use Rattle.update_machine.specs.Exports.{Advert, Hello, Item, Setting, StepOfRow, advert_known, adverts_known, after_steps, boot_of, crash_items, heard, held_adverts, is_link_up, is_up, link_changes, link_items, message_of, near, next_message, own_advert, own_seq, piece, restart_items, sent_from, serves, steps_in}
+use Rattle.failover.specs.Exports.{after_hearing, first_adverts, is_news}
+use Rattle.base.specs.Exports.{has, mask_of, mask_where, switches}
 use Rattle.journal.specs.declared.item.Item.TheVariants as item
-use Rattle.net_file.specs.Net.{IsNet, IsSwitchRow, solo_net}
+use Rattle.net_file.specs.Exports.{IsNet, IsSwitchRow, solo_net}
 use Rattle.steps.specs.declared.step.Step.TheVariants as step
-use Rattle.update_machine.specs.Adverts.{advert_known, adverts_known, held_adverts, own_advert, own_seq}
-use Rattle.update_machine.specs.Answers.{StepOfRow, after_steps}
-use Rattle.update_machine.specs.Boots.{boot_of, heard, is_up}
-use Rattle.update_machine.specs.Deliveries.{link_changes}
-use Rattle.update_machine.specs.Links.{is_link_up, serves, message_of}
-use Rattle.update_machine.specs.Messages.{next_message, sent_from}
-use Rattle.update_machine.specs.Pieces.{crash_items, link_items, piece, restart_items}
-use Rattle.update_machine.specs.Setting.{Setting}
-use Rattle.update_machine.specs.Steps.{steps_in}
-use Rattle.update_machine.specs.LinkMasks.{near}
-use Rattle.update_machine.proofs.ExampleNetworks.{advert, at, open_net, to, to_controller, two_switches}
-use Rattle.control_laws.specs.Adverts.{AdvertsAreOfSwitches, IsNoNewer, IsOverLinks, LinksAreThere, NamesLinks, OwnAreNewest}
+use Rattle.update_machine.proofs.Exports.{advert, at, open_net, to, to_controller, two_switches}
+use Rattle.control_laws.specs.Exports.{AdvertsAreOfSwitches, IsNoNewer, IsOverLinks, LinksAreThere, NamesLinks, OwnAreNewest}
 use Rattle.control_laws.proofs.BothCauses.{behind_both}
 use Rattle.control_laws.proofs.NetLinks.{linked_by_mask, links_there}
 use Rattle.control_laws.proofs.NewestAdverts.{own_newest}

@@ -1,25 +1,9 @@
 -- Each piece has its causes: of each advert that is sent, and of each change of links.
-use Rattle.std.proofs.Common.{ℕ, ◌≡◌, ◌==◌, Bool, true, false, not, ◌&&◌, Some, List, [], ◌∷◌, ◌++◌, map, refl, ap, sym, ◌∙◌, arith, append_assoc}
-use Rattle.std.specs.Prelude.{IsFalse}
-use Rattle.std.specs.Option.{option_map_or}
-use Rattle.ctrl_msg.specs.declared.message.Body.{Body}
-use Rattle.ctrl_msg.specs.declared.message.Body.TheVariants.{Advertise}
-use Rattle.journal.specs.declared.item.Item.{Item}
+use Rattle.std.proofs.Common.{[], ◌&&◌, ◌++◌, ◌==◌, ◌∙◌, ◌∷◌, ◌≡◌, Bool, IsFalse, List, Some, ap, append_assoc, arith, false, map, not, refl, sym, true, ℕ}
+use Rattle.base.proofs.Exports.{option_map_or}
+use Rattle.update_machine.specs.Exports.{Advertise, Body, Confirm, Crash, Deliver, Item, LinkDown, LinkUp, Packet, Resend, Restart, Setting, Step, Update, body_to_switch, changes_steps, concerns_links, crash_items, deliver_items, heard, is_advert, items_then, link_changes, link_items, next_packet, restart_items, sent_from, stamp_of, step_items, steps_in, switch_items}
 use Rattle.journal.specs.declared.item.Item.TheVariants as item
-use Rattle.steps.specs.declared.step.Step.{Step}
-use Rattle.steps.specs.declared.step.Step.TheVariants.{Packet, Deliver, Update, LinkDown, LinkUp, Crash, Restart, Confirm, Resend}
-use Rattle.update_machine.specs.Boots.{heard, body_to_switch}
-use Rattle.update_machine.specs.Concerns.{concerns_links}
-use Rattle.update_machine.specs.Deliveries.{link_changes, switch_items}
-use Rattle.update_machine.specs.Messages.{sent_from}
-use Rattle.update_machine.specs.Moves.{items_then}
-use Rattle.update_machine.specs.Packets.{next_packet}
-use Rattle.update_machine.specs.Pieces.{crash_items, deliver_items, link_items, restart_items, step_items}
-use Rattle.update_machine.specs.Quiet.{is_advert}
-use Rattle.update_machine.specs.Setting.{Setting}
-use Rattle.update_machine.specs.Steps.{changes_steps, steps_in}
-use Rattle.update_machine.specs.Versions.{stamp_of}
-use Rattle.update_machine.proofs.CallerLemmas.{PiecesHave, folded_append, have_append, have_first, have_put}
+use Rattle.update_machine.proofs.Exports.{PiecesHave, folded_append, have_append, have_first, have_put}
 use Rattle.control_laws.proofs.ControllerCommands.{confirm_control, controller_control, update_has}
 use Rattle.control_laws.proofs.CrashedSwitches.{losts_have}
 use Rattle.control_laws.proofs.DeliveryCauses.{deliver_has}

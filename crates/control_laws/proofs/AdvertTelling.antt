@@ -1,27 +1,11 @@
 -- The blocks of a piece in which adverts are sent have their causes.
-use Rattle.std.proofs.Common.{ℕ, ◌≡◌, ◌==◌, Bool, true, false, List, [], ◌∷◌, ◌++◌, map, refl, ap, sym, ◌∙◌, inl, inr}
-use Rattle.std.specs.Prelude.{IsTrue, filter, filter_map}
-use Rattle.std.specs.List.{AllByRecursion, flat_map}
-use Rattle.std.proofs.lemmas.List.Elements.{filter_map-append}
-use Rattle.ctrl_msg.specs.declared.message.Body.{Body}
-use Rattle.ctrl_msg.specs.declared.message.Body.TheVariants.{Advertise}
-use Rattle.ctrl_msg.specs.declared.message.Message.{Message}
-use Rattle.failover.specs.Adverts.{held_advert}
-use Rattle.base.specs.Masks.{has, switches}
-use Rattle.base.proofs.ListsOfEach.{each_filter, each_flat_map, each_flat_map_in, each_map}
-use Rattle.base.proofs.ListsOfRanges.{each_given}
-use Rattle.failover.specs.declared.advert.Advert.{Advert}
-use Rattle.journal.specs.declared.item.Item.{Item}
+use Rattle.std.proofs.Common.{[], ◌++◌, ◌==◌, ◌∙◌, ◌∷◌, ◌≡◌, Bool, IsTrue, List, ap, false, filter, filter_map, flat_map, inl, inr, map, refl, sym, true, ℕ}
+use Rattle.base.proofs.Exports.{AllByRecursion, each_filter, each_flat_map, each_flat_map_in, each_given, each_map, filter_map-append}
+use Rattle.update_machine.specs.Exports.{Advert, Advertise, Body, Item, KnownKeeps, LinksKeep, Message, Setting, SwitchKeeps, advert_to, adverts_known, has_changed, heard, held_adverts, link_changes, messages_of, messages_over, near, other_advert, own_advert, passed_on, send_items, switches_in, switches_of}
+use Rattle.failover.specs.Exports.{held_advert}
+use Rattle.base.specs.Exports.{has, switches}
 use Rattle.journal.specs.declared.item.Item.TheVariants as item
-use Rattle.update_machine.specs.Adverts.{adverts_known, held_adverts, own_advert}
-use Rattle.update_machine.specs.Boots.{heard}
-use Rattle.update_machine.specs.Deliveries.{advert_to, has_changed, link_changes, passed_on, messages_of, messages_over, switches_in}
-use Rattle.update_machine.specs.Laws.{KnownKeeps, LinksKeep, SwitchKeeps}
-use Rattle.update_machine.specs.LinkMasks.{near, other_advert}
-use Rattle.update_machine.specs.Messages.{send_items}
-use Rattle.update_machine.specs.Setting.{Setting}
-use Rattle.update_machine.specs.SwitchNumbers.{switches_of}
-use Rattle.update_machine.proofs.CallerLemmas.{known_keeps, links_keep, switch_keeps}
+use Rattle.update_machine.proofs.Exports.{known_keeps, links_keep, switch_keeps}
 use Rattle.control_laws.proofs.MessageSends.{sends_kept}
 use Rattle.control_laws.proofs.LinkCauses.{HasLinkCause, HaveLinkCauses, IsHeard, IsHeld, IsTold, IsToldIn}
 

@@ -1,41 +1,19 @@
 -- What each own advert that is told has, and each first one, and items keep, all adverts have.
-use Rattle.std.proofs.Common.{ℕ, ◌≡◌, ◌≢◌, ◌<◌, ◌==◌, Bool, true, false, if◌then◌else◌, Option, Some, None, List, [], ◌∷◌, ◌++◌, map, length, refl, ap, sym, subst, ◌∙◌, arith, inl, inr}
-use Rattle.std.specs.Prelude.{⊤, All, IsTrue, filter_map, nat_lt, option_to_list, slice_index}
-use Rattle.std.specs.List.{AllByRecursion}
-use Rattle.std.specs.Option.{option_map_or}
-use Rattle.std.proofs.lemmas.Bool.{cases_eq}
-use Rattle.std.proofs.lemmas.Bool.Decides.{nat_tests}
-use Rattle.std.proofs.lemmas.List.{get_or-replicate}
-use Rattle.std.proofs.lemmas.List.Elements.{All-append, All-cons, All-nil, All-same, All-weaker, filter_map-append, recursion_from_All}
-use Rattle.std.proofs.lemmas.List.FromFn.{get_or-map-range_with_len}
-use Rattle.ctrl_msg.specs.declared.message.Body.{Body}
-use Rattle.ctrl_msg.specs.declared.message.Body.TheVariants.{Advertise}
-use Rattle.ctrl_msg.specs.declared.message.Message.{Message}
-use Rattle.failover.specs.Adverts.{first_advert, first_adverts, held_advert, no_adverts}
-use Rattle.base.specs.Masks.{has}
-use Rattle.base.proofs.ListsOfEach.{each_append}
-use Rattle.failover.specs.declared.advert.Advert.{Advert}
-use Rattle.failover.specs.Newest.{IsNewest}
+use Rattle.std.proofs.Common.{[], if◌then◌else◌, ◌++◌, ◌<◌, ◌==◌, ◌∙◌, ◌∷◌, ◌≡◌, ◌≢◌, All, Bool, IsTrue, List, None, Option, Some, ap, arith, false, filter_map, inl, inr, length, map, nat_lt, option_to_list, refl, slice_index, subst, sym, true, ℕ}
+use Rattle.base.proofs.Exports.{All-append, All-cons, All-nil, All-same, All-weaker, AllByRecursion, cases_eq, each_append, filter_map-append, get_or-map-range_with_len, get_or-replicate, nat_tests, option_map_or, recursion_from_All, ⊤}
+use Rattle.update_machine.specs.Exports.{Advert, Advertise, Body, HaveCauses, Item, Message, Setting, advert_known, advert_to, adverts_begun, adverts_heard, body_to_switch, heard, is_in_first_boot, message_of, near, other_advert, own_advert, own_if_sent, switches_of, to_switch}
+use Rattle.failover.specs.Exports.{IsNewest, first_advert, first_adverts, held_advert, no_adverts}
+use Rattle.base.specs.Exports.{has}
 use Rattle.failover.proofs.HeldAdverts.{held-first}
-use Rattle.net_file.specs.Owners.{links_of}
-use Rattle.steps.specs.Steps.{HasSwitch}
-use Rattle.journal.specs.declared.item.Item.{Item}
+use Rattle.net_file.specs.Exports.{links_of}
+use Rattle.steps.specs.Exports.{HasSwitch}
 use Rattle.journal.specs.declared.item.Item.TheVariants as item
-use Rattle.update_machine.specs.Adverts.{advert_known, own_advert, own_if_sent}
-use Rattle.update_machine.specs.Boots.{heard, is_in_first_boot, body_to_switch}
-use Rattle.update_machine.specs.Causes.{HaveCauses}
-use Rattle.update_machine.specs.Deliveries.{advert_to}
-use Rattle.update_machine.specs.LinkMasks.{near, adverts_begun, adverts_heard, other_advert}
-use Rattle.update_machine.specs.Setting.{Setting}
-use Rattle.update_machine.specs.SwitchNumbers.{switches_of}
-use Rattle.update_machine.specs.Settling.{to_switch}
-use Rattle.update_machine.specs.Links.{message_of}
-use Rattle.update_machine.proofs.CallerLemmas.{known_link_laws, start_laws}
+use Rattle.update_machine.proofs.Exports.{known_link_laws, start_laws}
 use Rattle.control_laws.proofs.BootsKnown.{by_number}
 use Rattle.control_laws.proofs.ItemFacts.{AreKept, fact_on}
 use Rattle.control_laws.proofs.FactsGrown.{heard_more}
 use Rattle.control_laws.proofs.SwitchBlocks.{said_parts}
-use Rattle.control_laws.specs.Adverts.{AllAdverts}
+use Rattle.control_laws.specs.Exports.{AllAdverts}
 use Rattle.control_laws.proofs.BothCauses.{HasBothCauses}
 use Rattle.control_laws.proofs.LinkCauses.{IsTold, IsToldIn}
 

@@ -1,11 +1,8 @@
 -- What holds behind each item, and what at the end of each step.
-use Rattle.std.proofs.Common.{ℕ, List, [], ap, sym, subst, take, ◌∙◌}
-use Rattle.journal.specs.declared.item.Item.{Item}
-use Rattle.update_machine.specs.Answers.{StepOfRow, after_steps}
-use Rattle.update_machine.specs.Causes.{HaveCauses}
-use Rattle.update_machine.specs.Setting.{Setting}
-use Rattle.update_machine.proofs.CallerLemmas.{PiecesHave, have_take}
-use Rattle.control_laws.specs.Always.{HoldsAtEnds, HoldsBehindItems}
+use Rattle.std.proofs.Common.{[], ◌∙◌, List, ap, subst, sym, take, ℕ}
+use Rattle.update_machine.specs.Exports.{HaveCauses, Item, Setting, StepOfRow, after_steps}
+use Rattle.update_machine.proofs.Exports.{PiecesHave, have_take}
+use Rattle.control_laws.specs.Exports.{HoldsAtEnds, HoldsBehindItems}
 use Rattle.control_laws.proofs.ItemFacts.{steps_have}
 
 -- what holds behind any steps holds in answers to schedules

@@ -1,19 +1,8 @@
 -- Blocks of a piece that change no links, and in which no advert is sent.
-use Rattle.std.specs.Prelude.{⊤, IsFalse}
-use Rattle.std.proofs.Common.{ℕ, List, refl}
-use Rattle.ctrl_msg.specs.declared.message.Body.{Body}
-use Rattle.ctrl_msg.specs.declared.message.Body.TheVariants.{Advertise}
-use Rattle.ctrl_msg.specs.declared.message.Message.{Message}
-use Rattle.five_tuple.specs.declared.header.Header.{Header}
-use Rattle.journal.specs.declared.item.Item.{Item}
+use Rattle.base.proofs.Exports.{⊤}
+use Rattle.std.proofs.Common.{IsFalse, List, refl, ℕ}
+use Rattle.update_machine.specs.Exports.{Advertise, Body, HaveCauses, Header, Item, Message, NoneConcern, Setting, Step, concerns_links, is_advert, packet_items, send_items, step_items}
 use Rattle.journal.specs.declared.item.Item.TheVariants as item
-use Rattle.steps.specs.declared.step.Step.{Step}
-use Rattle.update_machine.specs.Causes.{HaveCauses}
-use Rattle.update_machine.specs.Concerns.{NoneConcern, concerns_links}
-use Rattle.update_machine.specs.Messages.{send_items}
-use Rattle.update_machine.specs.Pieces.{packet_items, step_items}
-use Rattle.update_machine.specs.Quiet.{is_advert}
-use Rattle.update_machine.specs.Setting.{Setting}
 use Rattle.control_laws.proofs.ControllerCommands.{Control, IsCommand, IsControl}
 use Rattle.control_laws.proofs.ItemFacts.{have_weaker}
 use Rattle.control_laws.proofs.ResentBySwitches.{sends_any}

@@ -1,27 +1,12 @@
 -- Items that have their causes keep what is known of boots.
-use Rattle.std.proofs.Common.{ℕ, ◌≡◌, ◌<◌, ◌≤◌, ◌==◌, ◌⊎◌, Bool, true, false, Option, Some, None, List, [], ◌∷◌, ◌++◌, refl, ap, subst, ◌∙◌, arith, inl, inr}
-use Rattle.std.specs.Prelude.{IsTrue, nat_lt, option_and_then}
-use Rattle.std.specs.Option.{option_map_or}
-use Rattle.std.proofs.lemmas.Bool.{eqb-true}
-use Rattle.std.proofs.lemmas.Bool.Decides.{nat_tests}
-use Rattle.std.proofs.lemmas.Option.{IfSome_then}
-use Rattle.ctrl_msg.specs.Bodies.{body_boot}
-use Rattle.ctrl_msg.specs.declared.message.Body.{Body}
-use Rattle.ctrl_msg.specs.declared.message.Body.TheVariants.{CacheRule, Advertise, Hello, Installed, Stamped}
-use Rattle.ctrl_msg.specs.declared.message.Message.{Message}
-use Rattle.ctrl_msg.specs.declared.message.Place.{Place}
-use Rattle.ctrl_msg.specs.Kinds.{to_controller}
+use Rattle.std.proofs.Common.{[], ◌++◌, ◌<◌, ◌==◌, ◌∙◌, ◌∷◌, ◌≡◌, ◌≤◌, ◌⊎◌, Bool, IsTrue, List, None, Option, Some, ap, arith, eqb-true, false, inl, inr, nat_lt, option_and_then, refl, subst, true, ℕ}
+use Rattle.base.proofs.Exports.{IfSome_then, nat_tests, option_map_or}
+use Rattle.ctrl_msg.specs.Exports.{body_boot, to_controller}
+use Rattle.update_machine.specs.Exports.{Advertise, Body, CacheRule, Hello, Installed, Item, Message, Place, Setting, Stamped, body_to_controller, boot_of, hello_boot, known_boot, message_of, raises_known, speaker}
 use Rattle.ctrl_msg.specs.declared.message.Place.TheVariants as receiver
-use Rattle.journal.specs.declared.item.Item.{Item}
 use Rattle.journal.specs.declared.item.Item.TheVariants as item
-use Rattle.update_machine.specs.Boots.{boot_of}
-use Rattle.update_machine.specs.Marks.{hello_boot, known_boot, raises_known, body_to_controller}
-use Rattle.update_machine.specs.Quiet.{speaker}
-use Rattle.update_machine.specs.Setting.{Setting}
-use Rattle.update_machine.specs.Links.{message_of}
-use Rattle.update_machine.proofs.CallerLemmas.{start_laws}
-use Rattle.control_laws.specs.BootLaws.{BootsAreKnown, HasPastBoot}
-use Rattle.control_laws.specs.ItemCauses.{HasItemCause, IsRightMessage}
+use Rattle.update_machine.proofs.Exports.{start_laws}
+use Rattle.control_laws.specs.Exports.{BootsAreKnown, HasItemCause, HasPastBoot, IsRightMessage}
 use Rattle.control_laws.proofs.FactsGrown.{boot_more, hello_told, known_more, message_more, raised}
 
 -- ---- what is told was sent

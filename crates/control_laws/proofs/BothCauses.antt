@@ -1,12 +1,8 @@
 -- Each item of any steps has both its causes.
-use Rattle.std.proofs.Common.{List, []}
-use Rattle.journal.specs.declared.item.Item.{Item}
-use Rattle.update_machine.specs.Causes.{HaveCauses}
-use Rattle.update_machine.specs.Pieces.{piece}
-use Rattle.update_machine.specs.Setting.{Setting}
-use Rattle.update_machine.proofs.CallerLemmas.{PiecesHave}
-use Rattle.control_laws.specs.Always.{HoldsBehindItems}
-use Rattle.control_laws.specs.ItemCauses.{HasItemCause}
+use Rattle.std.proofs.Common.{[], List}
+use Rattle.update_machine.specs.Exports.{HaveCauses, Item, Setting, piece}
+use Rattle.update_machine.proofs.Exports.{PiecesHave}
+use Rattle.control_laws.specs.Exports.{HasItemCause, HoldsBehindItems}
 use Rattle.control_laws.proofs.BehindItems.{behind_items}
 use Rattle.control_laws.proofs.ItemFacts.{Both, have_both}
 use Rattle.control_laws.proofs.PieceCauses.{pieces_have}

@@ -1,23 +1,15 @@
 -- How far the marks and what is sent of versions may go: at most to the current version, and tables
 -- only as they are planned.
-use Rattle.std.proofs.Common.{ℕ, ◌≡◌, ◌≤◌, Some, None, List, [], ◌∷◌, ◌++◌, ap, sym, subst, ◌∙◌, arith, inl, inr}
-use Rattle.ctrl_msg.specs.declared.message.Body.TheVariants.{Install}
-use Rattle.switch_table.specs.Tables.{tables_of}
-use Rattle.switch_table.specs.declared.tables.Tables.{Tables}
-use Rattle.journal.specs.declared.item.Item.{Item}
+use Rattle.std.proofs.Common.{[], ◌++◌, ◌∙◌, ◌∷◌, ◌≡◌, ◌≤◌, List, None, Some, ap, arith, inl, inr, subst, sym, ℕ}
+use Rattle.update_machine.specs.Exports.{Install, Item, Setting, Tables, VersionsAreNumbered, current_mark, to_switch, version_count}
+use Rattle.switch_table.specs.Exports.{tables_of}
 use Rattle.journal.specs.declared.item.Item.TheVariants as item
-use Rattle.update_machine.specs.Marks.{current_mark}
-use Rattle.update_machine.specs.Numbers.{VersionsAreNumbered}
-use Rattle.update_machine.specs.Setting.{Setting}
-use Rattle.update_machine.specs.Settling.{to_switch}
-use Rattle.update_machine.specs.Versions.{version_count}
-use Rattle.update_machine.proofs.CallerLemmas.{numbered_at_first, plan_stays, start_laws}
-use Rattle.control_laws.specs.ItemCauses.{HasItemCause, IsRightInstall}
+use Rattle.update_machine.proofs.Exports.{numbered_at_first, plan_stays, start_laws}
+use Rattle.control_laws.specs.Exports.{ArePlanned, HasItemCause, InstallsArePlanned, IsRightInstall}
 use Rattle.control_laws.proofs.BootsKnown.{by_number}
 use Rattle.control_laws.proofs.ItemFacts.{AreKept, FromCauses, NeverFalls, from_causes}
 use Rattle.control_laws.proofs.FactsGrown.{count_more, current_more}
 use Rattle.control_laws.proofs.VersionNumbers.{numbered_kept}
-use Rattle.control_laws.specs.Heard.{ArePlanned, InstallsArePlanned}
 
 -- ---- what never falls
 

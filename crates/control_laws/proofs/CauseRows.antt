@@ -1,18 +1,12 @@
 -- Causes of submissions, on journals of few items, and a fact that doesn't hold of all that is
 -- reached.
-use Rattle.std.proofs.Common.{◌≡◌, [], ◌∷◌, refl, arith}
-use Rattle.std.specs.Prelude.{length}
-use Rattle.std.proofs.lemmas.List.Elements.{All-from_recursion}
-use Rattle.policy_rules.specs.declared.policy.Action.TheVariants.{Drop}
-use Rattle.steps.specs.Steps.{IsStep}
+use Rattle.std.proofs.Common.{[], ◌∷◌, ◌≡◌, arith, length, refl}
+use Rattle.base.proofs.Exports.{All-from_recursion}
+use Rattle.update_machine.specs.Exports.{Drop, StepOfRow, next_policy, piece, retired_mark, version_count}
+use Rattle.steps.specs.Exports.{IsStep}
 use Rattle.steps.specs.declared.step.Step.TheVariants as step
-use Rattle.update_machine.specs.Answers.{StepOfRow}
-use Rattle.update_machine.specs.Marks.{retired_mark}
-use Rattle.update_machine.specs.Pieces.{piece}
-use Rattle.update_machine.specs.Versions.{next_policy, version_count}
-use Rattle.update_machine.proofs.ExampleNetworks.{all_to, at, open_net, versions}
-use Rattle.control_laws.specs.Always.{HoldsAtEnds, HoldsBehindItems, HoldsReached}
-use Rattle.control_laws.specs.ItemCauses.{SubmitsRightly}
+use Rattle.update_machine.proofs.Exports.{all_to, at, open_net, versions}
+use Rattle.control_laws.specs.Exports.{HoldsAtEnds, HoldsBehindItems, HoldsReached, SubmitsRightly}
 
 -- ---- submissions
 

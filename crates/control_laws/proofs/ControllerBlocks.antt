@@ -1,20 +1,10 @@
 -- What the controller writes has its causes.
-use Rattle.std.proofs.Common.{ℕ, ◌≡◌, ◌+◌, ◌-◌, ◌<◌, ◌≤◌, ◌&&◌, Bool, true, false, not, zero, suc, None, List, [], ◌∷◌, length, refl, ap, sym, ◌∙◌, arith, inl, inr}
-use Rattle.std.specs.Prelude.{IsTrue, IsFalse, cond, take_while}
-use Rattle.std.specs.List.{range_with_len}
-use Rattle.std.proofs.lemmas.Bool.{cases_eq}
-use Rattle.std.proofs.lemmas.Bool.Decides.{nat_tests}
-use Rattle.std.proofs.lemmas.List.Sums.{take_while-cons}
-use Rattle.base.proofs.ListsOfEach.{each_filter, each_map}
-use Rattle.journal.specs.declared.item.Item.{Item}
+use Rattle.std.proofs.Common.{[], ◌&&◌, ◌+◌, ◌-◌, ◌<◌, ◌∙◌, ◌∷◌, ◌≡◌, ◌≤◌, Bool, IsFalse, IsTrue, List, None, ap, arith, cond, false, inl, inr, length, not, refl, suc, sym, take_while, true, zero, ℕ}
+use Rattle.base.proofs.Exports.{cases_eq, each_filter, each_map, nat_tests, range_with_len, take_while-cons}
+use Rattle.update_machine.specs.Exports.{Item, MayRise, Setting, all_acked, current_mark, has_acked, install_for, installs_to, installs_to_all, is_joining, is_member, is_over, next_current, next_retired, opened_at, settling, submitted_items, switches_of, version_count, versions_from_current}
 use Rattle.journal.specs.declared.item.Item.TheVariants as item
-use Rattle.update_machine.specs.Marks.{MayRise, all_acked, current_mark, has_acked, is_joining, is_member, is_over, next_current, next_retired, opened_at}
-use Rattle.update_machine.specs.Setting.{Setting}
-use Rattle.update_machine.specs.SwitchNumbers.{switches_of}
-use Rattle.update_machine.specs.Settling.{install_for, installs_to, installs_to_all, settling, submitted_items, versions_from_current}
-use Rattle.update_machine.specs.Versions.{version_count}
-use Rattle.update_machine.proofs.CallerLemmas.{have_in_turn, policies_keep}
-use Rattle.control_laws.specs.ItemCauses.{HasItemCause}
+use Rattle.update_machine.proofs.Exports.{have_in_turn, policies_keep}
+use Rattle.control_laws.specs.Exports.{HasItemCause}
 use Rattle.control_laws.proofs.ItemFacts.{Has}
 use Rattle.control_laws.proofs.FactsGrown.{current_more, retired_more}
 use Rattle.control_laws.proofs.SettlingCauses.{SettlingHas, parts_have, settling_has}

@@ -1,23 +1,9 @@
 -- What the controller writes: versions, marks, and commands to switches.
-use Rattle.std.proofs.Common.{ℕ, ◌≡◌, ◌+◌, ◌++◌, ◌∙◌, refl, Option, Some, None, List, [], ◌∷◌, map, arith}
-use Rattle.std.specs.Prelude.{⊤, IsTrue, is_some}
-use Rattle.std.specs.List.{AllByRecursion}
-use Rattle.base.proofs.ListsOfEach.{each_always, each_map}
-use Rattle.ctrl_msg.specs.declared.message.Body.{Body}
-use Rattle.ctrl_msg.specs.declared.message.Body.TheVariants.{Install, OpenAt, Stamp, Collect, Hello}
-use Rattle.ctrl_msg.specs.declared.message.Message.{Message}
-use Rattle.journal.specs.declared.item.Item.{Item}
+use Rattle.std.proofs.Common.{[], ◌++◌, ◌+◌, ◌∙◌, ◌∷◌, ◌≡◌, IsTrue, List, None, Option, Some, arith, is_some, map, refl, ℕ}
+use Rattle.base.proofs.Exports.{AllByRecursion, each_always, each_map, ⊤}
+use Rattle.update_machine.specs.Exports.{Body, Collect, HaveCauses, Hello, Install, Item, Message, OpenAt, Setting, Stamp, after_hello, confirm_items, controller_heard, controller_items, has_acked, install_for, installs_to, installs_to_all, is_member, is_over, items_then, known_boot, opened_at, send_items, settling, submitted_items, update_code, update_items, version_count}
 use Rattle.journal.specs.declared.item.Item.TheVariants as item
-use Rattle.update_machine.specs.Causes.{HaveCauses}
-use Rattle.update_machine.specs.Deliveries.{after_hello, controller_items}
-use Rattle.update_machine.specs.Marks.{controller_heard, has_acked, is_member, is_over, known_boot, opened_at}
-use Rattle.update_machine.specs.Messages.{send_items}
-use Rattle.update_machine.specs.Moves.{items_then}
-use Rattle.update_machine.specs.Pieces.{confirm_items, update_code, update_items}
-use Rattle.update_machine.specs.Setting.{Setting}
-use Rattle.update_machine.specs.Settling.{install_for, installs_to, installs_to_all, settling, submitted_items}
-use Rattle.update_machine.specs.Versions.{version_count}
-use Rattle.update_machine.proofs.CallerLemmas.{have_first, have_in_turn}
+use Rattle.update_machine.proofs.Exports.{have_first, have_in_turn}
 use Rattle.control_laws.proofs.ItemFacts.{fact_on, have_weaker}
 use Rattle.control_laws.proofs.FactsGrown.{count_more, known_more, over_more, told_more}
 use Rattle.control_laws.proofs.SwitchOpenings.{member_on, still_opened}

@@ -1,20 +1,10 @@
 -- Items that leave all that the controller knows as it was.
-use Rattle.std.proofs.Common.{ℕ, ◌≡◌, ◌==◌, Bool, true, false, if◌then◌else◌, Option, Some, None, List, [], ◌∷◌, ◌++◌, refl, ap, sym, ◌∙◌}
-use Rattle.std.specs.Prelude.{⊤, IsTrue, IsFalse, is_some}
-use Rattle.std.specs.Option.{option_or}
-use Rattle.std.proofs.lemmas.Bool.{eqb-true}
-use Rattle.ctrl_msg.specs.declared.message.Body.{Body}
-use Rattle.ctrl_msg.specs.declared.message.Body.TheVariants.{OpenAt}
-use Rattle.ctrl_msg.specs.declared.message.Place.{Place}
+use Rattle.std.proofs.Common.{[], if◌then◌else◌, ◌++◌, ◌==◌, ◌∙◌, ◌∷◌, ◌≡◌, Bool, IsFalse, IsTrue, List, None, Option, Some, ap, eqb-true, false, is_some, refl, sym, true, ℕ}
+use Rattle.base.proofs.Exports.{option_or, ⊤}
+use Rattle.update_machine.specs.Exports.{Body, ControllerKeeps, HaveCauses, Item, OpenAt, Place, acked_stamp, controller_heard, first_number, is_member, is_message_to_controller, is_over, known_boot, open_sent, opened_at, to_switch}
 use Rattle.ctrl_msg.specs.declared.message.Place.TheVariants as receiver
-use Rattle.journal.specs.declared.item.Item.{Item}
 use Rattle.journal.specs.declared.item.Item.TheVariants as item
-use Rattle.update_machine.specs.Causes.{HaveCauses}
-use Rattle.update_machine.specs.Concerns.{is_message_to_controller}
-use Rattle.update_machine.specs.Laws.{ControllerKeeps}
-use Rattle.update_machine.specs.Marks.{acked_stamp, controller_heard, first_number, is_member, is_over, known_boot, open_sent, opened_at}
-use Rattle.update_machine.specs.Settling.{to_switch}
-use Rattle.update_machine.proofs.CallerLemmas.{controller_keeps}
+use Rattle.update_machine.proofs.Exports.{controller_keeps}
 use Rattle.control_laws.proofs.ItemFacts.{fact_on}
 use Rattle.control_laws.proofs.FactsGrown.{count_more, current_more, known_more, opened_at_more, over_more, retired_more, told_more}
 use Rattle.control_laws.proofs.MessageSends.{acked_same}

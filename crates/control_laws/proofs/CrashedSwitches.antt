@@ -1,15 +1,8 @@
 -- Switches that crash, and the packets that are lost with them.
-use Rattle.std.proofs.Common.{ℕ, ◌≡◌, Bool, true, false, List, [], ◌∷◌, ◌++◌, map, refl, ap, sym, ◌∙◌, append_assoc, append-nil}
-use Rattle.journal.specs.declared.item.Item.{Item}
+use Rattle.std.proofs.Common.{[], ◌++◌, ◌∙◌, ◌∷◌, ◌≡◌, Bool, List, ap, append-nil, append_assoc, false, map, refl, sym, true, ℕ}
+use Rattle.update_machine.specs.Exports.{HaveCauses, Item, Setting, crash_items, is_up, items_then, link_changes, nothing, packets_at}
 use Rattle.journal.specs.declared.item.Item.TheVariants as item
-use Rattle.update_machine.specs.Boots.{is_up}
-use Rattle.update_machine.specs.Causes.{HaveCauses}
-use Rattle.update_machine.specs.Deliveries.{link_changes}
-use Rattle.update_machine.specs.Moves.{items_then}
-use Rattle.update_machine.specs.Pieces.{crash_items, nothing}
-use Rattle.update_machine.specs.Setting.{Setting}
-use Rattle.update_machine.specs.Travels.{packets_at}
-use Rattle.update_machine.proofs.CallerLemmas.{have_put}
+use Rattle.update_machine.proofs.Exports.{have_put}
 use Rattle.control_laws.proofs.ItemFacts.{have_weaker}
 use Rattle.control_laws.proofs.TrafficItems.{IsChange, IsTraffic, change_traffic, links_change}
 

@@ -1,27 +1,12 @@
 -- Nobody stamps with a version that isn't current yet, or is told or said to.
-use Rattle.std.proofs.Common.{ℕ, ◌≡◌, ◌≤◌, ◌<◌, Option, Some, None, List, [], ◌∷◌, ◌++◌, map, refl, sym, subst, ◌∙◌, arith, inl, inr}
-use Rattle.std.specs.Prelude.{⊤, IfSome, option_and_then}
-use Rattle.std.specs.List.{AllByRecursion}
-use Rattle.std.specs.Option.{option_or}
-use Rattle.std.proofs.lemmas.Bool.Decides.{nat_tests}
-use Rattle.std.proofs.lemmas.Option.{IfSome_then}
-use Rattle.base.proofs.ListsOfEach.{each_always, each_append, each_map, each_option}
-use Rattle.ctrl_msg.specs.declared.message.Body.{Body}
-use Rattle.ctrl_msg.specs.declared.message.Body.TheVariants.{OpenAt, Stamp, Stamped}
-use Rattle.ctrl_msg.specs.declared.message.Message.{Message}
-use Rattle.ctrl_msg.specs.declared.message.Place.{Place}
-use Rattle.ctrl_msg.specs.Kinds.{to_controller}
+use Rattle.std.proofs.Common.{[], ◌++◌, ◌<◌, ◌∙◌, ◌∷◌, ◌≡◌, ◌≤◌, IfSome, List, None, Option, Some, arith, inl, inr, map, option_and_then, refl, subst, sym, ℕ}
+use Rattle.base.proofs.Exports.{AllByRecursion, IfSome_then, each_always, each_append, each_map, each_option, nat_tests, option_or, ⊤}
+use Rattle.update_machine.specs.Exports.{Body, Item, Message, OpenAt, Place, Setting, Stamp, Stamped, acked_stamp, body_to_controller, body_to_switch, controller_heard, current_mark, first_number, known_boot, members, message_of, next_retired, open_sent, retired_mark, stamp_in, stamp_of, stamped_in, to_switch}
+use Rattle.ctrl_msg.specs.Exports.{to_controller}
 use Rattle.ctrl_msg.specs.declared.message.Place.TheVariants as receiver
-use Rattle.journal.specs.declared.item.Item.{Item}
 use Rattle.journal.specs.declared.item.Item.TheVariants as item
-use Rattle.update_machine.specs.Boots.{body_to_switch}
-use Rattle.update_machine.specs.Marks.{acked_stamp, members, next_retired, retired_mark, controller_heard, current_mark, first_number, known_boot, open_sent, body_to_controller, stamped_in}
-use Rattle.update_machine.specs.Setting.{Setting}
-use Rattle.update_machine.specs.Settling.{to_switch}
-use Rattle.update_machine.specs.Versions.{stamp_in, stamp_of}
-use Rattle.update_machine.specs.Links.{message_of}
-use Rattle.update_machine.proofs.CallerLemmas.{start_laws}
-use Rattle.control_laws.specs.ItemCauses.{HasItemCause, IsRightMessage, IsRightOpening}
+use Rattle.update_machine.proofs.Exports.{start_laws}
+use Rattle.control_laws.specs.Exports.{HasItemCause, IsRightMessage, IsRightOpening}
 use Rattle.control_laws.proofs.BootsKnown.{known_rises, new_or_old}
 use Rattle.control_laws.proofs.ItemFacts.{AreKept}
 use Rattle.control_laws.proofs.FactsGrown.{opens_by, current_more, retired_more, opened_in, opened_is, opened_more, raised, stamp_told}

@@ -1,26 +1,10 @@
 -- What a delivery causes, by its receiver: what the items of each receiver have, its items have.
-use Rattle.std.proofs.Common.{ℕ, ◌≡◌, ◌==◌, ◌∙◌, true, ap, Option, Some, None, List, [], ◌∷◌, ◌++◌, refl, arith}
-use Rattle.std.specs.Prelude.{IsTrue}
-use Rattle.std.proofs.lemmas.Bool.{eq-eqb}
-use Rattle.ctrl_msg.specs.declared.message.Body.{Body}
-use Rattle.ctrl_msg.specs.declared.message.Body.TheVariants.{Hello}
-use Rattle.ctrl_msg.specs.declared.message.Message.{Message}
-use Rattle.ctrl_msg.specs.declared.message.Place.{Place}
-use Rattle.ctrl_msg.specs.Kinds.{to_controller}
+use Rattle.std.proofs.Common.{[], ◌++◌, ◌==◌, ◌∙◌, ◌∷◌, ◌≡◌, IsTrue, List, None, Option, Some, ap, arith, eq-eqb, refl, true, ℕ}
+use Rattle.update_machine.specs.Exports.{Body, HaveCauses, Hello, Item, Message, Place, Setting, Step, after_hello, body_to_controller, body_to_switch, controller_items, deliver_items, delivery_items, in_turn, installs_to, is_new_boot, message_of, raises_known, received_items, settling, switch_items}
+use Rattle.ctrl_msg.specs.Exports.{to_controller}
 use Rattle.ctrl_msg.specs.declared.message.Place.TheVariants as receiver
-use Rattle.journal.specs.declared.item.Item.{Item}
 use Rattle.journal.specs.declared.item.Item.TheVariants as item
-use Rattle.steps.specs.declared.step.Step.{Step}
-use Rattle.update_machine.specs.Boots.{body_to_switch}
-use Rattle.update_machine.specs.Causes.{HaveCauses}
-use Rattle.update_machine.specs.Deliveries.{after_hello, controller_items, delivery_items, is_new_boot, received_items, switch_items}
-use Rattle.update_machine.specs.Links.{message_of}
-use Rattle.update_machine.specs.Marks.{raises_known, body_to_controller}
-use Rattle.update_machine.specs.Moves.{in_turn}
-use Rattle.update_machine.specs.Pieces.{deliver_items}
-use Rattle.update_machine.specs.Setting.{Setting}
-use Rattle.update_machine.specs.Settling.{installs_to, settling}
-use Rattle.update_machine.proofs.CallerLemmas.{have_first, have_put}
+use Rattle.update_machine.proofs.Exports.{have_first, have_put}
 use Rattle.control_laws.proofs.FactsGrown.{known_more, message_more}
 
 pub delivery_has : (Have : List Item → Type 0) (setting : Setting) (before : List Item)

@@ -1,21 +1,9 @@
 -- What one more item makes of each fact of switches, messages and the controller.
-use Rattle.std.proofs.Common.{ℕ, ◌≡◌, ◌+◌, Bool, true, false, Option, Some, None, List, [], ◌∷◌, ◌++◌, refl, ap, sym, ◌∙◌, append-nil, append_assoc, zero-add, arith, if◌then◌else◌}
-use Rattle.std.specs.Prelude.{◌||◌, ◌==◌, filter_map, fold, max, nat_lt, option_and_then, option_to_list, unwrap_or}
-use Rattle.std.proofs.lemmas.List.Elements.{filter_map-append}
-use Rattle.std.proofs.lemmas.List.Sums.{fold-append}
-use Rattle.std.specs.Option.{option_map_or, option_or}
-use Rattle.std.proofs.lemmas.Bool.Decides.{nat_tests}
-use Rattle.ctrl_msg.specs.declared.message.Body.{Body}
-use Rattle.ctrl_msg.specs.declared.message.Body.TheVariants.{OpenAt}
-use Rattle.journal.specs.declared.item.Item.{Item}
+use Rattle.std.proofs.Common.{[], if◌then◌else◌, ◌++◌, ◌+◌, ◌==◌, ◌||◌, ◌∙◌, ◌∷◌, ◌≡◌, Bool, List, None, Option, Some, ap, append-nil, append_assoc, arith, false, filter_map, fold, max, nat_lt, option_and_then, option_to_list, refl, sym, true, unwrap_or, zero-add, ℕ}
+use Rattle.base.proofs.Exports.{filter_map-append, fold-append, nat_tests, option_map_or, option_or}
+use Rattle.update_machine.specs.Exports.{Body, Item, OpenAt, all_given, body_to_controller, body_to_switch, boot_of, changes_controller_heard, changes_heard, changes_over, controller_heard, count_of, current_mark, first_number, first_stamp, gives_boot, gives_current, gives_message, gives_retired, gives_serving, gives_up, greatest_number, heard, hello_boot, is_over, is_submission, is_up, known_boot, last_given, message_of, open_sent, opened_at, retired_mark, serves, stamp_in, stamp_of, to_switch, version_count}
 use Rattle.journal.specs.declared.item.Item.TheVariants as item
-use Rattle.update_machine.specs.Boots.{boot_of, changes_heard, heard, is_up, body_to_switch, gives_boot, gives_up}
-use Rattle.update_machine.specs.Folds.{all_given, count_of, last_given}
-use Rattle.update_machine.specs.Marks.{first_number, body_to_controller, changes_over, changes_controller_heard, controller_heard, current_mark, hello_boot, is_over, known_boot, open_sent, opened_at, retired_mark, gives_current, gives_retired}
-use Rattle.update_machine.specs.Settling.{to_switch}
-use Rattle.update_machine.specs.Versions.{first_stamp, greatest_number, stamp_in, stamp_of, is_submission, version_count}
-use Rattle.update_machine.specs.Links.{serves, gives_serving, message_of, gives_message}
-use Rattle.update_machine.proofs.CallerLemmas.{all_given_append, count_of_append, folded_append, last_given_append}
+use Rattle.update_machine.proofs.Exports.{all_given_append, count_of_append, folded_append, last_given_append}
 
 -- the last item tells, or else those before it
 pub last_more : {X : Type 0} (tells : Item → Option X) (before : List Item) (item : Item)

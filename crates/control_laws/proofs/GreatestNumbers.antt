@@ -1,10 +1,7 @@
 -- The greatest and the least of numbers, and the acknowledged stamp as the greatest of some.
-use Rattle.std.proofs.Common.{ℕ, ◌≡◌, ◌≤◌, Option, Some, None, List, [], ◌∷◌, ◌++◌, min, refl, arith}
-use Rattle.std.specs.Prelude.{fold, max, unwrap_or}
-use Rattle.std.specs.List.{AllByRecursion}
-use Rattle.std.proofs.lemmas.List.Sums.{fold-append}
-use Rattle.journal.specs.declared.item.Item.{Item}
-use Rattle.update_machine.specs.Marks.{acked_stamp, hello_boot, known_boot, least_number, open_version, opened_at, stamped_in}
+use Rattle.std.proofs.Common.{[], ◌++◌, ◌∷◌, ◌≡◌, ◌≤◌, List, None, Option, Some, arith, fold, max, min, refl, unwrap_or, ℕ}
+use Rattle.base.proofs.Exports.{AllByRecursion, fold-append}
+use Rattle.update_machine.specs.Exports.{Item, acked_stamp, hello_boot, known_boot, least_number, open_version, opened_at, stamped_in}
 use Rattle.control_laws.proofs.ToldToController.{tells, told_by, told_by_more}
 
 -- the greatest of numbers that a bound holds of is within it

@@ -1,14 +1,8 @@
 -- What holds of all that is said to a switch holds of all that it heard.
-use Rattle.std.proofs.Common.{ℕ, ◌≡◌, ◌==◌, Bool, true, false, if◌then◌else◌, Option, Some, None, List, [], ◌∷◌, ◌++◌, refl, sym, subst}
-use Rattle.std.specs.List.{AllByRecursion}
-use Rattle.std.specs.Option.{option_map_or}
-use Rattle.base.proofs.ListsOfEach.{each_append}
-use Rattle.ctrl_msg.specs.declared.message.Body.{Body}
-use Rattle.journal.specs.declared.item.Item.{Item}
+use Rattle.std.proofs.Common.{[], if◌then◌else◌, ◌++◌, ◌==◌, ◌∷◌, ◌≡◌, Bool, List, None, Option, Some, false, refl, subst, sym, true, ℕ}
+use Rattle.base.proofs.Exports.{AllByRecursion, each_append, option_map_or}
+use Rattle.update_machine.specs.Exports.{Body, Item, body_to_switch, heard, message_of, to_switch}
 use Rattle.journal.specs.declared.item.Item.TheVariants as item
-use Rattle.update_machine.specs.Boots.{heard, body_to_switch}
-use Rattle.update_machine.specs.Settling.{to_switch}
-use Rattle.update_machine.specs.Links.{message_of}
 use Rattle.control_laws.proofs.FactsGrown.{heard_more}
 use Rattle.control_laws.proofs.SwitchBlocks.{said_parts}
 use Rattle.control_laws.proofs.ToldToController.{each_weaker}

@@ -1,19 +1,9 @@
 -- The boot in which a switch heard tables is known.
-use Rattle.std.proofs.Common.{ℕ, ◌≡◌, ◌≤◌, ◌==◌, Bool, true, false, if◌then◌else◌, Option, Some, None, List, [], ◌∷◌, ◌++◌, refl, arith}
-use Rattle.std.specs.Prelude.{◌||◌, IsTrue, unwrap_or}
-use Rattle.std.specs.List.{list_any}
-use Rattle.std.specs.Option.{option_map_or}
-use Rattle.std.proofs.lemmas.Bool.{eqb-true}
-use Rattle.std.proofs.lemmas.List.Folds.{list_any-append}
-use Rattle.ctrl_msg.specs.declared.message.Body.{Body}
-use Rattle.ctrl_msg.specs.declared.message.Body.TheVariants.{Install}
-use Rattle.journal.specs.declared.item.Item.{Item}
+use Rattle.std.proofs.Common.{[], if◌then◌else◌, ◌++◌, ◌==◌, ◌||◌, ◌∷◌, ◌≡◌, ◌≤◌, Bool, IsTrue, List, None, Option, Some, arith, eqb-true, false, refl, true, unwrap_or, ℕ}
+use Rattle.base.proofs.Exports.{list_any, list_any-append, option_map_or}
+use Rattle.update_machine.specs.Exports.{Body, Install, Item, body_to_switch, boot_of, heard, installs_version, known_boot, to_switch}
 use Rattle.journal.specs.declared.item.Item.TheVariants as item
-use Rattle.update_machine.specs.Boots.{boot_of, heard, body_to_switch}
-use Rattle.update_machine.specs.Marks.{known_boot}
-use Rattle.update_machine.specs.Settling.{to_switch}
-use Rattle.update_machine.specs.Versions.{installs_version}
-use Rattle.control_laws.specs.BootLaws.{BootsAreKnown}
+use Rattle.control_laws.specs.Exports.{BootsAreKnown}
 use Rattle.control_laws.proofs.BootsKnown.{known_rises}
 use Rattle.control_laws.proofs.FactsGrown.{boot_more, heard_more}
 use Rattle.control_laws.proofs.SwitchBlocks.{said_parts}

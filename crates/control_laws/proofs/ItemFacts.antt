@@ -1,15 +1,10 @@
 -- Causes of items and facts of journals: what each item keeps, a journal has.
-use Rattle.std.proofs.Common.{ℕ, ◌≤◌, List, [], ◌∷◌, ◌++◌, append-nil, append_assoc, sym, subst, ◌≡◌, ◌==◌, true, refl}
-use Rattle.std.proofs.lemmas.Bool.{eq-eqb}
-use Rattle.journal.specs.declared.item.Item.{Item}
+use Rattle.std.proofs.Common.{[], ◌++◌, ◌==◌, ◌∷◌, ◌≡◌, ◌≤◌, List, append-nil, append_assoc, eq-eqb, refl, subst, sym, true, ℕ}
+use Rattle.update_machine.specs.Exports.{HaveCauses, Item, Setting, Step, piece, step_items}
 use Rattle.journal.specs.declared.item.Item.TheVariants as item
-use Rattle.steps.specs.declared.step.Step.{Step}
-use Rattle.update_machine.specs.Causes.{HaveCauses}
-use Rattle.update_machine.specs.Pieces.{piece, step_items}
-use Rattle.update_machine.specs.Setting.{Setting}
-use Rattle.update_machine.proofs.CallerLemmas.{have_first}
+use Rattle.update_machine.proofs.Exports.{have_first}
 pub use Rattle.update_machine.proofs.CallerLemmas.{steps_have}
-use Rattle.control_laws.specs.ItemCauses.{HasItemCause}
+use Rattle.control_laws.specs.Exports.{HasItemCause}
 
 pub own : (i : ℕ) → (i == i) ≡ true
 own i = eq-eqb i i refl

@@ -70,3 +70,4 @@ pub mod PieceKinds
 pub mod AdvertNumbers
 pub mod NumbersFit
 mod SendRows
+pub mod Exports

@@ -1,17 +1,9 @@
 -- What stands in a journal just before an item that changes links, or by which an advert is sent.
-use Rattle.std.specs.Prelude.{⊤, ℕ, ◌≡◌, ◌<◌, ◌⊎◌, Some, List, [], ◌∷◌, ◌++◌, IsTrue}
-use Rattle.ctrl_msg.specs.declared.message.Body.{Body}
-use Rattle.ctrl_msg.specs.declared.message.Body.TheVariants.{Advertise}
-use Rattle.base.specs.Masks.{has}
-use Rattle.failover.specs.declared.advert.Advert.{Advert}
-use Rattle.journal.specs.declared.item.Item.{Item}
+use Rattle.base.proofs.Exports.{⊤}
+use Rattle.std.proofs.Common.{[], ◌++◌, ◌<◌, ◌∷◌, ◌≡◌, ◌⊎◌, IsTrue, List, Some, ℕ}
+use Rattle.update_machine.specs.Exports.{Advert, Advertise, Body, HaveCauses, Item, NoneConcern, Setting, StepItems, advert_known, adverts_heard, concerns_links, near, own_advert, steps_in}
+use Rattle.base.specs.Exports.{has}
 use Rattle.journal.specs.declared.item.Item.TheVariants as item
-use Rattle.update_machine.specs.Adverts.{advert_known, own_advert}
-use Rattle.update_machine.specs.Causes.{HaveCauses}
-use Rattle.update_machine.specs.Concerns.{NoneConcern, concerns_links}
-use Rattle.update_machine.specs.LinkMasks.{near, adverts_heard}
-use Rattle.update_machine.specs.Setting.{Setting}
-use Rattle.update_machine.specs.Steps.{StepItems, steps_in}
 
 -- ---- adverts
 

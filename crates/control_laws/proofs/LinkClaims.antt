@@ -1,48 +1,22 @@
 -- What a switch holds of another one is what it heard claimed of it: the newest advert of the other
 -- one, and its newest claim, change together item by item.
-use Rattle.std.proofs.Common.{ℕ, ◌≡◌, ◌≢◌, ◌<◌, ◌≤◌, ◌==◌, Bool, true, false, ◌&&◌, ◌||◌, Option, Some, None, List, [], ◌∷◌, ◌++◌, map, length, if◌then◌else◌, refl, ap, sym, subst, ◌∙◌, arith, inl, inr}
-use Rattle.std.specs.Prelude.{⊤, IsTrue, filter_map, nat_lt, option_and_then, slice_index}
-use Rattle.std.specs.Option.{option_map_or}
-use Rattle.std.specs.Int.{bit_at}
-use Rattle.std.proofs.lemmas.Bool.{and_right, cases_eq, eq-eqb, lt-ltb, ne_eqb}
-use Rattle.std.proofs.lemmas.Bool.Decides.{nat_tests}
-use Rattle.std.proofs.lemmas.List.Elements.{filter_map-append}
-use Rattle.std.proofs.lemmas.List.FromFn.{get_or-map-range_with_len}
-use Rattle.std.proofs.lemmas.List.Sums.{fold-append}
-use Rattle.ctrl_msg.specs.declared.message.Body.{Body}
-use Rattle.ctrl_msg.specs.declared.message.Body.TheVariants.{Advertise}
-use Rattle.ctrl_msg.specs.declared.message.Message.{Message}
-use Rattle.ctrl_msg.specs.declared.message.Place.{Place}
+use Rattle.std.proofs.Common.{[], if◌then◌else◌, ◌&&◌, ◌++◌, ◌<◌, ◌==◌, ◌||◌, ◌∙◌, ◌∷◌, ◌≡◌, ◌≢◌, ◌≤◌, Bool, IsTrue, List, None, Option, Some, ap, arith, eq-eqb, false, filter_map, inl, inr, length, lt-ltb, map, nat_lt, ne_eqb, option_and_then, refl, slice_index, subst, sym, true, ℕ}
+use Rattle.base.proofs.Exports.{and_right, bit_at, cases_eq, filter_map-append, fold-append, get_or-map-range_with_len, has_mask, nat_tests, option_map_or, ⊤}
+use Rattle.update_machine.specs.Exports.{Advert, Advertise, Body, Claim, HaveCauses, Item, Message, Net, Place, Setting, adverts_begun, adverts_of_others, boot_of, can_use, changes_claim, changes_heard, claim_by, claim_in, claim_of, first_claim, heard, is_end, is_for_boot, is_in_first_boot, is_to_switch, is_up, message_of, near, newer_of, other_advert, serves, switches_of}
 use Rattle.ctrl_msg.specs.declared.message.Place.TheVariants as receiver
-use Rattle.failover.specs.Adverts.{after_hearing, after_hearing_all, first_advert, first_adverts, held_advert, is_newer, is_news, no_adverts}
-use Rattle.failover.specs.Links.{neighbours_named}
-use Rattle.failover.specs.declared.advert.Advert.{Advert}
-use Rattle.failover.specs.Newest.{AreByOrigin}
-use Rattle.failover.specs.Isolated.{names_neighbour}
+use Rattle.failover.specs.Exports.{AreByOrigin, after_hearing, after_hearing_all, first_advert, first_adverts, held_advert, is_newer, is_news, names_neighbour, neighbours_named, no_adverts}
 use Rattle.failover.proofs.HeldAdverts.{after_no_news, held-first, held_heard, held_others}
-use Rattle.base.specs.Masks.{has}
-use Rattle.base.proofs.CallerLemmas.{has_mask}
-use Rattle.net_file.specs.Net.{IsNet}
-use Rattle.net_file.specs.declared.net.Net.{Net}
-use Rattle.net_file.specs.Joins.{are_linked}
-use Rattle.net_file.specs.Owners.{links_of}
+use Rattle.base.specs.Exports.{has}
+use Rattle.net_file.specs.Exports.{IsNet, are_linked, links_of}
 use Rattle.net_file.proofs.RowPlaces.{links}
-use Rattle.steps.specs.Steps.{HasLink, HasSwitch}
-use Rattle.journal.specs.declared.item.Item.{Item}
+use Rattle.steps.specs.Exports.{HasLink, HasSwitch}
 use Rattle.journal.specs.declared.item.Item.TheVariants as item
-use Rattle.update_machine.specs.Boots.{boot_of, changes_heard, heard, is_for_boot, is_in_first_boot, is_to_switch, is_up}
-use Rattle.update_machine.specs.Causes.{HaveCauses}
-use Rattle.update_machine.specs.LinkMasks.{adverts_begun, adverts_of_others, near, other_advert}
-use Rattle.update_machine.specs.Links.{Claim, can_use, changes_claim, claim_by, claim_in, claim_of, first_claim, is_end, message_of, newer_of, serves}
-use Rattle.update_machine.specs.Setting.{Setting}
-use Rattle.update_machine.specs.SwitchNumbers.{switches_of}
-use Rattle.update_machine.proofs.CallerLemmas.{folded_append, heard_by_origin, near_usable, start_laws, usable_linked}
-use Rattle.control_laws.specs.ItemCauses.{HasItemCause}
+use Rattle.update_machine.proofs.Exports.{folded_append, heard_by_origin, near_usable, start_laws, usable_linked}
+use Rattle.control_laws.specs.Exports.{HasItemCause, NamesLinks}
 use Rattle.control_laws.proofs.BootsKnown.{boot_rises}
 use Rattle.control_laws.proofs.ItemFacts.{AreKept, fact_on, have_weaker}
 use Rattle.control_laws.proofs.FactsGrown.{boot_more, heard_more, up_more}
 use Rattle.control_laws.proofs.SwitchOpenings.{caused_known}
-use Rattle.control_laws.specs.Adverts.{NamesLinks}
 use Rattle.control_laws.proofs.AllAdverts.{AreSuch, IfAdvert, none_held, such_at_first, such_kept}
 use Rattle.control_laws.proofs.BothCauses.{HasBothCauses}
 use Rattle.control_laws.proofs.NetLinks.{names_fact}

@@ -1,23 +1,9 @@
 -- What items do to links, and pieces in which links of one switch change.
-use Rattle.std.proofs.Common.{ℕ, ◌≡◌, ◌≢◌, ◌+◌, ◌==◌, Bool, true, false, ◌&&◌, min, max, if◌then◌else◌, Some, None, List, [], ◌∷◌, ◌++◌, refl, ap, sym, ◌∙◌, arith, inl, inr, append_assoc}
-use Rattle.std.specs.Prelude.{IsFalse, unwrap_or}
-use Rattle.std.specs.Option.{option_or}
-use Rattle.std.proofs.lemmas.Bool.{ne_eqb}
-use Rattle.std.proofs.lemmas.Bool.Decides.{nat_tests}
-use Rattle.base.proofs.OptionsByTest.{none_where_other}
-use Rattle.net_file.specs.declared.net.LinkRow.{LinkRow}
-use Rattle.journal.specs.declared.item.Item.{Item}
+use Rattle.std.proofs.Common.{[], if◌then◌else◌, ◌&&◌, ◌++◌, ◌+◌, ◌==◌, ◌∙◌, ◌∷◌, ◌≡◌, ◌≢◌, Bool, IsFalse, List, None, Some, ap, append_assoc, arith, false, inl, inr, max, min, ne_eqb, refl, sym, true, unwrap_or, ℕ}
+use Rattle.base.proofs.Exports.{nat_tests, none_where_other, option_or}
+use Rattle.update_machine.specs.Exports.{Item, LinkRow, LinksKeep, NoneConcern, Setting, boot_of, concerns_links, gives_link, gives_serving, is_link_up, is_up, is_usable, last_given, link_changes, near, own_advert, serves}
 use Rattle.journal.specs.declared.item.Item.TheVariants as item
-use Rattle.update_machine.specs.Adverts.{own_advert}
-use Rattle.update_machine.specs.Boots.{boot_of, is_up}
-use Rattle.update_machine.specs.Concerns.{NoneConcern, concerns_links}
-use Rattle.update_machine.specs.Deliveries.{link_changes}
-use Rattle.update_machine.specs.Folds.{last_given}
-use Rattle.update_machine.specs.Laws.{LinksKeep}
-use Rattle.update_machine.specs.Links.{is_link_up, is_usable, gives_link, serves, gives_serving}
-use Rattle.update_machine.specs.Setting.{Setting}
-use Rattle.update_machine.specs.LinkMasks.{near}
-use Rattle.update_machine.proofs.CallerLemmas.{last_given_append, links_keep, stays}
+use Rattle.update_machine.proofs.Exports.{last_given_append, links_keep, stays}
 use Rattle.control_laws.proofs.FactsGrown.{boot_more, serving_more, up_more}
 use Rattle.control_laws.proofs.LinkCauses.{ChangedNoLinks, HasLinkCause}
 use Rattle.control_laws.proofs.OwnAdverts.{AdvertGoesOn, advert_on, same_boot, same_near, same_seq}

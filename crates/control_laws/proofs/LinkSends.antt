@@ -1,31 +1,11 @@
 -- How many adverts are sent where the links of one switch change.
-use Rattle.std.proofs.Common.{ℕ, ◌≡◌, ◌≢◌, ◌+◌, ◌*◌, ◌≤◌, ◌==◌, Bool, true, false, not, ◌&&◌, ◌||◌, cond, ◌⊎◌, List, [], ◌∷◌, length, map, refl, ap, sym, ◌∙◌, arith, inl, inr, sum_by}
-use Rattle.std.specs.Prelude.{IsTrue, filter}
-use Rattle.std.specs.List.{flat_map, list_any, range_with_len}
-use Rattle.std.proofs.Math.Nat.{mul-le-mul_right}
-use Rattle.std.proofs.lemmas.Bool.{and_parts, cases_eq, cases_lt, eq-eqb, eqb-true}
-use Rattle.std.proofs.lemmas.List.{length-map}
-use Rattle.std.proofs.lemmas.List.Concat.{length-flat_map}
-use Rattle.std.proofs.lemmas.List.FromFn.{length-range_with_len}
-use Rattle.std.proofs.lemmas.List.Sums.{sum_by-le-sum_by}
-use Rattle.ctrl_msg.specs.declared.message.Message.{Message}
-use Rattle.failover.specs.Adverts.{held_advert}
-use Rattle.base.specs.Masks.{has, switches}
-use Rattle.base.proofs.CallerLemmas.{mask_of_lt}
-use Rattle.base.proofs.ListLemmas.{length-filter_map}
-use Rattle.base.proofs.ListsFiltered.{length_filter_less, sum_each, sum_filter, sum_some}
-use Rattle.net_file.specs.Net.{IsNet}
-use Rattle.net_file.specs.declared.net.LinkRow.{LinkRow}
-use Rattle.net_file.specs.Joins.{are_linked, joins}
-use Rattle.net_file.specs.Owners.{links_of}
+use Rattle.std.proofs.Common.{[], ◌&&◌, ◌*◌, ◌+◌, ◌==◌, ◌||◌, ◌∙◌, ◌∷◌, ◌≡◌, ◌≢◌, ◌≤◌, ◌⊎◌, Bool, IsTrue, List, ap, arith, cond, eq-eqb, eqb-true, false, filter, flat_map, inl, inr, length, map, mul-le-mul_right, not, refl, sum_by, sym, true, ℕ}
+use Rattle.base.proofs.Exports.{and_parts, cases_eq, cases_lt, length-filter_map, length-flat_map, length-map, length-range_with_len, length_filter_less, list_any, mask_of_lt, range_with_len, sum_by-le-sum_by, sum_each, sum_filter, sum_some}
+use Rattle.update_machine.specs.Exports.{Item, LinkRow, Message, Setting, advert_to, adverts_known, has_changed, held_adverts, is_usable, messages_of, messages_over, near, own_advert, switches_of, usable_links}
+use Rattle.failover.specs.Exports.{held_advert}
+use Rattle.base.specs.Exports.{has, switches}
+use Rattle.net_file.specs.Exports.{IsNet, are_linked, joins, links_of}
 use Rattle.net_file.proofs.MaskBits.{in_mask_of, in_mask_past}
-use Rattle.journal.specs.declared.item.Item.{Item}
-use Rattle.update_machine.specs.Adverts.{adverts_known, held_adverts, own_advert}
-use Rattle.update_machine.specs.Deliveries.{advert_to, has_changed, messages_of, messages_over}
-use Rattle.update_machine.specs.Links.{is_usable}
-use Rattle.update_machine.specs.Setting.{Setting}
-use Rattle.update_machine.specs.SwitchNumbers.{switches_of}
-use Rattle.update_machine.specs.LinkMasks.{near, usable_links}
 use Rattle.control_laws.proofs.NetLinks.{linked_by_mask}
 use Rattle.control_laws.proofs.PairSums.{met_once, once, pairs_few, sum_plus, sum_times}
 

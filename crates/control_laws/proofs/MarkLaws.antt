@@ -1,20 +1,11 @@
 -- All that items with their causes keep of versions and marks, together.
-use Rattle.std.proofs.Common.{ℕ, ◌≡◌, List, [], ◌∷◌, ◌++◌, ap, arith, inl, inr}
-use Rattle.std.specs.Prelude.{is_some, unwrap_or}
-use Rattle.ctrl_msg.specs.declared.message.Body.{Body}
-use Rattle.ctrl_msg.specs.declared.message.Body.TheVariants.{OpenAt, Stamp}
-use Rattle.ctrl_msg.specs.declared.message.Place.{Place}
+use Rattle.std.proofs.Common.{[], ◌++◌, ◌∷◌, ◌≡◌, List, ap, arith, inl, inr, is_some, unwrap_or, ℕ}
+use Rattle.update_machine.specs.Exports.{Body, HaveCauses, Item, OpenAt, Place, Setting, Stamp, open_version}
 use Rattle.ctrl_msg.specs.declared.message.Place.TheVariants as receiver
-use Rattle.journal.specs.declared.item.Item.{Item}
 use Rattle.journal.specs.declared.item.Item.TheVariants as item
-use Rattle.update_machine.specs.Causes.{HaveCauses}
-use Rattle.update_machine.specs.Marks.{open_version}
-use Rattle.update_machine.specs.Setting.{Setting}
-use Rattle.control_laws.specs.ItemCauses.{HasItemCause, IsRightMessage, IsRightOpening, IsRightStamp}
+use Rattle.control_laws.specs.Exports.{HasItemCause, IsAckedFirst, IsLetStamp, IsRightMessage, IsRightOpening, IsRightStamp, LetsStamp, MarksAreBounded, MembersAcknowledged}
 use Rattle.control_laws.proofs.ItemFacts.{AreKept, Behind, FromCauses, from_causes, with_fact}
 use Rattle.control_laws.proofs.SwitchOpenings.{member_of}
-use Rattle.control_laws.specs.Acknowledged.{IsAckedFirst, IsLetStamp, LetsStamp, MembersAcknowledged}
-use Rattle.control_laws.specs.Bounds.{MarksAreBounded}
 use Rattle.control_laws.proofs.AcknowledgedSinceOpening.{IsAcked, acked_at_first, acked_fact}
 use Rattle.control_laws.proofs.CurrentVersions.{StampsAreCurrent, acked_current, current_at_first, current_kept, right_current}
 use Rattle.control_laws.proofs.GreatestNumbers.{acked_stamp_opened}
@@ -22,7 +13,7 @@ use Rattle.control_laws.proofs.MemberFacts.{member_on}
 use Rattle.control_laws.proofs.RetiredVersions.{CollectsRetired, IsAbove, above_at_first, above_fact, collects_at_first, collects_on}
 use Rattle.control_laws.proofs.StampingSwitches.{StampsOpened, opened_stamps_at_first, opened_stamps_on, serving_stamps}
 use Rattle.control_laws.proofs.AcksHeld.{IsTold, told_at_first, told_kept}
-use Rattle.ternary.specs.Word.{WordValue}
+use Rattle.ternary.specs.Exports.{WordValue}
 
 pub record AreMarked (setting : Setting) (journal : List Item) : Type 0 where
   pub told : IsTold journal

@@ -1,19 +1,13 @@
 -- Where the current mark rises; the retired one is never above what the members' acknowledged
 -- stamps allow.
-use Rattle.std.proofs.Common.{ℕ, ◌+◌, ◌≤◌, List, [], ◌∷◌, map, min, arith}
-use Rattle.std.specs.Prelude.{fold, unwrap_or}
-use Rattle.std.specs.List.{AllByRecursion}
-use Rattle.base.proofs.ListsOfEach.{each_map}
-use Rattle.journal.specs.declared.item.Item.{Item}
+use Rattle.std.proofs.Common.{[], ◌+◌, ◌∷◌, ◌≤◌, List, arith, fold, map, min, unwrap_or, ℕ}
+use Rattle.base.proofs.Exports.{AllByRecursion, each_map}
+use Rattle.update_machine.specs.Exports.{HaveCauses, Item, Setting, acked_stamp, current_mark, is_member, least_number, members, next_retired, retired_mark}
 use Rattle.journal.specs.declared.item.Item.TheVariants as item
-use Rattle.update_machine.specs.Causes.{HaveCauses}
-use Rattle.update_machine.specs.Marks.{acked_stamp, current_mark, is_member, least_number, members, next_retired, retired_mark}
-use Rattle.update_machine.specs.Setting.{Setting}
-use Rattle.control_laws.specs.ItemCauses.{HasItemCause}
+use Rattle.control_laws.specs.Exports.{HasItemCause, RisesRightly}
 use Rattle.control_laws.proofs.ItemFacts.{FromCauses, have_weaker}
 use Rattle.control_laws.proofs.MessageSends.{each_of_network}
 use Rattle.control_laws.proofs.MarkLaws.{bounded}
-use Rattle.control_laws.specs.Rises.{RisesRightly}
 
 fold_above : (bound first : ℕ) (xs : List ℕ) → bound ≤ first
     → AllByRecursion (λ x. bound ≤ x) xs → bound ≤ fold min first xs

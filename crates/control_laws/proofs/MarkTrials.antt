@@ -1,18 +1,11 @@
 -- Steps for the controller, and rises of the current mark, computed on two switches.
-use Rattle.std.proofs.Common.{ℕ, ◌≡◌, ◌<◌, ◌≤◌, true, false, List, [], ◌∷◌, ◌++◌, refl, subst, arith}
-use Rattle.std.specs.Prelude.{IsTrue}
-use Rattle.ctrl_msg.specs.declared.message.Body.TheVariants.{Install, Installed}
-use Rattle.ctrl_msg.specs.Kinds.{to_controller}
-use Rattle.journal.specs.declared.item.Item.{Item}
+use Rattle.std.proofs.Common.{[], ◌++◌, ◌<◌, ◌∷◌, ◌≡◌, ◌≤◌, IsTrue, List, arith, false, refl, subst, true, ℕ}
+use Rattle.update_machine.specs.Exports.{Install, Installed, Item, all_acked, controller_heard, current_mark, has_acked, is_member, is_over, known_boot, message_of, opened_at, to_switch, version_count}
+use Rattle.ctrl_msg.specs.Exports.{to_controller}
 use Rattle.journal.specs.declared.item.Item.TheVariants as item
 use Rattle.steps.specs.declared.step.Step.TheVariants as step
-use Rattle.update_machine.specs.Marks.{all_acked, current_mark, controller_heard, has_acked, is_member, is_over, known_boot, opened_at}
-use Rattle.update_machine.specs.Links.{message_of}
-use Rattle.update_machine.specs.Settling.{to_switch}
-use Rattle.update_machine.specs.Versions.{version_count}
-use Rattle.update_machine.proofs.ExampleNetworks.{open_net}
-use Rattle.control_laws.specs.Rises.{RisesRightly}
-use Rattle.control_laws.specs.Steps.{asks_controller}
+use Rattle.update_machine.proofs.Exports.{open_net}
+use Rattle.control_laws.specs.Exports.{RisesRightly, asks_controller}
 use Rattle.control_laws.proofs.VersionTrials.{second}
 
 abbrev answered : List Item

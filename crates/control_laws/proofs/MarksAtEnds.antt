@@ -1,32 +1,12 @@
 -- At the end of each step the marks are settled.
-use Rattle.std.proofs.Common.{ℕ, ◌≡◌, ◌+◌, Bool, true, false, Option, Some, None, List, [], ◌∷◌, ◌++◌, refl, sym, subst, ◌∙◌, arith, inl}
-use Rattle.std.specs.Prelude.{IsTrue}
-use Rattle.std.proofs.lemmas.List.Elements.{All-from_recursion}
-use Rattle.base.proofs.ListsOfEach.{each_always}
-use Rattle.ctrl_msg.specs.declared.message.Body.{Body}
-use Rattle.ctrl_msg.specs.declared.message.Body.TheVariants.{Hello}
-use Rattle.ctrl_msg.specs.declared.message.Message.{Message}
-use Rattle.ctrl_msg.specs.declared.message.Place.{Place}
-use Rattle.ctrl_msg.specs.Kinds.{to_controller}
+use Rattle.std.proofs.Common.{[], ◌++◌, ◌+◌, ◌∙◌, ◌∷◌, ◌≡◌, Bool, IsTrue, List, None, Option, Some, arith, false, inl, refl, subst, sym, true, ℕ}
+use Rattle.base.proofs.Exports.{All-from_recursion, each_always}
+use Rattle.update_machine.specs.Exports.{AreSettled, Body, Confirm, Deliver, HaveCauses, Hello, Item, Message, Place, Setting, Step, StepOfRow, Update, after_hello, after_steps, confirm_items, controller_items, deliver_items, delivery_items, installs_to, installs_to_all, is_member, is_message_to_controller, is_over, message_of, nothing, piece, received_items, settling, step_items, switches_of, update_items, version_count, versions_from_current}
+use Rattle.ctrl_msg.specs.Exports.{to_controller}
 use Rattle.ctrl_msg.specs.declared.message.Place.TheVariants as receiver
-use Rattle.journal.specs.declared.item.Item.{Item}
 use Rattle.journal.specs.declared.item.Item.TheVariants as item
-use Rattle.steps.specs.declared.step.Step.{Step}
-use Rattle.steps.specs.declared.step.Step.TheVariants.{Deliver, Update, Confirm}
-use Rattle.update_machine.specs.Answers.{StepOfRow, after_steps}
-use Rattle.update_machine.specs.Causes.{HaveCauses}
-use Rattle.update_machine.specs.Concerns.{is_message_to_controller}
-use Rattle.update_machine.specs.Deliveries.{after_hello, controller_items, delivery_items, received_items}
-use Rattle.update_machine.specs.Marks.{AreSettled, is_member, is_over}
-use Rattle.update_machine.specs.Pieces.{confirm_items, deliver_items, nothing, piece, step_items, update_items}
-use Rattle.update_machine.specs.Setting.{Setting}
-use Rattle.update_machine.specs.SwitchNumbers.{switches_of}
-use Rattle.update_machine.specs.Settling.{installs_to, installs_to_all, settling, versions_from_current}
-use Rattle.update_machine.specs.Versions.{version_count}
-use Rattle.update_machine.specs.Links.{message_of}
-use Rattle.update_machine.proofs.CallerLemmas.{have_append, start_laws}
-use Rattle.control_laws.specs.ItemCauses.{HasItemCause}
-use Rattle.control_laws.specs.Always.{HoldsAtEnds}
+use Rattle.update_machine.proofs.Exports.{have_append, start_laws}
+use Rattle.control_laws.specs.Exports.{HasItemCause, HoldsAtEnds, asks_controller}
 use Rattle.control_laws.proofs.BehindItems.{at_ends}
 use Rattle.control_laws.proofs.ItemFacts.{have_front}
 use Rattle.control_laws.proofs.PieceCauses.{pieces_have}
@@ -34,7 +14,6 @@ use Rattle.control_laws.proofs.ReachedCauses.{behind_piece}
 use Rattle.control_laws.proofs.StepCases.{confirm_cases, deliver_cases, update_cases}
 use Rattle.control_laws.proofs.CurrentVersions.{current_at_first, next_below}
 use Rattle.control_laws.proofs.MarkLaws.{bounded}
-use Rattle.control_laws.specs.Steps.{asks_controller}
 use Rattle.control_laws.proofs.MarkRises.{behind}
 use Rattle.control_laws.proofs.ControllerLeft.{leaves_keep}
 use Rattle.control_laws.proofs.OtherSteps.{Leave, installs_reopen, others_keep, sends_leave}

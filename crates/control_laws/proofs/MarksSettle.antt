@@ -1,22 +1,8 @@
 -- Behind their settling the marks are settled, whatever was heard before it.
-use Rattle.std.proofs.Common.{ℕ, ◌≡◌, ◌+◌, ◌-◌, ◌≤◌, ◌<◌, ◌⊎◌, ◌&&◌, Bool, true, false, not, if◌then◌else◌, zero, suc, Option, Some, None, List, [], ◌∷◌, ◌++◌, length, map, refl, ap, sym, subst, ◌∙◌, append-nil, append_assoc, arith, inl, inr}
-use Rattle.std.specs.Prelude.{All, IsTrue, IsFalse, cond, filter, is_some, nat_lt, take_while, unwrap_or}
-use Rattle.std.specs.List.{AllByRecursion, list_all, range_with_len}
-use Rattle.std.specs.Option.{option_or}
-use Rattle.std.proofs.lemmas.Bool.Decides.{nat_tests}
-use Rattle.std.proofs.lemmas.List.Elements.{All-from_recursion, All-weaker}
-use Rattle.std.proofs.lemmas.List.Sums.{take_while-cons}
-use Rattle.ctrl_msg.specs.declared.message.Message.{Message}
-use Rattle.journal.specs.declared.item.Item.{Item}
+use Rattle.std.proofs.Common.{[], if◌then◌else◌, ◌&&◌, ◌++◌, ◌+◌, ◌-◌, ◌<◌, ◌∙◌, ◌∷◌, ◌≡◌, ◌≤◌, ◌⊎◌, All, Bool, IsFalse, IsTrue, List, None, Option, Some, ap, append-nil, append_assoc, arith, cond, false, filter, inl, inr, is_some, length, map, nat_lt, not, refl, subst, suc, sym, take_while, true, unwrap_or, zero, ℕ}
+use Rattle.base.proofs.Exports.{All-from_recursion, All-weaker, AllByRecursion, list_all, nat_tests, option_or, range_with_len, take_while-cons}
+use Rattle.update_machine.specs.Exports.{AreSettled, ControllerKeeps, Item, Message, Setting, acked_stamp, all_acked, collect_for, current_items, current_mark, first_number, has_acked, in_turn, is_joining, is_member, is_over, known_boot, least_number, members, next_current, next_message, next_retired, open_for, open_items, open_sent, opened_at, opening_switches, retired_items, retired_mark, send_items, sent_from, settling, stamp_for, switches_of, version_count}
 use Rattle.journal.specs.declared.item.Item.TheVariants as item
-use Rattle.update_machine.specs.Laws.{ControllerKeeps}
-use Rattle.update_machine.specs.Marks.{AreSettled, acked_stamp, all_acked, current_mark, first_number, has_acked, is_joining, is_member, is_over, known_boot, least_number, members, next_current, next_retired, open_sent, opened_at, retired_mark}
-use Rattle.update_machine.specs.Messages.{next_message, send_items, sent_from}
-use Rattle.update_machine.specs.Moves.{in_turn}
-use Rattle.update_machine.specs.Setting.{Setting}
-use Rattle.update_machine.specs.SwitchNumbers.{switches_of}
-use Rattle.update_machine.specs.Settling.{collect_for, current_items, open_for, open_items, opening_switches, retired_items, settling, stamp_for}
-use Rattle.update_machine.specs.Versions.{version_count}
 use Rattle.control_laws.proofs.ControllerCommands.{Grows, IsCommand, IsOfSettling, each_command, grows, parts_settle}
 use Rattle.control_laws.proofs.FactsGrown.{current_more, known_more, opened_at_more, over_more, retired_more, told_more}
 use Rattle.control_laws.proofs.MessageSends.{each_range, sent_kept}

@@ -1,15 +1,10 @@
 -- A fact of members: it is kept where nothing changes for the member, and holds of those that
 -- become members.
-use Rattle.std.proofs.Common.{ℕ, ◌≡◌, ◌<◌, ◌==◌, Bool, true, false, if◌then◌else◌, Option, Some, None, List, [], ◌∷◌, ◌++◌, refl, ap, sym, subst, ◌∙◌, arith, inl, inr}
-use Rattle.std.specs.Prelude.{IsTrue, is_some, nat_lt, option_and_then, unwrap_or}
-use Rattle.std.specs.Option.{option_map_or, option_or}
-use Rattle.std.proofs.lemmas.Bool.Decides.{nat_tests}
-use Rattle.ctrl_msg.specs.declared.message.Message.{Message}
-use Rattle.journal.specs.declared.item.Item.{Item}
+use Rattle.std.proofs.Common.{[], if◌then◌else◌, ◌++◌, ◌<◌, ◌==◌, ◌∙◌, ◌∷◌, ◌≡◌, Bool, IsTrue, List, None, Option, Some, ap, arith, false, inl, inr, is_some, nat_lt, option_and_then, refl, subst, sym, true, unwrap_or, ℕ}
+use Rattle.base.proofs.Exports.{nat_tests, option_map_or, option_or}
+use Rattle.update_machine.specs.Exports.{Item, MayRise, Message, Setting, body_to_controller, current_mark, first_number, hello_boot, is_member, is_over, known_boot, open_sent, open_version, opened_at, raises_known, retired_mark}
 use Rattle.journal.specs.declared.item.Item.TheVariants as item
-use Rattle.update_machine.specs.Marks.{MayRise, current_mark, first_number, hello_boot, is_member, is_over, known_boot, open_sent, open_version, opened_at, raises_known, retired_mark, body_to_controller}
-use Rattle.update_machine.specs.Setting.{Setting}
-use Rattle.control_laws.specs.ItemCauses.{HasItemCause, IsFirstOpening, IsRightOpening, RetiresRightly}
+use Rattle.control_laws.specs.Exports.{HasItemCause, IsFirstOpening, IsRightOpening, RetiresRightly}
 use Rattle.control_laws.proofs.FactsGrown.{opened_at_more, opens_by, current_more, known_more, opened_in, opened_is, opened_more, over_more, raised, retired_more}
 use Rattle.control_laws.proofs.SwitchOpenings.{member_of, member_parts}
 use Rattle.control_laws.proofs.CurrentVersions.{StampsAreCurrent}

@@ -1,42 +1,12 @@
 -- How many messages each block of a piece sends.
-use Rattle.std.proofs.Common.{ℕ, ◌≡◌, ◌+◌, ◌-◌, ◌≤◌, ◌==◌, Bool, true, false, cond, if◌then◌else◌, Option, Some, None, List, [], ◌∷◌, ◌++◌, length, map, refl, arith}
-use Rattle.std.specs.Prelude.{IsFalse, filter, nat_lt, not}
-use Rattle.std.specs.List.{flat_map, range_with_len}
-use Rattle.std.proofs.lemmas.List.{length-append, length-map}
-use Rattle.std.proofs.lemmas.List.Concat.{length-flat_map}
-use Rattle.std.proofs.lemmas.List.FromFn.{length-range_with_len}
-use Rattle.std.proofs.lemmas.List.Sums.{sum_by-cons}
-use Rattle.ctrl_msg.specs.declared.message.Body.{Body}
-use Rattle.ctrl_msg.specs.declared.message.Body.TheVariants.{Hello}
-use Rattle.ctrl_msg.specs.declared.message.Message.{Message}
-use Rattle.base.specs.Masks.{has}
-use Rattle.base.proofs.ListsFiltered.{length_filter_less, sum_each}
-use Rattle.failover.specs.declared.advert.Advert.{Advert}
-use Rattle.five_tuple.specs.declared.header.Header.{Header}
-use Rattle.net_file.specs.Net.{IsNet}
-use Rattle.policy_rules.specs.declared.packet.Leg.{Leg}
-use Rattle.policy_rules.specs.declared.policy.Action.{Action}
+use Rattle.std.proofs.Common.{[], if◌then◌else◌, ◌++◌, ◌+◌, ◌-◌, ◌==◌, ◌∷◌, ◌≡◌, ◌≤◌, Bool, IsFalse, List, None, Option, Some, arith, cond, false, filter, flat_map, length, length-append, map, nat_lt, not, refl, true, ℕ}
+use Rattle.base.proofs.Exports.{length-flat_map, length-map, length-range_with_len, length_filter_less, range_with_len, sum_by-cons, sum_each}
+use Rattle.update_machine.specs.Exports.{Action, Advert, AuthorityRule, Body, Found, Header, Hello, Item, Leg, Message, NoneConcern, Setting, Step, acked_stamp, advert_to, after_hello, arrive_items, authority_items, cache_items, collect_for, concerns_policies, confirm_items, controller_items, count_of, current_items, current_mark, end_items, expire_items, forget_items, found_items, has_acked, header_at, held_adverts, hello_of, hop_items, in_turn, install_for, installs_to, installs_to_all, is_member, is_new_boot, is_over, is_sending, is_up, items_then, leg_items, lookup_at, lookup_items, lose_items, members, move_items, near, next_message, nothing, open_items, packet_items, passed_on, reroute_items, resend_items, resent_by_controller, resent_by_switch, resent_to_member, retired_items, retired_mark, send_items, sends_or_nothing, sent_from, settling, stamp_for, step_items, submitted_items, switches_in, switches_of, unacked_installs, update_code, update_items, version_count, versions_from_current}
+use Rattle.base.specs.Exports.{has}
+use Rattle.net_file.specs.Exports.{IsNet}
 use Rattle.policy_rules.specs.declared.policy.Action.TheVariants as action
-use Rattle.switch_table.specs.declared.search.Found.{Found}
-use Rattle.journal.specs.declared.item.Item.{Item}
 use Rattle.journal.specs.declared.item.Item.TheVariants as item
-use Rattle.steps.specs.declared.step.Step.{Step}
-use Rattle.update_machine.specs.Adverts.{held_adverts}
-use Rattle.update_machine.specs.Boots.{is_up}
-use Rattle.update_machine.specs.Caches.{lookup_at}
-use Rattle.update_machine.specs.Concerns.{NoneConcern, concerns_policies}
-use Rattle.update_machine.specs.Deliveries.{advert_to, after_hello, controller_items, is_new_boot, passed_on, switches_in}
-use Rattle.update_machine.specs.Folds.{count_of}
-use Rattle.update_machine.specs.LinkMasks.{near}
-use Rattle.update_machine.specs.Marks.{acked_stamp, current_mark, has_acked, is_member, is_over, members, retired_mark}
-use Rattle.update_machine.specs.Messages.{is_sending, next_message, send_items, sent_from}
-use Rattle.update_machine.specs.Moves.{AuthorityRule, arrive_items, authority_items, cache_items, end_items, found_items, header_at, in_turn, leg_items, lookup_items, move_items, items_then, reroute_items}
-use Rattle.update_machine.specs.Pieces.{confirm_items, expire_items, forget_items, hello_of, hop_items, lose_items, nothing, packet_items, resend_items, resent_by_switch, sends_or_nothing, step_items, update_code, update_items}
-use Rattle.update_machine.specs.Setting.{Setting}
-use Rattle.update_machine.specs.SwitchNumbers.{switches_of}
-use Rattle.update_machine.specs.Settling.{collect_for, current_items, install_for, installs_to, installs_to_all, open_items, resent_by_controller, resent_to_member, retired_items, settling, stamp_for, submitted_items, unacked_installs, versions_from_current}
-use Rattle.update_machine.specs.Versions.{version_count}
-use Rattle.update_machine.proofs.CallerLemmas.{count_of_append, policies_keep}
+use Rattle.update_machine.proofs.Exports.{count_of_append, policies_keep}
 use Rattle.control_laws.proofs.ControllerCommands.{IsOfSettling, settling_settles}
 use Rattle.control_laws.proofs.ItemFacts.{have_weaker}
 use Rattle.control_laws.proofs.TrafficItems.{IsWorkStep, work_cases}

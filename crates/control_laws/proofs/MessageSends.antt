@@ -1,30 +1,15 @@
 -- Messages that are sent one after another: each has its cause behind those before it.
-use Rattle.std.proofs.Common.{ℕ, ◌≡◌, ◌+◌, ◌<◌, ◌≤◌, Bool, zero, suc, ◌⊎◌, Option, Some, None, List, [], length, ◌∷◌, ◌++◌, refl, ap, sym, ◌∙◌, arith, inl, inr, subst}
-use Rattle.std.specs.Prelude.{IsTrue, filter}
-use Rattle.std.specs.Option.{option_or}
-use Rattle.std.specs.List.{AllByRecursion, range_with_len}
-use Rattle.base.proofs.ListsOfEach.{each_passing}
+use Rattle.std.proofs.Common.{[], ◌++◌, ◌+◌, ◌<◌, ◌∙◌, ◌∷◌, ◌≡◌, ◌≤◌, ◌⊎◌, Bool, IsTrue, List, None, Option, Some, ap, arith, filter, inl, inr, length, refl, subst, suc, sym, zero, ℕ}
+use Rattle.base.proofs.Exports.{AllByRecursion, each_passing, option_or, range_with_len}
 pub use Rattle.policy_rules.proofs.CallerLemmas.{each_weaker}
-use Rattle.ctrl_msg.specs.declared.message.Body.{Body}
-use Rattle.ctrl_msg.specs.declared.message.Body.TheVariants.{Install, OpenAt, Stamp, Collect, CacheRule, Advertise, Hello, Installed, Stamped}
-use Rattle.ctrl_msg.specs.declared.message.Message.{Message}
-use Rattle.ctrl_msg.specs.declared.message.Place.{Place}
+use Rattle.update_machine.specs.Exports.{Advertise, Body, CacheRule, Collect, HaveCauses, Hello, Install, Installed, Item, Message, OpenAt, Place, Setting, Stamp, Stamped, SwitchKeeps, controller_heard, first_number, has_acked, is_member, known_boot, next_message, open_sent, opened_at, send_items, sent_from, switches_of, tables_at, touched_by}
 use Rattle.ctrl_msg.specs.declared.message.Place.TheVariants as receiver
-use Rattle.switch_table.specs.Tables.{tables_of}
-use Rattle.journal.specs.declared.item.Item.{Item}
+use Rattle.switch_table.specs.Exports.{tables_of}
 use Rattle.journal.specs.declared.item.Item.TheVariants as item
-use Rattle.update_machine.specs.Causes.{HaveCauses}
-use Rattle.update_machine.specs.Laws.{SwitchKeeps}
-use Rattle.update_machine.specs.Marks.{controller_heard, has_acked, is_member, known_boot, first_number, open_sent, opened_at}
-use Rattle.update_machine.specs.Messages.{next_message, send_items, sent_from}
-use Rattle.update_machine.specs.Setting.{Setting}
-use Rattle.update_machine.specs.SwitchNumbers.{switches_of}
-use Rattle.update_machine.specs.Versions.{tables_at}
-use Rattle.update_machine.proofs.CallerLemmas.{policies_keep, switch_keeps}
-use Rattle.control_laws.specs.ItemCauses.{HasItemCause, IsFirstOpening, IsForKnown, IsPresentIn, IsRightFrom, IsRightMessage, IsRightOpening, IsRightTo}
+use Rattle.update_machine.proofs.Exports.{policies_keep, switch_keeps}
+use Rattle.control_laws.specs.Exports.{HasItemCause, IsFirstOpening, IsForKnown, IsPresentIn, IsRightFrom, IsRightMessage, IsRightOpening, IsRightTo}
 use Rattle.control_laws.proofs.FactsGrown.{count_more, current_more, known_more, opened_at_more, opens_by, over_more, retired_more, told_more}
 use Rattle.control_laws.proofs.SwitchOpenings.{member_on}
-use Rattle.update_machine.specs.Touched.{touched_by}
 
 -- ---- facts of each element
 

@@ -1,31 +1,13 @@
 -- What messages name is there.
-use Rattle.std.proofs.Common.{ℕ, ◌≡◌, ◌<◌, ◌≤◌, ◌==◌, Bool, true, false, if◌then◌else◌, Option, Some, None, List, [], ◌∷◌, ◌++◌, length, refl, sym, subst, ◌∙◌, arith, inl, inr}
-use Rattle.std.specs.Prelude.{option_and_then, option_to_list, unwrap_or}
-use Rattle.std.specs.List.{AllByRecursion}
-use Rattle.std.specs.Option.{option_or}
-use Rattle.std.proofs.lemmas.List.Elements.{All-from_recursion}
-use Rattle.std.proofs.lemmas.Option.{IfSome_then}
-use Rattle.base.proofs.ListsOfEach.{each_append, each_option}
-use Rattle.ctrl_msg.specs.Kinds.{body_version, to_controller}
-use Rattle.ctrl_msg.specs.declared.message.Body.{Body}
-use Rattle.ctrl_msg.specs.declared.message.Body.TheVariants.{Install, OpenAt, Stamp, Collect, CacheRule, Advertise, Hello, Installed, Stamped}
-use Rattle.ctrl_msg.specs.declared.message.Message.{Message}
-use Rattle.ctrl_msg.specs.declared.message.Place.{Place}
+use Rattle.std.proofs.Common.{[], if◌then◌else◌, ◌++◌, ◌<◌, ◌==◌, ◌∙◌, ◌∷◌, ◌≡◌, ◌≤◌, Bool, List, None, Option, Some, arith, false, inl, inr, length, option_and_then, option_to_list, refl, subst, sym, true, unwrap_or, ℕ}
+use Rattle.base.proofs.Exports.{All-from_recursion, AllByRecursion, IfSome_then, each_append, each_option, option_or}
+use Rattle.ctrl_msg.specs.Exports.{body_version, to_controller}
+use Rattle.update_machine.specs.Exports.{Advertise, Body, CacheRule, Collect, HaveCauses, Hello, Install, Installed, Item, Message, OpenAt, Place, Setting, Stamp, Stamped, body_to_controller, controller_heard, first_number, gives_ingress, heard, hello_boot, ingress_of, known_boot, message_of, open_sent, to_switch, version_count}
 use Rattle.ctrl_msg.specs.declared.message.Place.TheVariants as receiver
-use Rattle.net_file.specs.Net.{IsNet}
-use Rattle.journal.specs.declared.item.Item.{Item}
+use Rattle.net_file.specs.Exports.{IsNet}
 use Rattle.journal.specs.declared.item.Item.TheVariants as item
-use Rattle.update_machine.specs.Boots.{heard}
-use Rattle.update_machine.specs.Causes.{HaveCauses}
-use Rattle.update_machine.specs.Marks.{controller_heard, first_number, hello_boot, known_boot, open_sent, body_to_controller}
-use Rattle.update_machine.specs.Travels.{ingress_of, gives_ingress}
-use Rattle.update_machine.specs.Setting.{Setting}
-use Rattle.update_machine.specs.Settling.{to_switch}
-use Rattle.update_machine.specs.Versions.{version_count}
-use Rattle.update_machine.specs.Links.{message_of}
-use Rattle.update_machine.proofs.CallerLemmas.{last_given_append, start_laws}
-use Rattle.control_laws.specs.Always.{HoldsReached}
-use Rattle.control_laws.specs.ItemCauses.{HasItemCause, IsRightMessage, IsRightOpening}
+use Rattle.update_machine.proofs.Exports.{last_given_append, start_laws}
+use Rattle.control_laws.specs.Exports.{BodiesNameThere, HasItemCause, HoldsReached, IsRightMessage, IsRightOpening, NamesOnlyThere}
 use Rattle.control_laws.proofs.BootsKnown.{by_number, hello_sent, said_sent}
 use Rattle.control_laws.proofs.ItemFacts.{Both, fact_on, have_both}
 use Rattle.control_laws.proofs.FactsGrown.{known_more, opened_in, opened_is, opened_more, opens_by, raised, told_more}
@@ -37,7 +19,6 @@ use Rattle.control_laws.proofs.BoundedVersions.{count_rises, right_planned}
 use Rattle.control_laws.proofs.ToldToController.{each_weaker}
 use Rattle.control_laws.proofs.HeardAsSaid.{heard_on}
 use Rattle.control_laws.proofs.PlannedTables.{IsPlanned, all_at_first, all_kept, own_tables}
-use Rattle.control_laws.specs.Named.{BodiesNameThere, NamesOnlyThere}
 use Rattle.control_laws.proofs.NamedThings.{IsKnownSwitch, NamesRightly, SaysThere, pieces_name}
 
 -- ---- what is kept

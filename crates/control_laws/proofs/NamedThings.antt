@@ -1,34 +1,10 @@
 -- Each piece of a step of the network names what is there, as far as its items alone tell.
-use Rattle.std.proofs.Common.{ℕ, ◌≡◌, ◌<◌, ◌≤◌, ◌⊎◌, Bool, true, false, Some, List, [], ◌∷◌, ◌++◌, length, map, refl, ◌∙◌, arith, inl, inr}
-use Rattle.std.specs.Prelude.{⊤, IsTrue, not, filter}
-use Rattle.std.specs.List.{AllByRecursion, flat_map}
-use Rattle.std.proofs.lemmas.Bool.Decides.{nat_tests}
-use Rattle.base.proofs.ListsOfEach.{each_map}
-use Rattle.ctrl_msg.specs.declared.message.Body.{Body}
-use Rattle.ctrl_msg.specs.declared.message.Body.TheVariants.{Install, OpenAt, Stamp, Collect, CacheRule, Advertise, Hello, Installed, Stamped}
-use Rattle.ctrl_msg.specs.declared.message.Message.{Message}
-use Rattle.ctrl_msg.specs.declared.message.Place.{Place}
+use Rattle.std.proofs.Common.{[], ◌++◌, ◌<◌, ◌∙◌, ◌∷◌, ◌≡◌, ◌≤◌, ◌⊎◌, Bool, IsTrue, List, Some, arith, false, filter, flat_map, inl, inr, length, map, not, refl, true, ℕ}
+use Rattle.base.proofs.Exports.{AllByRecursion, each_map, nat_tests, ⊤}
+use Rattle.update_machine.specs.Exports.{Advertise, Body, CacheRule, Collect, Confirm, Crash, Deliver, HaveCauses, Hello, Install, Installed, Item, Message, OpenAt, Packet, Place, Resend, Restart, Setting, Stamp, Stamped, Step, Tables, Update, advert_to, confirm_items, deliver_items, has_acked, held_adverts, hello_of, install_for, installs_to, installs_to_all, is_over, is_up, is_version, known_boot, message_of, near, next_packet, raises_known, resend_items, resent_by_controller, resent_by_switch, resent_to_member, restart_items, send_items, sent_from, settling, step_items, submitted_items, switch_items, switches_in, switches_of, to_switch, update_items, version_count, versions_from_current}
 use Rattle.ctrl_msg.specs.declared.message.Place.TheVariants as receiver
-use Rattle.switch_table.specs.declared.tables.Tables.{Tables}
-use Rattle.journal.specs.declared.item.Item.{Item}
 use Rattle.journal.specs.declared.item.Item.TheVariants as item
-use Rattle.steps.specs.declared.step.Step.{Step}
-use Rattle.steps.specs.declared.step.Step.TheVariants.{Packet, Deliver, Update, Crash, Restart, Confirm, Resend}
-use Rattle.update_machine.specs.Adverts.{held_adverts}
-use Rattle.update_machine.specs.Boots.{is_up}
-use Rattle.update_machine.specs.Causes.{HaveCauses}
-use Rattle.update_machine.specs.Deliveries.{advert_to, switch_items, switches_in}
-use Rattle.update_machine.specs.LinkMasks.{near}
-use Rattle.update_machine.specs.Marks.{has_acked, is_over, known_boot, raises_known}
-use Rattle.update_machine.specs.Messages.{send_items, sent_from}
-use Rattle.update_machine.specs.Packets.{next_packet}
-use Rattle.update_machine.specs.Pieces.{confirm_items, deliver_items, hello_of, resend_items, resent_by_switch, restart_items, step_items, update_items}
-use Rattle.update_machine.specs.Setting.{Setting}
-use Rattle.update_machine.specs.SwitchNumbers.{switches_of}
-use Rattle.update_machine.specs.Settling.{install_for, installs_to, installs_to_all, resent_by_controller, resent_to_member, settling, submitted_items, to_switch, versions_from_current}
-use Rattle.update_machine.specs.Versions.{is_version, version_count}
-use Rattle.update_machine.specs.Links.{message_of}
-use Rattle.update_machine.proofs.CallerLemmas.{have_in_turn}
+use Rattle.update_machine.proofs.Exports.{have_in_turn}
 use Rattle.control_laws.proofs.BootsKnown.{hello_above}
 use Rattle.control_laws.proofs.ControllerCommands.{IsCommand, grows, settling_settles}
 use Rattle.control_laws.proofs.CrashedSwitches.{crash_has}
@@ -43,7 +19,7 @@ use Rattle.control_laws.proofs.SwitchBlocks.{said_parts}
 use Rattle.control_laws.proofs.TrafficItems.{IsAdvert, IsAdvertTo, IsIngress, IsTraffic, Traffic, adverts_to, between_cases, each_told, links_traffic, masked_there, packet_has, passed_traffic, step_traffic}
 use Rattle.control_laws.proofs.GreatestNumbers.{known_first}
 use Rattle.control_laws.proofs.ToldToController.{each_weaker}
-use Rattle.ternary.specs.Word.{WordValue}
+use Rattle.ternary.specs.Exports.{WordValue}
 
 -- ---- what a message names
 

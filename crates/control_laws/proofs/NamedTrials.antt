@@ -1,23 +1,12 @@
 -- What messages name, computed on a network of two switches with one version.
-use Rattle.std.proofs.Common.{ℕ, ◌≡◌, ◌==◌, ◌&&◌, Bool, true, false, if◌then◌else◌, Some, None, List, [], ◌∷◌, ◌++◌, refl, subst, arith}
-use Rattle.std.specs.List.{AllByRecursion}
-use Rattle.std.specs.Option.{option_map_or}
-use Rattle.std.proofs.lemmas.Bool.{eqb-true}
-use Rattle.std.proofs.lemmas.List.Elements.{All-from_recursion}
-use Rattle.ctrl_msg.specs.declared.message.Body.{Body}
-use Rattle.ctrl_msg.specs.declared.message.Body.TheVariants.{OpenAt, Stamp, Hello, Installed}
-use Rattle.ctrl_msg.specs.declared.message.Message.{Message}
-use Rattle.ctrl_msg.specs.Kinds.{to_controller}
+use Rattle.std.proofs.Common.{[], if◌then◌else◌, ◌&&◌, ◌++◌, ◌==◌, ◌∷◌, ◌≡◌, Bool, List, None, Some, arith, eqb-true, false, refl, subst, true, ℕ}
+use Rattle.base.proofs.Exports.{All-from_recursion, AllByRecursion, option_map_or}
+use Rattle.update_machine.specs.Exports.{Body, Hello, Installed, Item, Message, OpenAt, Stamp, boot_of, controller_heard, heard, is_up, message_of, to_switch, version_count}
+use Rattle.ctrl_msg.specs.Exports.{to_controller}
 use Rattle.ctrl_msg.specs.declared.message.Place.TheVariants as receiver
-use Rattle.journal.specs.declared.item.Item.{Item}
 use Rattle.journal.specs.declared.item.Item.TheVariants as item
-use Rattle.update_machine.specs.Boots.{boot_of, heard, is_up}
-use Rattle.update_machine.specs.Marks.{controller_heard}
-use Rattle.update_machine.specs.Settling.{to_switch}
-use Rattle.update_machine.specs.Versions.{version_count}
-use Rattle.update_machine.specs.Links.{message_of}
-use Rattle.update_machine.proofs.ExampleNetworks.{open_net}
-use Rattle.control_laws.specs.Named.{BodiesNameThere, IsAddressed, NamesOnlyThere}
+use Rattle.update_machine.proofs.Exports.{open_net}
+use Rattle.control_laws.specs.Exports.{BodiesNameThere, IsAddressed, NamesOnlyThere}
 
 to_second : NamesOnlyThere open_net [] (to_switch 1 (Stamp 1 1 []))
 unfolding version_count

@@ -1,31 +1,14 @@
 -- Adverts, known links and routes name links of the network alone.
-use Rattle.std.proofs.Common.{ℕ, ◌≡◌, ◌<◌, ◌≤◌, Bool, true, false, ◌&&◌, ◌⊎◌, Option, Some, None, List, [], ◌∷◌, map, length, get_or, set, refl, ap, sym, subst, ◌∙◌, arith, inl, inr, get_or-set_other, get_or-set_same, length-set}
-use Rattle.std.specs.Prelude.{IsTrue, filter}
-use Rattle.std.specs.List.{list_any}
-use Rattle.std.proofs.lemmas.Bool.{cases_eq, cases_lt}
-use Rattle.std.proofs.lemmas.Bool.Decides.{nat_tests}
-use Rattle.std.proofs.lemmas.List.{get_or-map, get_or_past, length-map}
-use Rattle.failover.specs.Adverts.{held_advert}
-use Rattle.failover.specs.Links.{is_link, neighbours_named, named_links, AreJoined, IsPath, LinksLead}
-use Rattle.base.specs.Masks.{has}
-use Rattle.failover.specs.Paths.{IsRoute}
-use Rattle.failover.specs.declared.advert.Advert.{Advert}
-use Rattle.base.proofs.CallerLemmas.{has-zero, mask_of_lt}
-use Rattle.base.proofs.ListsOfAny.{any_filter}
-use Rattle.net_file.specs.Joins.{are_linked, joins}
-use Rattle.net_file.specs.declared.net.LinkRow.{LinkRow}
-use Rattle.net_file.specs.declared.net.Net.{Net}
-use Rattle.net_file.specs.Owners.{links_of}
+use Rattle.std.proofs.Common.{[], ◌&&◌, ◌<◌, ◌∙◌, ◌∷◌, ◌≡◌, ◌≤◌, ◌⊎◌, Bool, IsTrue, List, None, Option, Some, ap, arith, false, filter, get_or, get_or-set_other, get_or-set_same, inl, inr, length, length-set, map, refl, set, subst, sym, true, ℕ}
+use Rattle.base.proofs.Exports.{any_filter, cases_eq, cases_lt, get_or-map, get_or_past, has-zero, length-map, list_any, mask_of_lt, nat_tests}
+use Rattle.failover.specs.Exports.{AreJoined, IsPath, IsRoute, LinksLead, held_advert, is_link, named_links, neighbours_named}
+use Rattle.base.specs.Exports.{has}
+use Rattle.update_machine.specs.Exports.{Advert, HaveCauses, Item, LinkRow, Net, Setting, advert_known, adverts_known, is_usable, links_known, near, own_advert, own_if_sent, serves}
+use Rattle.net_file.specs.Exports.{are_linked, joins, links_of}
 use Rattle.net_file.proofs.MaskBits.{in_mask, in_mask_of, in_mask_past}
-use Rattle.steps.specs.Steps.{HasLink}
-use Rattle.journal.specs.declared.item.Item.{Item}
-use Rattle.update_machine.specs.Adverts.{advert_known, adverts_known, own_advert, own_if_sent}
-use Rattle.update_machine.specs.Causes.{HaveCauses}
-use Rattle.update_machine.specs.Links.{is_usable, serves}
-use Rattle.update_machine.specs.Setting.{Setting}
-use Rattle.update_machine.specs.LinkMasks.{near, links_known}
-use Rattle.update_machine.proofs.CallerLemmas.{has_known_link, known_link_laws}
-use Rattle.control_laws.specs.Adverts.{AllAdverts, GoesOverLinks, IsOverLinks, LinksAreThere, NamesLinks}
+use Rattle.steps.specs.Exports.{HasLink}
+use Rattle.update_machine.proofs.Exports.{has_known_link, known_link_laws}
+use Rattle.control_laws.specs.Exports.{AllAdverts, GoesOverLinks, IsOverLinks, LinksAreThere, NamesLinks}
 use Rattle.control_laws.proofs.AllAdverts.{IsAdvertFact, all_such, is_newest, own_told}
 use Rattle.control_laws.proofs.BothCauses.{HasBothCauses}
 

@@ -1,22 +1,12 @@
 -- No advert is newer than the own one of its origin.
-use Rattle.std.proofs.Common.{ℕ, ◌≡◌, ◌<◌, ◌≤◌, ◌==◌, true, List, [], ◌∷◌, ◌++◌, refl, ap, sym, subst, ◌∙◌, arith, inl, inr}
-use Rattle.std.specs.Prelude.{◌||◌, ◌&&◌, IsTrue, nat_lt}
-use Rattle.std.proofs.lemmas.List.Elements.{All-weaker}
-use Rattle.std.proofs.lemmas.Bool.{cases_lt}
-use Rattle.std.proofs.lemmas.Bool.Decides.{nat_tests}
-use Rattle.failover.specs.declared.advert.Advert.{Advert}
-use Rattle.journal.specs.declared.item.Item.{Item}
+use Rattle.std.proofs.Common.{[], ◌&&◌, ◌++◌, ◌<◌, ◌==◌, ◌||◌, ◌∙◌, ◌∷◌, ◌≡◌, ◌≤◌, IsTrue, List, ap, arith, inl, inr, nat_lt, refl, subst, sym, true, ℕ}
+use Rattle.base.proofs.Exports.{All-weaker, cases_lt, nat_tests}
+use Rattle.update_machine.specs.Exports.{Advert, HaveCauses, Item, Setting, adverts_heard, boot_of, is_up, own_advert, own_seq}
 use Rattle.journal.specs.declared.item.Item.TheVariants as item
-use Rattle.update_machine.specs.Adverts.{own_advert, own_seq}
-use Rattle.update_machine.specs.Boots.{boot_of, is_up}
-use Rattle.update_machine.specs.Causes.{HaveCauses}
-use Rattle.update_machine.specs.Setting.{Setting}
-use Rattle.update_machine.specs.LinkMasks.{adverts_heard}
-use Rattle.update_machine.proofs.CallerLemmas.{start_laws}
-use Rattle.control_laws.specs.ItemCauses.{HasItemCause}
+use Rattle.update_machine.proofs.Exports.{start_laws}
+use Rattle.control_laws.specs.Exports.{AllAdverts, HasItemCause, IsNoNewer, OwnAreNewest}
 use Rattle.control_laws.proofs.BootsKnown.{boot_rises}
 use Rattle.control_laws.proofs.FactsGrown.{boot_more, up_more}
-use Rattle.control_laws.specs.Adverts.{AllAdverts, IsNoNewer, OwnAreNewest}
 use Rattle.control_laws.proofs.AllAdverts.{IsAdvertFact, all_such, begun_with}
 use Rattle.control_laws.proofs.BothCauses.{HasBothCauses}
 use Rattle.control_laws.proofs.OwnAdverts.{AdvertGoesOn, advert_on, same_seq}

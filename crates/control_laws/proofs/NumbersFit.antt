@@ -1,22 +1,13 @@
 -- Where steps begin with room, all numbers fit.
-use Rattle.std.proofs.Common.{◌≡◌, ◌+◌, ◌<◌, ◌≤◌, ◌==◌, List, [], ◌∷◌, ◌++◌, refl, arith, Bool, true, false, if◌then◌else◌}
-use Rattle.net_file.specs.Net.{IsNet}
-use Rattle.journal.specs.declared.item.Item.{Item}
+use Rattle.std.proofs.Common.{[], if◌then◌else◌, ◌++◌, ◌+◌, ◌<◌, ◌==◌, ◌∷◌, ◌≡◌, ◌≤◌, Bool, List, arith, false, refl, true}
+use Rattle.net_file.specs.Exports.{IsNet}
+use Rattle.update_machine.specs.Exports.{HasRoom, HaveCauses, HaveRoom, Item, Setting, StepOfRow, after_steps, near, next_message, piece, version_count}
 use Rattle.journal.specs.declared.item.Item.TheVariants as item
-use Rattle.update_machine.specs.Answers.{StepOfRow, after_steps}
-use Rattle.update_machine.specs.Causes.{HaveCauses}
-use Rattle.update_machine.specs.Full.{HasRoom, HaveRoom}
-use Rattle.update_machine.specs.LinkMasks.{near}
-use Rattle.update_machine.specs.Messages.{next_message}
-use Rattle.update_machine.specs.Pieces.{piece}
-use Rattle.update_machine.specs.Setting.{Setting}
-use Rattle.update_machine.specs.Versions.{version_count}
-use Rattle.update_machine.proofs.CallerLemmas.{have_append, start_laws}
-use Rattle.control_laws.specs.ItemCauses.{HasItemCause}
+use Rattle.update_machine.proofs.Exports.{have_append, start_laws}
+use Rattle.control_laws.specs.Exports.{HasItemCause, NumbersAreFew, NumbersFit}
 use Rattle.control_laws.proofs.ItemFacts.{AreKept, FromCauses, from_causes}
 use Rattle.control_laws.proofs.FactsGrown.{count_more}
 use Rattle.control_laws.proofs.PieceCauses.{pieces_have}
-use Rattle.control_laws.specs.Sends.{NumbersAreFew, NumbersFit}
 use Rattle.control_laws.proofs.MessageCounts.{sent}
 use Rattle.control_laws.proofs.AdvertNumbers.{FewNumbers, at_most_one, numbers_at_first, numbers_behind, sent_both}
 use Rattle.control_laws.proofs.PieceKinds.{piece_few}

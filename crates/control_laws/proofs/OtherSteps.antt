@@ -1,30 +1,9 @@
 -- The steps that leave all that the controller knows as it was.
-use Rattle.std.proofs.Common.{ℕ, ◌≡◌, ◌+◌, true, false, List, [], ◌∷◌, ◌++◌, map, arith}
-use Rattle.std.specs.Prelude.{IsFalse, filter, not}
-use Rattle.std.specs.List.{AllByRecursion}
-use Rattle.base.proofs.ListsOfEach.{each_always, each_flat_map, each_map}
-use Rattle.ctrl_msg.specs.declared.message.Body.{Body}
-use Rattle.ctrl_msg.specs.declared.message.Body.TheVariants.{OpenAt}
-use Rattle.ctrl_msg.specs.declared.message.Message.{Message}
-use Rattle.ctrl_msg.specs.declared.message.Place.{Place}
+use Rattle.std.proofs.Common.{[], ◌++◌, ◌+◌, ◌∷◌, ◌≡◌, IsFalse, List, arith, false, filter, map, not, true, ℕ}
+use Rattle.base.proofs.Exports.{AllByRecursion, each_always, each_flat_map, each_map}
+use Rattle.update_machine.specs.Exports.{Advert, Body, Confirm, ControllerKeeps, Crash, Deliver, HaveCauses, Item, Message, OpenAt, Packet, Place, Resend, Restart, Setting, Step, Update, advert_to, deliver_items, has_acked, held_adverts, install_for, is_message_to_controller, link_changes, near, next_message, next_packet, passed_on, piece, resend_items, restart_items, send_items, sent_from, step_items, switch_items, switches_in, unacked_installs, versions_from_current}
 use Rattle.ctrl_msg.specs.declared.message.Place.TheVariants as receiver
-use Rattle.failover.specs.declared.advert.Advert.{Advert}
-use Rattle.journal.specs.declared.item.Item.{Item}
 use Rattle.journal.specs.declared.item.Item.TheVariants as item
-use Rattle.steps.specs.declared.step.Step.{Step}
-use Rattle.steps.specs.declared.step.Step.TheVariants.{Packet, Deliver, Update, Crash, Restart, Confirm, Resend}
-use Rattle.update_machine.specs.Adverts.{held_adverts}
-use Rattle.update_machine.specs.Causes.{HaveCauses}
-use Rattle.update_machine.specs.Concerns.{is_message_to_controller}
-use Rattle.update_machine.specs.Deliveries.{advert_to, link_changes, switch_items, passed_on, switches_in}
-use Rattle.update_machine.specs.Laws.{ControllerKeeps}
-use Rattle.update_machine.specs.LinkMasks.{near}
-use Rattle.update_machine.specs.Marks.{has_acked}
-use Rattle.update_machine.specs.Messages.{next_message, send_items, sent_from}
-use Rattle.update_machine.specs.Packets.{next_packet}
-use Rattle.update_machine.specs.Pieces.{deliver_items, piece, resend_items, restart_items, step_items}
-use Rattle.update_machine.specs.Setting.{Setting}
-use Rattle.update_machine.specs.Settling.{install_for, unacked_installs, versions_from_current}
 use Rattle.control_laws.proofs.CrashedSwitches.{crash_has}
 use Rattle.control_laws.proofs.DeliveryCauses.{deliver_has}
 use Rattle.control_laws.proofs.ItemFacts.{have_weaker, piece_has}
@@ -34,7 +13,7 @@ use Rattle.control_laws.proofs.ResentBySwitches.{each_by_switch}
 use Rattle.control_laws.proofs.SwitchOpenings.{member_parts, still_opened}
 use Rattle.control_laws.proofs.TrafficItems.{IsTraffic, Traffic, between_cases, links_traffic, packet_has, passed_traffic, step_traffic}
 use Rattle.control_laws.proofs.SwitchCases.{switch_cases}
-use Rattle.control_laws.specs.Steps.{asks_controller}
+use Rattle.control_laws.specs.Exports.{asks_controller}
 use Rattle.control_laws.proofs.ControllerLeft.{LeavesController, OpensNone, leaves_keep}
 
 abbrev pub Leave : List Item → List Item → Type 0

@@ -1,17 +1,9 @@
 -- How the own advert of a switch goes on while the switch is up in its boot.
-use Rattle.std.proofs.Common.{ℕ, ◌≡◌, ◌+◌, ◌==◌, Bool, true, false, not, ◌&&◌, cond, if◌then◌else◌, ◌⊎◌, List, [], ◌∷◌, ◌++◌, refl, ap, sym, ◌∙◌, arith, inl, inr, append_assoc}
-use Rattle.std.specs.Prelude.{count_by}
-use Rattle.std.proofs.lemmas.Bool.{eq-eqb, eqb-true}
-use Rattle.std.proofs.lemmas.List.Sums.{sum_by-cons}
-use Rattle.journal.specs.declared.item.Item.{Item}
+use Rattle.std.proofs.Common.{[], if◌then◌else◌, ◌&&◌, ◌++◌, ◌+◌, ◌==◌, ◌∙◌, ◌∷◌, ◌≡◌, ◌⊎◌, Bool, List, ap, append_assoc, arith, cond, count_by, eq-eqb, eqb-true, false, inl, inr, not, refl, sym, true, ℕ}
+use Rattle.base.proofs.Exports.{sum_by-cons}
+use Rattle.update_machine.specs.Exports.{Item, LinksKeep, Setting, StepItems, boot_of, changes_steps, has_change, is_up, near, own_advert, own_seq, steps_in, with_item}
 use Rattle.journal.specs.declared.item.Item.TheVariants as item
-use Rattle.update_machine.specs.Adverts.{has_change, own_advert, own_seq}
-use Rattle.update_machine.specs.Boots.{boot_of, is_up}
-use Rattle.update_machine.specs.Laws.{LinksKeep}
-use Rattle.update_machine.specs.LinkMasks.{near}
-use Rattle.update_machine.specs.Setting.{Setting}
-use Rattle.update_machine.specs.Steps.{StepItems, changes_steps, steps_in, with_item}
-use Rattle.update_machine.proofs.CallerLemmas.{folded_append, links_keep}
+use Rattle.update_machine.proofs.Exports.{folded_append, links_keep}
 use Rattle.control_laws.proofs.LinkCauses.{ChangedNoLinks, HasLinkCause}
 
 -- it has the next number, and other links

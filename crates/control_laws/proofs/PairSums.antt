@@ -1,12 +1,8 @@
 -- Sums over switches, and how many pairs of switches links join.
-use Rattle.std.proofs.Common.{ℕ, zero, suc, ◌≡◌, ◌+◌, ◌*◌, ◌<◌, ◌≤◌, ◌==◌, Bool, true, false, ◌&&◌, ◌||◌, cond, List, [], ◌∷◌, length, refl, ap, sym, ◌∙◌, arith, inl, inr, sum_by}
-use Rattle.std.specs.List.{range_with_len}
-use Rattle.std.proofs.Math.Nat.{mul-add}
-use Rattle.std.proofs.lemmas.Bool.{cases_eq, eq-eqb, ne_eqb}
-use Rattle.std.proofs.lemmas.List.Sums.{sum_by-cons, sum_by-le-sum_by}
-use Rattle.base.proofs.ListsFiltered.{sum_each}
-use Rattle.net_file.specs.Joins.{are_linked, joins}
-use Rattle.net_file.specs.declared.net.LinkRow.{LinkRow}
+use Rattle.std.proofs.Common.{[], ◌&&◌, ◌*◌, ◌+◌, ◌<◌, ◌==◌, ◌||◌, ◌∙◌, ◌∷◌, ◌≡◌, ◌≤◌, Bool, List, ap, arith, cond, eq-eqb, false, inl, inr, length, mul-add, ne_eqb, refl, suc, sum_by, sym, true, zero, ℕ}
+use Rattle.base.proofs.Exports.{cases_eq, range_with_len, sum_by-cons, sum_by-le-sum_by, sum_each}
+use Rattle.net_file.specs.Exports.{are_linked, joins}
+use Rattle.update_machine.specs.Exports.{LinkRow}
 
 -- 1 where the test holds
 abbrev pub once : Bool → ℕ

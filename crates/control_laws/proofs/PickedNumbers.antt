@@ -1,12 +1,6 @@
 -- Numbers of a range that are picked by a test.
-use Rattle.std.proofs.Common.{ℕ, ◌≡◌, ◌+◌, ◌-◌, ◌<◌, ◌≤◌, ◌==◌, ◌&&◌, Bool, true, length, refl, ap, ◌∙◌, arith}
-use Rattle.std.specs.Prelude.{filter}
-use Rattle.std.specs.List.{list_any, range_with_len}
-use Rattle.std.proofs.Math.Bool.{and-true}
-use Rattle.std.proofs.lemmas.Bool.{eq-eqb, eqb-true}
-use Rattle.std.proofs.lemmas.List.Folds.{list_any-from_Any}
-use Rattle.std.proofs.lemmas.List.FromFn.{get_or-range_with_len, length-range_with_len}
-use Rattle.std.proofs.lemmas.Map.Views.{any-filter_same}
+use Rattle.std.proofs.Common.{◌&&◌, ◌+◌, ◌-◌, ◌<◌, ◌==◌, ◌∙◌, ◌≡◌, ◌≤◌, Bool, ap, arith, eq-eqb, eqb-true, filter, length, refl, true, ℕ}
+use Rattle.base.proofs.Exports.{and-true, any-filter_same, get_or-range_with_len, length-range_with_len, list_any, list_any-from_Any, range_with_len}
 
 any_in_range : (s low n : ℕ) → low ≤ s → s < low + n
     → list_any (λ x. x == s) (range_with_len low n) ≡ true

@@ -1,20 +1,10 @@
 -- Each piece has its causes, whatever its step, and so has the journal of any steps.
-use Rattle.std.proofs.Common.{ℕ, ◌≡◌, ◌+◌, ◌==◌, true, None, List, [], ◌∷◌, ◌++◌, refl, arith, ◌∙◌}
-use Rattle.std.proofs.lemmas.Bool.{eq-eqb}
-use Rattle.std.proofs.lemmas.Bool.Decides.{nat_tests}
-use Rattle.journal.specs.declared.item.Item.{Item}
+use Rattle.std.proofs.Common.{[], ◌++◌, ◌+◌, ◌==◌, ◌∙◌, ◌∷◌, ◌≡◌, List, None, arith, eq-eqb, refl, true, ℕ}
+use Rattle.base.proofs.Exports.{nat_tests}
+use Rattle.update_machine.specs.Exports.{Confirm, Crash, Deliver, Item, Packet, Resend, Restart, Setting, Step, Update, confirm_items, hello_of, is_up, marks_code, next_packet, restart_items, send_items, step_items, update_code, update_items, version_count}
 use Rattle.journal.specs.declared.item.Item.TheVariants as item
-use Rattle.steps.specs.declared.step.Step.{Step}
-use Rattle.steps.specs.declared.step.Step.TheVariants.{Packet, Deliver, Update, Crash, Restart, Confirm, Resend}
-use Rattle.update_machine.specs.Boots.{is_up}
-use Rattle.update_machine.specs.Messages.{send_items}
-use Rattle.update_machine.specs.Packets.{next_packet}
-use Rattle.update_machine.specs.Pieces.{confirm_items, hello_of, marks_code, restart_items, step_items, update_code, update_items}
-use Rattle.update_machine.specs.Setting.{Setting}
-use Rattle.update_machine.specs.Versions.{version_count}
-use Rattle.update_machine.proofs.CallerLemmas.{PiecesHave, allowed_next}
-use Rattle.control_laws.specs.Always.{HoldsAlways}
-use Rattle.control_laws.specs.ItemCauses.{HasItemCause, SubmitsRightly}
+use Rattle.update_machine.proofs.Exports.{PiecesHave, allowed_next}
+use Rattle.control_laws.specs.Exports.{HasItemCause, HoldsAlways, SubmitsRightly}
 use Rattle.control_laws.proofs.BehindItems.{behind_items}
 use Rattle.control_laws.proofs.ControllerBlocks.{settling_have, submitted_have}
 use Rattle.control_laws.proofs.ItemFacts.{FromCauses, Has, piece_has}

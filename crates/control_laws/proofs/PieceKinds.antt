@@ -1,28 +1,11 @@
 -- What a step does to links, and how many messages it sends: links stay as they are, or those of
 -- one switch change and are told of, or a switch begins a boot.
-use Rattle.std.proofs.Common.{ℕ, ◌≡◌, ◌+◌, ◌≤◌, length, Bool, true, false, ◌⊎◌, min, max, Option, Some, None, List, [], ◌∷◌, ◌++◌, map, refl, ap, sym, subst, ◌∙◌, arith, inl, inr, append_assoc, append-nil}
-use Rattle.std.specs.Prelude.{IsFalse}
-use Rattle.std.specs.Bool.{beq}
-use Rattle.ctrl_msg.specs.declared.message.Body.{Body}
-use Rattle.ctrl_msg.specs.declared.message.Message.{Message}
-use Rattle.ctrl_msg.specs.declared.message.Place.{Place}
+use Rattle.std.proofs.Common.{[], ◌++◌, ◌+◌, ◌∙◌, ◌∷◌, ◌≡◌, ◌≤◌, ◌⊎◌, Bool, IsFalse, List, None, Option, Some, ap, append-nil, append_assoc, arith, false, inl, inr, length, map, max, min, refl, subst, sym, true, ℕ}
+use Rattle.base.proofs.Exports.{beq}
+use Rattle.update_machine.specs.Exports.{Body, Confirm, Crash, Deliver, Item, LinkDown, LinkUp, Message, NoneConcern, Packet, Place, Resend, Restart, Setting, Step, Update, body_to_switch, boot_of, concerns_links, controller_items, crash_items, deliver_items, delivery_items, hello_of, is_deliverable, is_link_up, is_up, items_then, link_changes, link_items, message_of, next_packet, nothing, packets_at, passed_on, piece, received_items, resend_items, restart_items, send_items, stamp_of, step_items, switch_items, version_count}
 use Rattle.ctrl_msg.specs.declared.message.Place.TheVariants as receiver
-use Rattle.net_file.specs.Net.{IsNet}
-use Rattle.journal.specs.declared.item.Item.{Item}
+use Rattle.net_file.specs.Exports.{IsNet}
 use Rattle.journal.specs.declared.item.Item.TheVariants as item
-use Rattle.steps.specs.declared.step.Step.{Step}
-use Rattle.steps.specs.declared.step.Step.TheVariants.{Packet, Deliver, Update, LinkDown, LinkUp, Crash, Restart, Confirm, Resend}
-use Rattle.update_machine.specs.Boots.{boot_of, is_up, body_to_switch}
-use Rattle.update_machine.specs.Concerns.{NoneConcern, concerns_links}
-use Rattle.update_machine.specs.Deliveries.{controller_items, delivery_items, link_changes, passed_on, received_items, switch_items}
-use Rattle.update_machine.specs.Links.{is_link_up, message_of}
-use Rattle.update_machine.specs.Messages.{is_deliverable, send_items}
-use Rattle.update_machine.specs.Moves.{items_then}
-use Rattle.update_machine.specs.Packets.{next_packet}
-use Rattle.update_machine.specs.Pieces.{crash_items, deliver_items, hello_of, link_items, nothing, piece, resend_items, restart_items, step_items}
-use Rattle.update_machine.specs.Setting.{Setting}
-use Rattle.update_machine.specs.Versions.{stamp_of, version_count}
-use Rattle.update_machine.specs.Travels.{packets_at}
 use Rattle.control_laws.proofs.ControllerCommands.{confirm_control, controller_control, update_has}
 use Rattle.control_laws.proofs.CrashedSwitches.{losts_have}
 use Rattle.control_laws.proofs.FactsGrown.{count_more}

@@ -1,29 +1,14 @@
 -- Versions are few, each has its plan, and the tables of each are those of its plan.
-use Rattle.std.proofs.Common.{ℕ, ◌≡◌, ◌≤◌, ◌<◌, ◌-◌, ◌==◌, ◌&&◌, Bool, true, false, not, Some, List, [], ◌∷◌, ◌++◌, refl, ap, sym, subst, ◌∙◌, append_assoc, arith, inl, inr}
-use Rattle.std.specs.Prelude.{◌||◌, IsTrue}
-use Rattle.std.specs.List.{AllByRecursion, list_any}
-use Rattle.std.proofs.lemmas.Bool.{cases_lt, eqb-true}
-use Rattle.std.proofs.lemmas.List.Elements.{All-from_recursion}
-use Rattle.ctrl_msg.specs.declared.message.Body.{Body}
-use Rattle.ctrl_msg.specs.declared.message.Body.TheVariants.{Install}
-use Rattle.switch_table.specs.Tables.{tables_of}
-use Rattle.switch_table.specs.declared.tables.Tables.{Tables}
-use Rattle.journal.specs.declared.item.Item.{Item}
+use Rattle.std.proofs.Common.{[], ◌&&◌, ◌++◌, ◌-◌, ◌<◌, ◌==◌, ◌||◌, ◌∙◌, ◌∷◌, ◌≡◌, ◌≤◌, Bool, IsTrue, List, Some, ap, append_assoc, arith, eqb-true, false, inl, inr, not, refl, subst, sym, true, ℕ}
+use Rattle.base.proofs.Exports.{All-from_recursion, AllByRecursion, cases_lt, list_any}
+use Rattle.update_machine.specs.Exports.{Body, HasPlan, Install, Item, Setting, Tables, VersionsAreNumbered, collects_version, heard, holds_version, installs_version, is_in_first_boot, message_of, most_live, most_versions, retired_mark, tables_at, to_switch, version_count}
+use Rattle.switch_table.specs.Exports.{tables_of}
 use Rattle.journal.specs.declared.item.Item.TheVariants as item
-use Rattle.update_machine.specs.Boots.{heard, is_in_first_boot}
-use Rattle.update_machine.specs.Marks.{most_live, most_versions, retired_mark}
-use Rattle.update_machine.specs.Numbers.{VersionsAreNumbered}
-use Rattle.update_machine.specs.Setting.{Setting}
-use Rattle.update_machine.specs.Settling.{to_switch}
-use Rattle.update_machine.specs.Versions.{HasPlan, collects_version, holds_version, installs_version, tables_at, version_count}
-use Rattle.update_machine.specs.Links.{message_of}
-use Rattle.update_machine.proofs.CallerLemmas.{first_has_plan, has_plan_stays, next_has_plan, plan_stays, start_laws}
-use Rattle.control_laws.specs.ItemCauses.{HasItemCause}
+use Rattle.update_machine.proofs.Exports.{first_has_plan, has_plan_stays, next_has_plan, plan_stays, start_laws}
+use Rattle.control_laws.specs.Exports.{ArePlanned, AreTablesOf, BringsTables, HasItemCause, TablesArePlanned, VersionsArePlanned}
 use Rattle.control_laws.proofs.ItemFacts.{AreKept, FromCauses, from_causes}
 use Rattle.control_laws.proofs.FactsGrown.{count_more, retired_more}
-use Rattle.control_laws.specs.Heard.{ArePlanned}
 use Rattle.control_laws.proofs.BoundedVersions.{IsPlannedSoFar, count_rises, planned_at_first, planned_kept}
-use Rattle.control_laws.specs.Planned.{AreTablesOf, BringsTables, TablesArePlanned, VersionsArePlanned}
 use Rattle.control_laws.proofs.HeardAsSaid.{heard_on}
 
 -- ---- how many versions there are

@@ -1,20 +1,11 @@
 -- Journals of steps of the network: whatever causes each of their pieces has, such a journal has.
-use Rattle.std.specs.Prelude.{⊤, All, drop, get_or, length, take}
-use Rattle.std.proofs.Common.{ℕ, suc, List, [], ◌∷◌, ◌++◌, append-nil, append_assoc, sym, subst, take-append-drop, arith}
-use Rattle.std.proofs.Math.Seq.{take-append_seam}
-use Rattle.journal.specs.declared.item.Item.{Item}
+use Rattle.base.proofs.Exports.{take-append_seam, ⊤}
+use Rattle.std.proofs.Common.{[], ◌++◌, ◌∷◌, All, List, append-nil, append_assoc, arith, drop, get_or, length, subst, suc, sym, take, take-append-drop, ℕ}
+use Rattle.update_machine.specs.Exports.{AnswersSoFar, BeginsAnswer, Deliver, Drain, Event, Flush, Forget, HaveCauses, Hop, IsReached, IsSetting, Item, Lose, One, Setting, Step, StepOfRow, after_steps, piece, step_items}
 use Rattle.journal.specs.declared.item.Item.TheVariants as item
-use Rattle.steps.specs.Steps.{IsEvent, IsStep}
-use Rattle.steps.specs.declared.step.Event.{Event}
-use Rattle.steps.specs.declared.step.Event.TheVariants.{One, Flush, Drain}
-use Rattle.steps.specs.declared.step.Step.{Step}
-use Rattle.steps.specs.declared.step.Step.TheVariants.{Deliver, Forget, Hop, Lose}
-use Rattle.update_machine.specs.Answers.{AnswersSoFar, BeginsAnswer, IsReached, StepOfRow, after_steps}
-use Rattle.update_machine.specs.Causes.{HaveCauses}
-use Rattle.update_machine.specs.Pieces.{piece, step_items}
-use Rattle.update_machine.specs.Setting.{IsSetting, Setting}
-use Rattle.update_machine.proofs.CallerLemmas.{AreOf, HasNexts, IsEventOf, answers_so_far, begins_itself, first_steps_are, have_append, have_take}
-use Rattle.control_laws.specs.Always.{HoldsReached}
+use Rattle.steps.specs.Exports.{IsEvent, IsStep}
+use Rattle.update_machine.proofs.Exports.{AreOf, HasNexts, IsEventOf, answers_so_far, begins_itself, first_steps_are, have_append, have_take}
+use Rattle.control_laws.specs.Exports.{HoldsReached}
 
 -- the step names switches, links and files that are there; packets and messages have any number, as
 -- a flush and a drain end only where they end

@@ -1,20 +1,8 @@
 -- What is sent again has its causes.
-use Rattle.std.proofs.Common.{ℕ, ◌≡◌, ◌+◌, ◌-◌, ◌≤◌, Bool, true, false, not, Option, Some, None, List, [], ◌∷◌, map, refl, arith, inr}
-use Rattle.std.specs.Prelude.{IsTrue, IsFalse, is_some, filter, unwrap_or}
-use Rattle.std.specs.List.{AllByRecursion, flat_map}
-use Rattle.base.proofs.ListsOfEach.{each_always, each_flat_map, each_kept, each_map}
-use Rattle.failover.specs.declared.advert.Advert.{Advert}
-use Rattle.journal.specs.declared.item.Item.{Item}
-use Rattle.update_machine.specs.Adverts.{held_adverts}
-use Rattle.update_machine.specs.Boots.{is_up}
-use Rattle.update_machine.specs.Deliveries.{advert_to, switches_in}
-use Rattle.update_machine.specs.LinkMasks.{near}
-use Rattle.update_machine.specs.Marks.{current_mark, has_acked, is_member, is_over, known_boot, open_version, opened_at}
-use Rattle.update_machine.specs.Pieces.{hello_of, resend_items, resent_by_switch}
-use Rattle.update_machine.specs.Setting.{Setting}
-use Rattle.update_machine.specs.Settling.{install_for, resent_by_controller, resent_to_member, unacked_installs, versions_from_current}
-use Rattle.update_machine.specs.Versions.{version_count}
-use Rattle.control_laws.specs.ItemCauses.{HasItemCause, IsForKnown}
+use Rattle.std.proofs.Common.{[], ◌+◌, ◌-◌, ◌∷◌, ◌≡◌, ◌≤◌, Bool, IsFalse, IsTrue, List, None, Option, Some, arith, false, filter, flat_map, inr, is_some, map, not, refl, true, unwrap_or, ℕ}
+use Rattle.base.proofs.Exports.{AllByRecursion, each_always, each_flat_map, each_kept, each_map}
+use Rattle.update_machine.specs.Exports.{Advert, Item, Setting, advert_to, current_mark, has_acked, held_adverts, hello_of, install_for, is_member, is_over, is_up, known_boot, near, open_version, opened_at, resend_items, resent_by_controller, resent_by_switch, resent_to_member, switches_in, unacked_installs, version_count, versions_from_current}
+use Rattle.control_laws.specs.Exports.{HasItemCause, IsForKnown}
 use Rattle.control_laws.proofs.ItemFacts.{Has}
 use Rattle.control_laws.proofs.ResentParts.{each_by_controller, each_to_member, later_versions, resent_has}
 use Rattle.control_laws.proofs.MessageSends.{IsRight, each_range, sends_have}

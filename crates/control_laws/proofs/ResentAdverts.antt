@@ -1,15 +1,7 @@
 -- What is sent again has its causes: a switch tells what it holds, the controller no advert.
-use Rattle.std.proofs.Common.{ℕ, List, map}
-use Rattle.std.specs.Prelude.{filter, not}
-use Rattle.std.specs.List.{AllByRecursion}
-use Rattle.base.proofs.ListsOfEach.{each_always, each_map}
-use Rattle.journal.specs.declared.item.Item.{Item}
-use Rattle.update_machine.specs.Adverts.{held_adverts}
-use Rattle.update_machine.specs.Deliveries.{advert_to}
-use Rattle.update_machine.specs.Marks.{has_acked}
-use Rattle.update_machine.specs.Pieces.{resend_items}
-use Rattle.update_machine.specs.Setting.{Setting}
-use Rattle.update_machine.specs.Settling.{install_for, unacked_installs, versions_from_current}
+use Rattle.std.proofs.Common.{List, filter, map, not, ℕ}
+use Rattle.base.proofs.Exports.{AllByRecursion, each_always, each_map}
+use Rattle.update_machine.specs.Exports.{Item, Setting, advert_to, has_acked, held_adverts, install_for, resend_items, unacked_installs, versions_from_current}
 use Rattle.control_laws.proofs.ResentParts.{each_by_controller, each_to_member, later_versions, resent_has}
 use Rattle.control_laws.proofs.ResentBySwitches.{each_by_switch}
 use Rattle.control_laws.proofs.LinkCauses.{HasLinkCause, HaveLinkCauses}

@@ -1,19 +1,8 @@
 -- Messages that are sent one after another.
-use Rattle.std.proofs.Common.{ℕ, ◌≡◌, Bool, true, false, List, [], ◌∷◌, map, refl}
-use Rattle.std.specs.Prelude.{⊤}
-use Rattle.std.specs.List.{AllByRecursion, flat_map}
-use Rattle.base.proofs.ListsOfEach.{each_always}
-use Rattle.ctrl_msg.specs.declared.message.Message.{Message}
-use Rattle.journal.specs.declared.item.Item.{Item}
+use Rattle.std.proofs.Common.{[], ◌∷◌, ◌≡◌, Bool, List, false, flat_map, map, refl, true, ℕ}
+use Rattle.base.proofs.Exports.{AllByRecursion, each_always, ⊤}
+use Rattle.update_machine.specs.Exports.{HaveCauses, Item, Message, Setting, advert_to, held_adverts, hello_of, is_up, near, resend_items, resent_by_switch, send_items, sends_or_nothing, switches_in}
 use Rattle.journal.specs.declared.item.Item.TheVariants as item
-use Rattle.update_machine.specs.Adverts.{held_adverts}
-use Rattle.update_machine.specs.Boots.{is_up}
-use Rattle.update_machine.specs.Causes.{HaveCauses}
-use Rattle.update_machine.specs.Deliveries.{advert_to, switches_in}
-use Rattle.update_machine.specs.LinkMasks.{near}
-use Rattle.update_machine.specs.Messages.{send_items}
-use Rattle.update_machine.specs.Pieces.{hello_of, resend_items, resent_by_switch, sends_or_nothing}
-use Rattle.update_machine.specs.Setting.{Setting}
 use Rattle.control_laws.proofs.MessageSends.{sends_kept}
 
 -- each has the cause that follows from a property of messages

@@ -1,18 +1,8 @@
 -- What is sent again, by its parts: what the messages of each part have, its messages have.
-use Rattle.std.proofs.Common.{ℕ, ◌≡◌, ◌+◌, ◌-◌, ◌==◌, Bool, true, false, if◌then◌else◌, List, [], ◌∷◌, ◌++◌, refl}
-use Rattle.std.specs.Prelude.{IsTrue, IsFalse, nat_lt}
-use Rattle.std.specs.List.{AllByRecursion, range_with_len}
-use Rattle.base.proofs.ListsOfEach.{each_append}
-use Rattle.ctrl_msg.specs.declared.message.Message.{Message}
-use Rattle.journal.specs.declared.item.Item.{Item}
+use Rattle.std.proofs.Common.{[], if◌then◌else◌, ◌++◌, ◌+◌, ◌-◌, ◌==◌, ◌∷◌, ◌≡◌, Bool, IsFalse, IsTrue, List, false, nat_lt, refl, true, ℕ}
+use Rattle.base.proofs.Exports.{AllByRecursion, each_append, range_with_len}
+use Rattle.update_machine.specs.Exports.{HaveCauses, Item, Message, Setting, acked_stamp, collect_for, current_mark, is_member, is_over, open_for, open_version, resend_items, resent_by_controller, resent_by_switch, resent_to_member, retired_mark, send_items, sends_or_nothing, stamp_for, unacked_installs, version_count, versions_from_current}
 use Rattle.journal.specs.declared.item.Item.TheVariants as item
-use Rattle.update_machine.specs.Causes.{HaveCauses}
-use Rattle.update_machine.specs.Marks.{acked_stamp, current_mark, is_member, is_over, open_version, retired_mark}
-use Rattle.update_machine.specs.Messages.{send_items}
-use Rattle.update_machine.specs.Pieces.{resend_items, resent_by_switch, sends_or_nothing}
-use Rattle.update_machine.specs.Setting.{Setting}
-use Rattle.update_machine.specs.Settling.{collect_for, open_for, resent_by_controller, resent_to_member, stamp_for, unacked_installs, versions_from_current}
-use Rattle.update_machine.specs.Versions.{version_count}
 
 -- the versions after the current one
 abbrev pub later_versions : List Item → List ℕ

@@ -1,17 +1,10 @@
 -- Retired versions are below the acknowledged stamp of each member.
-use Rattle.std.proofs.Common.{ℕ, ◌≡◌, ◌≤◌, ◌<◌, ◌-◌, Some, None, List, [], ◌∷◌, ◌++◌, length, map, ap, subst, arith, inl, inr}
-use Rattle.std.specs.Prelude.{IsTrue, unwrap_or}
-use Rattle.base.proofs.ListsOfEach.{each_unmap}
-use Rattle.ctrl_msg.specs.declared.message.Body.TheVariants.{Collect}
-use Rattle.ctrl_msg.specs.declared.message.Message.{Message}
-use Rattle.journal.specs.declared.item.Item.{Item}
+use Rattle.std.proofs.Common.{[], ◌++◌, ◌-◌, ◌<◌, ◌∷◌, ◌≡◌, ◌≤◌, IsTrue, List, None, Some, ap, arith, inl, inr, length, map, subst, unwrap_or, ℕ}
+use Rattle.base.proofs.Exports.{each_unmap}
+use Rattle.update_machine.specs.Exports.{Collect, Item, Message, Setting, acked_stamp, current_mark, is_member, least_number, members, message_of, next_retired, open_version, opened_at, retired_mark, to_switch}
 use Rattle.journal.specs.declared.item.Item.TheVariants as item
-use Rattle.update_machine.specs.Marks.{acked_stamp, current_mark, is_member, least_number, members, next_retired, open_version, opened_at, retired_mark}
-use Rattle.update_machine.specs.Links.{message_of}
-use Rattle.update_machine.specs.Setting.{Setting}
-use Rattle.update_machine.specs.Settling.{to_switch}
-use Rattle.update_machine.proofs.CallerLemmas.{start_laws}
-use Rattle.control_laws.specs.ItemCauses.{HasItemCause, IsFirstOpening, RetiresRightly}
+use Rattle.update_machine.proofs.Exports.{start_laws}
+use Rattle.control_laws.specs.Exports.{HasItemCause, IsFirstOpening, RetiresRightly}
 use Rattle.control_laws.proofs.BootsKnown.{by_number}
 use Rattle.control_laws.proofs.ItemFacts.{NeverFalls}
 use Rattle.control_laws.proofs.FactsGrown.{retired_more}

@@ -1,23 +1,13 @@
 -- Messages and numbers of small journals, computed.
-use Rattle.std.proofs.Common.{◌≡◌, ◌≤◌, ◌<◌, ◌-◌, ◌^◌, false, List, [], ◌∷◌, refl, arith}
-use Rattle.failover.specs.Adverts.{first_adverts, is_news}
-use Rattle.base.specs.Masks.{has, switches}
-use Rattle.base.specs.ComputedMasks.{mask_of, mask_where}
-use Rattle.journal.specs.declared.item.Item.{Item}
+use Rattle.std.proofs.Common.{[], ◌-◌, ◌<◌, ◌^◌, ◌∷◌, ◌≡◌, ◌≤◌, List, arith, false, refl}
+use Rattle.failover.specs.Exports.{first_adverts, is_news}
+use Rattle.base.specs.Exports.{has, mask_of, mask_where, switches}
+use Rattle.update_machine.specs.Exports.{Item, adverts_known, boot_of, crash_items, heard, held_adverts, is_link_up, is_up, link_changes, link_items, near, next_message, own_advert, own_seq, piece, restart_items, sent_from, serves, steps_in, version_count}
 use Rattle.journal.specs.declared.item.Item.TheVariants as item
 use Rattle.steps.specs.declared.step.Step.TheVariants as step
-use Rattle.update_machine.specs.Adverts.{adverts_known, held_adverts, own_advert, own_seq}
-use Rattle.update_machine.specs.Boots.{boot_of, heard, is_up}
-use Rattle.update_machine.specs.Deliveries.{link_changes}
-use Rattle.update_machine.specs.Links.{is_link_up, serves}
-use Rattle.update_machine.specs.Messages.{next_message, sent_from}
-use Rattle.update_machine.specs.Pieces.{crash_items, link_items, piece, restart_items}
-use Rattle.update_machine.specs.Steps.{steps_in}
-use Rattle.update_machine.specs.Versions.{version_count}
-use Rattle.update_machine.specs.LinkMasks.{near}
-use Rattle.update_machine.proofs.ExampleNetworks.{open_net}
+use Rattle.update_machine.proofs.Exports.{open_net}
 use Rattle.control_laws.proofs.AdvertRows.{is_net, restart, restarted, solo}
-use Rattle.control_laws.specs.Sends.{NumbersAreFew, NumbersFit, StepsSendAtMost, StepsSendFew, sent_count}
+use Rattle.control_laws.specs.Exports.{NumbersAreFew, NumbersFit, StepsSendAtMost, StepsSendFew, sent_count}
 use Rattle.control_laws.proofs.NumbersFit.{fit_behind_room, numbers_few}
 use Rattle.control_laws.proofs.PieceKinds.{piece_few}
 

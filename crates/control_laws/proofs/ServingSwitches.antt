@@ -1,32 +1,16 @@
 -- Switches that serve hold what they stamp with: they acknowledged it, and never heard a message to
 -- drop it.
-use Rattle.std.proofs.Common.{ℕ, ◌≡◌, ◌≤◌, ◌<◌, ◌==◌, ◌&&◌, Bool, true, false, not, Some, List, [], ◌∷◌, ◌++◌, refl, sym, subst, arith, inl, inr}
-use Rattle.std.specs.Prelude.{⊤, ◌||◌, IsTrue, IsFalse}
-use Rattle.std.specs.List.{AllByRecursion, list_any}
-use Rattle.std.proofs.lemmas.Bool.{cases_lt, eq-eqb}
-use Rattle.std.proofs.lemmas.Bool.Decides.{nat_tests}
-use Rattle.ctrl_msg.specs.declared.message.Body.{Body}
-use Rattle.ctrl_msg.specs.declared.message.Body.TheVariants.{Collect}
-use Rattle.journal.specs.declared.item.Item.{Item}
-use Rattle.update_machine.specs.Boots.{boot_of, heard, is_in_first_boot, is_up}
-use Rattle.update_machine.specs.Marks.{acked_stamp, current_mark, retired_mark}
-use Rattle.update_machine.specs.Setting.{Setting}
-use Rattle.update_machine.specs.Settling.{to_switch}
-use Rattle.update_machine.specs.Versions.{collects_version, holds_version, installs_version, stamp_of}
-use Rattle.update_machine.specs.Links.{message_of}
-use Rattle.update_machine.proofs.CallerLemmas.{start_laws}
-use Rattle.control_laws.specs.BootLaws.{ServingIsKnown}
-use Rattle.control_laws.specs.ItemCauses.{HasItemCause}
+use Rattle.std.proofs.Common.{[], ◌&&◌, ◌++◌, ◌<◌, ◌==◌, ◌||◌, ◌∷◌, ◌≡◌, ◌≤◌, Bool, IsFalse, IsTrue, List, Some, arith, eq-eqb, false, inl, inr, not, refl, subst, sym, true, ℕ}
+use Rattle.base.proofs.Exports.{AllByRecursion, cases_lt, list_any, nat_tests, ⊤}
+use Rattle.update_machine.specs.Exports.{Body, Collect, Item, Setting, acked_stamp, boot_of, collects_version, current_mark, heard, holds_version, installs_version, is_in_first_boot, is_up, message_of, retired_mark, stamp_of, to_switch}
+use Rattle.update_machine.proofs.Exports.{start_laws}
+use Rattle.control_laws.specs.Exports.{HasItemCause, HasTables, MarksAreBounded, MembersAcknowledged, ServingHold, ServingIsKnown}
 use Rattle.control_laws.proofs.ItemFacts.{AreKept, Behind, FromCauses, fact_on, with_fact}
 use Rattle.control_laws.proofs.SwitchOpenings.{caused_known, serving_known}
-use Rattle.control_laws.specs.Acknowledged.{MembersAcknowledged}
-use Rattle.control_laws.specs.Bounds.{MarksAreBounded}
-use Rattle.control_laws.specs.Heard.{HasTables}
 use Rattle.control_laws.proofs.AcksHeld.{acks_held}
 use Rattle.control_laws.proofs.GreatestNumbers.{acked_stamp_opened}
 use Rattle.control_laws.proofs.MarkLaws.{acknowledged, bounded}
 use Rattle.control_laws.proofs.RetiredVersions.{CollectsRetired, collects_at_first, collects_on, retired_rises}
-use Rattle.control_laws.specs.Serving.{ServingHold}
 use Rattle.control_laws.proofs.HeardAsSaid.{heard_on}
 
 -- ---- what is heard of dropping

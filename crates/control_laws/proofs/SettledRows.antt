@@ -1,12 +1,9 @@
 -- Marks that aren't settled, computed on two switches.
-use Rattle.std.proofs.Common.{◌≡◌, true, false, List, [], ◌∷◌, refl, arith}
-use Rattle.ctrl_msg.specs.declared.message.Body.TheVariants.{Hello, Installed, Stamped}
-use Rattle.ctrl_msg.specs.Kinds.{to_controller}
-use Rattle.journal.specs.declared.item.Item.{Item}
+use Rattle.std.proofs.Common.{[], ◌∷◌, ◌≡◌, List, arith, false, refl, true}
+use Rattle.update_machine.specs.Exports.{AreSettled, Hello, Installed, Item, Stamped, acked_stamp, controller_heard, current_mark, has_acked, is_member, is_over, known_boot, message_of, next_retired, opened_at, retired_mark}
+use Rattle.ctrl_msg.specs.Exports.{to_controller}
 use Rattle.journal.specs.declared.item.Item.TheVariants as item
-use Rattle.update_machine.specs.Marks.{AreSettled, acked_stamp, controller_heard, current_mark, has_acked, is_member, is_over, known_boot, next_retired, opened_at, retired_mark}
-use Rattle.update_machine.specs.Links.{message_of}
-use Rattle.update_machine.proofs.ExampleNetworks.{open_net}
+use Rattle.update_machine.proofs.Exports.{open_net}
 
 -- in its second boot switch 0 acknowledged the current version, and isn't opened
 abbrev joining : List Item

@@ -1,19 +1,10 @@
 -- What settling writes: whatever causes its marks and the messages behind them have, it has.
-use Rattle.std.proofs.Common.{ℕ, ◌≡◌, ◌<◌, ◌&&◌, Bool, true, false, List, [], ◌∷◌, ◌++◌, length, map, refl, sym}
-use Rattle.std.specs.Prelude.{IsTrue, nat_lt}
-use Rattle.std.specs.List.{AllByRecursion}
-use Rattle.base.proofs.ListsOfEach.{each_map}
-use Rattle.ctrl_msg.specs.declared.message.Message.{Message}
-use Rattle.journal.specs.declared.item.Item.{Item}
+use Rattle.std.proofs.Common.{[], ◌&&◌, ◌++◌, ◌<◌, ◌∷◌, ◌≡◌, Bool, IsTrue, List, false, length, map, nat_lt, refl, sym, true, ℕ}
+use Rattle.base.proofs.Exports.{AllByRecursion, each_map}
+use Rattle.update_machine.specs.Exports.{HaveCauses, Item, Message, Setting, collect_for, current_items, current_mark, has_acked, is_joining, is_member, is_over, items_then, known_boot, members, next_current, next_retired, open_for, open_items, opening_switches, retired_items, retired_mark, send_items, settling, stamp_for}
 use Rattle.journal.specs.declared.item.Item.TheVariants as item
-use Rattle.update_machine.specs.Causes.{HaveCauses}
-use Rattle.update_machine.specs.Marks.{current_mark, has_acked, is_joining, is_member, is_over, known_boot, members, next_current, next_retired, retired_mark}
-use Rattle.update_machine.specs.Messages.{send_items}
-use Rattle.update_machine.specs.Moves.{items_then}
-use Rattle.update_machine.specs.Setting.{Setting}
-use Rattle.update_machine.specs.Settling.{collect_for, current_items, open_for, open_items, opening_switches, retired_items, settling, stamp_for}
-use Rattle.update_machine.proofs.CallerLemmas.{have_first, have_in_turn}
-use Rattle.control_laws.specs.ItemCauses.{IsForKnown}
+use Rattle.update_machine.proofs.Exports.{have_first, have_in_turn}
+use Rattle.control_laws.specs.Exports.{IsForKnown}
 use Rattle.control_laws.proofs.FactsGrown.{known_more, over_more}
 use Rattle.control_laws.proofs.SwitchOpenings.{member_on, member_parts}
 use Rattle.control_laws.proofs.MessageSends.{each_of_network}

@@ -1,20 +1,11 @@
 -- A switch that serves stamps at least with the version at which it was opened, and with each that
 -- it is known to stamp with.
-use Rattle.std.proofs.Common.{ℕ, ◌≡◌, ◌≤◌, ◌==◌, Bool, true, false, Option, Some, None, List, [], ◌∷◌, ◌++◌, refl, ap, sym, subst, ◌∙◌, arith}
-use Rattle.std.specs.Prelude.{IsTrue, IsFalse, is_some}
-use Rattle.std.specs.List.{AllByRecursion}
-use Rattle.std.proofs.lemmas.Bool.{eqb-true}
-use Rattle.std.proofs.lemmas.Bool.Decides.{nat_tests}
-use Rattle.std.proofs.lemmas.Option.{same_Some}
-use Rattle.journal.specs.declared.item.Item.{Item}
+use Rattle.std.proofs.Common.{[], ◌++◌, ◌==◌, ◌∙◌, ◌∷◌, ◌≡◌, ◌≤◌, Bool, IsFalse, IsTrue, List, None, Option, Some, ap, arith, eqb-true, false, is_some, refl, subst, sym, true, ℕ}
+use Rattle.base.proofs.Exports.{AllByRecursion, nat_tests, same_Some}
+use Rattle.update_machine.specs.Exports.{Item, Setting, acked_stamp, boot_of, controller_heard, known_boot, opened_at, serves, stamp_of, stamped_in}
 use Rattle.journal.specs.declared.item.Item.TheVariants as item
-use Rattle.update_machine.specs.Boots.{boot_of}
-use Rattle.update_machine.specs.Marks.{acked_stamp, controller_heard, known_boot, opened_at, stamped_in}
-use Rattle.update_machine.specs.Setting.{Setting}
-use Rattle.update_machine.specs.Versions.{stamp_of}
-use Rattle.update_machine.specs.Links.{serves}
-use Rattle.update_machine.proofs.CallerLemmas.{start_laws}
-use Rattle.control_laws.specs.ItemCauses.{HasItemCause}
+use Rattle.update_machine.proofs.Exports.{start_laws}
+use Rattle.control_laws.specs.Exports.{HasItemCause}
 use Rattle.control_laws.proofs.FactsGrown.{known_more, opened_in, opened_is, serving_more}
 use Rattle.control_laws.proofs.SwitchOpenings.{IsKnown, IsServing, delivery_known, opened_on, opening_known}
 use Rattle.control_laws.proofs.AcknowledgementKinds.{AreTrue, of_stamps}

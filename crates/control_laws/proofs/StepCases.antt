@@ -1,17 +1,7 @@
 -- What holds behind the items of a step, by what the step comes to.
-use Rattle.std.proofs.Common.{map, ℕ, ◌≡◌, ◌+◌, Bool, true, false, Option, Some, None, List, [], ◌∷◌, ◌++◌, refl, ap, sym, subst, ◌∙◌, append_assoc, append-nil}
-use Rattle.ctrl_msg.specs.declared.message.Message.{Message}
-use Rattle.journal.specs.declared.item.Item.{Item}
+use Rattle.std.proofs.Common.{[], ◌++◌, ◌+◌, ◌∙◌, ◌∷◌, ◌≡◌, Bool, List, None, Option, Some, ap, append-nil, append_assoc, false, map, refl, subst, sym, true, ℕ}
+use Rattle.update_machine.specs.Exports.{Item, Message, Setting, boot_of, confirm_items, deliver_items, delivery_items, hello_of, in_turn, installs_to_all, is_deliverable, is_up, items_then, members, nothing, restart_items, send_items, settling, submitted_items, update_code, update_items, version_count}
 use Rattle.journal.specs.declared.item.Item.TheVariants as item
-use Rattle.update_machine.specs.Boots.{boot_of, is_up}
-use Rattle.update_machine.specs.Deliveries.{delivery_items}
-use Rattle.update_machine.specs.Marks.{members}
-use Rattle.update_machine.specs.Messages.{is_deliverable, send_items}
-use Rattle.update_machine.specs.Moves.{in_turn, items_then}
-use Rattle.update_machine.specs.Pieces.{confirm_items, deliver_items, hello_of, nothing, restart_items, update_code, update_items}
-use Rattle.update_machine.specs.Setting.{Setting}
-use Rattle.update_machine.specs.Settling.{installs_to_all, settling, submitted_items}
-use Rattle.update_machine.specs.Versions.{version_count}
 
 -- two blocks in turn
 pub in_two : (a b : List Item → List Item) (journal : List Item)

@@ -1,26 +1,10 @@
 -- What a delivery causes has its causes.
-use Rattle.std.proofs.Common.{ℕ, ◌≡◌, ◌≤◌, ◌==◌, true, false, if◌then◌else◌, Some, List, [], ◌∷◌, ◌++◌, ◌||◌, refl, ap, sym, subst, ◌∙◌, arith}
-use Rattle.std.specs.Prelude.{IsTrue, IsFalse, option_and_then}
-use Rattle.std.specs.List.{list_any}
-use Rattle.std.specs.Option.{option_map_or}
-use Rattle.std.proofs.lemmas.Bool.{eq-eqb, eqb-true, or_right}
-use Rattle.std.proofs.lemmas.Bool.Decides.{nat_tests}
-use Rattle.std.proofs.lemmas.List.Folds.{list_any-append}
-use Rattle.ctrl_msg.specs.declared.message.Body.{Body}
-use Rattle.ctrl_msg.specs.declared.message.Body.TheVariants.{Install, OpenAt, Stamp, Advertise, Installed, Stamped}
-use Rattle.ctrl_msg.specs.Kinds.{to_controller}
-use Rattle.journal.specs.declared.item.Item.{Item}
+use Rattle.std.proofs.Common.{[], if◌then◌else◌, ◌++◌, ◌==◌, ◌||◌, ◌∙◌, ◌∷◌, ◌≡◌, ◌≤◌, IsFalse, IsTrue, List, Some, ap, arith, eq-eqb, eqb-true, false, option_and_then, refl, subst, sym, true, ℕ}
+use Rattle.base.proofs.Exports.{list_any, list_any-append, nat_tests, option_map_or, or_right}
+use Rattle.update_machine.specs.Exports.{Advertise, Body, Install, Installed, Item, OpenAt, Setting, Stamp, Stamped, Step, body_to_switch, boot_of, deliver_items, heard, installs_version, is_for_boot, is_over, is_up, message_of, raises_known, settling, stamp_in, stamp_of, switch_items, to_switch}
+use Rattle.ctrl_msg.specs.Exports.{to_controller}
 use Rattle.journal.specs.declared.item.Item.TheVariants as item
-use Rattle.steps.specs.declared.step.Step.{Step}
-use Rattle.update_machine.specs.Boots.{boot_of, heard, is_for_boot, is_up, body_to_switch}
-use Rattle.update_machine.specs.Deliveries.{switch_items}
-use Rattle.update_machine.specs.Marks.{is_over, raises_known}
-use Rattle.update_machine.specs.Pieces.{deliver_items}
-use Rattle.update_machine.specs.Setting.{Setting}
-use Rattle.update_machine.specs.Settling.{settling, to_switch}
-use Rattle.update_machine.specs.Versions.{installs_version, stamp_in, stamp_of}
-use Rattle.update_machine.specs.Links.{message_of}
-use Rattle.control_laws.specs.ItemCauses.{HasItemCause, OpensRightly}
+use Rattle.control_laws.specs.Exports.{HasItemCause, OpensRightly}
 use Rattle.control_laws.proofs.ControllerBlocks.{installs_have, settling_have}
 use Rattle.control_laws.proofs.DeliveryCauses.{row_delivers}
 use Rattle.control_laws.proofs.ItemFacts.{Has}

@@ -1,19 +1,9 @@
 -- What a switch writes for a body that is said to it: it answers the controller, or opens and tells
 -- its neighbours of its links, or passes news on, or writes nothing.
-use Rattle.std.proofs.Common.{ℕ, ◌≡◌, Bool, true, false, List, [], ◌∷◌, refl}
-use Rattle.std.specs.Prelude.{IsTrue}
-use Rattle.ctrl_msg.specs.Kinds.{to_controller}
-use Rattle.ctrl_msg.specs.declared.message.Body.{Body}
-use Rattle.ctrl_msg.specs.declared.message.Body.TheVariants.{Install, OpenAt, Stamp, Advertise, Installed, Stamped}
-use Rattle.failover.specs.declared.advert.Advert.{Advert}
-use Rattle.journal.specs.declared.item.Item.{Item}
+use Rattle.std.proofs.Common.{[], ◌∷◌, ◌≡◌, Bool, IsTrue, List, false, refl, true, ℕ}
+use Rattle.ctrl_msg.specs.Exports.{to_controller}
+use Rattle.update_machine.specs.Exports.{Advert, Advertise, Body, Install, Installed, Item, OpenAt, Setting, Stamp, Stamped, is_news_to, items_then, link_changes, passed_on, send_items, serves, stamp_of, switch_items}
 use Rattle.journal.specs.declared.item.Item.TheVariants as item
-use Rattle.update_machine.specs.Deliveries.{is_news_to, link_changes, passed_on, switch_items}
-use Rattle.update_machine.specs.Links.{serves}
-use Rattle.update_machine.specs.Messages.{send_items}
-use Rattle.update_machine.specs.Moves.{items_then}
-use Rattle.update_machine.specs.Setting.{Setting}
-use Rattle.update_machine.specs.Versions.{stamp_of}
 
 -- the items of a switch that opens
 abbrev pub opening_items : Setting → List Item → ℕ → List Item → List Item

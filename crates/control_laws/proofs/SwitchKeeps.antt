@@ -1,16 +1,9 @@
 -- What a switch keeps within a boot.
-use Rattle.std.proofs.Common.{ℕ, ◌≡◌, ◌≤◌, ◌==◌, ◌&&◌, Bool, true, false, if◌then◌else◌, Some, None, List, [], ◌∷◌, ◌++◌, refl, ap, ◌∙◌, arith}
-use Rattle.std.specs.Prelude.{IsTrue, IsFalse, filter_map, max, option_and_then, unwrap_or}
-use Rattle.std.specs.List.{list_any}
-use Rattle.std.proofs.lemmas.Bool.Decides.{nat_tests}
-use Rattle.std.proofs.lemmas.List.Folds.{list_any-append}
-use Rattle.ctrl_msg.specs.declared.message.Body.{Body}
-use Rattle.journal.specs.declared.item.Item.{Item}
+use Rattle.std.proofs.Common.{[], if◌then◌else◌, ◌&&◌, ◌++◌, ◌==◌, ◌∙◌, ◌∷◌, ◌≡◌, ◌≤◌, Bool, IsFalse, IsTrue, List, None, Some, ap, arith, false, filter_map, max, option_and_then, refl, true, unwrap_or, ℕ}
+use Rattle.base.proofs.Exports.{list_any, list_any-append, nat_tests}
+use Rattle.update_machine.specs.Exports.{Body, Item, Setting, body_to_switch, boot_of, first_stamp, greatest_number, heard, is_up, stamp_in, stamp_of}
 use Rattle.journal.specs.declared.item.Item.TheVariants as item
-use Rattle.update_machine.specs.Boots.{boot_of, heard, is_up, body_to_switch}
-use Rattle.update_machine.specs.Setting.{Setting}
-use Rattle.update_machine.specs.Versions.{first_stamp, greatest_number, stamp_in, stamp_of}
-use Rattle.control_laws.specs.ItemCauses.{HasItemCause}
+use Rattle.control_laws.specs.Exports.{HasItemCause}
 use Rattle.control_laws.proofs.BootsKnown.{raised_up}
 use Rattle.control_laws.proofs.FactsGrown.{boot_more, heard_more, stamp_told, up_more}
 

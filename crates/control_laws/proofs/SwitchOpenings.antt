@@ -1,20 +1,10 @@
 -- Items that have their causes keep what is known of openings and of switches that serve.
-use Rattle.std.proofs.Common.{ℕ, ◌≡◌, ◌≤◌, ◌==◌, Bool, true, false, if◌then◌else◌, Option, Some, None, List, [], ◌∷◌, ◌++◌, refl, ap, sym, subst, ◌∙◌, arith, inl, inr}
-use Rattle.std.specs.Prelude.{IsTrue, IsFalse, is_some, nat_lt, option_and_then}
-use Rattle.std.specs.Option.{option_map_or, option_or}
-use Rattle.std.proofs.lemmas.Bool.{eq-eqb}
-use Rattle.std.proofs.lemmas.Bool.Decides.{nat_tests}
-use Rattle.ctrl_msg.specs.declared.message.Body.TheVariants.{OpenAt}
-use Rattle.journal.specs.declared.item.Item.{Item}
+use Rattle.std.proofs.Common.{[], if◌then◌else◌, ◌++◌, ◌==◌, ◌∙◌, ◌∷◌, ◌≡◌, ◌≤◌, Bool, IsFalse, IsTrue, List, None, Option, Some, ap, arith, eq-eqb, false, inl, inr, is_some, nat_lt, option_and_then, refl, subst, sym, true, ℕ}
+use Rattle.base.proofs.Exports.{nat_tests, option_map_or, option_or}
+use Rattle.update_machine.specs.Exports.{Item, OpenAt, Setting, body_to_controller, boot_of, controller_heard, first_number, hello_boot, is_member, is_over, is_up, known_boot, message_of, open_sent, opened_at, serves, to_switch}
 use Rattle.journal.specs.declared.item.Item.TheVariants as item
-use Rattle.update_machine.specs.Boots.{boot_of, is_up}
-use Rattle.update_machine.specs.Marks.{controller_heard, first_number, hello_boot, is_member, is_over, known_boot, open_sent, opened_at, body_to_controller}
-use Rattle.update_machine.specs.Setting.{Setting}
-use Rattle.update_machine.specs.Settling.{to_switch}
-use Rattle.update_machine.specs.Links.{serves, message_of}
-use Rattle.update_machine.proofs.CallerLemmas.{start_laws}
-use Rattle.control_laws.specs.BootLaws.{BootsAreKnown, OpensAtOneVersion, ServingIsKnown}
-use Rattle.control_laws.specs.ItemCauses.{HasItemCause, IsRightOpening}
+use Rattle.update_machine.proofs.Exports.{start_laws}
+use Rattle.control_laws.specs.Exports.{BootsAreKnown, HasItemCause, IsRightOpening, OpensAtOneVersion, ServingIsKnown}
 use Rattle.control_laws.proofs.BootsKnown.{boots_at_first, boots_on, by_number, told_past}
 use Rattle.control_laws.proofs.ItemFacts.{AreKept, FromCauses, from_causes}
 use Rattle.control_laws.proofs.FactsGrown.{boot_more, known_more, opened_at_more, opened_in, opened_is, opened_more, over_more, raised, serving_more, up_more}

@@ -1,15 +1,9 @@
 -- What was told to the controller, item by item.
-use Rattle.std.proofs.Common.{ℕ, zero, suc, ◌≡◌, ◌+◌, ◌≤◌, ◌<◌, Bool, true, false, if◌then◌else◌, Option, Some, None, List, [], ◌∷◌, ◌++◌, refl, ap, sym, subst, ◌∙◌, append-nil, arith, inl, inr}
-use Rattle.std.proofs.lemmas.Bool.{cases_eq, eqb-true}
-use Rattle.std.specs.Prelude.{◌||◌, IsTrue, filter, filter_map, nat_eq, option_and_then, option_to_list}
-use Rattle.std.specs.List.{AllByRecursion, list_any, range_with_len}
-use Rattle.std.proofs.lemmas.List.Elements.{filter_map-append}
-use Rattle.ctrl_msg.specs.declared.message.Body.{Body}
-use Rattle.ctrl_msg.specs.Kinds.{to_controller}
-use Rattle.journal.specs.declared.item.Item.{Item}
+use Rattle.std.proofs.Common.{[], if◌then◌else◌, ◌++◌, ◌+◌, ◌<◌, ◌||◌, ◌∙◌, ◌∷◌, ◌≡◌, ◌≤◌, Bool, IsTrue, List, None, Option, Some, ap, append-nil, arith, eqb-true, false, filter, filter_map, inl, inr, nat_eq, option_and_then, option_to_list, refl, subst, suc, sym, true, zero, ℕ}
+use Rattle.base.proofs.Exports.{AllByRecursion, cases_eq, filter_map-append, list_any, range_with_len}
+use Rattle.update_machine.specs.Exports.{Body, Item, body_to_controller, controller_heard, message_of}
+use Rattle.ctrl_msg.specs.Exports.{to_controller}
 use Rattle.journal.specs.declared.item.Item.TheVariants as item
-use Rattle.update_machine.specs.Marks.{controller_heard, body_to_controller}
-use Rattle.update_machine.specs.Links.{message_of}
 use Rattle.control_laws.proofs.BootsKnown.{said_sent}
 use Rattle.control_laws.proofs.FactsGrown.{told_more}
 pub use Rattle.control_laws.proofs.MessageSends.{each_weaker}

@@ -1,12 +1,9 @@
 -- Each stamp that was sent says what the change of its version touches.
-use Rattle.std.proofs.Common.{ℕ, ◌≡◌, Some, None, List, [], ◌∷◌, ◌++◌, sym, subst, ◌∙◌, arith, inl, inr}
-use Rattle.ternary.specs.Word.{WordValue}
-use Rattle.journal.specs.declared.item.Item.{Item}
-use Rattle.update_machine.specs.Numbers.{VersionsAreNumbered}
-use Rattle.update_machine.specs.Setting.{Setting}
-use Rattle.update_machine.proofs.CallerLemmas.{numbered_at_first, start_laws, touched_stays}
-use Rattle.control_laws.specs.ItemCauses.{HasItemCause, IsRightStamp}
-use Rattle.control_laws.specs.Touched.{IsTouched, StampsSayTouched, stamp_to}
+use Rattle.std.proofs.Common.{[], ◌++◌, ◌∙◌, ◌∷◌, ◌≡◌, List, None, Some, arith, inl, inr, subst, sym, ℕ}
+use Rattle.ternary.specs.Exports.{WordValue}
+use Rattle.update_machine.specs.Exports.{Item, Setting, VersionsAreNumbered}
+use Rattle.update_machine.proofs.Exports.{numbered_at_first, start_laws, touched_stays}
+use Rattle.control_laws.specs.Exports.{HasItemCause, IsRightStamp, IsTouched, StampsSayTouched, stamp_to}
 use Rattle.control_laws.proofs.BootsKnown.{by_number}
 use Rattle.control_laws.proofs.BoundedVersions.{IsThere, count_rises, there_at_first, there_kept}
 use Rattle.control_laws.proofs.ItemFacts.{AreKept, FromCauses, from_causes}

@@ -1,47 +1,18 @@
 -- Items of packets and of links, and messages between switches: they boot and open no switch,
 -- deliver nothing and move no mark, whatever journal they stand behind.
-use Rattle.std.proofs.Common.{ℕ, Bool, true, false, Option, Some, None, List, [], ◌∷◌, ◌++◌, map, arith, ◌≡◌, ◌<◌, length, refl}
-use Rattle.std.specs.Prelude.{⊤, filter, IfSome, IsFalse, IsTrue, option_map, slice_get, unwrap_or}
-use Rattle.std.specs.List.{AllByRecursion, flat_map}
-use Rattle.ctrl_msg.specs.declared.message.Body.{Body}
-use Rattle.ctrl_msg.specs.declared.message.Body.TheVariants.{CacheRule, Advertise}
-use Rattle.ctrl_msg.specs.declared.message.Message.{Message}
-use Rattle.ctrl_msg.specs.declared.message.Place.{Place}
+use Rattle.std.proofs.Common.{[], ◌++◌, ◌<◌, ◌∷◌, ◌≡◌, Bool, IfSome, IsFalse, IsTrue, List, None, Option, Some, arith, false, filter, flat_map, length, map, option_map, refl, slice_get, true, unwrap_or, ℕ}
+use Rattle.base.proofs.Exports.{AllByRecursion, each_append, each_flat_map, each_map, ⊤}
+use Rattle.update_machine.specs.Exports.{Action, Advert, Advertise, AuthorityRule, Body, CacheRule, Exit, Expire, Forget, Found, HaveCauses, Header, Hop, Item, Leg, LinkDown, LinkUp, Lose, Message, Place, Rule, Seek, Setting, Step, advert_to, arrive_by, arrive_items, authority_items, authority_rule, cache_items, cache_rule, end_items, expire_items, first_place, forget_items, found_down, found_items, go_on, has_changed, header_at, held_adverts, holds_version, hop_items, in_turn, ingress_of, is_at, is_deliverable, is_version, items_then, leg_items, leg_of, link_changes, link_items, lookup_at, lookup_items, lose_items, messages_of, messages_over, move_items, near, nothing, own_advert, packet_items, passed_on, plan_at, reroute_by, reroute_items, route_for, route_from, send_items, sent_from, serves, stamp_of, step_items, stuck_on, switches_in, switches_of, takes_route, targets_of}
 use Rattle.ctrl_msg.specs.declared.message.Place.TheVariants as receiver
-use Rattle.base.specs.Masks.{has}
-use Rattle.base.proofs.ListsOfEach.{each_append, each_flat_map, each_map}
-use Rattle.failover.specs.declared.advert.Advert.{Advert}
-use Rattle.policy_rules.specs.declared.packet.Leg.{Leg}
-use Rattle.policy_rules.specs.declared.policy.Action.{Action}
+use Rattle.base.specs.Exports.{has}
 use Rattle.policy_rules.specs.declared.policy.Action.TheVariants as action
-use Rattle.switch_table.specs.declared.search.Found.{Found}
 use Rattle.switch_table.specs.declared.search.Found.TheVariants as found
 use Rattle.policy_rules.specs.declared.packet.How.TheVariants as how
-use Rattle.five_tuple.specs.declared.header.Header.{Header}
-use Rattle.journal.specs.declared.item.Item.{Item}
 use Rattle.journal.specs.declared.item.Item.TheVariants as item
-use Rattle.steps.specs.declared.step.Step.{Step}
-use Rattle.steps.specs.declared.step.Step.TheVariants.{Hop, Lose, Forget, Expire, LinkDown, LinkUp}
-use Rattle.update_machine.specs.Adverts.{held_adverts, own_advert, route_from}
-use Rattle.update_machine.specs.Links.{serves}
-use Rattle.update_machine.specs.Caches.{lookup_at}
-use Rattle.update_machine.specs.Causes.{HaveCauses}
-use Rattle.update_machine.specs.Deliveries.{advert_to, has_changed, link_changes, passed_on, messages_of, messages_over, switches_in}
-use Rattle.update_machine.specs.LinkMasks.{near}
-use Rattle.update_machine.specs.Messages.{is_deliverable, send_items, sent_from}
-use Rattle.update_machine.specs.Moves.{items_then, AuthorityRule, arrive_by, arrive_items, authority_items, cache_items, end_items, found_items, go_on, header_at, leg_items, lookup_items, move_items, reroute_by, reroute_items, route_for, stuck_on, takes_route, authority_rule, cache_rule, first_place, in_turn}
-use Rattle.update_machine.specs.Travels.{leg_of, ingress_of, is_at}
-use Rattle.update_machine.specs.Pieces.{expire_items, forget_items, hop_items, link_items, lose_items, nothing, packet_items, step_items}
-use Rattle.update_machine.specs.Setting.{Setting}
-use Rattle.update_machine.specs.SwitchNumbers.{switches_of}
-use Rattle.update_machine.specs.PacketRoutes.{found_down, targets_of}
-use Rattle.update_machine.proofs.CallerLemmas.{have_first, have_in_turn, have_put, part_there, version_kept}
+use Rattle.update_machine.proofs.Exports.{have_first, have_in_turn, have_put, part_there, version_kept}
 use Rattle.partition.specs.Plan.{Hosted}
-use Rattle.policy_rules.specs.declared.packet.Leg.TheVariants.{Seek, Exit}
-use Rattle.policy_rules.specs.declared.rules.Rule.{Rule}
-use Rattle.switch_table.specs.Tables.{part_of}
-use Rattle.update_machine.specs.Versions.{holds_version, is_version, stamp_of, plan_at}
-use Rattle.control_laws.specs.ItemCauses.{HasItemCause, IsRightMessage}
+use Rattle.switch_table.specs.Exports.{part_of}
+use Rattle.control_laws.specs.Exports.{HasItemCause, IsRightMessage}
 use Rattle.control_laws.proofs.ItemFacts.{Has, have_weaker}
 use Rattle.control_laws.proofs.MessageSends.{each_of_network}
 use Rattle.control_laws.proofs.ResentBySwitches.{sends_each}

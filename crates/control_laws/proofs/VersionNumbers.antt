@@ -1,10 +1,9 @@
 -- Versions are numbered from 1 without a gap.
 use Rattle.std.proofs.Common.{refl}
 use Rattle.journal.specs.declared.item.Item.TheVariants as item
-use Rattle.update_machine.specs.Numbers.{VersionsAreNumbered}
-use Rattle.update_machine.specs.Setting.{Setting}
-use Rattle.update_machine.proofs.CallerLemmas.{numbered_at_first, other_more, submitted_more}
-use Rattle.control_laws.specs.ItemCauses.{HasItemCause}
+use Rattle.update_machine.specs.Exports.{Setting, VersionsAreNumbered}
+use Rattle.update_machine.proofs.Exports.{numbered_at_first, other_more, submitted_more}
+use Rattle.control_laws.specs.Exports.{HasItemCause}
 use Rattle.control_laws.proofs.ItemFacts.{AreKept, FromCauses, from_causes}
 
 pub numbered_kept : (setting : Setting) → AreKept (HasItemCause setting) VersionsAreNumbered

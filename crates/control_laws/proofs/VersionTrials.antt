@@ -1,23 +1,11 @@
 -- Versions, computed: what a switch holds, as the tables of a second version reach it before its
 -- stamp does, and what is planned.
-use Rattle.std.proofs.Common.{ℕ, ◌≡◌, ◌≤◌, false, true, List, [], ◌∷◌, ◌++◌, length, refl, ap, sym, subst, ◌∙◌, arith, inl, inr}
-use Rattle.std.specs.Prelude.{IsTrue}
-use Rattle.std.proofs.lemmas.Bool.{cases_lt}
-use Rattle.ctrl_msg.specs.declared.message.Body.TheVariants.{Install, OpenAt, Stamp, Collect}
-use Rattle.switch_table.specs.declared.tables.Tables.{Tables}
-use Rattle.journal.specs.declared.item.Item.{Item}
+use Rattle.std.proofs.Common.{[], ◌++◌, ◌∙◌, ◌∷◌, ◌≡◌, ◌≤◌, IsTrue, List, ap, arith, false, inl, inr, length, refl, subst, sym, true, ℕ}
+use Rattle.base.proofs.Exports.{cases_lt}
+use Rattle.update_machine.specs.Exports.{Collect, HasPlan, HaveCauses, Install, Item, OpenAt, Stamp, Tables, boot_of, controller_heard, current_mark, heard, holds_version, is_over, is_up, known_boot, message_of, next_policy, retired_mark, serves, stamp_of, tables_at, to_switch, version_count}
 use Rattle.journal.specs.declared.item.Item.TheVariants as item
-use Rattle.update_machine.specs.Boots.{boot_of, heard, is_up}
-use Rattle.update_machine.specs.Causes.{HaveCauses}
-use Rattle.update_machine.specs.Marks.{controller_heard, current_mark, is_over, known_boot, retired_mark}
-use Rattle.update_machine.specs.Settling.{to_switch}
-use Rattle.update_machine.specs.Versions.{HasPlan, holds_version, next_policy, stamp_of, tables_at, version_count}
-use Rattle.update_machine.specs.Links.{serves, message_of}
-use Rattle.update_machine.proofs.ExampleNetworks.{open_net, plan_q, tables_of, versions}
-use Rattle.update_machine.proofs.ExampleVersions.{first_planned, none_of_7, second_plan, second_planned}
-use Rattle.control_laws.specs.ItemCauses.{HasItemCause}
-use Rattle.control_laws.specs.Planned.{AreTablesOf, BringsTables, TablesArePlanned, VersionsArePlanned}
-use Rattle.control_laws.specs.Serving.{HoldsStamp, ServingHold}
+use Rattle.update_machine.proofs.Exports.{first_planned, none_of_7, open_net, plan_q, second_plan, second_planned, tables_of, versions}
+use Rattle.control_laws.specs.Exports.{AreTablesOf, BringsTables, HasItemCause, HoldsStamp, ServingHold, TablesArePlanned, VersionsArePlanned}
 use Rattle.control_laws.proofs.CauseRows.{second_file}
 use Rattle.control_laws.proofs.PlannedTables.{tables_planned}
 use Rattle.control_laws.proofs.ServingSwitches.{serving_hold}

@@ -1,16 +1,9 @@
 -- A switch is told to stamp with a version only once it acknowledged its tables; members
 -- acknowledged each version from the one at which they were opened to the current one.
-use Rattle.std.specs.Prelude.{⊤, ℕ, ◌≡◌, ◌<◌, ◌≤◌, List, length, IsTrue}
-use Rattle.ctrl_msg.specs.declared.message.Body.{Body}
-use Rattle.ctrl_msg.specs.declared.message.Body.TheVariants.{OpenAt, Stamp}
-use Rattle.ctrl_msg.specs.declared.message.Place.{Place}
+use Rattle.std.specs.Prelude.{◌<◌, ◌≡◌, ◌≤◌, IsTrue, List, length, ℕ, ⊤}
+use Rattle.update_machine.specs.Exports.{Body, Item, OpenAt, Place, Setting, Stamp, acked_stamp, current_mark, has_acked, is_member, known_boot, open_version, serves, stamp_of}
 use Rattle.ctrl_msg.specs.declared.message.Place.TheVariants as receiver
-use Rattle.journal.specs.declared.item.Item.{Item}
 use Rattle.journal.specs.declared.item.Item.TheVariants as item
-use Rattle.update_machine.specs.Links.{serves}
-use Rattle.update_machine.specs.Marks.{acked_stamp, current_mark, has_acked, is_member, known_boot, open_version}
-use Rattle.update_machine.specs.Setting.{Setting}
-use Rattle.update_machine.specs.Versions.{stamp_of}
 
 -- a switch of the network may stamp with a version, in its known boot, only if it acknowledged
 -- this version in that boot; the version is at most the current one

@@ -1,20 +1,11 @@
 -- What adverts say, whatever was done and in whatever order: they name only links of the network,
 -- and a switch never hears a newer advert of its own, as an OSPF router may that forgot its
 -- sequence number (RFC 2328, section 13.4): boots, which never repeat, prevent it.
-use Rattle.std.specs.Prelude.{⊤, ℕ, ◌≡◌, ◌<◌, ◌≤◌, ◌⊎◌, Some, List, [], ◌∷◌, All, IsTrue}
-use Rattle.failover.specs.Adverts.{is_newer}
-use Rattle.base.specs.Masks.{has}
-use Rattle.failover.specs.Links.{AreJoined}
-use Rattle.failover.specs.declared.advert.Advert.{Advert}
-use Rattle.net_file.specs.declared.net.Net.{Net}
-use Rattle.steps.specs.Steps.{HasLink, HasSwitch}
-use Rattle.journal.specs.declared.item.Item.{Item}
-use Rattle.update_machine.specs.Adverts.{advert_known, own_advert, route_from}
-use Rattle.update_machine.specs.Boots.{boot_of, is_up}
-use Rattle.update_machine.specs.Deliveries.{advert_to}
-use Rattle.update_machine.specs.LinkMasks.{near, adverts_heard, links_known}
-use Rattle.update_machine.specs.Setting.{Setting}
-use Rattle.update_machine.specs.Links.{message_of}
+use Rattle.std.specs.Prelude.{[], ◌<◌, ◌∷◌, ◌≡◌, ◌≤◌, ◌⊎◌, All, IsTrue, List, Some, ℕ, ⊤}
+use Rattle.failover.specs.Exports.{AreJoined, is_newer}
+use Rattle.base.specs.Exports.{has}
+use Rattle.update_machine.specs.Exports.{Advert, Item, Net, Setting, advert_known, advert_to, adverts_heard, boot_of, is_up, links_known, message_of, near, own_advert, route_from}
+use Rattle.steps.specs.Exports.{HasLink, HasSwitch}
 
 -- ---- all adverts of a journal
 

@@ -1,12 +1,8 @@
 -- When a fact is true of each journal, whatever was done and in whatever order: by anyone, or on a
 -- network that takes only steps that it may take.
-use Rattle.std.specs.Prelude.{ℕ, List, [], ◌++◌, All, length, take}
-use Rattle.journal.specs.declared.item.Item.{Item}
-use Rattle.steps.specs.Steps.{IsEvent}
-use Rattle.steps.specs.declared.step.Event.{Event}
-use Rattle.update_machine.specs.Answers.{Answers, AnswersSoFar, BeginsAnswer, IsReached, StepOfRow, after_steps}
-use Rattle.update_machine.specs.Causes.{HaveCauses}
-use Rattle.update_machine.specs.Setting.{Setting}
+use Rattle.std.specs.Prelude.{[], ◌++◌, All, List, length, take, ℕ}
+use Rattle.update_machine.specs.Exports.{Answers, AnswersSoFar, BeginsAnswer, Event, HaveCauses, IsReached, Item, Setting, StepOfRow, after_steps}
+use Rattle.steps.specs.Exports.{IsEvent}
 use Rattle.control_laws.specs.ItemCauses.{HasItemCause}
 
 -- it is true after any steps, of all kinds, so in each answer to a schedule, and in each beginning

@@ -1,17 +1,12 @@
 -- Where a packet's leg leads: to an authority switch of the partition that has its header (Yu,
 -- Rexford, Freedman and Wang, "Scalable Flow-Based Networking with DIFANE", SIGCOMM 2010), by the
 -- plan of the leg's version; or to the switch of its port.
-use Rattle.std.specs.Prelude.{ℕ, ◌≡◌, nat_eq, Some, List, slice_get, IsTrue}
-use Rattle.std.specs.List.{list_any}
-use Rattle.five_tuple.specs.declared.header.Header.{Header}
-use Rattle.net_file.specs.Joins.{owner_of}
-use Rattle.policy_rules.specs.Hosted.{is_in}
-use Rattle.policy_rules.specs.declared.packet.Leg.{Leg}
-use Rattle.policy_rules.specs.declared.packet.Leg.TheVariants.{Seek, Exit}
-use Rattle.switch_table.specs.Tables.{Hosted, part_of}
-use Rattle.journal.specs.declared.item.Item.{Item}
-use Rattle.update_machine.specs.Setting.{Setting}
-use Rattle.update_machine.specs.Versions.{plan_at}
+use Rattle.std.specs.Prelude.{◌≡◌, IsTrue, List, Some, nat_eq, slice_get, ℕ}
+use Rattle.base.specs.Exports.{list_any}
+use Rattle.update_machine.specs.Exports.{Exit, Header, Item, Leg, Seek, Setting, plan_at}
+use Rattle.net_file.specs.Exports.{owner_of}
+use Rattle.policy_rules.specs.Exports.{is_in}
+use Rattle.switch_table.specs.Exports.{Hosted, part_of}
 
 -- the partition of a version's plan, by its place there, has the header, and the switch is one of
 -- its targets

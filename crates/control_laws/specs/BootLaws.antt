@@ -1,18 +1,9 @@
 -- What is known of boots, whatever steps were taken, and whatever messages were lost, repeated or
 -- came late.
-use Rattle.std.specs.Prelude.{ℕ, ◌≡◌, ◌≤◌, Some, List, IfSome, IsTrue, IsFalse}
-use Rattle.ctrl_msg.specs.Bodies.{body_boot}
-use Rattle.ctrl_msg.specs.declared.message.Body.{Body}
-use Rattle.ctrl_msg.specs.declared.message.Body.TheVariants.{OpenAt}
-use Rattle.ctrl_msg.specs.declared.message.Message.{Message}
-use Rattle.ctrl_msg.specs.declared.message.Place.{Place}
+use Rattle.std.specs.Prelude.{◌≡◌, ◌≤◌, IfSome, IsFalse, IsTrue, List, Some, ℕ}
+use Rattle.ctrl_msg.specs.Exports.{body_boot}
+use Rattle.update_machine.specs.Exports.{Body, Item, Message, OpenAt, Place, boot_of, is_member, is_over, is_up, known_boot, message_of, serves, speaker, to_switch}
 use Rattle.ctrl_msg.specs.declared.message.Place.TheVariants as receiver
-use Rattle.journal.specs.declared.item.Item.{Item}
-use Rattle.update_machine.specs.Boots.{boot_of, is_up}
-use Rattle.update_machine.specs.Marks.{is_member, is_over, known_boot}
-use Rattle.update_machine.specs.Quiet.{speaker}
-use Rattle.update_machine.specs.Settling.{to_switch}
-use Rattle.update_machine.specs.Links.{serves, message_of}
 
 -- a message to a switch carries no boot above its known one, and one from a switch none above its
 -- own

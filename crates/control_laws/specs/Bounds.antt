@@ -1,12 +1,6 @@
 -- How the marks bound each other and the stamps of members.
-use Rattle.std.specs.Prelude.{ℕ, ◌≡◌, ◌<◌, ◌≤◌, Some, List, length, IsTrue}
-use Rattle.ctrl_msg.specs.declared.message.Body.TheVariants.{Collect}
-use Rattle.journal.specs.declared.item.Item.{Item}
-use Rattle.update_machine.specs.Marks.{acked_stamp, current_mark, is_member, retired_mark}
-use Rattle.update_machine.specs.Links.{message_of}
-use Rattle.update_machine.specs.Setting.{Setting}
-use Rattle.update_machine.specs.Settling.{to_switch}
-use Rattle.update_machine.specs.Versions.{stamp_of, version_count}
+use Rattle.std.specs.Prelude.{◌<◌, ◌≡◌, ◌≤◌, IsTrue, List, Some, length, ℕ}
+use Rattle.update_machine.specs.Exports.{Collect, Item, Setting, acked_stamp, current_mark, is_member, message_of, retired_mark, stamp_of, to_switch, version_count}
 
 -- there is a current version; retired versions are below it and below the acknowledged stamp of
 -- each member of the network, and no member is told to drop a version that is not below that

@@ -1,16 +1,8 @@
 -- What switches heard about versions, and what the controller may rely on while a boot lasts.
-use Rattle.std.specs.Prelude.{ℕ, ◌≡◌, ◌≤◌, ◌⊎◌, Some, List, IsTrue}
-use Rattle.std.specs.List.{list_any}
-use Rattle.ctrl_msg.specs.declared.message.Body.TheVariants.{Install, Installed, Stamped}
-use Rattle.ctrl_msg.specs.Kinds.{to_controller}
-use Rattle.switch_table.specs.declared.tables.Tables.{Tables}
-use Rattle.journal.specs.declared.item.Item.{Item}
-use Rattle.update_machine.specs.Boots.{boot_of, heard, is_up}
-use Rattle.update_machine.specs.Marks.{has_acked, known_boot}
-use Rattle.update_machine.specs.Setting.{Setting}
-use Rattle.update_machine.specs.Settling.{to_switch}
-use Rattle.update_machine.specs.Versions.{installs_version, stamp_of, tables_at, version_count}
-use Rattle.update_machine.specs.Links.{message_of}
+use Rattle.std.specs.Prelude.{◌≡◌, ◌≤◌, ◌⊎◌, IsTrue, List, Some, ℕ}
+use Rattle.base.specs.Exports.{list_any}
+use Rattle.update_machine.specs.Exports.{Install, Installed, Item, Setting, Stamped, Tables, boot_of, has_acked, heard, installs_version, is_up, known_boot, message_of, stamp_of, tables_at, to_switch, version_count}
+use Rattle.ctrl_msg.specs.Exports.{to_controller}
 
 -- the switch heard the tables of the version in its boot, or began with them
 abbrev pub HasTables : List Item → ℕ → ℕ → Type 0

@@ -3,24 +3,12 @@
 -- middle of a step too. The update in two phases is that of Reitblatt, Foster, Rexford,
 -- Schlesinger and Walker, "Abstractions for Network Update"; boots and acknowledgements are our
 -- own.
-use Rattle.std.specs.Prelude.{⊤, ℕ, ◌≡◌, ◌≢◌, ◌+◌, ◌-◌, ◌<◌, ◌≤◌, ◌⊎◌, Some, None, Ok, List, IsOk, IsTrue, IsFalse}
-use Rattle.std.specs.List.{list_any}
-use Rattle.ctrl_msg.specs.declared.message.Body.{Body}
-use Rattle.ctrl_msg.specs.declared.message.Body.TheVariants.{Install, OpenAt, Stamp, Collect, CacheRule, Advertise, Hello, Installed, Stamped}
-use Rattle.ctrl_msg.specs.declared.message.Place.{Place}
+use Rattle.std.specs.Prelude.{◌+◌, ◌-◌, ◌<◌, ◌≡◌, ◌≢◌, ◌≤◌, ◌⊎◌, IsFalse, IsOk, IsTrue, List, None, Ok, Some, ℕ, ⊤}
+use Rattle.base.specs.Exports.{list_any}
+use Rattle.update_machine.specs.Exports.{Advertise, Body, CacheRule, Collect, Hello, Install, Installed, Item, MayRise, OpenAt, Place, Row, Setting, Stamp, Stamped, Tables, boot_of, current_mark, has_acked, heard, installs_version, is_member, is_over, is_up, known_boot, message_of, most_live, most_versions, next_policy, next_retired, opened_at, retired_mark, stamp_of, tables_at, to_switch, touched_by, version_count}
 use Rattle.ctrl_msg.specs.declared.message.Place.TheVariants as receiver
-use Rattle.policy_rules.specs.declared.policy.Row.{Row}
-use Rattle.switch_table.specs.declared.tables.Tables.{Tables}
-use Rattle.ternary.specs.Word.{WordValue}
-use Rattle.journal.specs.declared.item.Item.{Item}
+use Rattle.ternary.specs.Exports.{WordValue}
 use Rattle.journal.specs.declared.item.Item.TheVariants as item
-use Rattle.update_machine.specs.Boots.{boot_of, heard, is_up}
-use Rattle.update_machine.specs.Marks.{MayRise, current_mark, has_acked, is_member, is_over, known_boot, most_live, most_versions, next_retired, opened_at, retired_mark}
-use Rattle.update_machine.specs.Setting.{Setting}
-use Rattle.update_machine.specs.Settling.{to_switch}
-use Rattle.update_machine.specs.Touched.{touched_by}
-use Rattle.update_machine.specs.Versions.{installs_version, next_policy, stamp_of, tables_at, version_count}
-use Rattle.update_machine.specs.Links.{message_of}
 
 -- ---- what is sent to a switch
 

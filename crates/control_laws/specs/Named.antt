@@ -1,19 +1,9 @@
 -- What messages name: the switch that they are to or from, and the version that they are about.
-use Rattle.std.specs.Prelude.{ℕ, ◌≡◌, ◌≤◌, Option, Some, None, List, All, IfSome}
-use Rattle.ctrl_msg.specs.Kinds.{body_version, to_controller}
-use Rattle.ctrl_msg.specs.declared.message.Body.{Body}
-use Rattle.ctrl_msg.specs.declared.message.Message.{Message}
-use Rattle.ctrl_msg.specs.declared.message.Place.{Place}
+use Rattle.std.specs.Prelude.{◌≡◌, ◌≤◌, All, IfSome, List, None, Option, Some, ℕ}
+use Rattle.ctrl_msg.specs.Exports.{body_version, to_controller}
+use Rattle.update_machine.specs.Exports.{Body, Item, Message, Place, Setting, controller_heard, heard, message_of, speaker, to_switch, version_count}
 use Rattle.ctrl_msg.specs.declared.message.Place.TheVariants as receiver
-use Rattle.journal.specs.declared.item.Item.{Item}
-use Rattle.steps.specs.Steps.{HasSwitch}
-use Rattle.update_machine.specs.Boots.{heard}
-use Rattle.update_machine.specs.Marks.{controller_heard}
-use Rattle.update_machine.specs.Quiet.{speaker}
-use Rattle.update_machine.specs.Setting.{Setting}
-use Rattle.update_machine.specs.Settling.{to_switch}
-use Rattle.update_machine.specs.Versions.{version_count}
-use Rattle.update_machine.specs.Links.{message_of}
+use Rattle.steps.specs.Exports.{HasSwitch}
 
 -- there is a speaker, a switch of the network
 abbrev pub IsOfSwitch : Setting → Option (ℕ × ℕ) → Type 0

@@ -1,15 +1,6 @@
 -- Versions and their plans: how many there are, and which of their tables switches have.
-use Rattle.std.specs.Prelude.{⊤, ℕ, ◌≡◌, ◌-◌, ◌≤◌, Some, List, [], All, IsTrue, ◌++◌}
-use Rattle.ctrl_msg.specs.declared.message.Body.{Body}
-use Rattle.ctrl_msg.specs.declared.message.Body.TheVariants.{Install}
-use Rattle.switch_table.specs.declared.tables.Tables.{Tables}
-use Rattle.journal.specs.declared.item.Item.{Item}
-use Rattle.update_machine.specs.Boots.{heard}
-use Rattle.update_machine.specs.Marks.{most_live, most_versions, retired_mark}
-use Rattle.update_machine.specs.Setting.{Setting}
-use Rattle.update_machine.specs.Settling.{to_switch}
-use Rattle.update_machine.specs.Versions.{HasPlan, holds_version, tables_at, version_count}
-use Rattle.update_machine.specs.Links.{message_of}
+use Rattle.std.specs.Prelude.{[], ◌++◌, ◌-◌, ◌≡◌, ◌≤◌, All, IsTrue, List, Some, ℕ, ⊤}
+use Rattle.update_machine.specs.Exports.{Body, HasPlan, Install, Item, Setting, Tables, heard, holds_version, message_of, most_live, most_versions, retired_mark, tables_at, to_switch, version_count}
 
 -- ---- versions
 

@@ -1,11 +1,9 @@
 -- When the current mark rises: only once all members have the tables, as the first phase of an
 -- update requires (Reitblatt, Foster, Rexford, Schlesinger and Walker, "Abstractions for Network
 -- Update").
-use Rattle.std.specs.Prelude.{⊤, List}
-use Rattle.journal.specs.declared.item.Item.{Item}
+use Rattle.std.specs.Prelude.{List, ⊤}
+use Rattle.update_machine.specs.Exports.{Item, MayRise, Setting}
 use Rattle.journal.specs.declared.item.Item.TheVariants as item
-use Rattle.update_machine.specs.Marks.{MayRise}
-use Rattle.update_machine.specs.Setting.{Setting}
 
 -- the cause of a rise of the current mark
 abbrev pub RisesRightly : Setting → List Item → Item → Type 0

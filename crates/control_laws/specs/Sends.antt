@@ -1,16 +1,8 @@
 -- How many messages steps send, and how far boots and the sequence numbers of adverts rise with
 -- them: OSPF has a rule for a router that used up its sequence numbers (RFC 2328, section 12.1.6);
 -- here they are never used up.
-use Rattle.std.specs.Prelude.{ℕ, ◌+◌, ◌-◌, ◌*◌, ◌^◌, ◌<◌, ◌≤◌, ◌==◌, if◌then◌else◌, List, length}
-use Rattle.journal.specs.declared.item.Item.{Item}
-use Rattle.steps.specs.declared.step.Step.{Step}
-use Rattle.update_machine.specs.Adverts.{own_seq}
-use Rattle.update_machine.specs.Boots.{boot_of}
-use Rattle.update_machine.specs.Folds.{count_of}
-use Rattle.update_machine.specs.LinkMasks.{near}
-use Rattle.update_machine.specs.Messages.{is_sending, next_message}
-use Rattle.update_machine.specs.Pieces.{piece}
-use Rattle.update_machine.specs.Setting.{Setting}
+use Rattle.std.specs.Prelude.{if◌then◌else◌, ◌*◌, ◌+◌, ◌-◌, ◌<◌, ◌==◌, ◌^◌, ◌≤◌, List, length, ℕ}
+use Rattle.update_machine.specs.Exports.{Item, Setting, Step, boot_of, count_of, is_sending, near, next_message, own_seq, piece}
 
 -- how many messages were sent
 abbrev pub sent_count : List Item → ℕ

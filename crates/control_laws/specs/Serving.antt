@@ -1,12 +1,8 @@
 -- Switches that serve have the version that they stamp packets with. That a packet finds the
 -- tables of its version at each switch is the consistency of Reitblatt, Foster, Rexford,
 -- Schlesinger and Walker, "Abstractions for Network Update".
-use Rattle.std.specs.Prelude.{ℕ, ◌<◌, ◌≤◌, ◌⊎◌, List, length, IsTrue}
-use Rattle.journal.specs.declared.item.Item.{Item}
-use Rattle.update_machine.specs.Links.{serves}
-use Rattle.update_machine.specs.Marks.{current_mark, retired_mark}
-use Rattle.update_machine.specs.Setting.{Setting}
-use Rattle.update_machine.specs.Versions.{holds_version, stamp_of}
+use Rattle.std.specs.Prelude.{◌<◌, ◌≤◌, ◌⊎◌, IsTrue, List, length, ℕ}
+use Rattle.update_machine.specs.Exports.{Item, Setting, current_mark, holds_version, retired_mark, serves, stamp_of}
 
 -- the switch has the version of its stamp, and each one from there up to the current version; the
 -- stamp isn't retired, and is at most the current version

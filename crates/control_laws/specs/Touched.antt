@@ -1,14 +1,7 @@
 -- What is sent to switches about the changes that made versions.
-use Rattle.std.specs.Prelude.{ℕ, ◌≡◌, ◌≤◌, Some, List}
-use Rattle.ctrl_msg.specs.declared.message.Body.TheVariants.{Stamp}
-use Rattle.ctrl_msg.specs.declared.message.Message.{Message}
-use Rattle.ternary.specs.Word.{WordValue}
-use Rattle.journal.specs.declared.item.Item.{Item}
-use Rattle.update_machine.specs.Links.{message_of}
-use Rattle.update_machine.specs.Setting.{Setting}
-use Rattle.update_machine.specs.Settling.{to_switch}
-use Rattle.update_machine.specs.Touched.{touched_by}
-use Rattle.update_machine.specs.Versions.{version_count}
+use Rattle.std.specs.Prelude.{◌≡◌, ◌≤◌, List, Some, ℕ}
+use Rattle.update_machine.specs.Exports.{Item, Message, Setting, Stamp, message_of, to_switch, touched_by, version_count}
+use Rattle.ternary.specs.Exports.{WordValue}
 
 -- the version exists, and these words are what its change touches
 pub record IsTouched (setting : Setting) (journal : List Item) (version : ℕ)

@@ -1,17 +1,10 @@
 -- The versions of the plans that are kept, as the marks settle.
-use Rattle.std.proofs.Common.{ℕ, suc, zero, ◌≡◌, ◌+◌, ◌-◌, ◌<◌, ◌≤◌, Bool, true, false, cond, leb, List, [], ◌∷◌, ◌++◌, length, get_or, map, filter, All, refl, ap, sym, ◌∙◌, subst, arith}
-use Rattle.std.specs.List.{range_with_len}
-use Rattle.std.proofs.lemmas.List.Elements.{All-append, All-filter}
-use Rattle.std.proofs.lemmas.List.{map-append, length-map, get_or-map}
-use Rattle.std.proofs.lemmas.List.FromFn.{length-range_with_len, get_or-range_with_len}
-use Rattle.std.proofs.lemmas.Bool.Decides.{nat_tests}
-use Rattle.base.proofs.ListsOfRanges.{range_more}
-use Rattle.version_update.specs.Marks.{MarksValue, StaySettled, at_switch, with_version}
-use Rattle.version_update.specs.Settling.{Settles}
+use Rattle.std.proofs.Common.{[], ◌++◌, ◌+◌, ◌-◌, ◌<◌, ◌∙◌, ◌∷◌, ◌≡◌, ◌≤◌, All, Bool, List, ap, arith, cond, false, filter, get_or, leb, length, map, refl, subst, suc, sym, true, zero, ℕ}
+use Rattle.base.proofs.Exports.{All-append, All-filter, get_or-map, get_or-range_with_len, length-map, length-range_with_len, map-append, nat_tests, range_more, range_with_len}
+use Rattle.version_update.specs.Exports.{MarksValue, Settles, StaySettled, at_switch, with_version}
 use Rattle.version_update.specs.declared.marks.Settled.{Settled}
 use Rattle.version_update.specs.declared.record.SwitchRecord.{SwitchRecord}
-use Rattle.controller.specs.Controller.{KeptPlan, ControllerValue, IsController, StaysController, SettlesWith, plans_from, live_from_current}
-use Rattle.controller.specs.Plan.{IsSoundPlan}
+use Rattle.controller.specs.Exports.{ControllerValue, IsController, IsSoundPlan, KeptPlan, SettlesWith, StaysController, live_from_current, plans_from}
 
 test_le : (a b : ℕ) → a ≤ b → leb a b ≡ true
 test_le a b le = grind (arith, nat_tests)

@@ -1,13 +1,8 @@
 -- The plan of a version that is kept, and the tables that it gives.
-use Rattle.std.proofs.Common.{ℕ, suc, zero, ◌≡◌, ◌+◌, ◌-◌, ◌<◌, ◌≤◌, ◌==◌, Bool, true, false, if◌then◌else◌, Some, List, [], ◌∷◌, length, get_or, map, refl, ap, sym, subst, ◌∙◌, ◌⊎◌, inl, inr, ◌≢◌, arith, eq-eqb, eqb-true}
-use Rattle.std.specs.Prelude.{find, option_map}
-use Rattle.std.specs.List.{range_with_len}
-use Rattle.std.proofs.lemmas.Bool.{cases_eq, false≢true}
-use Rattle.std.proofs.lemmas.List.{length-map}
-use Rattle.std.proofs.lemmas.List.FromFn.{length-range_with_len}
-use Rattle.controller.specs.Controller.{KeptPlan, ControllerValue, IsController, current_plan, kept_tables}
-use Rattle.controller.specs.Plan.{IsSoundPlan}
-use Rattle.switch_table.specs.Tables.{tables_of}
+use Rattle.std.proofs.Common.{[], if◌then◌else◌, ◌+◌, ◌-◌, ◌<◌, ◌==◌, ◌∙◌, ◌∷◌, ◌≡◌, ◌≢◌, ◌≤◌, ◌⊎◌, Bool, List, Some, ap, arith, eq-eqb, eqb-true, false, find, get_or, inl, inr, length, map, option_map, refl, subst, suc, sym, true, zero, ℕ}
+use Rattle.base.proofs.Exports.{cases_eq, false≢true, length-map, length-range_with_len, range_with_len}
+use Rattle.controller.specs.Exports.{ControllerValue, IsController, IsSoundPlan, KeptPlan, current_plan, kept_tables}
+use Rattle.switch_table.specs.Exports.{tables_of}
 
 -- where the versions ascend by one, each stands at its place
 found_at_place : (plans : List KeptPlan) (first n v : ℕ) (d : KeptPlan)

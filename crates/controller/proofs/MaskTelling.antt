@@ -1,19 +1,15 @@
 -- What is told as the marks settle, from the masks of the answer.
-use Rattle.std.proofs.Common.{ℕ, ◌≡◌, Bool, true, false, cond, ◌&&◌, ltb, List, [], ◌∷◌, ◌++◌, length, refl, ap, sym, ◌∙◌, append_assoc, append-nil}
-use Rattle.std.specs.Prelude.{Option, Some, None}
-use Rattle.std.proofs.lemmas.List.{length-map}
+use Rattle.std.proofs.Common.{[], ◌&&◌, ◌++◌, ◌∙◌, ◌∷◌, ◌≡◌, Bool, List, None, Option, Some, ap, append-nil, append_assoc, cond, false, length, ltb, refl, sym, true, ℕ}
+use Rattle.base.proofs.Exports.{length-map}
 use Rattle.ctrl_msg.specs.declared.message.Body.{Body}
 use Rattle.ctrl_msg.specs.declared.message.Body.TheVariants.{OpenAt}
 use Rattle.version_update.specs.declared.record.SwitchRecord.{SwitchRecord}
 use Rattle.version_update.specs.declared.marks.Settled.{Settled}
-use Rattle.version_update.specs.Record.{is_member, opens_at}
-use Rattle.version_update.specs.Marks.{MarksValue}
-use Rattle.version_update.specs.Settling.{Names, rises_to, Settles}
-use Rattle.controller.specs.News.{switches_named}
-use Rattle.controller.specs.Sends.{posts_to, switches_where, rising_acts, stamp_acts, open_acts, collect_acts, settling_acts}
+use Rattle.version_update.specs.Exports.{MarksValue, Names, Settles, is_member, opens_at, rises_to}
+use Rattle.controller.specs.Exports.{collect_acts, open_acts, posts_to, rising_acts, settling_acts, stamp_acts, switches_named, switches_where}
 use Rattle.controller.specs.declared.sends.Act.{Act}
 use Rattle.controller.proofs.PickedSwitches.{those_named}
-use Rattle.ternary.specs.Word.{WordValue}
+use Rattle.ternary.specs.Exports.{WordValue}
 
 -- no switch comes or goes
 pub same_number : (before after : MarksValue) (answer : Settled) → Settles before after answer

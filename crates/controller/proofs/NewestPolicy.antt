@@ -1,12 +1,9 @@
 -- The newest version's policy, as the marks settle.
-use Rattle.std.proofs.Common.{ℕ, suc, zero, ◌≡◌, ◌+◌, ◌-◌, ◌≤◌, ◌==◌, Bool, true, false, cond, leb, Some, None, List, [], ◌∷◌, ◌++◌, map, refl, ap, ◌∙◌, arith, eq-eqb}
-use Rattle.std.specs.Prelude.{Option, find, option_map}
-use Rattle.std.specs.List.{range_with_len}
-use Rattle.std.proofs.lemmas.Bool.Decides.{nat_tests}
+use Rattle.std.proofs.Common.{[], ◌++◌, ◌+◌, ◌-◌, ◌==◌, ◌∙◌, ◌∷◌, ◌≡◌, ◌≤◌, Bool, List, None, Option, Some, ap, arith, cond, eq-eqb, false, find, leb, map, option_map, refl, suc, true, zero, ℕ}
+use Rattle.base.proofs.Exports.{nat_tests, range_with_len}
 use Rattle.policy_rules.specs.declared.policy.Row.{Row}
-use Rattle.version_update.specs.Marks.{MarksValue, with_version}
-use Rattle.controller.specs.Controller.{KeptPlan, ControllerValue, IsController, SettlesWith, newest_policy, plans_from}
-use Rattle.controller.specs.Submit.{SubmitsPlan}
+use Rattle.version_update.specs.Exports.{MarksValue, with_version}
+use Rattle.controller.specs.Exports.{ControllerValue, IsController, KeptPlan, SettlesWith, SubmitsPlan, newest_policy, plans_from}
 
 abbrev pub found : ℕ → List KeptPlan → Option KeptPlan
 found version plans = find (λ (kept : KeptPlan). kept.version == version) plans

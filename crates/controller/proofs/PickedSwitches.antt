@@ -1,13 +1,9 @@
 -- Lists of the switches that pass a test, or that a mask names.
-use Rattle.std.proofs.Common.{ℕ, suc, zero, ◌≡◌, ◌<◌, Bool, true, false, cond, eqb, List, [], ◌∷◌, length, get_or, filter, refl, ap, ◌∙◌, arith}
-use Rattle.std.specs.Prelude.{slice_get}
-use Rattle.std.specs.List.{range_with_len}
-use Rattle.std.specs.Option.{option_map_or}
-use Rattle.std.specs.Int.{from_bool}
+use Rattle.std.proofs.Common.{[], ◌<◌, ◌∙◌, ◌∷◌, ◌≡◌, Bool, List, ap, arith, cond, eqb, false, filter, get_or, length, refl, slice_get, suc, true, zero, ℕ}
+use Rattle.base.proofs.Exports.{from_bool, option_map_or, range_with_len}
 use Rattle.version_update.specs.declared.record.SwitchRecord.{SwitchRecord}
-use Rattle.version_update.specs.Settling.{Names}
-use Rattle.controller.specs.News.{switches_named}
-use Rattle.controller.specs.Sends.{switches_where}
+use Rattle.version_update.specs.Exports.{Names}
+use Rattle.controller.specs.Exports.{switches_named, switches_where}
 
 -- tests that agree pick the same
 pub picked_same : (p q : ℕ → Bool) → ((s : ℕ) → p s ≡ q s) → (xs : List ℕ)

@@ -1,33 +1,27 @@
 -- The plan of a policy is sound.
-use Rattle.std.proofs.Common.{ℕ, ◌≡◌, ◌∙◌, ◌^◌, ◌<◌, ◌≤◌, List, [], length, get_or, map, Ok, Err, sym, ap, subst, arith, All}
-use Rattle.std.specs.List.{zip}
-use Rattle.std.proofs.lemmas.List.{get_or-map, length-map}
-use Rattle.std.proofs.lemmas.Slice.Zip.{firsts-zip, get_or-zip, length-zip}
-use Rattle.std.proofs.lemmas.List.Elements.{All-weaker}
-use Rattle.base.specs.Refusals.{IfRefused}
+use Rattle.std.proofs.Common.{[], ◌<◌, ◌^◌, ◌∙◌, ◌≡◌, ◌≤◌, All, Err, List, Ok, ap, arith, get_or, length, map, subst, sym, zip, ℕ}
+use Rattle.base.proofs.Exports.{All-weaker, firsts-zip, get_or-map, get_or-zip, length-map, length-zip}
+use Rattle.base.specs.Exports.{IfRefused}
 use Rattle.base.specs.declared.error.Failure.{Failure}
 use Rattle.base.specs.declared.error.Failure.TheVariants.{Refused, NoMemory}
-use Rattle.net_file.specs.Net.{IsNet}
+use Rattle.net_file.specs.Exports.{IsNet}
 use Rattle.net_file.specs.declared.net.Net.{Net}
-use Rattle.cut_tree.specs.DefinedTree.{tree_of}
-use Rattle.cut_tree.specs.Shape.{Shape, leaf_count}
+use Rattle.cut_tree.specs.Exports.{Shape, leaf_count, tree_of}
 use Rattle.placement.specs.Placement.{RefusesPlacement, placement_of}
 use Rattle.placement.specs.declared.NoRoom.{NoRoom}
-use Rattle.policy_rules.specs.RuleList.{RefusesRules, rules_of, word_total}
+use Rattle.policy_rules.specs.Exports.{RefusesRules, rules_of, word_total}
 use Rattle.policy_rules.specs.declared.rule_list.TooManyWords.{TooManyWords}
 use Rattle.cut_tree.specs.declared.tree.TooManyLeaves.{TooManyLeaves}
 use Rattle.partition.specs.Parts.{parts_of}
 use Rattle.partition.specs.Plan.{IsPlan, Hosted, plan_of, rooms_of, sizes_of}
 use Rattle.policy_rules.specs.Hosted as no_plan
 use Rattle.partition.proofs.CallerLemmas.{no_leaves, no_room, no_words, planned}
-use Rattle.controller.specs.Causes.{of_placement, of_rules, of_tree}
+use Rattle.controller.specs.Exports.{IsSoundPlan, LeadEveryHeader, RefusesPlan, of_placement, of_rules, of_tree}
 use Rattle.policy_rules.specs.declared.policy.Row.{Row}
 use Rattle.policy_rules.specs.declared.rules.Partition.{Partition}
 use Rattle.policy_rules.specs.declared.rules.Rule.{Rule}
 use Rattle.switch_table.proofs.TableLemmas.{tables_lead}
-use Rattle.switch_table.specs.Tables.{part_of}
-use Rattle.controller.specs.Leads.{LeadEveryHeader}
-use Rattle.controller.specs.Plan.{IsSoundPlan, RefusesPlan}
+use Rattle.switch_table.specs.Exports.{part_of}
 
 pub plan_sound : (rows : List Row) (net : Net) (plan : List Hosted) → IsNet net
     → IsPlan rows net plan → IsSoundPlan (record { policy = rows; hosted = plan })

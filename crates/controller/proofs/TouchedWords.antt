@@ -1,9 +1,9 @@
 -- The words of the rows that a change touches, listed as far as they may be told.
-use Rattle.std.proofs.Common.{◌≡◌, ◌<◌, ◌∙◌, true, nat_lt, List, ◌++◌, append_assoc, length, refl, ap, sym, subst, inl, inr, arith}
-use Rattle.std.proofs.lemmas.Bool.Decides.{nat_tests}
-use Rattle.ternary.specs.Word.{WordValue}
-use Rattle.switch_table.specs.Carried.{all_touched, few_touched}
-use Rattle.controller.specs.Touching.{AreListed, ListsMore}
+use Rattle.std.proofs.Common.{◌++◌, ◌<◌, ◌∙◌, ◌≡◌, List, ap, append_assoc, arith, inl, inr, length, nat_lt, refl, subst, sym, true}
+use Rattle.base.proofs.Exports.{nat_tests}
+use Rattle.ternary.specs.Exports.{WordValue}
+use Rattle.switch_table.specs.Exports.{all_touched, few_touched}
+use Rattle.controller.specs.Exports.{AreListed, ListsMore}
 
 -- some are listed, and then others
 pub lists_then : (one two three some others : List WordValue) → ListsMore one two some

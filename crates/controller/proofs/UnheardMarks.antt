@@ -1,21 +1,15 @@
 -- Settled marks that nothing changed: nothing is sent, and no plan is let go.
-use Rattle.std.proofs.Common.{ℕ, suc, zero, ◌≡◌, ◌+◌, ◌<◌, ◌≤◌, Bool, true, false, cond, leb, ltb, List, [], ◌∷◌, ◌++◌, length, map, filter, All, refl, ap, ◌∙◌, arith}
-use Rattle.std.specs.Prelude.{slice_get, IsFalse}
-use Rattle.std.specs.List.{range_with_len}
-use Rattle.std.specs.Option.{option_map_or}
-use Rattle.std.proofs.lemmas.Option.{slice_get_past}
-use Rattle.std.proofs.lemmas.Bool.Decides.{nat_tests}
+use Rattle.std.proofs.Common.{[], ◌++◌, ◌+◌, ◌<◌, ◌∙◌, ◌∷◌, ◌≡◌, ◌≤◌, All, Bool, IsFalse, List, ap, arith, cond, false, filter, leb, length, ltb, map, refl, slice_get, suc, true, zero, ℕ}
+use Rattle.base.proofs.Exports.{nat_tests, option_map_or, range_with_len, slice_get_past}
 use Rattle.ctrl_msg.specs.declared.message.Body.{Body}
 use Rattle.ctrl_msg.specs.declared.message.Body.TheVariants.{Hello, Installed, Stamped}
 use Rattle.version_update.specs.declared.record.SwitchRecord.{SwitchRecord}
-use Rattle.version_update.specs.Record.{unknown_switch, is_member, opens_at}
-use Rattle.version_update.specs.Marks.{MarksValue, AreMarksSettled}
-use Rattle.controller.specs.Controller.{KeptPlan, ControllerValue, plans_from, current_touched}
-use Rattle.controller.specs.Sends.{posts_to, switches_where, stamp_acts, open_acts, collect_acts, settling_acts, marks_after, hear_acts}
+use Rattle.version_update.specs.Exports.{AreMarksSettled, MarksValue, is_member, opens_at, unknown_switch}
+use Rattle.controller.specs.Exports.{ControllerValue, KeptPlan, collect_acts, current_touched, hear_acts, marks_after, open_acts, plans_from, posts_to, settling_acts, stamp_acts, switches_where}
 use Rattle.controller.specs.declared.sends.Act.TheVariants.{Current, Retired}
 use Rattle.ctrl_msg.specs.declared.message.Body.TheVariants as body
 use Rattle.controller.proofs.PickedSwitches.{picked_same, passes_there}
-use Rattle.ternary.specs.Word.{WordValue}
+use Rattle.ternary.specs.Exports.{WordValue}
 
 not_below : (n : ℕ) → ltb n n ≡ false
 not_below n = grind (arith, nat_tests)

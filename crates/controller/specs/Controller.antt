@@ -1,16 +1,13 @@
 -- A controller: the marks of the versions, and the plans of those that a later call can name.
-use Rattle.std.specs.Prelude.{ℕ, ◌≡◌, ◌+◌, ◌-◌, ◌==◌, nat_le, Option, option_map, List, [], ◌∷◌, length, map, filter, find, All}
-use Rattle.std.specs.List.{range_with_len}
-use Rattle.std.specs.Option.{option_map_or}
+use Rattle.std.specs.Prelude.{[], ◌+◌, ◌-◌, ◌==◌, ◌∷◌, ◌≡◌, All, List, Option, filter, find, length, map, nat_le, option_map, ℕ}
+use Rattle.base.specs.Exports.{option_map_or, range_with_len}
 use Rattle.policy_rules.specs.declared.policy.Row.{Row}
-use Rattle.switch_table.specs.Tables.{tables_of}
+use Rattle.switch_table.specs.Exports.{all_touched, tables_of}
 use Rattle.switch_table.specs.declared.tables.Tables.{Tables}
-use Rattle.switch_table.specs.Carried.{all_touched}
-use Rattle.version_update.specs.Marks.{MarksValue, first_marks, AreMarksSettled}
-use Rattle.version_update.specs.Settling.{Settles}
+use Rattle.version_update.specs.Exports.{AreMarksSettled, MarksValue, Settles, first_marks}
 use Rattle.version_update.specs.declared.marks.Settled.{Settled}
 use Rattle.controller.specs.Plan.{PlanValue, IsSoundPlan}
-use Rattle.ternary.specs.Word.{WordValue}
+use Rattle.ternary.specs.Exports.{WordValue}
 
 -- a version with its plan, and what the change that made it touches
 pub record KeptPlan : Type 0 where

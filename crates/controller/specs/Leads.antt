@@ -1,11 +1,10 @@
 -- Where the tables of a plan lead.
-use Rattle.std.specs.Prelude.{ℕ, List}
-use Rattle.five_tuple.specs.Header.{IsHeader}
+use Rattle.std.specs.Prelude.{List, ℕ}
+use Rattle.five_tuple.specs.Exports.{IsHeader}
 use Rattle.five_tuple.specs.declared.header.Header.{Header}
 use Rattle.partition.specs.Plan.{Hosted}
 use Rattle.policy_rules.specs.declared.policy.Row.{Row}
-use Rattle.switch_table.specs.Lookup.{LeadsToFirstMatch, table_lookup}
-use Rattle.switch_table.specs.Tables.{tables_of}
+use Rattle.switch_table.specs.Exports.{LeadsToFirstMatch, table_lookup, tables_of}
 
 -- for any version the tables of each switch decide each header as the first match among the rows
 -- does, or send it to targets whose tables all decide it like that

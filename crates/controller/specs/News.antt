@@ -1,7 +1,6 @@
 -- What is sent to several switches at once.
-use Rattle.std.specs.Prelude.{ℕ, ◌==◌, List, filter}
-use Rattle.std.specs.Int.{bit_at}
-use Rattle.std.specs.List.{range_with_len}
+use Rattle.std.specs.Prelude.{◌==◌, List, filter, ℕ}
+use Rattle.base.specs.Exports.{bit_at, range_with_len}
 use Rattle.ctrl_msg.specs.declared.message.Body.{Body}
 use Rattle.ctrl_msg.specs.declared.message.Body.TheVariants as body
 use Rattle.controller.specs.declared.settling.News.{News}

@@ -1,11 +1,11 @@
 -- Plans: a policy with its partitions, each with its targets.
-use Rattle.std.specs.Prelude.{⊤, ◌≡◌, ◌^◌, ◌<◌, Err, List, length, map, All}
+use Rattle.std.specs.Prelude.{◌<◌, ◌^◌, ◌≡◌, All, Err, List, length, map, ⊤}
 use Rattle.net_file.specs.declared.net.Net.{Net}
 use Rattle.partition.specs.Plan.{Hosted, plan_of}
 use Rattle.policy_rules.specs.Hosted as no_plan
-use Rattle.policy_rules.specs.Partitions.{AreSoundPartitions, LastCovers}
+use Rattle.policy_rules.specs.Exports.{AreSoundPartitions, LastCovers}
 use Rattle.policy_rules.specs.declared.policy.Row.{Row}
-use Rattle.switch_table.specs.Tables.{part_of}
+use Rattle.switch_table.specs.Exports.{part_of}
 use Rattle.controller.specs.declared.plan_error.PlanError.{PlanError}
 use Rattle.controller.specs.declared.plan_error.PlanError.TheVariants.{TooManyWords, TooManyLeaves, NoRoom, NoMemory}
 

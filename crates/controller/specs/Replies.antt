@@ -1,6 +1,6 @@
 -- What a switch replies about a version.
 use Rattle.std.specs.Prelude.{ℕ}
-use Rattle.version_update.specs.Record.{after_installed, after_stamped}
+use Rattle.version_update.specs.Exports.{after_installed, after_stamped}
 use Rattle.version_update.specs.declared.record.SwitchRecord.{SwitchRecord}
 use Rattle.controller.specs.declared.replying.Reply.{Reply}
 use Rattle.controller.specs.declared.replying.Reply.TheVariants.{Installed, Stamped}

@@ -1,22 +1,20 @@
 -- What a controller sends at each call, in order, as a function of its marks before and after it
 -- and of its plans. The two phases are those of Reitblatt, Foster, Rexford, Schlesinger and Walker,
 -- "Abstractions for Network Update".
-use Rattle.std.specs.Prelude.{⊤, ℕ, ◌+◌, ◌<◌, ◌≤◌, ◌&&◌, Bool, false, not, nat_lt, nat_le, if◌then◌else◌, List, [], ◌∷◌, ◌++◌, length, map, filter, slice_get}
-use Rattle.std.specs.List.{range_with_len}
-use Rattle.std.specs.Option.{option_map_or}
+use Rattle.std.specs.Prelude.{[], if◌then◌else◌, ◌&&◌, ◌++◌, ◌+◌, ◌<◌, ◌∷◌, ◌≤◌, Bool, List, false, filter, length, map, nat_le, nat_lt, not, slice_get, ℕ, ⊤}
+use Rattle.base.specs.Exports.{option_map_or, range_with_len}
 use Rattle.ctrl_msg.specs.declared.message.Body.{Body}
 use Rattle.ctrl_msg.specs.declared.message.Body.TheVariants.{Install, OpenAt, Stamp, Collect, Hello, Installed, Stamped}
 use Rattle.ctrl_msg.specs.declared.message.Place.TheVariants.{Switch}
-use Rattle.switch_table.specs.Tables.{tables_of}
-use Rattle.version_update.specs.Marks.{MarksValue, record_of, at_switch, with_version}
-use Rattle.version_update.specs.Record.{is_member, is_over, has_acked, takes_hello, hello_recorded, after_installed, after_stamped, opens_at}
+use Rattle.switch_table.specs.Exports.{tables_of}
+use Rattle.version_update.specs.Exports.{MarksValue, after_installed, after_stamped, at_switch, has_acked, hello_recorded, is_member, is_over, opens_at, record_of, takes_hello, with_version}
 use Rattle.version_update.specs.declared.record.Phase.{Phase}
 use Rattle.version_update.specs.declared.record.Phase.TheVariants.{Joining, Member, Over}
 use Rattle.version_update.specs.declared.record.SwitchRecord.{SwitchRecord}
 use Rattle.controller.specs.Controller.{KeptPlan, ControllerValue, current_touched, plans_from}
 use Rattle.controller.specs.declared.sends.Act.{Act}
 use Rattle.controller.specs.declared.sends.Act.TheVariants.{Current, Retired, Post}
-use Rattle.ternary.specs.Word.{WordValue}
+use Rattle.ternary.specs.Exports.{WordValue}
 
 -- ---- messages
 

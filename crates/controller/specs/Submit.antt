@@ -1,12 +1,12 @@
 -- What a controller is after a plan was submitted, or refused.
-use Rattle.std.specs.Prelude.{◌≡◌, ◌⊎◌, ◌+◌, List, [], ◌∷◌, ◌++◌}
-use Rattle.version_update.specs.Marks.{with_version}
+use Rattle.std.specs.Prelude.{[], ◌++◌, ◌+◌, ◌∷◌, ◌≡◌, ◌⊎◌, List}
+use Rattle.version_update.specs.Exports.{with_version}
 use Rattle.base.specs.declared.error.Failure.{Failure}
 use Rattle.base.specs.declared.error.Failure.TheVariants.{Refused, NoMemory}
 use Rattle.version_update.specs.declared.marks.SubmitError.{SubmitError}
 use Rattle.controller.specs.Plan.{PlanValue}
 use Rattle.controller.specs.Controller.{ControllerValue, KeptPlan, SettlesWith}
-use Rattle.ternary.specs.Word.{WordValue}
+use Rattle.ternary.specs.Exports.{WordValue}
 
 -- one more version with this plan, whose change touches this
 abbrev pub next_kept : ControllerValue → PlanValue → List WordValue → KeptPlan

@@ -1,10 +1,10 @@
 -- What a change touches, as far as a list has room for it.
-use Rattle.std.specs.Prelude.{◌≡◌, ◌<◌, ◌⊎◌, List, ◌++◌, length}
-use Rattle.policy_rules.specs.Touched.{touched_words}
+use Rattle.std.specs.Prelude.{◌++◌, ◌<◌, ◌≡◌, ◌⊎◌, List, length}
+use Rattle.policy_rules.specs.Exports.{touched_words}
 use Rattle.policy_rules.specs.declared.amendment.Edit.{Edit}
 use Rattle.policy_rules.specs.declared.policy.Row.{Row}
-use Rattle.switch_table.specs.Carried.{few_touched}
-use Rattle.ternary.specs.Word.{WordValue}
+use Rattle.switch_table.specs.Exports.{few_touched}
+use Rattle.ternary.specs.Exports.{WordValue}
 
 -- the words of the policy's rows that it removes, and of those that it adds, if they are few
 abbrev pub touched_few : List Row → List Edit → List WordValue

@@ -1,57 +1,18 @@
 -- News that is delivered floods, so what a switch has each neighbour has as new, or was sent,
 -- behind each step.
-use Rattle.std.proofs.Common.{ℕ, ◌≡◌, ◌≢◌, ◌<◌, ◌≤◌, ◌⊎◌, ◌==◌, ◌&&◌, Bool, true, false, not, if◌then◌else◌, Option, Some, None, List, [], ◌∷◌, ◌++◌, map, length, refl, ap, sym, subst, ◌∙◌, append_assoc, append-nil, arith, inl, inr}
-use Rattle.std.specs.Prelude.{IsTrue, IsFalse, filter_map, nat_lt, option_to_list, slice_index}
-use Rattle.std.specs.Option.{option_map_or}
-use Rattle.std.proofs.lemmas.Bool.Decides.{nat_tests}
-use Rattle.std.proofs.lemmas.List.FromFn.{get_or-map-range_with_len}
-use Rattle.ctrl_msg.specs.declared.message.Body.{Body}
-use Rattle.ctrl_msg.specs.declared.message.Body.TheVariants.{OpenAt, Advertise}
-use Rattle.ctrl_msg.specs.declared.message.Message.{Message}
-use Rattle.ctrl_msg.specs.declared.message.Place.{Place}
-use Rattle.ctrl_msg.specs.Kinds.{to_controller}
+use Rattle.std.proofs.Common.{[], if◌then◌else◌, ◌&&◌, ◌++◌, ◌<◌, ◌==◌, ◌∙◌, ◌∷◌, ◌≡◌, ◌≢◌, ◌≤◌, ◌⊎◌, Bool, IsFalse, IsTrue, List, None, Option, Some, ap, append-nil, append_assoc, arith, false, filter_map, inl, inr, length, map, nat_lt, not, option_to_list, refl, slice_index, subst, sym, true, ℕ}
+use Rattle.base.proofs.Exports.{get_or-map-range_with_len, nat_tests, option_map_or}
+use Rattle.update_machine.specs.Exports.{Advert, Advertise, Body, Confirm, Crash, Deliver, HaveCauses, Item, LinkDown, LinkUp, Message, OpenAt, Packet, Place, Resend, Restart, Setting, Step, StepOfRow, Update, advert_known, advert_to, adverts_begun, adverts_heard, adverts_known, after_steps, body_to_switch, deliver_items, delivery_items, is_news_to, is_to_controller, items_then, link_changes, message_of, near, next_message, next_packet, nothing, other_advert, own_advert, passed_on, piece, received_items, send_items, serves, stamp_of, step_items, switch_items, switches_in, switches_of, to_switch}
+use Rattle.ctrl_msg.specs.Exports.{to_controller}
 use Rattle.ctrl_msg.specs.declared.message.Place.TheVariants as receiver
-use Rattle.failover.specs.Adverts.{first_advert, first_adverts, held_advert, is_news, is_newer}
-use Rattle.failover.specs.declared.advert.Advert.{Advert}
-use Rattle.failover.specs.Newest.{IsNewest}
+use Rattle.failover.specs.Exports.{IsNewest, first_advert, first_adverts, held_advert, is_newer, is_news}
 use Rattle.failover.proofs.HeldAdverts.{held-first}
-use Rattle.base.specs.Masks.{has}
-use Rattle.net_file.specs.Net.{IsNet}
-use Rattle.net_file.specs.Owners.{links_of}
-use Rattle.journal.specs.declared.item.Item.{Item}
+use Rattle.base.specs.Exports.{has}
+use Rattle.net_file.specs.Exports.{IsNet, links_of}
 use Rattle.journal.specs.declared.item.Item.TheVariants as item
-use Rattle.steps.specs.declared.step.Step.{Step}
-use Rattle.steps.specs.declared.step.Step.TheVariants.{Packet, Deliver, Update, LinkDown, LinkUp, Crash, Restart, Confirm, Resend}
-use Rattle.update_machine.specs.Adverts.{advert_known, adverts_known, own_advert}
-use Rattle.update_machine.specs.Answers.{StepOfRow, after_steps}
-use Rattle.update_machine.specs.Boots.{body_to_switch}
-use Rattle.update_machine.specs.Causes.{HaveCauses}
-use Rattle.update_machine.specs.Deliveries.{advert_to, delivery_items, is_news_to, link_changes, passed_on, received_items, switch_items, switches_in}
-use Rattle.update_machine.specs.LinkMasks.{near, adverts_begun, adverts_heard, other_advert}
-use Rattle.update_machine.specs.Messages.{is_to_controller, next_message, send_items}
-use Rattle.update_machine.specs.Moves.{items_then}
-use Rattle.update_machine.specs.Packets.{next_packet}
-use Rattle.update_machine.specs.Pieces.{deliver_items, nothing, piece, step_items}
-use Rattle.update_machine.specs.Setting.{Setting}
-use Rattle.update_machine.specs.SwitchNumbers.{switches_of}
-use Rattle.update_machine.specs.Settling.{to_switch}
-use Rattle.update_machine.specs.Versions.{stamp_of}
-use Rattle.update_machine.specs.Links.{serves, message_of}
-use Rattle.update_machine.proofs.CallerLemmas.{have_append, links_keep, near_stays, start_laws}
-use Rattle.control_laws.proofs.ReachedCauses.{behind_piece}
-use Rattle.control_laws.proofs.ControllerCommands.{confirm_control, controller_control, update_has}
-use Rattle.control_laws.proofs.ItemFacts.{Has}
-use Rattle.control_laws.proofs.FactsGrown.{boot_more, heard_more, up_more}
-use Rattle.control_laws.proofs.ResentBySwitches.{resends_any}
-use Rattle.control_laws.proofs.SwitchOpenings.{IsKnown, known_kept}
-use Rattle.control_laws.proofs.StepCases.{deliver_cases}
-use Rattle.control_laws.proofs.SwitchBlocks.{said_have, said_parts, said_row}
-use Rattle.control_laws.proofs.SwitchCases.{switch_cases}
-use Rattle.control_laws.proofs.TrafficItems.{packet_works, step_work}
-use Rattle.control_laws.proofs.AllAdverts.{is_newest}
-use Rattle.control_laws.proofs.NetLinks.{own_origin}
-use Rattle.control_laws.proofs.AdvertStepCauses.{delivered_first, row_first}
-use Rattle.convergence_laws.specs.News.{IsAsNew}
+use Rattle.update_machine.proofs.Exports.{have_append, links_keep, near_stays, start_laws}
+use Rattle.control_laws.proofs.Exports.{Has, IsKnown, behind_piece, boot_more, confirm_control, controller_control, deliver_cases, delivered_first, heard_more, is_newest, known_kept, own_origin, packet_works, resends_any, row_first, said_have, said_parts, said_row, step_work, switch_cases, up_more, update_has}
+use Rattle.convergence_laws.specs.Exports.{IsAsNew}
 use Rattle.convergence_laws.proofs.AnsweredMessages.{delivery_is, sent_items}
 use Rattle.convergence_laws.proofs.ChangedLinksTold.{ends_there, link_news, pay_links, sends_near, sends_still}
 use Rattle.convergence_laws.proofs.InstalledTables.{delivery_told}

@@ -1,36 +1,12 @@
 -- At the end of each step what a switch has each neighbour has as new, or was sent.
-use Rattle.std.proofs.Common.{ℕ, ◌≡◌, ◌+◌, ◌≤◌, ◌⊎◌, ◌==◌, ◌&&◌, Bool, true, false, not, List, [], ◌∷◌, ◌++◌, map, min, max, refl, ap, sym, subst, ◌∙◌, append_assoc, arith, inl, inr}
-use Rattle.std.specs.Prelude.{IsTrue, IsFalse, unwrap_or}
-use Rattle.std.specs.Bool.{beq}
-use Rattle.std.proofs.lemmas.Bool.{eq-eqb, eqb-true}
-use Rattle.failover.specs.declared.advert.Advert.{Advert}
-use Rattle.base.specs.Masks.{has}
-use Rattle.net_file.specs.Net.{IsNet}
-use Rattle.journal.specs.declared.item.Item.{Item}
+use Rattle.std.proofs.Common.{[], ◌&&◌, ◌++◌, ◌+◌, ◌==◌, ◌∙◌, ◌∷◌, ◌≡◌, ◌≤◌, ◌⊎◌, Bool, IsFalse, IsTrue, List, ap, append_assoc, arith, eq-eqb, eqb-true, false, inl, inr, map, max, min, not, refl, subst, sym, true, unwrap_or, ℕ}
+use Rattle.base.proofs.Exports.{beq}
+use Rattle.update_machine.specs.Exports.{Advert, HaveCauses, Item, LinksKeep, Setting, Step, boot_of, concerns_links, crash_items, gives_link, has_changed, heard, hello_of, is_link_up, is_up, items_then, link_changes, link_items, near, next_message, nothing, own_advert, packets_at, restart_items, serves}
+use Rattle.base.specs.Exports.{has}
+use Rattle.net_file.specs.Exports.{IsNet}
 use Rattle.journal.specs.declared.item.Item.TheVariants as item
-use Rattle.steps.specs.declared.step.Step.{Step}
-use Rattle.update_machine.specs.Adverts.{own_advert}
-use Rattle.update_machine.specs.Boots.{boot_of, heard, is_up}
-use Rattle.update_machine.specs.Causes.{HaveCauses}
-use Rattle.update_machine.specs.Concerns.{concerns_links}
-use Rattle.update_machine.specs.Deliveries.{has_changed, link_changes}
-use Rattle.update_machine.specs.Laws.{LinksKeep}
-use Rattle.update_machine.specs.Links.{is_link_up, gives_link, serves}
-use Rattle.update_machine.specs.Messages.{next_message}
-use Rattle.update_machine.specs.Moves.{items_then}
-use Rattle.update_machine.specs.Travels.{packets_at}
-use Rattle.update_machine.specs.Pieces.{crash_items, hello_of, link_items, nothing, restart_items}
-use Rattle.update_machine.specs.Setting.{Setting}
-use Rattle.update_machine.specs.LinkMasks.{near}
-use Rattle.update_machine.proofs.CallerLemmas.{last_given_append, links_keep, near_same, near_stays}
-use Rattle.control_laws.proofs.ControllerCommands.{Control, IsControl}
-use Rattle.control_laws.proofs.CrashedSwitches.{losts_have, losts_keep}
-use Rattle.control_laws.proofs.ItemFacts.{have_weaker}
-use Rattle.control_laws.proofs.FactsGrown.{boot_more, heard_more, serving_more, up_more}
-use Rattle.control_laws.proofs.SwitchOpenings.{IsKnown}
-use Rattle.control_laws.proofs.StepCases.{restart_cases}
-use Rattle.control_laws.proofs.TrafficItems.{IsWork, Work}
-use Rattle.control_laws.proofs.AdvertStepCauses.{row_first}
+use Rattle.update_machine.proofs.Exports.{last_given_append, links_keep, near_same, near_stays}
+use Rattle.control_laws.proofs.Exports.{Control, IsControl, IsKnown, IsWork, Work, boot_more, have_weaker, heard_more, losts_have, losts_keep, restart_cases, row_first, serving_more, up_more}
 use Rattle.convergence_laws.proofs.ChangedLinksTold.{IsOwed, link_news, pay_links, sends_still}
 use Rattle.convergence_laws.proofs.GivenAdverts.{HaveNews, IsHad, IsStill, given_grows, stills_news}
 use Rattle.convergence_laws.proofs.ListElements.{IsIn}

@@ -1,33 +1,16 @@
 -- Where adverts have spread, and each switch was given what it was told, neighbours agree.
-use Rattle.std.proofs.Common.{ℕ, ◌≡◌, ◌≢◌, ◌<◌, ◌≤◌, ◌⊎◌, Bool, true, false, Some, List, [], ◌∷◌, ◌++◌, refl, ap, sym, subst, ◌∙◌, arith, inl, inr}
-use Rattle.std.specs.Prelude.{IsTrue, IsFalse}
-use Rattle.std.proofs.lemmas.Bool.{cases_eq}
-use Rattle.std.proofs.lemmas.Bool.Decides.{nat_tests}
-use Rattle.failover.specs.Adverts.{is_newer}
-use Rattle.failover.specs.declared.advert.Advert.{Advert}
-use Rattle.base.specs.Masks.{has}
-use Rattle.net_file.specs.Net.{IsNet}
-use Rattle.journal.specs.declared.item.Item.{Item}
+use Rattle.std.proofs.Common.{[], ◌++◌, ◌<◌, ◌∙◌, ◌∷◌, ◌≡◌, ◌≢◌, ◌≤◌, ◌⊎◌, Bool, IsFalse, IsTrue, List, Some, ap, arith, false, inl, inr, refl, subst, sym, true, ℕ}
+use Rattle.base.proofs.Exports.{cases_eq, nat_tests}
+use Rattle.failover.specs.Exports.{is_newer}
+use Rattle.update_machine.specs.Exports.{Advert, HaveCauses, Item, Setting, advert_known, boot_of, is_up, near, own_advert, own_seq, serves}
+use Rattle.base.specs.Exports.{has}
+use Rattle.net_file.specs.Exports.{IsNet}
 use Rattle.journal.specs.declared.item.Item.TheVariants as item
-use Rattle.steps.specs.Steps.{HasSwitch}
-use Rattle.update_machine.specs.Adverts.{advert_known, own_advert, own_seq}
-use Rattle.update_machine.specs.Boots.{boot_of, is_up}
-use Rattle.update_machine.specs.Causes.{HaveCauses}
-use Rattle.update_machine.specs.LinkMasks.{near}
-use Rattle.update_machine.specs.Setting.{Setting}
-use Rattle.update_machine.specs.Links.{serves}
-use Rattle.update_machine.proofs.CallerLemmas.{known_link_laws, start_laws}
-use Rattle.control_laws.proofs.ItemFacts.{AreKept, fact_on}
-use Rattle.control_laws.proofs.FactsGrown.{boot_more}
-use Rattle.control_laws.proofs.SwitchOpenings.{IsKnown, known_at_first, known_kept}
-use Rattle.control_laws.proofs.SwitchKeeps.{turns}
-use Rattle.control_laws.specs.Adverts.{OwnAreNewest}
-use Rattle.control_laws.proofs.AllAdverts.{own_told}
-use Rattle.control_laws.proofs.BothCauses.{HasBothCauses}
-use Rattle.control_laws.proofs.NetLinks.{ends_serve, own_origin}
-use Rattle.control_laws.proofs.NewestAdverts.{own_on}
-use Rattle.control_laws.proofs.OwnAdverts.{same_near, same_seq}
-use Rattle.convergence_laws.specs.News.{HoldsAsNew, IsAsNew, NeighboursAgree}
+use Rattle.steps.specs.Exports.{HasSwitch}
+use Rattle.update_machine.proofs.Exports.{known_link_laws, start_laws}
+use Rattle.control_laws.proofs.Exports.{AreKept, HasBothCauses, IsKnown, boot_more, ends_serve, fact_on, known_at_first, known_kept, own_on, own_origin, own_told, same_near, same_seq, turns}
+use Rattle.control_laws.specs.Exports.{OwnAreNewest}
+use Rattle.convergence_laws.specs.Exports.{HoldsAsNew, IsAsNew, NeighboursAgree}
 use Rattle.convergence_laws.proofs.ChangedLinksTold.{AreEnds, ends_there, newest_held, own_held, serving_turns}
 use Rattle.convergence_laws.proofs.AdvertFloods.{known_given}
 use Rattle.convergence_laws.proofs.GivenAdverts.{HasNews, IsGiven, IsHad, IsToldTo, as_new_itself, as_new_through}

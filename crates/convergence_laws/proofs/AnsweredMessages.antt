@@ -1,35 +1,12 @@
 -- At the end of each step a switch has answered what it heard in its boot, and has told the
 -- controller of that boot.
-use Rattle.std.proofs.Common.{ℕ, ◌≡◌, ◌+◌, ◌⊎◌, ◌==◌, Bool, true, false, if◌then◌else◌, Option, Some, None, List, [], ◌∷◌, ◌++◌, refl, ap, sym, subst, ◌∙◌, append-nil, append_assoc, arith, inl, inr}
-use Rattle.std.specs.Prelude.{IfSome, IsTrue, IsFalse, unwrap_or}
-use Rattle.std.specs.Option.{option_map_or}
-use Rattle.std.proofs.lemmas.Bool.{eq-eqb, eqb-true}
-use Rattle.std.proofs.lemmas.Bool.Decides.{nat_tests}
-use Rattle.std.proofs.lemmas.Option.{IfSome_then}
-use Rattle.ctrl_msg.specs.declared.message.Body.{Body}
-use Rattle.ctrl_msg.specs.declared.message.Body.TheVariants.{Install, OpenAt, Stamp, Hello, Installed, Stamped}
-use Rattle.ctrl_msg.specs.Kinds.{to_controller}
-use Rattle.journal.specs.declared.item.Item.{Item}
+use Rattle.std.proofs.Common.{[], if◌then◌else◌, ◌++◌, ◌+◌, ◌==◌, ◌∙◌, ◌∷◌, ◌≡◌, ◌⊎◌, Bool, IfSome, IsFalse, IsTrue, List, None, Option, Some, ap, append-nil, append_assoc, arith, eq-eqb, eqb-true, false, inl, inr, refl, subst, sym, true, unwrap_or, ℕ}
+use Rattle.base.proofs.Exports.{IfSome_then, nat_tests, option_map_or}
+use Rattle.update_machine.specs.Exports.{Body, Deliver, Hello, Install, Installed, Item, OpenAt, Restart, Setting, Stamp, Stamped, Step, body_to_switch, boot_of, deliver_items, delivery_items, heard, hello_of, is_up, items_then, link_changes, message_of, nothing, piece, received_items, restart_items, send_items, serves, stamp_of, step_items, switch_items, to_switch}
+use Rattle.ctrl_msg.specs.Exports.{to_controller}
 use Rattle.journal.specs.declared.item.Item.TheVariants as item
-use Rattle.steps.specs.declared.step.Step.{Step}
-use Rattle.steps.specs.declared.step.Step.TheVariants.{Deliver, Restart}
-use Rattle.update_machine.specs.Boots.{boot_of, heard, is_up, body_to_switch}
-use Rattle.update_machine.specs.Deliveries.{delivery_items, link_changes, received_items, switch_items}
-use Rattle.update_machine.specs.Messages.{send_items}
-use Rattle.update_machine.specs.Moves.{items_then}
-use Rattle.update_machine.specs.Pieces.{deliver_items, hello_of, nothing, piece, restart_items, step_items}
-use Rattle.update_machine.specs.Setting.{Setting}
-use Rattle.update_machine.specs.Settling.{to_switch}
-use Rattle.update_machine.specs.Versions.{stamp_of}
-use Rattle.update_machine.specs.Links.{serves, message_of}
-use Rattle.update_machine.proofs.CallerLemmas.{start_laws}
-use Rattle.control_laws.proofs.ReachedCauses.{behind_piece}
-use Rattle.control_laws.proofs.ItemFacts.{AreKept, fact_on}
-use Rattle.control_laws.proofs.FactsGrown.{boot_more, heard_more, serving_more, up_more}
-use Rattle.control_laws.proofs.StepCases.{deliver_cases, restart_cases}
-use Rattle.control_laws.proofs.SwitchBlocks.{said_parts, said_row}
-use Rattle.control_laws.proofs.TrafficItems.{IsTraffic, links_traffic}
-use Rattle.control_laws.proofs.SwitchKeeps.{is_delivered}
+use Rattle.update_machine.proofs.Exports.{start_laws}
+use Rattle.control_laws.proofs.Exports.{AreKept, IsTraffic, behind_piece, boot_more, deliver_cases, fact_on, heard_more, is_delivered, links_traffic, restart_cases, said_parts, said_row, serving_more, up_more}
 use Rattle.convergence_laws.proofs.ListElements.{IsIn, in_either}
 use Rattle.convergence_laws.proofs.PlainItems.{IsPlain, Plain, delivery_plain, is_plain, sends_plain, step_plain}
 use Rattle.convergence_laws.proofs.MessageCourses.{IsSent, sends_all, sent_stays}

@@ -1,28 +1,11 @@
 -- Where the controller knows of each switch that is up what it needs, every update has come to its
 -- end.
-use Rattle.std.proofs.Common.{ℕ, ◌≡◌, ◌+◌, ◌-◌, ◌≤◌, ◌<◌, ◌&&◌, ◌||◌, Bool, true, false, not, List, [], ◌∷◌, length, map, min, refl, ap, sym, ◌∙◌, arith, inl, inr}
-use Rattle.std.specs.Prelude.{IsTrue, IsFalse, All, fold, is_some, unwrap_or}
-use Rattle.std.specs.List.{AllByRecursion, list_all}
-use Rattle.std.proofs.lemmas.Bool.{cases_lt}
-use Rattle.std.proofs.lemmas.List.Elements.{All-from_recursion}
-use Rattle.base.proofs.ListsOfEach.{each_map}
-use Rattle.journal.specs.declared.item.Item.{Item}
-use Rattle.update_machine.specs.Boots.{boot_of, is_up}
-use Rattle.update_machine.specs.Causes.{HaveCauses}
-use Rattle.update_machine.specs.Marks.{AreSettled, acked_stamp, all_acked, current_mark, has_acked, is_joining, is_member, is_over, known_boot, least_number, members, next_retired, retired_mark}
-use Rattle.update_machine.specs.Quiet.{is_waited_for}
-use Rattle.update_machine.specs.Setting.{Setting}
-use Rattle.update_machine.specs.SwitchNumbers.{switches_of}
-use Rattle.update_machine.specs.Versions.{stamp_of, version_count}
-use Rattle.update_machine.specs.Links.{serves}
-use Rattle.control_laws.specs.Acknowledged.{MembersAcknowledged}
-use Rattle.control_laws.specs.Bounds.{MarksAreBounded}
-use Rattle.control_laws.specs.ItemCauses.{HasItemCause}
-use Rattle.control_laws.proofs.ItemFacts.{have_weaker}
-use Rattle.control_laws.proofs.MarkLaws.{acknowledged}
-use Rattle.control_laws.proofs.SwitchOpenings.{member_parts}
-use Rattle.control_laws.proofs.MessageSends.{each_range}
-use Rattle.convergence_laws.specs.Updated.{IsUpdated}
+use Rattle.std.proofs.Common.{[], ◌&&◌, ◌+◌, ◌-◌, ◌<◌, ◌||◌, ◌∙◌, ◌∷◌, ◌≡◌, ◌≤◌, All, Bool, IsFalse, IsTrue, List, ap, arith, false, fold, inl, inr, is_some, length, map, min, not, refl, sym, true, unwrap_or, ℕ}
+use Rattle.base.proofs.Exports.{All-from_recursion, AllByRecursion, cases_lt, each_map, list_all}
+use Rattle.update_machine.specs.Exports.{AreSettled, HaveCauses, Item, Setting, acked_stamp, all_acked, boot_of, current_mark, has_acked, is_joining, is_member, is_over, is_up, is_waited_for, known_boot, least_number, members, next_retired, retired_mark, serves, stamp_of, switches_of, version_count}
+use Rattle.control_laws.specs.Exports.{HasItemCause, MarksAreBounded, MembersAcknowledged}
+use Rattle.control_laws.proofs.Exports.{acknowledged, each_range, have_weaker, member_parts}
+use Rattle.convergence_laws.specs.Exports.{IsUpdated}
 use Rattle.convergence_laws.proofs.AnsweredMessages.{HaveSpoken}
 use Rattle.convergence_laws.proofs.DownSwitches.{AreRecorded}
 use Rattle.convergence_laws.proofs.InstalledTables.{AllInstalled}

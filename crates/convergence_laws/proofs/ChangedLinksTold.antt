@@ -1,39 +1,16 @@
 -- Where links change, each switch whose links did tells its neighbours.
-use Rattle.std.proofs.Common.{ℕ, ◌≡◌, ◌≢◌, ◌<◌, ◌≤◌, ◌⊎◌, ◌==◌, Bool, true, false, if◌then◌else◌, Option, Some, None, List, [], ◌∷◌, ◌++◌, map, length, refl, ap, sym, subst, ◌∙◌, arith, inl, inr}
-use Rattle.std.specs.Prelude.{IsTrue, IsFalse, filter, option_to_list}
-use Rattle.std.specs.List.{flat_map}
-use Rattle.std.proofs.lemmas.Bool.{eq-eqb, eqb-true}
-use Rattle.std.proofs.lemmas.Bool.Decides.{nat_tests}
-use Rattle.ctrl_msg.specs.declared.message.Message.{Message}
-use Rattle.failover.specs.Adverts.{held_advert, is_newer}
-use Rattle.failover.specs.declared.advert.Advert.{Advert}
-use Rattle.failover.specs.Newest.{IsNewest}
-use Rattle.base.specs.Masks.{has, switches}
-use Rattle.net_file.specs.Net.{IsNet}
+use Rattle.std.proofs.Common.{[], if◌then◌else◌, ◌++◌, ◌<◌, ◌==◌, ◌∙◌, ◌∷◌, ◌≡◌, ◌≢◌, ◌≤◌, ◌⊎◌, Bool, IsFalse, IsTrue, List, None, Option, Some, ap, arith, eq-eqb, eqb-true, false, filter, flat_map, inl, inr, length, map, option_to_list, refl, subst, sym, true, ℕ}
+use Rattle.base.proofs.Exports.{nat_tests}
+use Rattle.update_machine.specs.Exports.{Advert, HaveCauses, Item, Message, Setting, advert_known, advert_to, adverts_begun, adverts_heard, adverts_known, boot_of, concerns_links, has_changed, heard, held_adverts, is_up, link_changes, messages_of, messages_over, near, next_message, own_advert, own_seq, send_items, serves, switches_in, switches_of}
+use Rattle.failover.specs.Exports.{IsNewest, held_advert, is_newer}
+use Rattle.base.specs.Exports.{has, switches}
+use Rattle.net_file.specs.Exports.{IsNet}
 use Rattle.net_file.proofs.RowPlaces.{links}
-use Rattle.journal.specs.declared.item.Item.{Item}
 use Rattle.journal.specs.declared.item.Item.TheVariants as item
-use Rattle.steps.specs.Steps.{HasSwitch}
-use Rattle.update_machine.specs.Adverts.{advert_known, adverts_known, held_adverts, own_advert, own_seq}
-use Rattle.update_machine.specs.Boots.{boot_of, heard, is_up}
-use Rattle.update_machine.specs.Causes.{HaveCauses}
-use Rattle.update_machine.specs.Concerns.{concerns_links}
-use Rattle.update_machine.specs.Deliveries.{advert_to, has_changed, link_changes, messages_of, messages_over, switches_in}
-use Rattle.update_machine.specs.LinkMasks.{near, adverts_begun, adverts_heard}
-use Rattle.update_machine.specs.Messages.{next_message, send_items}
-use Rattle.update_machine.specs.Setting.{Setting}
-use Rattle.update_machine.specs.SwitchNumbers.{switches_of}
-use Rattle.update_machine.specs.Links.{serves}
-use Rattle.update_machine.proofs.CallerLemmas.{known_link_laws, near_stays}
-use Rattle.control_laws.proofs.FactsGrown.{boot_more, heard_more, serving_more, up_more}
-use Rattle.control_laws.proofs.ResentBySwitches.{sends_any}
-use Rattle.control_laws.proofs.SwitchOpenings.{IsKnown, known_kept}
-use Rattle.control_laws.proofs.SwitchKeeps.{is_delivered, turns}
-use Rattle.control_laws.proofs.BothCauses.{HasBothCauses}
-use Rattle.control_laws.proofs.NetLinks.{ends_serve, near_linked}
-use Rattle.control_laws.proofs.NewestAdverts.{own_on}
-use Rattle.control_laws.proofs.OwnAdverts.{AdvertGoesOn, same_near}
-use Rattle.convergence_laws.specs.News.{IsAsNew}
+use Rattle.steps.specs.Exports.{HasSwitch}
+use Rattle.update_machine.proofs.Exports.{known_link_laws, near_stays}
+use Rattle.control_laws.proofs.Exports.{AdvertGoesOn, HasBothCauses, IsKnown, boot_more, ends_serve, heard_more, is_delivered, known_kept, near_linked, own_on, same_near, sends_any, serving_more, turns, up_more}
+use Rattle.convergence_laws.specs.Exports.{IsAsNew}
 use Rattle.convergence_laws.proofs.GivenAdverts.{HasNews, HaveNews, IsHad, IsOther, IsStill, as_new_itself, given_grows, news_on, sends_tell, stills_news}
 use Rattle.convergence_laws.proofs.UsableNeighbours.{near_both}
 use Rattle.convergence_laws.proofs.ListElements.{IsIn, all_in, in_either, in_filter, in_filter_map, in_flat_map, in_left, in_map, in_range, in_right}

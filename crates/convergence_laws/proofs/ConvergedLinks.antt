@@ -1,22 +1,14 @@
 -- Where neighbours agree the adverts have spread, so each switch knows the links that can be used.
-use Rattle.std.proofs.Common.{ℕ, ◌≡◌, ◌≢◌, ◌<◌, ◌⊎◌, true, false, Some, List, [], ◌∷◌, ap, sym, subst, ◌∙◌, arith, inl, inr}
-use Rattle.std.specs.Prelude.{IsTrue}
-use Rattle.std.proofs.lemmas.Bool.{cases_eq}
-use Rattle.failover.specs.Adverts.{is_newer}
-use Rattle.failover.specs.declared.advert.Advert.{Advert}
-use Rattle.base.specs.Masks.{has}
-use Rattle.net_file.specs.Net.{IsNet}
-use Rattle.journal.specs.declared.item.Item.{Item}
-use Rattle.steps.specs.Steps.{HasSwitch}
-use Rattle.update_machine.specs.Adverts.{advert_known, own_advert}
-use Rattle.update_machine.specs.Boots.{is_up}
-use Rattle.update_machine.specs.LinkMasks.{near}
-use Rattle.update_machine.specs.Setting.{Setting}
-use Rattle.update_machine.specs.Links.{serves}
-use Rattle.control_laws.specs.Adverts.{OwnAreNewest}
-use Rattle.control_laws.proofs.NetLinks.{ends_serve, own_origin}
-use Rattle.convergence_laws.specs.Converged.{LeadsOver, Reaches}
-use Rattle.convergence_laws.specs.News.{HoldsAsNew, IsAsNew, NeighboursAgree}
+use Rattle.std.proofs.Common.{[], ◌<◌, ◌∙◌, ◌∷◌, ◌≡◌, ◌≢◌, ◌⊎◌, IsTrue, List, Some, ap, arith, false, inl, inr, subst, sym, true, ℕ}
+use Rattle.base.proofs.Exports.{cases_eq}
+use Rattle.failover.specs.Exports.{is_newer}
+use Rattle.update_machine.specs.Exports.{Advert, Item, Setting, advert_known, is_up, near, own_advert, serves}
+use Rattle.base.specs.Exports.{has}
+use Rattle.net_file.specs.Exports.{IsNet}
+use Rattle.steps.specs.Exports.{HasSwitch}
+use Rattle.control_laws.specs.Exports.{OwnAreNewest}
+use Rattle.control_laws.proofs.Exports.{ends_serve, own_origin}
+use Rattle.convergence_laws.specs.Exports.{HoldsAsNew, IsAsNew, LeadsOver, NeighboursAgree, Reaches}
 use Rattle.convergence_laws.proofs.AgreeingNeighbours.{TellsOwn}
 use Rattle.convergence_laws.proofs.ChangedLinksTold.{AreEnds, ends_there, near_back, own_held}
 

@@ -1,27 +1,13 @@
 -- News, links that can be used and finished updates, computed on networks of two and four switches.
-use Rattle.std.proofs.Common.{ℕ, ◌≡◌, ◌-◌, ◌||◌, true, false, not, Some, None, [], ◌∷◌, refl, ap, sym, ◌∙◌, arith}
-use Rattle.std.specs.Prelude.{IsTrue}
-use Rattle.std.proofs.lemmas.List.Elements.{All-from_recursion}
-use Rattle.ctrl_msg.specs.declared.message.Body.TheVariants.{Hello}
-use Rattle.ctrl_msg.specs.Kinds.{to_controller}
-use Rattle.failover.specs.Adverts.{first_advert}
-use Rattle.failover.specs.Links.{has_link, no_links, with_link}
-use Rattle.base.specs.Masks.{has, switches}
-use Rattle.base.specs.ComputedMasks.{mask_of, mask_where}
+use Rattle.std.proofs.Common.{[], ◌-◌, ◌||◌, ◌∙◌, ◌∷◌, ◌≡◌, IsTrue, None, Some, ap, arith, false, not, refl, sym, true, ℕ}
+use Rattle.base.proofs.Exports.{All-from_recursion}
+use Rattle.update_machine.specs.Exports.{Hello, current_mark, is_deliverable, is_forgotten, is_link_up, is_up, is_waited_for, message_of, near, next_waiting, serves, stamp_of, version_count, was_delivered}
+use Rattle.ctrl_msg.specs.Exports.{to_controller}
+use Rattle.failover.specs.Exports.{first_advert, has_link, no_links, with_link}
+use Rattle.base.specs.Exports.{has, mask_of, mask_where, switches}
 use Rattle.journal.specs.declared.item.Item.TheVariants as item
-use Rattle.update_machine.specs.Boots.{is_up}
-use Rattle.update_machine.specs.Links.{is_link_up, serves, message_of}
-use Rattle.update_machine.specs.Marks.{current_mark}
-use Rattle.update_machine.specs.Messages.{is_deliverable, is_forgotten, next_waiting, was_delivered}
-use Rattle.update_machine.specs.Quiet.{is_waited_for}
-use Rattle.update_machine.specs.Versions.{stamp_of, version_count}
-use Rattle.update_machine.specs.LinkMasks.{near}
-use Rattle.update_machine.proofs.CallerLemmas.{start_laws}
-use Rattle.update_machine.proofs.ExampleNetworks.{open_net, ring}
-use Rattle.convergence_laws.specs.Converged.{AreUnusable, LeadsOver, Reaches}
-use Rattle.convergence_laws.specs.Finished.{IsFinished}
-use Rattle.convergence_laws.specs.News.{IsAsNew}
-use Rattle.convergence_laws.specs.Updated.{IsUpdated}
+use Rattle.update_machine.proofs.Exports.{open_net, ring, start_laws}
+use Rattle.convergence_laws.specs.Exports.{AreUnusable, IsAsNew, IsFinished, IsUpdated, LeadsOver, Reaches}
 
 -- ---- links that can be used
 

@@ -1,36 +1,13 @@
 -- Of a switch that is down, for which the controller doesn't wait though it doesn't count it as
 -- over, nothing is known in its known boot; and what stands behind openings and acknowledgements.
-use Rattle.std.proofs.Common.{ℕ, ◌≡◌, ◌≤◌, ◌⊎◌, ◌==◌, ◌||◌, Bool, true, false, if◌then◌else◌, Option, Some, None, List, [], ◌∷◌, ◌++◌, refl, ap, sym, subst, ◌∙◌, arith, inl, inr}
-use Rattle.std.specs.Prelude.{IsTrue, IsFalse, filter_map, nat_eq, option_to_list, unwrap_or}
-use Rattle.std.specs.List.{cons_option, list_any}
-use Rattle.std.specs.Option.{option_or}
-use Rattle.std.proofs.lemmas.Bool.{eqb-true}
-use Rattle.ctrl_msg.specs.declared.message.Body.{Body}
-use Rattle.ctrl_msg.specs.declared.message.Body.TheVariants.{OpenAt, Installed}
-use Rattle.ctrl_msg.specs.declared.message.Message.{Message}
-use Rattle.ctrl_msg.specs.Kinds.{to_controller}
-use Rattle.journal.specs.declared.item.Item.{Item}
+use Rattle.std.proofs.Common.{[], if◌then◌else◌, ◌++◌, ◌==◌, ◌||◌, ◌∙◌, ◌∷◌, ◌≡◌, ◌≤◌, ◌⊎◌, Bool, IsFalse, IsTrue, List, None, Option, Some, ap, arith, eqb-true, false, filter_map, inl, inr, nat_eq, option_to_list, refl, subst, sym, true, unwrap_or, ℕ}
+use Rattle.base.proofs.Exports.{cons_option, list_any, option_or}
+use Rattle.update_machine.specs.Exports.{Body, Installed, Item, Message, OpenAt, Sending, Setting, all_given, body_to_controller, boot_of, controller_heard, first_number, gives_waited_for, has_acked, heard, installed_in, installs_version, is_over, is_up, is_waited_for, known_boot, message_of, open_sent, opened_at, raises_known, sendings, serves, to_switch}
+use Rattle.ctrl_msg.specs.Exports.{to_controller}
 use Rattle.journal.specs.declared.item.Item.TheVariants as item
-use Rattle.update_machine.specs.Boots.{boot_of, heard, is_up}
-use Rattle.update_machine.specs.Folds.{all_given}
-use Rattle.update_machine.specs.Marks.{controller_heard, first_number, has_acked, installed_in, is_over, known_boot, open_sent, opened_at, raises_known, body_to_controller}
-use Rattle.update_machine.specs.Quiet.{is_waited_for, gives_waited_for}
-use Rattle.update_machine.specs.Sendings.{Sending, sendings}
-use Rattle.update_machine.specs.Setting.{Setting}
-use Rattle.update_machine.specs.Settling.{to_switch}
-use Rattle.update_machine.specs.Versions.{installs_version}
-use Rattle.update_machine.specs.Links.{serves, message_of}
-use Rattle.update_machine.proofs.CallerLemmas.{start_laws}
-use Rattle.control_laws.specs.ItemCauses.{HasItemCause, IsRightInstalled, IsRightOpening}
-use Rattle.control_laws.proofs.BootsKnown.{by_number, known_rises, said_sent}
-use Rattle.control_laws.proofs.ItemFacts.{AreKept, FromCauses, from_causes}
-use Rattle.control_laws.proofs.FactsGrown.{boot_more, known_more, last_more, opened_at_more, opened_in, opened_more, opens_by, over_more, serving_more, told_more, up_more}
-use Rattle.control_laws.proofs.SwitchOpenings.{IsKnown, known_at_first, known_kept}
-use Rattle.control_laws.proofs.HeardTables.{heard_known}
-use Rattle.control_laws.proofs.AcknowledgementKinds.{installed_is}
-use Rattle.control_laws.proofs.CurrentVersions.{StampsAreCurrent, current_at_first, current_kept}
-use Rattle.control_laws.proofs.MemberFacts.{opened_same, raised_above, raised_none, unraised_same}
-use Rattle.control_laws.proofs.SwitchKeeps.{is_delivered}
+use Rattle.update_machine.proofs.Exports.{start_laws}
+use Rattle.control_laws.specs.Exports.{HasItemCause, IsRightInstalled, IsRightOpening}
+use Rattle.control_laws.proofs.Exports.{AreKept, FromCauses, IsKnown, StampsAreCurrent, boot_more, by_number, current_at_first, current_kept, from_causes, heard_known, installed_is, is_delivered, known_at_first, known_kept, known_more, known_rises, last_more, opened_at_more, opened_in, opened_more, opened_same, opens_by, over_more, raised_above, raised_none, said_sent, serving_more, told_more, unraised_same, up_more}
 use Rattle.convergence_laws.proofs.ListElements.{IsIn, in_either}
 use Rattle.convergence_laws.proofs.MessageCourses.{IsSent, sendings_more, sent_by, sent_now, sent_stays}
 

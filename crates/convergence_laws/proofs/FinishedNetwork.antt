@@ -1,20 +1,11 @@
 -- Where nothing is left to do the network is quiet.
-use Rattle.std.proofs.Common.{ℕ, ◌≡◌, ◌≤◌, ◌<◌, ◌⊎◌, ◌&&◌, ◌||◌, Bool, true, false, not, Some, None, List, [], ◌∷◌, ◌++◌, refl, ap, sym, ◌∙◌, append_assoc, arith, inl, inr}
-use Rattle.std.specs.Prelude.{IsTrue, IsFalse, cond, find}
-use Rattle.std.specs.List.{range_with_len}
-use Rattle.ctrl_msg.specs.declared.message.Message.{Message}
-use Rattle.journal.specs.declared.item.Item.{Item}
+use Rattle.std.proofs.Common.{[], ◌&&◌, ◌++◌, ◌<◌, ◌||◌, ◌∙◌, ◌∷◌, ◌≡◌, ◌≤◌, ◌⊎◌, Bool, IsFalse, IsTrue, List, None, Some, ap, append_assoc, arith, cond, false, find, inl, inr, not, refl, sym, true, ℕ}
+use Rattle.base.proofs.Exports.{range_with_len}
+use Rattle.update_machine.specs.Exports.{AreReceived, HaveCauses, IsQuiet, Item, Message, Sending, Setting, boot_at, count_of, is_deliverable, is_forgotten, is_sending, is_waiting, message_of, next_message, next_waiting, sendings, was_delivered}
 use Rattle.journal.specs.declared.item.Item.TheVariants as item
-use Rattle.update_machine.specs.Causes.{HaveCauses}
-use Rattle.update_machine.specs.Folds.{count_of}
-use Rattle.update_machine.specs.Links.{message_of}
-use Rattle.update_machine.specs.Messages.{is_deliverable, is_forgotten, is_sending, is_waiting, next_message, next_waiting, was_delivered}
-use Rattle.update_machine.specs.Quiet.{AreReceived, IsQuiet}
-use Rattle.update_machine.specs.Sendings.{Sending, boot_at, sendings}
-use Rattle.update_machine.specs.Setting.{Setting}
-use Rattle.control_laws.specs.Always.{HoldsBehindItems}
-use Rattle.control_laws.proofs.BehindItems.{behind_items}
-use Rattle.convergence_laws.specs.Finished.{IsFinished}
+use Rattle.control_laws.specs.Exports.{HoldsBehindItems}
+use Rattle.control_laws.proofs.Exports.{behind_items}
+use Rattle.convergence_laws.specs.Exports.{IsFinished}
 use Rattle.convergence_laws.proofs.ListElements.{IsIn, each_in, in_range}
 use Rattle.convergence_laws.proofs.ReceivedMessages.{delivered_append, in_sendings}
 use Rattle.convergence_laws.proofs.MessageCourses.{AreTraced, IsInOrder, IsTraced, caused_traced, pieces_in_order, traced_at_first, traced_kept}

@@ -1,20 +1,9 @@
 -- A schedule that ends with a flush leaves no message waiting.
-use Rattle.std.proofs.Common.{ℕ, ◌≡◌, ◌+◌, Option, Some, None, option_map, List, [], ◌∷◌, ◌++◌, refl, ap, sym, subst, ◌∙◌, append-nil}
-use Rattle.journal.specs.declared.item.Item.{Item}
-use Rattle.net_file.specs.Net.{IsNet}
-use Rattle.steps.specs.declared.step.Event.{Event}
-use Rattle.steps.specs.declared.step.Event.TheVariants.{Flush}
-use Rattle.steps.specs.declared.step.Step.{Step}
-use Rattle.steps.specs.declared.step.Step.TheVariants.{Deliver}
-use Rattle.update_machine.specs.Answers.{AreAll, AreSteps, AreStepsOf, StepOfRow, after_steps, next_delivery}
-use Rattle.update_machine.specs.Messages.{next_waiting}
-use Rattle.update_machine.specs.Pieces.{piece}
-use Rattle.update_machine.specs.Quiet.{IsQuiet}
-use Rattle.update_machine.specs.Setting.{Setting}
-use Rattle.update_machine.proofs.CallerLemmas.{after_append}
-use Rattle.convergence_laws.specs.Converged.{HasConverged}
-use Rattle.convergence_laws.specs.Finished.{EndsFinished}
-use Rattle.convergence_laws.specs.Updated.{IsUpdated}
+use Rattle.std.proofs.Common.{[], ◌++◌, ◌+◌, ◌∙◌, ◌∷◌, ◌≡◌, List, None, Option, Some, ap, append-nil, option_map, refl, subst, sym, ℕ}
+use Rattle.update_machine.specs.Exports.{AreAll, AreSteps, AreStepsOf, Deliver, Event, Flush, IsQuiet, Item, Setting, Step, StepOfRow, after_steps, next_delivery, next_waiting, piece}
+use Rattle.net_file.specs.Exports.{IsNet}
+use Rattle.update_machine.proofs.Exports.{after_append}
+use Rattle.convergence_laws.specs.Exports.{EndsFinished, HasConverged, IsUpdated}
 use Rattle.convergence_laws.proofs.FinishedNetwork.{finished_behind}
 use Rattle.convergence_laws.proofs.NewsLaws.{quiet_converged}
 use Rattle.convergence_laws.proofs.UpdatesEnd.{updated_at_ends}

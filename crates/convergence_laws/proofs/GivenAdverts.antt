@@ -1,31 +1,15 @@
 -- The adverts that switches have: those with which they began, those that they heard, and those
 -- that were sent to them in their present boot, with no number below a bound.
-use Rattle.std.proofs.Common.{ℕ, ◌≡◌, ◌≢◌, ◌+◌, ◌<◌, ◌≤◌, ◌⊎◌, ◌==◌, Bool, true, false, if◌then◌else◌, Option, Some, None, List, [], ◌∷◌, ◌++◌, refl, ap, sym, subst, ◌∙◌, append_assoc, append-nil, arith, inl, inr}
-use Rattle.std.specs.Prelude.{⊤, IsTrue}
-use Rattle.std.specs.Option.{option_map_or}
-use Rattle.std.proofs.lemmas.Bool.Decides.{nat_tests}
-use Rattle.ctrl_msg.specs.declared.message.Body.{Body}
-use Rattle.ctrl_msg.specs.declared.message.Body.TheVariants.{Advertise}
-use Rattle.ctrl_msg.specs.declared.message.Message.{Message}
-use Rattle.failover.specs.Adverts.{held_advert, is_newer}
-use Rattle.failover.specs.declared.advert.Advert.{Advert}
+use Rattle.std.proofs.Common.{[], if◌then◌else◌, ◌++◌, ◌+◌, ◌<◌, ◌==◌, ◌∙◌, ◌∷◌, ◌≡◌, ◌≢◌, ◌≤◌, ◌⊎◌, Bool, IsTrue, List, None, Option, Some, ap, append-nil, append_assoc, arith, false, inl, inr, refl, subst, sym, true, ℕ}
+use Rattle.base.proofs.Exports.{nat_tests, option_map_or, ⊤}
+use Rattle.update_machine.specs.Exports.{Advert, Advertise, Body, HaveCauses, Item, LinksKeep, Message, Setting, advert_to, adverts_begun, adverts_heard, body_to_switch, boot_at, boot_of, heard, is_up, near, next_message, other_advert, own_advert, send_items, sendings, sent_from}
+use Rattle.failover.specs.Exports.{held_advert, is_newer}
 use Rattle.failover.proofs.NewestAdvert.{not_newer}
-use Rattle.base.specs.Masks.{has}
-use Rattle.journal.specs.declared.item.Item.{Item}
+use Rattle.base.specs.Exports.{has}
 use Rattle.journal.specs.declared.item.Item.TheVariants as item
-use Rattle.update_machine.specs.Adverts.{own_advert}
-use Rattle.update_machine.specs.Boots.{boot_of, heard, is_up, body_to_switch}
-use Rattle.update_machine.specs.Causes.{HaveCauses}
-use Rattle.update_machine.specs.Deliveries.{advert_to}
-use Rattle.update_machine.specs.Laws.{LinksKeep}
-use Rattle.update_machine.specs.LinkMasks.{near, adverts_begun, adverts_heard, other_advert}
-use Rattle.update_machine.specs.Messages.{next_message, send_items, sent_from}
-use Rattle.update_machine.specs.Sendings.{boot_at, sendings}
-use Rattle.update_machine.specs.Setting.{Setting}
-use Rattle.update_machine.proofs.CallerLemmas.{links_keep}
-use Rattle.control_laws.proofs.ItemFacts.{AreKept, fact_on}
-use Rattle.control_laws.proofs.FactsGrown.{boot_more, heard_more, up_more}
-use Rattle.convergence_laws.specs.News.{IsAsNew}
+use Rattle.update_machine.proofs.Exports.{links_keep}
+use Rattle.control_laws.proofs.Exports.{AreKept, boot_more, fact_on, heard_more, up_more}
+use Rattle.convergence_laws.specs.Exports.{IsAsNew}
 use Rattle.convergence_laws.proofs.ListElements.{IsIn, in_either, in_filter_map, in_left, in_right, of_filter_map}
 use Rattle.convergence_laws.proofs.MessageCourses.{delivered_grows, sendings_more, sent_by}
 

@@ -1,46 +1,13 @@
 -- At the end of each step each switch that isn't over was sent, in its known boot, the tables of
 -- each version from the current one to the last.
-use Rattle.std.proofs.Common.{ℕ, ◌≡◌, ◌+◌, ◌-◌, ◌≤◌, ◌<◌, ◌⊎◌, ◌==◌, Bool, true, false, not, if◌then◌else◌, Option, Some, None, List, [], ◌∷◌, ◌++◌, length, refl, ap, sym, subst, ◌∙◌, append-nil, arith, inl, inr}
-use Rattle.std.specs.Prelude.{⊤, IsTrue, IsFalse, nat_lt, option_and_then}
-use Rattle.std.specs.Option.{option_map_or}
-use Rattle.std.proofs.lemmas.Bool.{cases_eq}
-use Rattle.base.proofs.ListsOfEach.{each_always, each_map}
-use Rattle.ctrl_msg.specs.declared.message.Body.{Body}
-use Rattle.ctrl_msg.specs.declared.message.Body.TheVariants.{Hello, Install}
-use Rattle.ctrl_msg.specs.declared.message.Message.{Message}
-use Rattle.ctrl_msg.specs.Kinds.{to_controller}
-use Rattle.switch_table.specs.declared.tables.Tables.{Tables}
-use Rattle.journal.specs.declared.item.Item.{Item}
+use Rattle.std.proofs.Common.{[], if◌then◌else◌, ◌++◌, ◌+◌, ◌-◌, ◌<◌, ◌==◌, ◌∙◌, ◌∷◌, ◌≡◌, ◌≤◌, ◌⊎◌, Bool, IsFalse, IsTrue, List, None, Option, Some, ap, append-nil, arith, false, inl, inr, length, nat_lt, not, option_and_then, refl, subst, sym, true, ℕ}
+use Rattle.base.proofs.Exports.{cases_eq, each_always, each_map, option_map_or, ⊤}
+use Rattle.update_machine.specs.Exports.{Body, Confirm, ControllerKeeps, Deliver, Hello, Install, Item, Message, Setting, Step, Tables, Update, after_hello, body_to_controller, confirm_items, controller_items, current_mark, deliver_items, delivery_items, hello_boot, install_for, installs_to, installs_to_all, is_message_to_controller, is_new_boot, is_over, known_boot, message_of, piece, raises_known, received_items, send_items, settling, step_items, switches_of, tables_at, to_switch, update_items, version_count, versions_from_current}
+use Rattle.ctrl_msg.specs.Exports.{to_controller}
 use Rattle.journal.specs.declared.item.Item.TheVariants as item
-use Rattle.steps.specs.declared.step.Step.{Step}
-use Rattle.steps.specs.declared.step.Step.TheVariants.{Deliver, Update, Confirm}
-use Rattle.update_machine.specs.Concerns.{is_message_to_controller}
-use Rattle.update_machine.specs.Deliveries.{after_hello, controller_items, delivery_items, is_new_boot, received_items}
-use Rattle.update_machine.specs.Laws.{ControllerKeeps}
-use Rattle.update_machine.specs.Marks.{current_mark, hello_boot, is_over, known_boot, raises_known, body_to_controller}
-use Rattle.update_machine.specs.Messages.{send_items}
-use Rattle.update_machine.specs.Pieces.{confirm_items, deliver_items, piece, step_items, update_items}
-use Rattle.update_machine.specs.Setting.{Setting}
-use Rattle.update_machine.specs.SwitchNumbers.{switches_of}
-use Rattle.update_machine.specs.Settling.{install_for, installs_to, installs_to_all, settling, to_switch, versions_from_current}
-use Rattle.update_machine.specs.Versions.{tables_at, version_count}
-use Rattle.update_machine.specs.Links.{message_of}
-use Rattle.update_machine.proofs.CallerLemmas.{start_laws}
-use Rattle.control_laws.specs.ItemCauses.{HasItemCause}
-use Rattle.control_laws.proofs.ReachedCauses.{behind_piece}
-use Rattle.control_laws.proofs.BootsKnown.{hello_sent}
-use Rattle.control_laws.proofs.ControllerCommands.{grows, settling_settles}
-use Rattle.control_laws.proofs.ControllerBlocks.{settling_have}
-use Rattle.control_laws.proofs.ItemFacts.{AreKept, Both, fact_on, have_both}
-use Rattle.control_laws.proofs.FactsGrown.{count_more, current_more, known_more, message_more, over_more}
-use Rattle.control_laws.proofs.ResentBySwitches.{sends_any}
-use Rattle.control_laws.proofs.StepCases.{confirm_cases, deliver_cases, update_cases}
-use Rattle.control_laws.proofs.MemberFacts.{unraised_same}
-use Rattle.control_laws.specs.Steps.{asks_controller}
-use Rattle.control_laws.proofs.MarksAtEnds.{told_is}
-use Rattle.control_laws.proofs.ControllerLeft.{leaves_keep}
-use Rattle.control_laws.proofs.OtherSteps.{ReopensAlone, installs_reopen, others_keep, sends_leave}
-use Rattle.control_laws.proofs.MarksSettle.{in_two}
+use Rattle.update_machine.proofs.Exports.{start_laws}
+use Rattle.control_laws.specs.Exports.{HasItemCause, asks_controller}
+use Rattle.control_laws.proofs.Exports.{AreKept, Both, ReopensAlone, behind_piece, confirm_cases, count_more, current_more, deliver_cases, fact_on, grows, have_both, hello_sent, in_two, installs_reopen, known_more, leaves_keep, message_more, others_keep, over_more, sends_any, sends_leave, settling_have, settling_settles, told_is, unraised_same, update_cases}
 use Rattle.convergence_laws.proofs.ListElements.{in_filter, in_map, in_range}
 use Rattle.convergence_laws.proofs.PlainItems.{IsPlain, settling_plain}
 use Rattle.convergence_laws.proofs.MessageCourses.{IsSent, sends_all, sent_on}

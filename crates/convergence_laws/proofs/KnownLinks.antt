@@ -1,24 +1,17 @@
 -- So of links that end where it reaches a switch knows exactly those that can be used.
-use Rattle.std.proofs.Common.{ℕ, ◌≡◌, ◌≢◌, ◌<◌, ◌⊎◌, ◌==◌, ◌&&◌, Bool, true, false, not, None, List, [], ◌∷◌, ◌++◌, map, length, get_or, set, refl, ap, sym, subst, ◌∙◌, arith, inl, inr, get_or-set_other, get_or-set_same}
-use Rattle.std.specs.Prelude.{All, IsTrue, slice_index}
-use Rattle.std.proofs.lemmas.Bool.{cases_eq}
-use Rattle.std.proofs.lemmas.Bool.Decides.{nat_tests}
-use Rattle.std.proofs.lemmas.List.{length-map}
-use Rattle.std.proofs.lemmas.List.Elements.{All-from_recursion}
+use Rattle.std.proofs.Common.{[], ◌&&◌, ◌++◌, ◌<◌, ◌==◌, ◌∙◌, ◌∷◌, ◌≡◌, ◌≢◌, ◌⊎◌, All, Bool, IsTrue, List, None, ap, arith, false, get_or, get_or-set_other, get_or-set_same, inl, inr, length, map, not, refl, set, slice_index, subst, sym, true, ℕ}
+use Rattle.base.proofs.Exports.{All-from_recursion, cases_eq, length-map, nat_tests}
 use Rattle.policy_rules.proofs.CallerLemmas.{each_weaker}
-use Rattle.failover.specs.Links.{is_link, neighbours_named, named_links, has_link, AreJoined, IsReachable, LinksLead}
+use Rattle.failover.specs.Exports.{AreJoined, IsReachable, LinksLead, has_link, is_link, named_links, neighbours_named}
 use Rattle.failover.proofs.RouteSearch.{length-known_links, straight_path}
-use Rattle.base.specs.Masks.{has}
-use Rattle.net_file.specs.Joins.{are_linked}
+use Rattle.base.specs.Exports.{has}
+use Rattle.net_file.specs.Exports.{are_linked}
 use Rattle.net_file.proofs.RowPlaces.{links}
-use Rattle.journal.specs.declared.item.Item.{Item}
-use Rattle.steps.specs.Steps.{HasSwitch}
-use Rattle.update_machine.specs.Adverts.{adverts_known, own_advert, route_from}
-use Rattle.update_machine.specs.LinkMasks.{near, adverts_of_others, links_known}
-use Rattle.update_machine.specs.Setting.{Setting}
-use Rattle.update_machine.proofs.CallerLemmas.{has_known_link, known_places, unreached}
-use Rattle.control_laws.proofs.NetLinks.{ends_serve, near_linked, second, claimed_mask}
-use Rattle.convergence_laws.specs.Converged.{AreUnusable, HasConverged, LeadsOver, Reaches}
+use Rattle.update_machine.specs.Exports.{Item, Setting, adverts_known, adverts_of_others, links_known, near, own_advert, route_from}
+use Rattle.steps.specs.Exports.{HasSwitch}
+use Rattle.update_machine.proofs.Exports.{has_known_link, known_places, unreached}
+use Rattle.control_laws.proofs.Exports.{claimed_mask, ends_serve, near_linked, second}
+use Rattle.convergence_laws.specs.Exports.{AreUnusable, HasConverged, LeadsOver, Reaches}
 use Rattle.convergence_laws.proofs.ChangedLinksTold.{ends_there}
 use Rattle.convergence_laws.proofs.ConvergedLinks.{AreAgreed, HoldsOwn, IsThere, adverts_reach, reached_holds, small_of, serving_up}
 use Rattle.convergence_laws.proofs.UsableNeighbours.{near_both}

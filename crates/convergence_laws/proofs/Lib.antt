@@ -23,3 +23,4 @@ pub mod StuckPackets
 pub mod NewsLaws
 mod ConvergenceTrials
 pub mod CallerLemmas
+pub mod Exports

@@ -1,39 +1,15 @@
 -- What became of each message that was sent: it has the number under which it was sent, and if it
 -- was delivered to a switch in the boot in which it was sent, or to the controller, it was heard.
-use Rattle.std.proofs.Common.{ℕ, ◌≡◌, ◌+◌, ◌≤◌, ◌<◌, ◌⊎◌, ◌==◌, ◌&&◌, ◌||◌, Bool, true, false, if◌then◌else◌, Option, Some, None, List, [], ◌∷◌, ◌++◌, refl, ap, sym, subst, ◌∙◌, append-nil, append_assoc, arith, inl, inr}
-use Rattle.std.specs.Prelude.{⊤, IfSome, IsTrue, IsFalse, not, is_some}
-use Rattle.std.specs.List.{AllByRecursion}
-use Rattle.std.specs.Option.{option_map_or}
-use Rattle.std.proofs.lemmas.Bool.{eq-eqb, eqb-true}
-use Rattle.std.proofs.lemmas.Bool.Decides.{nat_tests}
-use Rattle.std.proofs.lemmas.Option.{IfSome_then}
-use Rattle.base.proofs.ListsOfEach.{each_append}
-use Rattle.ctrl_msg.specs.Bodies.{body_boot}
-use Rattle.ctrl_msg.specs.declared.message.Body.{Body}
-use Rattle.ctrl_msg.specs.declared.message.Message.{Message}
-use Rattle.ctrl_msg.specs.declared.message.Place.{Place}
-use Rattle.ctrl_msg.specs.Kinds.{to_controller}
+use Rattle.std.proofs.Common.{[], if◌then◌else◌, ◌&&◌, ◌++◌, ◌+◌, ◌<◌, ◌==◌, ◌||◌, ◌∙◌, ◌∷◌, ◌≡◌, ◌≤◌, ◌⊎◌, Bool, IfSome, IsFalse, IsTrue, List, None, Option, Some, ap, append-nil, append_assoc, arith, eq-eqb, eqb-true, false, inl, inr, is_some, not, refl, subst, sym, true, ℕ}
+use Rattle.base.proofs.Exports.{AllByRecursion, IfSome_then, each_append, nat_tests, option_map_or, ⊤}
+use Rattle.ctrl_msg.specs.Exports.{body_boot, to_controller}
+use Rattle.update_machine.specs.Exports.{Body, HaveCauses, Item, Message, Place, Sending, Setting, TakesNext, body_to_controller, body_to_switch, boot_at, boot_of, changes_sendings, controller_heard, heard, is_deliverable, is_delivery, is_for_boot, is_forgetting, is_forgotten, is_sending, is_up, message_of, next_message, send_items, sendings, sent_from, to_switch, was_delivered}
 use Rattle.ctrl_msg.specs.declared.message.Place.TheVariants as receiver
-use Rattle.journal.specs.declared.item.Item.{Item}
 use Rattle.journal.specs.declared.item.Item.TheVariants as item
-use Rattle.update_machine.specs.Boots.{boot_of, heard, is_for_boot, is_up, body_to_switch}
-use Rattle.update_machine.specs.Causes.{HaveCauses}
-use Rattle.update_machine.specs.Marks.{controller_heard, body_to_controller}
-use Rattle.update_machine.specs.Messages.{is_deliverable, is_delivery, is_forgetting, is_forgotten, is_sending, next_message, send_items, sent_from, was_delivered}
-use Rattle.update_machine.specs.Numbers.{TakesNext}
-use Rattle.update_machine.specs.Sendings.{Sending, boot_at, changes_sendings, sendings}
-use Rattle.update_machine.specs.Setting.{Setting}
-use Rattle.update_machine.specs.Settling.{to_switch}
-use Rattle.update_machine.specs.Links.{message_of}
-use Rattle.update_machine.proofs.CallerLemmas.{PiecesHave, count_of_append, folded_append, piece_next, start_laws, next_rises}
-use Rattle.control_laws.specs.ItemCauses.{HasItemCause}
-use Rattle.control_laws.proofs.BootsKnown.{boot_rises}
-use Rattle.control_laws.proofs.ItemFacts.{AreKept, Both, fact_on, have_both}
-use Rattle.control_laws.proofs.FactsGrown.{boot_more, counted_more, heard_more, message_more, some_more, told_more}
+use Rattle.update_machine.proofs.Exports.{PiecesHave, count_of_append, folded_append, next_rises, piece_next, start_laws}
+use Rattle.control_laws.specs.Exports.{HasItemCause}
+use Rattle.control_laws.proofs.Exports.{AreKept, Both, GoesOn, IsKnown, boot_more, boot_rises, counted_more, each_weaker, fact_on, goes_on, have_both, heard_more, known_at_first, known_kept, message_more, some_more, told_more, turns}
 use Rattle.control_laws.proofs.PieceCauses as boots
-use Rattle.control_laws.proofs.SwitchOpenings.{IsKnown, known_at_first, known_kept}
-use Rattle.control_laws.proofs.SwitchKeeps.{GoesOn, goes_on, turns}
-use Rattle.control_laws.proofs.ToldToController.{each_weaker}
 use Rattle.convergence_laws.proofs.ListElements.{IsIn, in_left, in_right}
 use Rattle.convergence_laws.proofs.PlainItems as plain
 

@@ -1,33 +1,14 @@
 -- The laws on news and on known links, behind any steps.
-use Rattle.std.proofs.Common.{ℕ, zero, suc, ◌≡◌, ◌≢◌, ◌⊎◌, ◌==◌, true, false, if◌then◌else◌, Some, None, List, [], ◌∷◌, refl, ap, sym, subst, ◌∙◌, arith, inl, inr}
-use Rattle.std.specs.Prelude.{Contains, IsTrue}
-use Rattle.std.specs.List.{list_any}
-use Rattle.std.proofs.lemmas.Bool.{and_parts, eq-eqb, eqb-true}
-use Rattle.std.proofs.lemmas.Bool.Decides.{nat_tests}
-use Rattle.ctrl_msg.specs.declared.message.Body.{Body}
-use Rattle.ctrl_msg.specs.declared.message.Body.TheVariants.{Advertise}
+use Rattle.std.proofs.Common.{[], if◌then◌else◌, ◌==◌, ◌∙◌, ◌∷◌, ◌≡◌, ◌≢◌, ◌⊎◌, Contains, IsTrue, List, None, Some, ap, arith, eq-eqb, eqb-true, false, inl, inr, refl, subst, suc, sym, true, zero, ℕ}
+use Rattle.base.proofs.Exports.{and_parts, list_any, nat_tests}
+use Rattle.update_machine.specs.Exports.{Advert, Advertise, Body, HaveCauses, IsQuiet, Item, Setting, StepOfRow, after_steps, begins_boot, boot_of, heard, is_for_boot, is_later_body, is_up, other_advert, sendings}
 use Rattle.ctrl_msg.specs.declared.message.Place.TheVariants as receiver
-use Rattle.failover.specs.Adverts.{is_newer}
-use Rattle.failover.specs.declared.advert.Advert.{Advert}
-use Rattle.net_file.specs.Net.{IsNet}
-use Rattle.journal.specs.declared.item.Item.{Item}
-use Rattle.steps.specs.Steps.{HasSwitch}
-use Rattle.update_machine.specs.Answers.{StepOfRow, after_steps}
-use Rattle.update_machine.specs.Boots.{boot_of, heard, is_for_boot, is_up}
-use Rattle.update_machine.specs.Causes.{HaveCauses}
-use Rattle.update_machine.specs.LinkMasks.{other_advert}
-use Rattle.update_machine.specs.Quiet.{IsQuiet, begins_boot, is_later_body}
-use Rattle.update_machine.specs.Sendings.{sendings}
-use Rattle.update_machine.specs.Setting.{Setting}
-use Rattle.control_laws.specs.Adverts.{OwnAreNewest}
-use Rattle.control_laws.specs.Always.{HoldsAtEnds}
-use Rattle.control_laws.proofs.BehindItems.{at_ends}
-use Rattle.control_laws.proofs.ItemFacts.{steps_have}
-use Rattle.control_laws.proofs.BothCauses.{behind_both}
-use Rattle.control_laws.proofs.NewestAdverts.{own_newest}
-use Rattle.convergence_laws.specs.Converged.{HasConverged}
-use Rattle.convergence_laws.specs.Stuck.{GetStuckApart}
-use Rattle.convergence_laws.specs.News.{IsAsNew, NeighboursAgree, NewsSpreads}
+use Rattle.failover.specs.Exports.{is_newer}
+use Rattle.net_file.specs.Exports.{IsNet}
+use Rattle.steps.specs.Exports.{HasSwitch}
+use Rattle.control_laws.specs.Exports.{HoldsAtEnds, OwnAreNewest}
+use Rattle.control_laws.proofs.Exports.{at_ends, behind_both, own_newest, steps_have}
+use Rattle.convergence_laws.specs.Exports.{GetStuckApart, HasConverged, IsAsNew, NeighboursAgree, NewsSpreads}
 use Rattle.convergence_laws.proofs.AgreeingNeighbours.{AreSpread, IsGivenNew, TellsOwn, caused_tells, spread_agree, spread_cases}
 use Rattle.convergence_laws.proofs.ConvergedLinks.{AreAgreed}
 use Rattle.convergence_laws.proofs.StuckPackets.{stuck_reaches_none}

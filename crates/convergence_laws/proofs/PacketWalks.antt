@@ -1,17 +1,11 @@
 -- What packets' steps write: a packet is stuck only where its switch knows no route, and finds down
 -- only links that can't be used.
-use Rattle.std.proofs.Common.{ℕ, List}
-use Rattle.std.specs.Prelude.{⊤, IsFalse}
-use Rattle.base.specs.Masks.{has}
-use Rattle.five_tuple.specs.declared.header.Header.{Header}
-use Rattle.journal.specs.declared.item.Item.{Item}
+use Rattle.std.proofs.Common.{IsFalse, List, ℕ}
+use Rattle.base.proofs.Exports.{⊤}
+use Rattle.base.specs.Exports.{has}
+use Rattle.update_machine.specs.Exports.{HaveCauses, Header, Item, Setting, hop_items, near, packet_items}
 use Rattle.journal.specs.declared.item.Item.TheVariants as item
-use Rattle.update_machine.specs.Causes.{HaveCauses}
-use Rattle.update_machine.specs.LinkMasks.{near}
-use Rattle.update_machine.specs.Pieces.{hop_items, packet_items}
-use Rattle.update_machine.specs.Setting.{Setting}
-use Rattle.control_laws.proofs.ItemFacts.{have_weaker}
-use Rattle.control_laws.proofs.TrafficItems.{IsWork, KnowsNoRoute, hop_work, packet_works}
+use Rattle.control_laws.proofs.Exports.{IsWork, KnowsNoRoute, have_weaker, hop_work, packet_works}
 
 abbrev pub Walks : Setting → List Item → Item → Type 0
 Walks setting before (item.Stuck i s cause leg down) = KnowsNoRoute setting before i s leg down

@@ -1,31 +1,12 @@
 -- Items that deliver nothing and begin no boot: all of every step but the `Delivered` and the
 -- `Booted` of two kinds. What they forget could be delivered. Those of steps that move no packet
 -- make none stuck either.
-use Rattle.std.proofs.Common.{ℕ, ◌≡◌, ◌+◌, Bool, true, false, List, [], ◌∷◌, ◌++◌, refl, ◌∙◌, arith}
-use Rattle.std.specs.Prelude.{⊤, IsFalse, IsTrue}
-use Rattle.ctrl_msg.specs.declared.message.Body.{Body}
-use Rattle.ctrl_msg.specs.declared.message.Message.{Message}
-use Rattle.journal.specs.declared.item.Item.{Item}
+use Rattle.std.proofs.Common.{[], ◌++◌, ◌+◌, ◌∙◌, ◌∷◌, ◌≡◌, Bool, IsFalse, IsTrue, List, arith, false, refl, true, ℕ}
+use Rattle.base.proofs.Exports.{⊤}
+use Rattle.update_machine.specs.Exports.{Body, Confirm, Crash, Deliver, HaveCauses, Hop, Item, LinkDown, LinkUp, Message, Packet, Resend, Restart, Setting, Step, Update, boot_of, deliver_items, delivery_items, expire_items, forget_items, hello_of, is_deliverable, is_up, items_then, link_changes, lose_items, next_packet, nothing, restart_items, send_items, settling, step_items, switch_items}
 use Rattle.journal.specs.declared.item.Item.TheVariants as item
-use Rattle.steps.specs.declared.step.Step.{Step}
-use Rattle.steps.specs.declared.step.Step.TheVariants.{Packet, Hop, Deliver, Update, LinkDown, LinkUp, Crash, Restart, Confirm, Resend}
-use Rattle.update_machine.specs.Boots.{boot_of, is_up}
-use Rattle.update_machine.specs.Causes.{HaveCauses}
-use Rattle.update_machine.specs.Deliveries.{delivery_items, link_changes, switch_items}
-use Rattle.update_machine.specs.Messages.{is_deliverable, send_items}
-use Rattle.update_machine.specs.Moves.{items_then}
-use Rattle.update_machine.specs.Packets.{next_packet}
-use Rattle.update_machine.specs.Pieces.{deliver_items, expire_items, forget_items, hello_of, lose_items, nothing, restart_items, step_items}
-use Rattle.update_machine.specs.Setting.{Setting}
-use Rattle.update_machine.specs.Settling.{settling}
-use Rattle.update_machine.proofs.CallerLemmas.{PiecesHave, have_first, message_keeps}
-use Rattle.control_laws.proofs.ControllerCommands.{Control, IsControl, confirm_control, controller_control, settling_control, update_has}
-use Rattle.control_laws.proofs.CrashedSwitches.{crash_changes}
-use Rattle.control_laws.proofs.DeliveryCauses.{delivery_has}
-use Rattle.control_laws.proofs.ItemFacts.{have_weaker, piece_has}
-use Rattle.control_laws.proofs.ResentBySwitches.{resends_any, sends_any}
-use Rattle.control_laws.proofs.SwitchCases.{switch_cases}
-use Rattle.control_laws.proofs.TrafficItems.{Change, link_change, IsChange, IsTraffic, links_change, packet_has, step_traffic, work_cases}
+use Rattle.update_machine.proofs.Exports.{PiecesHave, have_first, message_keeps}
+use Rattle.control_laws.proofs.Exports.{Change, Control, IsChange, IsControl, IsTraffic, confirm_control, controller_control, crash_changes, delivery_has, have_weaker, link_change, links_change, packet_has, piece_has, resends_any, sends_any, settling_control, step_traffic, switch_cases, update_has, work_cases}
 
 abbrev pub IsPlain : List Item → Item → Type 0
 IsPlain before (item.Delivered number) = ⊥

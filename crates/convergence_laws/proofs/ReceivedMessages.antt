@@ -1,33 +1,14 @@
 -- In a quiet journal what matters was heard, or what replaces it.
-use Rattle.std.proofs.Common.{ℕ, ◌≡◌, ◌+◌, ◌≤◌, ◌<◌, ◌⊎◌, ◌==◌, ◌&&◌, ◌||◌, Bool, true, false, Some, List, [], ◌∷◌, ◌++◌, refl, ap, sym, subst, ◌∙◌, append-nil, append_assoc, arith, inl, inr}
-use Rattle.std.specs.Prelude.{⊤, IfSome, IsTrue, IsFalse, nat_lt}
-use Rattle.std.specs.List.{list_any}
-use Rattle.std.proofs.lemmas.Bool.{eq-eqb, eqb-true, or_right}
-use Rattle.std.proofs.lemmas.Bool.Decides.{nat_tests}
-use Rattle.ctrl_msg.specs.Bodies.{body_boot}
-use Rattle.ctrl_msg.specs.declared.message.Body.{Body}
-use Rattle.ctrl_msg.specs.declared.message.Body.TheVariants.{Stamp, Collect, Advertise, Stamped}
-use Rattle.ctrl_msg.specs.declared.message.Message.{Message}
-use Rattle.ctrl_msg.specs.declared.message.Place.{Place}
+use Rattle.std.proofs.Common.{[], ◌&&◌, ◌++◌, ◌+◌, ◌<◌, ◌==◌, ◌||◌, ◌∙◌, ◌∷◌, ◌≡◌, ◌≤◌, ◌⊎◌, Bool, IfSome, IsFalse, IsTrue, List, Some, ap, append-nil, append_assoc, arith, eq-eqb, eqb-true, false, inl, inr, nat_lt, refl, subst, sym, true, ℕ}
+use Rattle.base.proofs.Exports.{list_any, nat_tests, or_right, ⊤}
+use Rattle.ctrl_msg.specs.Exports.{body_boot, to_controller}
+use Rattle.update_machine.specs.Exports.{Advertise, AreReceived, Body, Collect, HaveCauses, IsQuiet, IsReceived, IsReplaced, Item, Message, Place, Replaces, Sending, Setting, Stamp, Stamped, are_old_tables, begins_boot, boot_at, boot_of, changes_sendings, controller_heard, count_of, current_mark, folded_from, heard, is_delivery, is_for_boot, is_later_body, is_old_answer, is_up, matters, sendings, speaker, to_switch, was_delivered}
 use Rattle.ctrl_msg.specs.declared.message.Place.TheVariants as receiver
-use Rattle.ctrl_msg.specs.Kinds.{to_controller}
-use Rattle.journal.specs.declared.item.Item.{Item}
 use Rattle.journal.specs.declared.item.Item.TheVariants as item
-use Rattle.steps.specs.Steps.{HasSwitch}
-use Rattle.update_machine.specs.Boots.{boot_of, heard, is_for_boot, is_up}
-use Rattle.update_machine.specs.Causes.{HaveCauses}
-use Rattle.update_machine.specs.Folds.{count_of, folded_from}
-use Rattle.update_machine.specs.Marks.{controller_heard, current_mark}
-use Rattle.update_machine.specs.Messages.{is_delivery, was_delivered}
-use Rattle.update_machine.specs.Quiet.{AreReceived, IsQuiet, IsReceived, IsReplaced, Replaces, are_old_tables, begins_boot, is_later_body, is_old_answer, matters, speaker}
-use Rattle.update_machine.specs.Sendings.{Sending, boot_at, changes_sendings, sendings}
-use Rattle.update_machine.specs.Setting.{Setting}
-use Rattle.update_machine.specs.Settling.{to_switch}
-use Rattle.update_machine.proofs.CallerLemmas.{count_of_append}
-use Rattle.control_laws.specs.ItemCauses.{HasItemCause}
-use Rattle.control_laws.proofs.BootsKnown.{boot_rises}
-use Rattle.control_laws.proofs.ItemFacts.{have_weaker}
-use Rattle.control_laws.proofs.FactsGrown.{boot_more}
+use Rattle.steps.specs.Exports.{HasSwitch}
+use Rattle.update_machine.proofs.Exports.{count_of_append}
+use Rattle.control_laws.specs.Exports.{HasItemCause}
+use Rattle.control_laws.proofs.Exports.{boot_more, boot_rises, have_weaker}
 use Rattle.convergence_laws.proofs.ListElements.{IsIn, each_in, in_either, in_left, in_right}
 use Rattle.convergence_laws.proofs.MessageCourses.{AreTraced, IsInOrder, IsSent, IsTraced, SwitchCourse, caused_traced, sendings_more, sent_by}
 

@@ -1,48 +1,16 @@
 -- At the end of each step each member was opened at the current version, or was told to stamp with
 -- it.
-use Rattle.std.proofs.Common.{ℕ, ◌≡◌, ◌+◌, ◌<◌, ◌⊎◌, Bool, true, false, Some, List, [], ◌∷◌, ◌++◌, length, map, refl, ap, sym, subst, ◌∙◌, append-nil, append_assoc, arith, inl, inr}
-use Rattle.std.specs.Prelude.{⊤, IsTrue, nat_lt}
-use Rattle.base.proofs.ListsOfEach.{each_always, each_map}
-use Rattle.ctrl_msg.specs.declared.message.Body.{Body}
-use Rattle.ctrl_msg.specs.declared.message.Body.TheVariants.{Hello}
-use Rattle.ctrl_msg.specs.declared.message.Message.{Message}
-use Rattle.journal.specs.declared.item.Item.{Item}
+use Rattle.std.proofs.Common.{[], ◌++◌, ◌+◌, ◌<◌, ◌∙◌, ◌∷◌, ◌≡◌, ◌⊎◌, Bool, IsTrue, List, Some, ap, append-nil, append_assoc, arith, false, inl, inr, length, map, nat_lt, refl, subst, sym, true, ℕ}
+use Rattle.base.proofs.Exports.{each_always, each_map, ⊤}
+use Rattle.update_machine.specs.Exports.{Body, Confirm, ControllerKeeps, Deliver, HaveCauses, Hello, Item, Message, Setting, Step, Update, after_hello, confirm_items, controller_heard, controller_items, current_items, current_mark, deliver_items, in_turn, installs_to, installs_to_all, is_member, is_message_to_controller, is_new_boot, is_over, items_then, known_boot, members, next_current, nothing, open_items, open_sent, opened_at, piece, retired_items, send_items, settling, stamp_for, step_items, switches_of, touched_by, update_items, version_count}
 use Rattle.journal.specs.declared.item.Item.TheVariants as item
-use Rattle.steps.specs.declared.step.Step.{Step}
-use Rattle.steps.specs.declared.step.Step.TheVariants.{Deliver, Update, Confirm}
-use Rattle.update_machine.specs.Causes.{HaveCauses}
-use Rattle.update_machine.specs.Concerns.{is_message_to_controller}
-use Rattle.update_machine.specs.Deliveries.{after_hello, controller_items, is_new_boot}
-use Rattle.update_machine.specs.Laws.{ControllerKeeps}
-use Rattle.update_machine.specs.Marks.{controller_heard, current_mark, is_member, is_over, known_boot, members, next_current, open_sent, opened_at}
-use Rattle.update_machine.specs.Messages.{send_items}
-use Rattle.update_machine.specs.Moves.{in_turn, items_then}
-use Rattle.update_machine.specs.Pieces.{confirm_items, deliver_items, nothing, piece, step_items, update_items}
-use Rattle.update_machine.specs.Setting.{Setting}
-use Rattle.update_machine.specs.SwitchNumbers.{switches_of}
-use Rattle.update_machine.specs.Settling.{current_items, installs_to, installs_to_all, open_items, retired_items, settling, stamp_for}
-use Rattle.update_machine.specs.Versions.{version_count}
-use Rattle.update_machine.proofs.CallerLemmas.{have_first, have_in_turn}
-use Rattle.update_machine.specs.Touched.{touched_by}
-use Rattle.control_laws.specs.ItemCauses.{HasItemCause}
-use Rattle.control_laws.proofs.ReachedCauses.{behind_piece}
-use Rattle.control_laws.proofs.ControllerBlocks.{settling_have}
-use Rattle.control_laws.proofs.ItemFacts.{AreKept, Both, fact_on, have_both, have_rest}
-use Rattle.control_laws.proofs.FactsGrown.{current_more, known_more, over_more}
-use Rattle.control_laws.proofs.ResentBySwitches.{sends_any}
-use Rattle.control_laws.proofs.StepCases.{confirm_cases, deliver_cases, update_cases}
-use Rattle.control_laws.proofs.CurrentVersions.{StampsAreCurrent, current_kept}
-use Rattle.control_laws.proofs.MemberFacts.{LeavesMember, delivered_cases, member_was, over_cases, quiet_leaves, sent_cases}
-use Rattle.control_laws.specs.Steps.{asks_controller}
-use Rattle.control_laws.specs.Touched.{stamp_to}
-use Rattle.control_laws.proofs.MarksAtEnds.{told_is}
-use Rattle.control_laws.proofs.ControllerLeft.{leaves_keep}
-use Rattle.control_laws.proofs.OtherSteps.{ReopensAlone, others_keep, sends_leave}
-use Rattle.control_laws.proofs.MarksSettle.{in_two}
+use Rattle.update_machine.proofs.Exports.{have_first, have_in_turn}
+use Rattle.control_laws.specs.Exports.{HasItemCause, asks_controller, stamp_to}
+use Rattle.control_laws.proofs.Exports.{AreKept, Both, LeavesMember, ReopensAlone, StampsAreCurrent, behind_piece, confirm_cases, current_kept, current_more, deliver_cases, delivered_cases, fact_on, have_both, have_rest, in_two, known_more, leaves_keep, member_was, others_keep, over_cases, over_more, quiet_leaves, sends_any, sends_leave, sent_cases, settling_have, told_is, update_cases}
 use Rattle.convergence_laws.proofs.InstalledTables.{all_keep, delivery_told, installs_keep}
 use Rattle.convergence_laws.proofs.ListElements.{in_filter, in_map, in_range}
 use Rattle.convergence_laws.proofs.MessageCourses.{IsSent, sends_all, sent_on}
-use Rattle.ternary.specs.Word.{WordValue}
+use Rattle.ternary.specs.Exports.{WordValue}
 
 -- the switch was told to stamp with the version in this boot, whatever was touched
 pub record IsStampSent (journal : List Item) (s boot version : ℕ) : Type 0 where

@@ -1,39 +1,16 @@
 -- In a quiet journal a step makes a packet stuck only where it reaches no target.
-use Rattle.std.proofs.Common.{ℕ, ◌≡◌, ◌≢◌, ◌<◌, ◌≤◌, ◌⊎◌, ◌==◌, ◌||◌, ◌^◌, Bool, true, false, if◌then◌else◌, List, [], ◌∷◌, ◌++◌, length, min, max, get_or, set, refl, ap, sym, subst, ◌∙◌, arith, inl, inr, get_or-set_other, get_or-set_same, length-set, bit_or}
-use Rattle.std.specs.Prelude.{⊤, All, IsTrue, IsFalse}
-use Rattle.std.proofs.lemmas.Bool.{cases_eq, cases_lt}
-use Rattle.std.proofs.lemmas.List.{get_or_past}
-use Rattle.failover.specs.Links.{has_link, no_links, with_link}
+use Rattle.std.proofs.Common.{[], if◌then◌else◌, ◌++◌, ◌<◌, ◌==◌, ◌^◌, ◌||◌, ◌∙◌, ◌∷◌, ◌≡◌, ◌≢◌, ◌≤◌, ◌⊎◌, All, Bool, IsFalse, IsTrue, List, ap, arith, bit_or, false, get_or, get_or-set_other, get_or-set_same, inl, inr, length, length-set, max, min, refl, set, subst, sym, true, ℕ}
+use Rattle.base.proofs.Exports.{cases_eq, cases_lt, get_or_past, has-or, has-pow_other, has-zero, ⊤}
+use Rattle.failover.specs.Exports.{has_link, no_links, with_link}
 use Rattle.failover.proofs.LinkSets.{has_link-none}
-use Rattle.base.specs.Masks.{has}
-use Rattle.base.proofs.CallerLemmas.{has-or, has-pow_other, has-zero}
-use Rattle.net_file.specs.Net.{IsNet}
-use Rattle.policy_rules.specs.declared.packet.Cause.{Cause}
-use Rattle.policy_rules.specs.declared.packet.Leg.{Leg}
-use Rattle.policy_rules.specs.declared.packet.Leg.TheVariants.{Seek, Exit}
-use Rattle.journal.specs.declared.item.Item.{Item}
+use Rattle.base.specs.Exports.{has}
+use Rattle.net_file.specs.Exports.{IsNet}
+use Rattle.update_machine.specs.Exports.{Cause, Exit, HaveCauses, Hop, Item, Leg, LinksKeep, Packet, Seek, Setting, Step, adverts_known, boot_of, changes_found, concerns_links, concerns_policies, found_down, heard, is_up, items_then, near, next_packet, own_advert, piece, plan_at, route_from, step_items, targets_in, targets_of}
 use Rattle.journal.specs.declared.item.Item.TheVariants as item
-use Rattle.steps.specs.Steps.{HasSwitch}
-use Rattle.steps.specs.declared.step.Step.{Step}
-use Rattle.steps.specs.declared.step.Step.TheVariants.{Packet, Hop}
-use Rattle.update_machine.specs.Adverts.{adverts_known, own_advert, route_from}
-use Rattle.update_machine.specs.Boots.{boot_of, heard, is_up}
-use Rattle.update_machine.specs.Causes.{HaveCauses}
-use Rattle.update_machine.specs.Concerns.{concerns_links, concerns_policies}
-use Rattle.update_machine.specs.Laws.{LinksKeep}
-use Rattle.update_machine.specs.LinkMasks.{near}
-use Rattle.update_machine.specs.Moves.{items_then}
-use Rattle.update_machine.specs.Packets.{next_packet}
-use Rattle.update_machine.specs.Pieces.{piece, step_items}
-use Rattle.update_machine.specs.Setting.{Setting}
-use Rattle.update_machine.specs.Versions.{plan_at}
-use Rattle.update_machine.specs.PacketRoutes.{changes_found, found_down, targets_in, targets_of}
-use Rattle.update_machine.proofs.CallerLemmas.{folded_append, have_first, links_keep, policies_keep}
-use Rattle.control_laws.proofs.ItemFacts.{AreKept, fact_on, have_front, have_rest}
-use Rattle.control_laws.proofs.FactsGrown.{boot_more, heard_more, up_more}
-use Rattle.control_laws.proofs.TrafficItems.{KnowsNoRoute}
-use Rattle.convergence_laws.specs.Converged.{AreUnusable, Reaches}
-use Rattle.convergence_laws.specs.Stuck.{GetStuckApart}
+use Rattle.steps.specs.Exports.{HasSwitch}
+use Rattle.update_machine.proofs.Exports.{folded_append, have_first, links_keep, policies_keep}
+use Rattle.control_laws.proofs.Exports.{AreKept, KnowsNoRoute, boot_more, fact_on, have_front, have_rest, heard_more, up_more}
+use Rattle.convergence_laws.specs.Exports.{AreUnusable, GetStuckApart, Reaches}
 use Rattle.convergence_laws.proofs.ChangedLinksTold.{near_back}
 use Rattle.convergence_laws.proofs.ConvergedLinks.{AreAgreed}
 use Rattle.convergence_laws.proofs.KnownLinks.{agreed_converged}

@@ -1,32 +1,12 @@
 -- In a quiet journal every update has come to its end.
-use Rattle.std.proofs.Common.{ℕ, ◌≡◌, ◌+◌, ◌-◌, ◌≤◌, ◌<◌, ◌⊎◌, ◌==◌, ◌||◌, Bool, true, false, if◌then◌else◌, Option, Some, None, List, [], ◌∷◌, ◌++◌, length, refl, ap, sym, subst, ◌∙◌, arith, inl, inr}
-use Rattle.std.specs.Prelude.{IsTrue, IsFalse, filter_map, fold, is_some, max, nat_eq, nat_lt, unwrap_or}
-use Rattle.std.specs.List.{list_any}
-use Rattle.std.proofs.lemmas.Bool.{eq-eqb}
-use Rattle.std.proofs.lemmas.Bool.Decides.{nat_tests}
-use Rattle.ctrl_msg.specs.declared.message.Body.{Body}
-use Rattle.ctrl_msg.specs.declared.message.Body.TheVariants.{Install, OpenAt, Stamp, Collect, Advertise, Hello, Installed, Stamped}
-use Rattle.ctrl_msg.specs.Kinds.{to_controller}
-use Rattle.switch_table.specs.declared.tables.Tables.{Tables}
-use Rattle.journal.specs.declared.item.Item.{Item}
-use Rattle.update_machine.specs.Answers.{StepOfRow, after_steps}
-use Rattle.update_machine.specs.Boots.{boot_of, heard, is_up}
-use Rattle.update_machine.specs.Causes.{HaveCauses}
-use Rattle.update_machine.specs.Marks.{acked_stamp, controller_heard, current_mark, has_acked, hello_boot, installed_in, is_member, known_boot, open_version, opened_at, stamped_in}
-use Rattle.update_machine.specs.Pieces.{piece}
-use Rattle.update_machine.specs.Quiet.{IsQuiet, is_later_body}
-use Rattle.update_machine.specs.Setting.{Setting}
-use Rattle.update_machine.specs.Versions.{version_count}
-use Rattle.update_machine.specs.Links.{serves}
-use Rattle.update_machine.proofs.CallerLemmas.{have_append}
-use Rattle.control_laws.specs.Always.{HoldsAtEnds}
-use Rattle.control_laws.proofs.BehindItems.{at_ends}
-use Rattle.control_laws.proofs.FactsGrown.{opened_in, opened_is}
-use Rattle.control_laws.proofs.SwitchOpenings.{member_parts}
-use Rattle.control_laws.proofs.GreatestNumbers.{acked_stamp_opened, known_first, fold_up}
-use Rattle.control_laws.proofs.MarkLaws.{bounded}
-use Rattle.control_laws.proofs.MarksAtEnds.{settled_at_ends}
-use Rattle.convergence_laws.specs.Updated.{IsUpdated}
+use Rattle.std.proofs.Common.{[], if◌then◌else◌, ◌++◌, ◌+◌, ◌-◌, ◌<◌, ◌==◌, ◌||◌, ◌∙◌, ◌∷◌, ◌≡◌, ◌≤◌, ◌⊎◌, Bool, IsFalse, IsTrue, List, None, Option, Some, ap, arith, eq-eqb, false, filter_map, fold, inl, inr, is_some, length, max, nat_eq, nat_lt, refl, subst, sym, true, unwrap_or, ℕ}
+use Rattle.base.proofs.Exports.{list_any, nat_tests}
+use Rattle.update_machine.specs.Exports.{Advertise, Body, Collect, HaveCauses, Hello, Install, Installed, IsQuiet, Item, OpenAt, Setting, Stamp, Stamped, StepOfRow, Tables, acked_stamp, after_steps, boot_of, controller_heard, current_mark, has_acked, heard, hello_boot, installed_in, is_later_body, is_member, is_up, known_boot, open_version, opened_at, piece, serves, stamped_in, version_count}
+use Rattle.ctrl_msg.specs.Exports.{to_controller}
+use Rattle.update_machine.proofs.Exports.{have_append}
+use Rattle.control_laws.specs.Exports.{HoldsAtEnds}
+use Rattle.control_laws.proofs.Exports.{acked_stamp_opened, at_ends, bounded, fold_up, known_first, member_parts, opened_in, opened_is, settled_at_ends}
+use Rattle.convergence_laws.specs.Exports.{IsUpdated}
 use Rattle.convergence_laws.proofs.CaughtUp.{AreReady, IsCaughtUp, caught_updated, items_caused}
 use Rattle.convergence_laws.proofs.AnsweredMessages.{HaveSpoken, piece_spoken, spoken_at_first}
 use Rattle.convergence_laws.proofs.DownSwitches.{caused_recorded}
@@ -35,7 +15,7 @@ use Rattle.convergence_laws.proofs.ListElements.{IsIn, in_filter_map, in_right}
 use Rattle.convergence_laws.proofs.ReceivedMessages.{WasHeard, heard_of, told_of}
 use Rattle.convergence_laws.proofs.MessageCourses.{IsInOrder, IsSent, pieces_in_order}
 use Rattle.convergence_laws.proofs.StampOrders.{HaveStamps, IsStampSent, piece_stamps, stamps_at_first}
-use Rattle.ternary.specs.Word.{WordValue}
+use Rattle.ternary.specs.Exports.{WordValue}
 
 -- ---- greatest and least numbers
 

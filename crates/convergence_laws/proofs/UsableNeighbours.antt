@@ -1,15 +1,11 @@
 -- Neighbours over links that can be used.
-use Rattle.std.proofs.Common.{ℕ, ◌<◌, List, ◌∙◌}
-use Rattle.std.specs.Prelude.{IsTrue, filter}
-use Rattle.base.specs.Masks.{has}
-use Rattle.net_file.specs.Joins.{are_linked}
+use Rattle.std.proofs.Common.{◌<◌, ◌∙◌, IsTrue, List, filter, ℕ}
+use Rattle.base.specs.Exports.{has}
+use Rattle.net_file.specs.Exports.{are_linked}
 use Rattle.net_file.proofs.MaskBits.{in_mask_of}
 use Rattle.net_file.proofs.RowPlaces.{linked_turn}
-use Rattle.journal.specs.declared.item.Item.{Item}
-use Rattle.update_machine.specs.Links.{is_usable}
-use Rattle.update_machine.specs.Setting.{Setting}
-use Rattle.update_machine.specs.LinkMasks.{near}
-use Rattle.control_laws.proofs.NetLinks.{linked_by_mask}
+use Rattle.update_machine.specs.Exports.{Item, Setting, is_usable, near}
+use Rattle.control_laws.proofs.Exports.{linked_by_mask}
 
 -- ---- a link has both its ends
 

@@ -1,15 +1,11 @@
 -- A network has converged if each switch knows the usable links, as far as they reach. Link-state
 -- databases that agree are those of OSPF (RFC 2328, section 13); a link counts if both its ends
 -- name it (section 16.1).
-use Rattle.std.specs.Prelude.{ℕ, ◌≡◌, ◌≢◌, ◌<◌, ◌↔◌, Some, None, List, [], ◌∷◌, All, IsTrue, IsFalse}
-use Rattle.failover.specs.Links.{has_link, AreJoined}
-use Rattle.base.specs.Masks.{has}
-use Rattle.journal.specs.declared.item.Item.{Item}
-use Rattle.steps.specs.Steps.{HasSwitch}
-use Rattle.update_machine.specs.Adverts.{advert_known, own_advert, route_from}
-use Rattle.update_machine.specs.Boots.{is_up}
-use Rattle.update_machine.specs.LinkMasks.{near, links_known}
-use Rattle.update_machine.specs.Setting.{Setting}
+use Rattle.std.specs.Prelude.{[], ◌<◌, ◌↔◌, ◌∷◌, ◌≡◌, ◌≢◌, All, IsFalse, IsTrue, List, None, Some, ℕ}
+use Rattle.failover.specs.Exports.{AreJoined, has_link}
+use Rattle.base.specs.Exports.{has}
+use Rattle.update_machine.specs.Exports.{Item, Setting, advert_known, is_up, links_known, near, own_advert, route_from}
+use Rattle.steps.specs.Exports.{HasSwitch}
 
 -- from a switch over these, each by a usable link, to the target
 abbrev pub LeadsOver : Setting → List Item → ℕ → ℕ → List ℕ → Type 0

@@ -1,14 +1,6 @@
 -- A network in which nothing is left to do.
-use Rattle.std.specs.Prelude.{ℕ, ◌≡◌, not, ◌||◌, None, List, [], ◌∷◌, ◌++◌, All, IsTrue, IsFalse}
-use Rattle.journal.specs.declared.item.Item.{Item}
-use Rattle.steps.specs.declared.step.Event.{Event}
-use Rattle.steps.specs.declared.step.Event.TheVariants.{Flush}
-use Rattle.update_machine.specs.Answers.{Answers}
-use Rattle.update_machine.specs.Boots.{is_up}
-use Rattle.update_machine.specs.Messages.{is_forgotten, next_waiting}
-use Rattle.update_machine.specs.Quiet.{is_waited_for}
-use Rattle.update_machine.specs.Setting.{Setting}
-use Rattle.update_machine.specs.SwitchNumbers.{switches_of}
+use Rattle.std.specs.Prelude.{[], ◌++◌, ◌||◌, ◌∷◌, ◌≡◌, All, IsFalse, IsTrue, List, None, not, ℕ}
+use Rattle.update_machine.specs.Exports.{Answers, Event, Flush, Item, Setting, is_forgotten, is_up, is_waited_for, next_waiting, switches_of}
 
 -- no message waits, none was forgotten, and each switch is up, or the controller doesn't wait for
 -- it

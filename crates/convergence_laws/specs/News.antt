@@ -1,17 +1,10 @@
 -- What switches with a usable link between them send each other. That adverts reach all switches
 -- is the reliable flooding of OSPF (RFC 2328, section 13); acknowledgements are not needed here,
 -- because a quiet network lost nothing that matters.
-use Rattle.std.specs.Prelude.{ℕ, ◌≡◌, ◌<◌, ◌⊎◌, Some, List, Contains, IsTrue, IsFalse}
-use Rattle.failover.specs.Adverts.{is_newer}
-use Rattle.failover.specs.declared.advert.Advert.{Advert}
-use Rattle.base.specs.Masks.{has}
-use Rattle.journal.specs.declared.item.Item.{Item}
-use Rattle.update_machine.specs.Adverts.{advert_known}
-use Rattle.update_machine.specs.Boots.{boot_of}
-use Rattle.update_machine.specs.Deliveries.{advert_to}
-use Rattle.update_machine.specs.LinkMasks.{near}
-use Rattle.update_machine.specs.Sendings.{sendings}
-use Rattle.update_machine.specs.Setting.{Setting}
+use Rattle.std.specs.Prelude.{◌<◌, ◌≡◌, ◌⊎◌, Contains, IsFalse, IsTrue, List, Some, ℕ}
+use Rattle.failover.specs.Exports.{is_newer}
+use Rattle.update_machine.specs.Exports.{Advert, Item, Setting, advert_known, advert_to, boot_of, near, sendings}
+use Rattle.base.specs.Exports.{has}
 
 -- of the same origin, and at least as new
 pub record IsAsNew (advert than : Advert) : Type 0 where

@@ -1,15 +1,9 @@
 -- Where packets get stuck in a network that has converged.
-use Rattle.std.specs.Prelude.{ℕ, ◌≡◌, List, ◌∷◌, ◌++◌, All}
-use Rattle.failover.specs.Links.{no_links}
-use Rattle.policy_rules.specs.declared.packet.Cause.{Cause}
-use Rattle.policy_rules.specs.declared.packet.Leg.{Leg}
-use Rattle.journal.specs.declared.item.Item.{Item}
+use Rattle.std.specs.Prelude.{◌++◌, ◌∷◌, ◌≡◌, All, List, ℕ}
+use Rattle.failover.specs.Exports.{no_links}
+use Rattle.update_machine.specs.Exports.{Cause, Item, Leg, Setting, Step, found_down, piece, targets_of}
 use Rattle.journal.specs.declared.item.Item.TheVariants as item
-use Rattle.steps.specs.Steps.{HasSwitch}
-use Rattle.steps.specs.declared.step.Step.{Step}
-use Rattle.update_machine.specs.PacketRoutes.{found_down, targets_of}
-use Rattle.update_machine.specs.Pieces.{piece}
-use Rattle.update_machine.specs.Setting.{Setting}
+use Rattle.steps.specs.Exports.{HasSwitch}
 use Rattle.convergence_laws.specs.Converged.{Reaches}
 
 -- a packet that had found no link down gets stuck in the next step only if no target of its leg is

@@ -1,14 +1,8 @@
 -- The result of a finished update: all switches that are up stamp with the newest version, and no
 -- other version is needed (Reitblatt, Foster, Rexford, Schlesinger and Walker, "Abstractions for
 -- Network Update").
-use Rattle.std.specs.Prelude.{◌≡◌, ◌-◌, List, All, IsTrue}
-use Rattle.journal.specs.declared.item.Item.{Item}
-use Rattle.update_machine.specs.Boots.{is_up}
-use Rattle.update_machine.specs.Marks.{current_mark, retired_mark}
-use Rattle.update_machine.specs.Setting.{Setting}
-use Rattle.update_machine.specs.SwitchNumbers.{switches_of}
-use Rattle.update_machine.specs.Versions.{stamp_of, version_count}
-use Rattle.update_machine.specs.Links.{serves}
+use Rattle.std.specs.Prelude.{◌-◌, ◌≡◌, All, IsTrue, List}
+use Rattle.update_machine.specs.Exports.{Item, Setting, current_mark, is_up, retired_mark, serves, stamp_of, switches_of, version_count}
 
 -- each switch that is up serves and stamps with the newest version; that one is current, and all
 -- before it are retired

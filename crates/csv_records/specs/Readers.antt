@@ -1,5 +1,5 @@
 -- A reader of the crate `csv` in the middle of a text: the records that it has yet to read.
-use Rattle.std.specs.Prelude.{ℕ, ◌≡◌, ◌+◌, true, false, List, [], length, Option, Some}
+use Rattle.std.specs.Prelude.{[], ◌+◌, ◌≡◌, List, Option, Some, false, length, true, ℕ}
 use Rattle.std.specs.Option.{option_map_or}
 use Rattle.std.specs.Borrow.{Bor}
 use Rattle.csv.specs.Reading.{Ready, default_config, has_failed, is_flexible, reader_config, reader_state, reader_trim, records_from, source_of}

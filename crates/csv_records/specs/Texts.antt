@@ -1,5 +1,5 @@
 -- The records of a text, each the list of its fields.
-use Rattle.std.specs.Prelude.{ℕ, ◌≡◌, Bool, true, false, List, [], ◌∷◌, unwrap_or, bytes_eq}
+use Rattle.std.specs.Prelude.{[], ◌∷◌, ◌≡◌, Bool, List, bytes_eq, false, true, unwrap_or, ℕ}
 use Rattle.csv.specs.Reading.{default_config, records, strip_bom}
 use Rattle.csv.specs.Records.{field_at}
 use lib.Pointwise.{pointwise}

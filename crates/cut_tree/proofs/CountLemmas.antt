@@ -1,11 +1,7 @@
 -- Counters in planes of bits.
-use Rattle.std.proofs.Common.{◌≡◌, ℕ, zero, suc, bit_xor, add-one, ◌+◌, ◌*◌, ◌^◌, ◌<◌, ◌≤◌, length-drop, List, [], ◌∷◌, length, get_or, set, drop, replicate, refl, ◌∙◌, ap, arith}
-use Rattle.std.specs.Int.{bit_at}
-use Rattle.std.specs.Int.Bits.{bit_and, bit_or}
-use Rattle.std.proofs.lemmas.Nat.Bits.{bit_at-lt, bit_at-zero, bit_at_and, bit_at_or, bit_at_xor}
-use Rattle.std.proofs.Math.Nat.{pow-suc}
-use Rattle.std.proofs.Math.Pow.{pow_mono}
-use Rattle.cut_tree.specs.Counts.{count_at}
+use Rattle.std.proofs.Common.{[], ◌*◌, ◌+◌, ◌<◌, ◌^◌, ◌∙◌, ◌∷◌, ◌≡◌, ◌≤◌, List, add-one, ap, arith, bit_and, bit_or, bit_xor, drop, get_or, length, length-drop, pow-suc, pow_mono, refl, replicate, set, suc, zero, ℕ}
+use Rattle.base.proofs.Exports.{bit_at, bit_at-lt, bit_at-zero, bit_at_and, bit_at_or, bit_at_xor}
+use Rattle.cut_tree.specs.Exports.{count_at}
 
 pub count_at-replicate : (n bit : ℕ) → count_at (replicate n 0) bit ≡ 0
 count_at-replicate zero bit = refl

@@ -1,11 +1,9 @@
 -- The least cut of a region.
-use Rattle.std.proofs.Common.{◌≡◌, ℕ, zero, suc, ◌<◌, true, false, Option, Some, None, List, refl, sym, ◌∙◌, ap, subst, inl, inr, arith}
-use Rattle.std.specs.Bool.{IsFalse}
-use Rattle.std.proofs.lemmas.Bool.{cases_Bool, cases_eq, both_ways, cond-true, cond-false}
-use Rattle.ternary.specs.Word.{WordValue}
-use Rattle.ternary.specs.Meets.{is_fixed_of}
+use Rattle.std.proofs.Common.{◌<◌, ◌∙◌, ◌≡◌, IsFalse, List, None, Option, Some, ap, arith, false, inl, inr, refl, subst, suc, sym, true, zero, ℕ}
+use Rattle.base.proofs.Exports.{both_ways, cases_Bool, cases_eq, cond-false, cond-true}
+use Rattle.ternary.specs.Exports.{WordValue, is_fixed_of}
 use Rattle.policy_rules.specs.declared.rules.Rule.{Rule}
-use Rattle.cut_tree.specs.Cuts.{IsLeastCut, CostsAtMost, cheaper_cost, is_cheaper, cost_of, least_below}
+use Rattle.cut_tree.specs.Exports.{CostsAtMost, IsLeastCut, cheaper_cost, cost_of, is_cheaper, least_below}
 use Rattle.cut_tree.specs.declared.choice.Cost.{Cost}
 
 pub least_none : (rules : List Rule) (region : WordValue) → least_below 0 rules region ≡ None

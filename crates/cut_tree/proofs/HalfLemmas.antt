@@ -1,17 +1,9 @@
 -- What a word shares with half of a region that it lies in.
-use Rattle.std.proofs.Common.{◌≡◌, ℕ, ◌<◌, ◌/◌, ◌^◌, ◌&&◌, ◌||◌, not, bit_and, Bool, true, false, Some, None, List, length, get_or, refl, sym, ◌∙◌, ap, subst, arith}
-use Rattle.std.specs.Bool.{IsTrue, IsFalse, ◌==◌, beq}
-use Rattle.std.specs.Int.{bit_at, from_bool}
-use Rattle.std.specs.List.{All}
-use Rattle.std.proofs.lemmas.Bool.{both_ways, eqb-true, eq-eqb, false_from_ne_true}
-use Rattle.std.proofs.lemmas.Bool.Decides.{nat_tests}
-use Rattle.std.proofs.lemmas.Nat.Bits.{bit_at-lt, shr_and_one}
-use Rattle.ternary.specs.Word.{WordValue, holds}
-use Rattle.ternary.specs.WordBits.{IsWord}
-use Rattle.ternary.specs.Laws.{HoldsLaws}
-use Rattle.ternary.specs.Meets.{is_fixed_of, admits, meets, meet_of, meeting_word, covers_of, fix_of}
+use Rattle.std.proofs.Common.{◌&&◌, ◌/◌, ◌<◌, ◌==◌, ◌^◌, ◌||◌, ◌∙◌, ◌≡◌, All, Bool, IsFalse, IsTrue, List, None, Some, ap, arith, bit_and, eq-eqb, eqb-true, false, get_or, length, not, refl, subst, sym, true, ℕ}
+use Rattle.base.proofs.Exports.{beq, bit_at, bit_at-lt, both_ways, false_from_ne_true, from_bool, nat_tests, shr_and_one}
+use Rattle.ternary.specs.Exports.{HoldsLaws, IsWord, WordValue, admits, covers_of, fix_of, holds, is_fixed_of, meet_of, meeting_word, meets}
 use Rattle.policy_rules.specs.declared.rules.Rule.{Rule}
-use Rattle.cut_tree.specs.Nodes.{LiesIn}
+use Rattle.cut_tree.specs.Exports.{LiesIn}
 use Rattle.ternary.proofs.CallerLemmas.{apart_none, covers_held, fix_holds, fix_word, meet_both, meet_word, meets_cover, meets_half, met_joined}
 
 both_within : (p q t : Bool) → (p ≡ true → q ≡ true) → (p && (q && t)) ≡ (p && t)

@@ -1,15 +1,9 @@
 -- The least of counts that stand in planes of bits.
-use Rattle.std.proofs.Common.{◌≡◌, ◌≢◌, ◌↔◌, ◌⊎◌, ℕ, zero, suc, add-one, ◌+◌, ◌-◌, ◌*◌, ◌%◌, ◌^◌, ◌<◌, ◌≤◌, min, max, true, false, bit_or, bit_xor, bit_and, length, drop, get_or, List, [], ◌∷◌, Some, refl, sym, ◌∙◌, ap, subst, inl, inr, arith}
-use Rattle.std.specs.Bool.{◌==◌}
-use Rattle.std.specs.Int.{w128, bit_at, trailing_zeros}
-use Rattle.std.proofs.lemmas.Bool.{both_ways, cases_Bool, cases_eq, cases_lt, cond-true, cond-false, eq-eqb, ne_eqb}
-use Rattle.std.proofs.lemmas.Nat.{and_le_l, xor_lt}
-use Rattle.std.proofs.lemmas.Nat.Bits.{bit_at-lt, bit_at-zero, bit_at_and, bit_at_not, bit_at_ones, bit_at_ones_above, bit_at_or, bit_at_xor, bit_at-trailing_zeros}
-use Rattle.ternary.specs.Word.{WordValue}
-use Rattle.ternary.specs.Meets.{is_fixed_of}
+use Rattle.std.proofs.Common.{[], ◌%◌, ◌*◌, ◌+◌, ◌-◌, ◌<◌, ◌==◌, ◌^◌, ◌↔◌, ◌∙◌, ◌∷◌, ◌≡◌, ◌≢◌, ◌≤◌, ◌⊎◌, List, Some, add-one, ap, arith, bit_and, bit_or, bit_xor, drop, eq-eqb, false, get_or, inl, inr, length, max, min, ne_eqb, refl, subst, suc, sym, true, zero, ℕ}
+use Rattle.base.proofs.Exports.{and_le_l, bit_at, bit_at-lt, bit_at-trailing_zeros, bit_at-zero, bit_at_and, bit_at_not, bit_at_ones, bit_at_ones_above, bit_at_or, bit_at_xor, both_ways, cases_Bool, cases_eq, cases_lt, cond-false, cond-true, trailing_zeros, w128, xor_lt}
+use Rattle.ternary.specs.Exports.{WordValue, is_fixed_of}
 use Rattle.policy_rules.specs.declared.rules.Rule.{Rule}
-use Rattle.cut_tree.specs.Counts.{HasCounted, IsHeight, IsLeastOf, count_at, count_by, counted_cost}
-use Rattle.cut_tree.specs.Cuts.{CostsAtMost, IsFreeBit, cost_from, cost_of, least_below, side_of}
+use Rattle.cut_tree.specs.Exports.{CostsAtMost, HasCounted, IsFreeBit, IsHeight, IsLeastOf, cost_from, cost_of, count_at, count_by, counted_cost, least_below, side_of}
 use Rattle.cut_tree.specs.declared.choice.Cost.{Cost}
 use Rattle.cut_tree.specs.declared.choice.Side.{Side}
 use Rattle.cut_tree.proofs.CutLemmas.{least_is}

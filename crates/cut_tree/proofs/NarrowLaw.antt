@@ -1,15 +1,11 @@
 -- Narrowing twice, and the first rule of a narrowed list.
-use Rattle.std.proofs.Common.{◌≡◌, ℕ, true, false, ◌&&◌, Option, Some, List, [], ◌∷◌, find, option_map, sym, ◌∙◌, ap, inl, inr}
-use Rattle.std.specs.Bool.{IsTrue}
-use Rattle.std.specs.Option.{option_and_then, is_some}
-use Rattle.std.proofs.lemmas.Bool.{cases_Bool, both_ways, false_from_ne_true}
-use Rattle.std.proofs.Math.Bool.{and-true}
-use Rattle.ternary.specs.Word.{WordValue, holds}
-use Rattle.ternary.specs.Meets.{meets, meeting_word, meet_of, covers_of}
+use Rattle.std.proofs.Common.{[], ◌&&◌, ◌∙◌, ◌∷◌, ◌≡◌, IsTrue, List, Option, Some, ap, false, find, inl, inr, is_some, option_and_then, option_map, sym, true, ℕ}
+use Rattle.base.proofs.Exports.{and-true, both_ways, cases_Bool, false_from_ne_true}
+use Rattle.ternary.specs.Exports.{WordValue, covers_of, holds, meet_of, meeting_word, meets}
 use Rattle.ternary.proofs.CallerLemmas.{covers_held, covers_transitive, meet_is_some, meet_both, meet_disjoint, meet_greatest, meet_narrowed, meets_comm, meets_cover, met_joined, apart_none}
-use Rattle.policy_rules.specs.Rules.{is_held}
+use Rattle.policy_rules.specs.Exports.{is_held}
 use Rattle.policy_rules.specs.declared.rules.Rule.{Rule}
-use Rattle.cut_tree.specs.Narrow.{narrowed_rule, narrow}
+use Rattle.cut_tree.specs.Exports.{narrow, narrowed_rule}
 use Rattle.cut_tree.proofs.NarrowLemmas.{narrow_none, narrow_apart, narrow_covered, narrow_more}
 
 abbrev with_word : Rule → WordValue → Rule

@@ -1,22 +1,10 @@
 -- Narrowing, rule by rule.
-use Rattle.std.proofs.Common.{◌≡◌, ℕ, ◌+◌, ◌<◌, ◌≤◌, ◌&&◌, eqb, Bool, true, false, sym, Some, None, List, [], ◌∷◌, ◌++◌, append-nil, append_assoc, length, get_or, drop, refl, ◌∙◌, ap}
-use Rattle.std.proofs.Common.{inl, inr, arith}
-use Rattle.std.specs.Bool.{IsTrue}
-use Rattle.std.specs.Int.{bit_at}
-use Rattle.std.specs.List.{All}
-use Rattle.std.proofs.lemmas.Bool.{cases_Bool, eqb-true, eq-eqb, ne_eqb, false_from_ne_true}
-use Rattle.std.proofs.lemmas.Bool.Decides.{nat_tests}
-use Rattle.std.proofs.lemmas.Nat.Bits.{bit_at-lt, same_from_bits}
-use Rattle.std.proofs.lemmas.List.{at_drop_all}
-use Rattle.std.proofs.lemmas.List.Elements.{All-nil, All-cons, All-head, All-tail, All-same}
-use Rattle.base.proofs.ListsByPlace.{at_item}
-use Rattle.ternary.specs.Word.{WordValue}
-use Rattle.ternary.specs.WordBits.{IsWord}
-use Rattle.ternary.specs.Meets.{meets, meet_of, covers_of}
+use Rattle.std.proofs.Common.{[], ◌&&◌, ◌++◌, ◌+◌, ◌<◌, ◌∙◌, ◌∷◌, ◌≡◌, ◌≤◌, All, Bool, IsTrue, List, None, Some, ap, append-nil, append_assoc, arith, drop, eq-eqb, eqb, eqb-true, false, get_or, inl, inr, length, ne_eqb, refl, sym, true, ℕ}
+use Rattle.base.proofs.Exports.{All-cons, All-head, All-nil, All-same, All-tail, at_drop_all, at_item, bit_at, bit_at-lt, cases_Bool, false_from_ne_true, nat_tests, same_from_bits}
+use Rattle.ternary.specs.Exports.{IsWord, WordValue, covers_of, meet_of, meets}
 use Rattle.ternary.proofs.CallerLemmas.{covers_decides, covers_full, covers_reflexive, meet_greatest, meet_within, meet_word, meet_none, meet_some, met_joined}
 use Rattle.policy_rules.specs.declared.rules.Rule.{Rule}
-use Rattle.cut_tree.specs.Narrow.{narrowed_rule, narrow}
-use Rattle.cut_tree.specs.Nodes.{AreNodeRules, AreWords, IsOneHeader, LiesIn}
+use Rattle.cut_tree.specs.Exports.{AreNodeRules, AreWords, IsOneHeader, LiesIn, narrow, narrowed_rule}
 
 -- ---- one rule
 

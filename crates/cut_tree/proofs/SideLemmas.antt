@@ -1,20 +1,11 @@
 -- Which halves of a region a word meets and covers, bit by bit.
-use Rattle.std.proofs.Common.{◌≡◌, ◌≢◌, ℕ, zero, suc, ◌+◌, ◌-◌, ◌*◌, ◌%◌, ◌^◌, ◌<◌, ◌≤◌, min, max, Bool, true, false, not, ◌&&◌, ◌||◌, bit_or, bit_xor, bit_and, length, drop, List, ◌∷◌, refl, sym, ◌∙◌, ap, inl, inr, arith}
-use Rattle.std.specs.Bool.{IsTrue, ◌==◌}
-use Rattle.std.specs.Int.{w128, bit_at, from_bool, trailing_zeros}
-use Rattle.std.proofs.lemmas.Bool.{cases_eq, cases_Bool, both_ways, false_from_ne_true}
-use Rattle.std.proofs.lemmas.Bool.Decides.{nat_tests}
-use Rattle.std.proofs.lemmas.Nat.{pow_below, xor_lt}
-use Rattle.std.proofs.lemmas.Nat.Bits.{bit_at-lt, bit_at-zero, bit_at_and, bit_at_or, bit_at_xor, bit_at_not, bit_at-pow_same, bit_at-pow_other, bit_at-trailing_zeros, same_from_bits}
-use Rattle.ternary.specs.Word.{WordValue}
-use Rattle.ternary.specs.WordBits.{IsWord}
-use Rattle.ternary.specs.Meets.{is_fixed_of, admits, meets, covers_of, fix_of, free_of}
+use Rattle.std.proofs.Common.{◌%◌, ◌&&◌, ◌*◌, ◌+◌, ◌-◌, ◌<◌, ◌==◌, ◌^◌, ◌||◌, ◌∙◌, ◌∷◌, ◌≡◌, ◌≢◌, ◌≤◌, Bool, IsTrue, List, ap, arith, bit_and, bit_or, bit_xor, drop, false, inl, inr, length, max, min, not, refl, suc, sym, true, zero, ℕ}
+use Rattle.base.proofs.Exports.{bit_at, bit_at-lt, bit_at-pow_other, bit_at-pow_same, bit_at-trailing_zeros, bit_at-zero, bit_at_and, bit_at_not, bit_at_or, bit_at_xor, both_ways, cases_Bool, cases_eq, false_from_ne_true, from_bool, nat_tests, pow_below, same_from_bits, trailing_zeros, w128, xor_lt}
+use Rattle.ternary.specs.Exports.{IsWord, WordValue, admits, covers_of, fix_of, free_of, is_fixed_of, meets}
 use Rattle.ternary.proofs.CallerLemmas.{covers_decides, covers_half, meets_comm, meets_cover, meets_half, without_bit-other, without_bit-same}
 use Rattle.policy_rules.specs.declared.rules.Rule.{Rule}
-use Rattle.cut_tree.specs.Counts.{IsCounting, IsNarrowIn, HasCounted}
-use Rattle.cut_tree.specs.Cuts.{IsFreeBit, side_of}
+use Rattle.cut_tree.specs.Exports.{HasCounted, IsCounting, IsFreeBit, IsNarrowIn, narrow, side_of}
 use Rattle.cut_tree.specs.declared.choice.Side.{Side}
-use Rattle.cut_tree.specs.Narrow.{narrow}
 use Rattle.cut_tree.proofs.NarrowLemmas.{narrow_covered, narrow_more, narrow_apart, narrow_end}
 
 -- ---- the halves that a word meets

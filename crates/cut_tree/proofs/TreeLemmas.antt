@@ -1,17 +1,12 @@
 -- The tree as a function of the rules, and as a test.
-use Rattle.std.proofs.Common.{length-append, ◌≡◌, ℕ, zero, suc, ◌+◌, ◌<◌, ◌≤◌, Bool, true, false, Option, Some, None, List, length, get_or, refl, sym, ◌∙◌, ap, subst, inl, inr, arith}
-use Rattle.std.proofs.lemmas.Bool.{both_ways, cases_lt, le-leb, lt-leb}
-use Rattle.ternary.specs.Word.{WordValue}
-use Rattle.ternary.specs.Meets.{any_word, fix_of}
+use Rattle.std.proofs.Common.{◌+◌, ◌<◌, ◌∙◌, ◌≡◌, ◌≤◌, Bool, List, None, Option, Some, ap, arith, false, get_or, inl, inr, le-leb, length, length-append, refl, subst, suc, sym, true, zero, ℕ}
+use Rattle.base.proofs.Exports.{IfRefused-weaker, both_ways, cases_lt, lt-leb}
+use Rattle.ternary.specs.Exports.{WordValue, any_word, fix_of}
 use Rattle.ternary.proofs.CallerLemmas.{any_covers, any_unfixed, fix_word, free_bits_shorter}
-use Rattle.base.specs.Refusals.{IfRefused}
+use Rattle.base.specs.Exports.{IfRefused}
 use Rattle.base.specs.declared.error.Failure.{Failure}
-use Rattle.base.proofs.RefusalWeakening.{IfRefused-weaker}
 use Rattle.policy_rules.specs.declared.rules.Rule.{Rule}
-use Rattle.cut_tree.specs.Cuts.{IsLeastCut, least_below, side_of}
-use Rattle.cut_tree.specs.DefinedTree.{IsTreeOf, IsDefinedTree, free_count, cut_by, tree_within, tree_at, tree_of}
-use Rattle.cut_tree.specs.Nodes.{AreNodeRules, AreWords, IsOneHeader}
-use Rattle.cut_tree.specs.Shape.{Shape, End, Node, leaf_count, leaves_of}
+use Rattle.cut_tree.specs.Exports.{AreNodeRules, AreWords, End, IsDefinedTree, IsLeastCut, IsOneHeader, IsTreeOf, Node, Shape, cut_by, free_count, leaf_count, least_below, leaves_of, side_of, tree_at, tree_of, tree_within}
 use Rattle.cut_tree.specs.declared.choice.Cost.{Cost}
 use Rattle.cut_tree.proofs.CutLemmas.{least_cuts, least_only, least_missing}
 use Rattle.cut_tree.proofs.NarrowLemmas.{narrow_node}

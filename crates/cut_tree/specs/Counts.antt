@@ -1,8 +1,7 @@
 -- Counters for many bits at once.
-use Rattle.std.specs.Prelude.{ℕ, ◌≡◌, ◌+◌, ◌*◌, ◌≤◌, ◌==◌, if◌then◌else◌, Bool, IsFalse, List, [], ◌∷◌, length, drop}
-use Rattle.std.specs.Int.{bit_at}
-use Rattle.ternary.specs.Word.{WordValue}
-use Rattle.ternary.specs.Meets.{covers_of, fix_of}
+use Rattle.std.specs.Prelude.{[], if◌then◌else◌, ◌*◌, ◌+◌, ◌==◌, ◌∷◌, ◌≡◌, ◌≤◌, Bool, IsFalse, List, drop, length, ℕ}
+use Rattle.base.specs.Exports.{bit_at}
+use Rattle.ternary.specs.Exports.{WordValue, covers_of, fix_of}
 use Rattle.policy_rules.specs.declared.rules.Rule.{Rule}
 use Rattle.cut_tree.specs.Cuts.{IsFreeBit, cost_from, side_of}
 use Rattle.cut_tree.specs.Nodes.{LiesIn}

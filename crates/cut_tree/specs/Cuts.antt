@@ -1,8 +1,7 @@
 -- Which bit a region is cut at. The order of costs is this project's own; the cuts are those of
 -- Yu, Rexford, Freedman and Wang, "Scalable Flow-Based Networking with DIFANE", SIGCOMM 2010.
-use Rattle.std.specs.Prelude.{ℕ, zero, suc, ◌≡◌, ◌+◌, ◌<◌, ◌≤◌, ◌&&◌, ◌||◌, ◌==◌, if◌then◌else◌, nat_lt, max, Bool, true, false, Option, Some, None, IsFalse, List, length}
-use Rattle.ternary.specs.Word.{WordValue}
-use Rattle.ternary.specs.Meets.{is_fixed_of, fix_of}
+use Rattle.std.specs.Prelude.{if◌then◌else◌, ◌&&◌, ◌+◌, ◌<◌, ◌==◌, ◌||◌, ◌≡◌, ◌≤◌, Bool, IsFalse, List, None, Option, Some, false, length, max, nat_lt, suc, true, zero, ℕ}
+use Rattle.ternary.specs.Exports.{WordValue, fix_of, is_fixed_of}
 use Rattle.policy_rules.specs.declared.rules.Rule.{Rule}
 use Rattle.cut_tree.specs.Narrow.{narrow}
 use Rattle.cut_tree.specs.declared.choice.Cost.{Cost}

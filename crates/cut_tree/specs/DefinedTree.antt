@@ -1,7 +1,6 @@
 -- The tree of a list of rules: a test of a given tree, and the tree as a function.
-use Rattle.std.specs.Prelude.{ℕ, zero, suc, ◌≡◌, ◌<◌, ◌≤◌, nat_le, true, false, Option, Some, None, List, length}
-use Rattle.ternary.specs.Word.{WordValue}
-use Rattle.ternary.specs.Meets.{any_word, fix_of, free_bits}
+use Rattle.std.specs.Prelude.{◌<◌, ◌≡◌, ◌≤◌, List, None, Option, Some, false, length, nat_le, suc, true, zero, ℕ}
+use Rattle.ternary.specs.Exports.{WordValue, any_word, fix_of, free_bits}
 use Rattle.policy_rules.specs.declared.rules.Rule.{Rule}
 use Rattle.cut_tree.specs.Cuts.{IsLeastCut, least_below, side_of}
 use Rattle.cut_tree.specs.Shape.{Shape, End, Node}

@@ -1,8 +1,7 @@
 -- The laws of narrowing and of trees: `x_laws` of the crate ensures the record of each.
-use Rattle.std.specs.Prelude.{ℕ, ◌≡◌, ◌<◌, List, IsTrue, find, option_map}
-use Rattle.ternary.specs.Word.{WordValue, holds}
-use Rattle.ternary.specs.Meets.{covers_of}
-use Rattle.policy_rules.specs.Rules.{is_held}
+use Rattle.std.specs.Prelude.{◌<◌, ◌≡◌, IsTrue, List, find, option_map, ℕ}
+use Rattle.ternary.specs.Exports.{WordValue, covers_of, holds}
+use Rattle.policy_rules.specs.Exports.{is_held}
 use Rattle.policy_rules.specs.declared.rules.Rule.{Rule}
 use Rattle.cut_tree.specs.DefinedTree.{IsDefinedTree, tree_of}
 use Rattle.cut_tree.specs.Narrow.{narrow, narrowed_rule}

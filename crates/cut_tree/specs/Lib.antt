@@ -5,3 +5,4 @@ pub mod Laws
 pub mod Narrow
 pub mod Nodes
 pub mod Shape
+pub mod Exports

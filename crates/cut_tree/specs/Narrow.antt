@@ -1,8 +1,7 @@
 -- Narrowing a list of rules to a part of the header space, as Yu, Rexford, Freedman and Wang,
 -- "Scalable Flow-Based Networking with DIFANE", SIGCOMM 2010, cut the rules for their switches.
-use Rattle.std.specs.Prelude.{if◌then◌else◌, Bool, List, [], ◌∷◌, map, filter}
-use Rattle.ternary.specs.Word.{WordValue}
-use Rattle.ternary.specs.Meets.{meeting_word, meets, covers_of}
+use Rattle.std.specs.Prelude.{[], if◌then◌else◌, ◌∷◌, Bool, List, filter, map}
+use Rattle.ternary.specs.Exports.{WordValue, covers_of, meeting_word, meets}
 use Rattle.policy_rules.specs.declared.rules.Rule.{Rule}
 
 -- the list up to and including the first that passes

@@ -1,8 +1,6 @@
 -- What is true of the rules at a node of a tree.
-use Rattle.std.specs.Prelude.{ℕ, ◌<◌, ◌≤◌, List, length, All, IsTrue}
-use Rattle.ternary.specs.Word.{WordValue}
-use Rattle.ternary.specs.WordBits.{IsWord}
-use Rattle.ternary.specs.Meets.{covers_of, is_fixed_of}
+use Rattle.std.specs.Prelude.{◌<◌, ◌≤◌, All, IsTrue, List, length, ℕ}
+use Rattle.ternary.specs.Exports.{IsWord, WordValue, covers_of, is_fixed_of}
 use Rattle.policy_rules.specs.declared.rules.Rule.{Rule}
 
 -- the region leaves no bit free: it is one header

@@ -1,6 +1,6 @@
 -- A tree as its cuts and leaves, apart from the memory that they are in.
-use Rattle.std.specs.Prelude.{ℕ, List, [], ◌∷◌, ◌++◌, length}
-use Rattle.ternary.specs.Word.{WordValue}
+use Rattle.std.specs.Prelude.{[], ◌++◌, ◌∷◌, List, length, ℕ}
+use Rattle.ternary.specs.Exports.{WordValue}
 use Rattle.policy_rules.specs.declared.rules.Rule.{Rule}
 use Rattle.cut_tree.specs.declared.tree.Tree.{Tree, Leaf, Cut'}
 

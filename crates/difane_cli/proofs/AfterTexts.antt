@@ -1,11 +1,10 @@
 -- What writing a text that takes memory leaves of the output.
-use Rattle.std.specs.Prelude.{⊤}
-use Rattle.std.proofs.Common.{ℕ, ◌≡◌, Bool, inl, Result, Ok, Err, IsErrOf, OnErr, List, []}
-use Rattle.shelf.specs.Sink.{GainedPart, SinkState}
+use Rattle.base.proofs.Exports.{⊤}
+use Rattle.std.proofs.Common.{[], ◌≡◌, Bool, Err, IsErrOf, List, Ok, OnErr, Result, inl, ℕ}
+use Rattle.shelf.specs.Exports.{GainedPart, IsAfterWrite, SinkState}
 use Rattle.shelf.specs.declared.output.SinkError.{SinkError}
-use Rattle.shelf.specs.SinkWrites.{IsAfterWrite}
 use Rattle.shelf.specs.declared.output.SinkError.TheVariants as sink
-use Rattle.difane_cli.specs.Prints.{IsAfterText}
+use Rattle.difane_cli.specs.Exports.{IsAfterText}
 use Rattle.difane_cli.proofs.SinkGains.{some_on_err}
 
 -- a text that was made was written, or not

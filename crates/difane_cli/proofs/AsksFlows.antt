@@ -1,11 +1,9 @@
 -- What is asked for by arguments that begin with `flows`.
-use Rattle.std.specs.Prelude.{⊤, codes, option_and_then}
-use Rattle.std.proofs.Common.{ℕ, ◌≡◌, Bool, true, false, cond, Option, Some, None, List, [], ◌∷◌, length, refl, subst, sym}
-use Rattle.std.proofs.lemmas.Slice.Eq.{bytes_eq-Decides}
-use Rattle.command_line.specs.Commands.{Command, Replay}
-use Rattle.command_line.specs.Grammar.{StatedLine, command_by, command_of, line_of, may_be_policies, play_from}
+use Rattle.base.proofs.Exports.{bytes_eq-Decides, ⊤}
+use Rattle.std.proofs.Common.{[], ◌∷◌, ◌≡◌, Bool, List, None, Option, Some, codes, cond, false, length, option_and_then, refl, subst, sym, true, ℕ}
+use Rattle.command_line.specs.Exports.{Command, Replay, StatedLine, command_by, command_of, line_of, may_be_policies, play_from}
 use Rattle.command_line.specs.declared.report.Report.TheVariants as report
-use Rattle.difane_cli.specs.NewMeters.{asks_flows}
+use Rattle.difane_cli.specs.Exports.{asks_flows}
 
 -- a command that there is tells flows
 abbrev pub TellsIfAny : Option Command → Type 0

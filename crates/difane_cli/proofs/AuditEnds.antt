@@ -1,30 +1,17 @@
 -- What a trace whose lines are all good leaves of the output.
-use Rattle.std.specs.Prelude.{⊤}
-use Rattle.std.specs.Option.{ForSome}
-use Rattle.std.proofs.Common.{ℕ, ◌≡◌, ◌≤◌, ◌+◌, ◌==◌, Bool, inr, refl, subst, sym, Option, Some, None, Result, Ok, Err, List, [], ◌∷◌, arith, length}
-use Rattle.std.proofs.lemmas.List.Splits.{length-slice_split}
-use Rattle.std.proofs.lemmas.List.Sums.{count_by-le-length}
-use Rattle.five_tuple.specs.Texts.{parts_round}
-use Rattle.policy_rules.specs.declared.file.PolicyFile.{PolicyFile}
-use Rattle.shelf.specs.Shelf.{Files}
-use Rattle.shelf.specs.Sink.{GainedPart, SinkState}
-use Rattle.shelf.specs.SinkWrites.{IsAfterWrite}
+use Rattle.base.proofs.Exports.{ForSome, count_by-le-length, length-slice_split, ⊤}
+use Rattle.std.proofs.Common.{[], ◌+◌, ◌==◌, ◌∷◌, ◌≡◌, ◌≤◌, Bool, Err, List, None, Ok, Option, Result, Some, arith, inr, length, refl, subst, sym, ℕ}
+use Rattle.five_tuple.specs.Exports.{parts_round}
+use Rattle.update_machine.specs.Exports.{PolicyFile}
+use Rattle.shelf.specs.Exports.{Files, GainedPart, IsAfterWrite, SinkState}
 use Rattle.shelf.specs.declared.output.SinkError.{SinkError}
 use Rattle.shelf.specs.declared.output.SinkError.TheVariants as sink
-use Rattle.trace_audit.specs.Decided.{AreJustified}
-use Rattle.trace_audit.specs.Reading.{lines_of, lines_of_parts, open_line}
-use Rattle.trace_audit.specs.Run.{AreRun}
-use Rattle.trace_audit.specs.Verdicts.{IsFirstBad, IsAuditVerdict}
+use Rattle.trace_audit.specs.Exports.{AreJustified, AreRun, IsAuditVerdict, IsFirstBad, lines_of, lines_of_parts, open_line}
 use Rattle.trace_audit.specs.declared.trace.Verdict.{Verdict}
 use Rattle.trace_audit.specs.declared.trace.Verdict.TheVariants.{Yes, No}
-use Rattle.command_line.specs.Commands.{AuditCommand}
+use Rattle.command_line.specs.Exports.{AuditCommand}
 use Rattle.command_line.specs.Commands as asked
-use Rattle.difane_cli.specs.Audits.{AuditOutcome, Audited, IsAuditingOf, IsJudged, yes_line}
-use Rattle.difane_cli.specs.Codes.{most_trace_bytes}
-use Rattle.difane_cli.specs.Ending.{status_after}
-use Rattle.difane_cli.specs.Inputs.{known_task}
-use Rattle.difane_cli.specs.Tasks.{Audit, Auditing}
-use Rattle.difane_cli.specs.Writes.{Wrote}
+use Rattle.difane_cli.specs.Exports.{Audit, AuditOutcome, Audited, Auditing, IsAuditingOf, IsJudged, Wrote, known_task, most_trace_bytes, status_after, yes_line}
 
 -- ---- how many lines there are
 

@@ -1,11 +1,10 @@
 -- The reads of an audit: of its trace and its policies.
-use Rattle.std.proofs.Common.{ℕ, ◌≡◌, ◌+◌, ◌≤◌, ◌∙◌, Bool, true, false, Option, Some, None, Ok, List, ◌∷◌, refl, subst, arith}
-use Rattle.std.specs.Option.{ForSome}
-use Rattle.policy_rules.specs.declared.file.PolicyFile.{PolicyFile}
-use Rattle.shelf.specs.Shelf.{Files, IsAfterReads, ShelfState}
-use Rattle.command_line.specs.Commands.{Audit, AuditCommand}
-use Rattle.difane_cli.specs.Codes.{most_trace_bytes}
-use Rattle.difane_cli.specs.Inputs.{auditing_of, content_within, file_reads, most_reads, read_files, solo_ports, up_to_refusal}
+use Rattle.std.proofs.Common.{◌+◌, ◌∙◌, ◌∷◌, ◌≡◌, ◌≤◌, Bool, List, None, Ok, Option, Some, arith, false, refl, subst, true, ℕ}
+use Rattle.base.proofs.Exports.{ForSome}
+use Rattle.update_machine.specs.Exports.{PolicyFile}
+use Rattle.shelf.specs.Exports.{Files, IsAfterReads, ShelfState}
+use Rattle.command_line.specs.Exports.{Audit, AuditCommand}
+use Rattle.difane_cli.specs.Exports.{auditing_of, content_within, file_reads, most_reads, most_trace_bytes, read_files, solo_ports, up_to_refusal}
 use Rattle.difane_cli.proofs.ShelfReads.{fewer_reads, reads_then}
 
 one_read : (accepted : Bool) (others : List Bool) → 1 ≤ up_to_refusal (accepted ∷ others)

@@ -1,46 +1,23 @@
 -- A network on which a policy begins to be in force, and the events that may happen on it.
-use Rattle.std.proofs.Common.{ℕ, ◌≡◌, ◌<◌, ◌≤◌, true, false, Option, Some, None, Result, Ok, Err, List, [], ◌∷◌, arith, length, map, refl, sym, ap, subst, ◌∙◌, All}
-use Rattle.std.specs.Borrow.{Bor}
-use Rattle.std.specs.Prelude.{IsErrAnd, IsOk, IsSome, IsTrue, slice_index_or, unwrap_or}
-use Rattle.std.proofs.lemmas.List.{get_or-map, length-map}
-use Rattle.std.specs.Option.{ForSome}
+use Rattle.std.proofs.Common.{[], ◌<◌, ◌∙◌, ◌∷◌, ◌≡◌, ◌≤◌, All, Bor, Err, IsErrAnd, IsOk, IsSome, IsTrue, List, None, Ok, Option, Result, Some, ap, arith, false, length, map, refl, slice_index_or, subst, sym, true, unwrap_or, ℕ}
+use Rattle.base.proofs.Exports.{ForSome, get_or-map, length-map}
 use Rattle.schedule.specs.Case.{IsPlayable, LoadCase, NamesPort}
-use Rattle.net_file.specs.Laws.{PortLaws}
-use Rattle.net_file.specs.Net.{IsNet}
-use Rattle.net_file.specs.declared.net.Net.{Net}
-use Rattle.net_file.specs.Owners.{port_mask}
+use Rattle.net_file.specs.Exports.{IsNet, PortLaws, port_mask}
+use Rattle.update_machine.specs.Exports.{Action, Add, Change, Edit, Event, IsSetting, NamesOwnPort, Net, PolicyFile, Remove, Row, Setting, Whole, setting_of}
 use Rattle.partition.specs.Plan.{Hosted, plan_of}
-use Rattle.policy_file.specs.Changes.{file_length}
-use Rattle.policy_file.specs.Ports.{names_port_of}
-use Rattle.policy_rules.specs.declared.policy.Action.{Action}
+use Rattle.policy_file.specs.Exports.{file_length, names_port_of}
 use Rattle.policy_rules.specs.declared.policy.Action.TheVariants as action
-use Rattle.policy_rules.specs.Policy.{IsPolicy}
-use Rattle.policy_rules.specs.PolicyFiles.{AddsOnly, GivesOnly, IsPolicyFile}
-use Rattle.policy_rules.specs.declared.amendment.Edit.{Edit}
-use Rattle.policy_rules.specs.declared.amendment.Edit.TheVariants.{Remove, Add}
-use Rattle.policy_rules.specs.declared.file.PolicyFile.{PolicyFile}
-use Rattle.policy_rules.specs.declared.file.PolicyFile.TheVariants.{Whole, Change}
-use Rattle.policy_rules.specs.declared.policy.Row.{Row}
-use Rattle.policy_rules.specs.Hosted.{NoPlan}
-use Rattle.steps.specs.Limits.{max_events}
-use Rattle.steps.specs.Steps.{IsEvent}
-use Rattle.steps.specs.declared.step.Event.{Event}
-use Rattle.update_machine.specs.Setting.{Setting, setting_of, IsSetting, NamesOwnPort}
-use Rattle.world.specs.Files.{first_policy}
-use Rattle.world.specs.State.{RefinesJournal, WorldValue, setting_at}
-use Rattle.shelf.specs.Shelf.{Files, ShelfState}
-use Rattle.difane_cli.specs.Ending.{Accounts, EndsRead, NeedsReadFault, StopsCheck, status_of}
-use Rattle.difane_cli.specs.Inputs.{and_then, case_files, first_plan, inputs_of, plan_from, read_files, read_net, read_schedule}
-use Rattle.difane_cli.specs.Run.{IsReplayOf}
-use Rattle.command_line.specs.Commands.{ReplayCommand}
-use Rattle.command_line.specs.Grammar.{most_policies}
-use Rattle.command_line.specs.Named.{MayBePolicies, names_seen}
+use Rattle.policy_rules.specs.Exports.{AddsOnly, GivesOnly, IsPolicy, IsPolicyFile, NoPlan}
+use Rattle.steps.specs.Exports.{IsEvent, max_events}
+use Rattle.world.specs.Exports.{RefinesJournal, WorldValue, first_policy, setting_at}
+use Rattle.shelf.specs.Exports.{Files, ShelfState}
+use Rattle.difane_cli.specs.Exports.{Accounts, EndsRead, Inputs, IsNetOf, IsReplayOf, NeedsReadFault, StopsCheck, and_then, case_files, first_plan, inputs_of, plan_from, read_files, read_net, read_schedule, status_of}
+use Rattle.command_line.specs.Exports.{MayBePolicies, ReplayCommand, most_policies, names_seen}
 use Rattle.difane_cli.specs.declared.status.Refusal.{Refusal}
 use Rattle.difane_cli.specs.declared.status.Status.{Status}
 use Rattle.difane_cli.specs.declared.status.Status.TheVariants as status
 use Rattle.difane_cli.specs.declared.status.Stop.{Stop}
 use Rattle.difane_cli.specs.declared.status.Stop.TheVariants as stop
-use Rattle.difane_cli.specs.Tasks.{Inputs, IsNetOf}
 
 -- ---- ports
 

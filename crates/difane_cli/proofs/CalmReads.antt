@@ -1,10 +1,8 @@
 -- Readings one after another, and where they stop.
-use Rattle.std.specs.Prelude.{IsErrAnd}
-use Rattle.std.specs.Option.{ForSome}
-use Rattle.std.proofs.Common.{ℕ, ◌≡◌, ◌⊎◌, ◌∙◌, Option, Some, None, Result, Ok, Err, List, refl, subst, sym}
-use Rattle.shelf.specs.Shelf.{Files, IsAfterReads, ShelfState}
-use Rattle.difane_cli.specs.Codes.{missing_file, too_long}
-use Rattle.difane_cli.specs.Ending.{IsCalmRead, MayFollowFault, NamesOneOf, ReadsFiles, RefusesInput, status_of}
+use Rattle.std.proofs.Common.{◌∙◌, ◌≡◌, ◌⊎◌, Err, IsErrAnd, List, None, Ok, Option, Result, Some, refl, subst, sym, ℕ}
+use Rattle.base.proofs.Exports.{ForSome}
+use Rattle.shelf.specs.Exports.{Files, IsAfterReads, ShelfState}
+use Rattle.difane_cli.specs.Exports.{IsCalmRead, MayFollowFault, NamesOneOf, ReadsFiles, RefusesInput, missing_file, status_of, too_long}
 use Rattle.difane_cli.specs.declared.status.Refusal.{Refusal}
 use Rattle.difane_cli.specs.declared.status.Stop.{Stop}
 use Rattle.difane_cli.specs.declared.status.Stop.TheVariants as stop

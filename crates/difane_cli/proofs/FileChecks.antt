@@ -1,21 +1,13 @@
 -- Checks of what the bytes of a file of a policy state.
-use Rattle.std.specs.Prelude.{IsSome}
-use Rattle.std.proofs.Common.{ℕ, ◌≡◌, Bool, true, false, Option, Some, None, Result, Ok, Err, List, refl, ap, sym}
-use Rattle.base.specs.Refusals.{IsRefusal}
-use Rattle.base.specs.declared.error.Failure.{Failure}
+use Rattle.std.proofs.Common.{◌≡◌, Bool, Err, IsSome, List, None, Ok, Option, Result, Some, ap, false, refl, sym, true, ℕ}
+use Rattle.base.specs.Exports.{IsRefusal}
+use Rattle.update_machine.specs.Exports.{Failure, InRow, PolicyFile, Row, Whole}
 use Rattle.base.specs.declared.error.Failure.TheVariants as failure
-use Rattle.base.specs.declared.row.InRow.{InRow}
-use Rattle.policy_file.specs.Changes.{is_change_text, on_ok, policy_file_of}
-use Rattle.policy_file.specs.Ports.{first_in_file, first_without_port}
-use Rattle.policy_file.specs.Reading.{policy_code, policy_of}
+use Rattle.policy_file.specs.Exports.{first_in_file, first_without_port, is_change_text, on_ok, policy_code, policy_file_of, policy_of}
 use Rattle.policy_file.specs.declared.error.PolicyRefusal.{PolicyRefusal}
 use Rattle.policy_file.specs.declared.ports.NoPort.{NoPort}
-use Rattle.policy_rules.specs.declared.file.PolicyFile.{PolicyFile}
-use Rattle.policy_rules.specs.declared.file.PolicyFile.TheVariants.{Whole}
-use Rattle.policy_rules.specs.declared.policy.Row.{Row}
-use Rattle.world.specs.Files.{own_policy}
-use Rattle.difane_cli.specs.Ending.{Accounts, StopsText, status_of}
-use Rattle.difane_cli.specs.Inputs.{and_then, file_stated, first_stated, read_from, stated_as, with_ports}
+use Rattle.world.specs.Exports.{own_policy}
+use Rattle.difane_cli.specs.Exports.{Accounts, StopsText, and_then, file_stated, first_stated, read_from, stated_as, status_of, with_ports}
 use Rattle.difane_cli.specs.declared.status.Refusal.{Refusal}
 use Rattle.difane_cli.specs.declared.status.Stop.{Stop}
 use Rattle.difane_cli.specs.declared.status.Stop.TheVariants as stop

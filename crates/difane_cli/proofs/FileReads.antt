@@ -1,16 +1,12 @@
 -- Files of policies that are read one after another.
-use Rattle.std.specs.Borrow.{Bor}
-use Rattle.std.specs.Prelude.{IsErrAnd, IsSome}
-use Rattle.std.proofs.lemmas.List.{get_or-map, length-map}
-use Rattle.std.proofs.Common.{ℕ, ◌≡◌, ◌+◌, ◌<◌, ◌≤◌, ◌==◌, Bool, true, false, Option, Some, None, Result, Ok, Err, List, [], ◌∷◌, ◌++◌, length, drop, get_or, drop-cons, add-one, refl, ap, sym, subst, ◌∙◌, append_assoc, append-nil, length-append, ne_eqb, arith}
-use Rattle.std.specs.Option.{ForSome}
-use Rattle.policy_rules.specs.declared.file.PolicyFile.{PolicyFile}
-use Rattle.shelf.specs.Shelf.{Files, IsAfterReads, ShelfState}
-use Rattle.world.specs.Files.{first_policy, own_policy}
+use Rattle.std.proofs.Common.{[], ◌++◌, ◌+◌, ◌<◌, ◌==◌, ◌∙◌, ◌∷◌, ◌≡◌, ◌≤◌, Bool, Bor, Err, IsErrAnd, IsSome, List, None, Ok, Option, Result, Some, add-one, ap, append-nil, append_assoc, arith, drop, drop-cons, false, get_or, length, length-append, ne_eqb, refl, subst, sym, true, ℕ}
+use Rattle.base.proofs.Exports.{ForSome, get_or-map, length-map}
+use Rattle.update_machine.specs.Exports.{PolicyFile}
+use Rattle.shelf.specs.Exports.{Files, IsAfterReads, ShelfState}
+use Rattle.world.specs.Exports.{first_policy, own_policy}
 use Rattle.difane_cli.proofs.ShelfReads.{reads_then}
-use Rattle.command_line.specs.Named.{names_seen}
-use Rattle.difane_cli.specs.Inputs.{and_then, file_reads, read_file, read_files, up_to_refusal}
-use Rattle.difane_cli.specs.Ending.{Accounts, EndsRead, status_of}
+use Rattle.command_line.specs.Exports.{names_seen}
+use Rattle.difane_cli.specs.Exports.{Accounts, EndsRead, and_then, file_reads, read_file, read_files, status_of, up_to_refusal}
 use Rattle.difane_cli.specs.declared.status.Refusal.{Refusal}
 use Rattle.difane_cli.specs.declared.status.Stop.{Stop}
 use Rattle.difane_cli.specs.declared.status.Stop.TheVariants as stop

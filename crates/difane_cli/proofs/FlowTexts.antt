@@ -1,10 +1,8 @@
 -- The lines of the records of meters, meter by meter.
-use Rattle.std.proofs.Common.{◌≡◌, ◌∙◌, List, [], ◌∷◌, ◌++◌, map, refl, ap, sym}
-use Rattle.std.specs.List.{flat_map}
-use Rattle.std.proofs.lemmas.Grind.{flat_map-append}
+use Rattle.std.proofs.Common.{[], ◌++◌, ◌∙◌, ◌∷◌, ◌≡◌, List, ap, flat_map, map, refl, sym}
+use Rattle.base.proofs.Exports.{flat_map-append}
 use Rattle.flow_export.specs.Lines.{flow_line, flow_lines}
-use Rattle.meters.specs.Meters.{flow_records_of}
-use Rattle.meters.specs.Seen.{Seen}
+use Rattle.meters.specs.Exports.{Seen, flow_records_of}
 
 pub lines_of_all : {X : Type 0} (seen : X → Seen) (xs : List X)
     → flat_map (λ x. flow_lines (flow_records_of (seen x))) xs

@@ -1,31 +1,20 @@
 -- The text of a play whose lines are told is a trace each line of which is good.
-use Rattle.std.specs.List.{All}
-use Rattle.std.specs.Prelude.{codes, decimal}
-use Rattle.std.proofs.Common.{ℕ, ◌≡◌, ◌≤◌, ◌∙◌, Bool, true, false, Option, Some, None, List, [], ◌∷◌, ◌++◌, length, refl, ap, subst, inl, inr, append-nil, append_assoc, arith}
-use Rattle.std.proofs.lemmas.Grind.{flat_map-append}
-use Rattle.std.proofs.lemmas.List.Elements.{All-append, All-cons, All-nil}
-use Rattle.control_laws.specs.Always.{AreEvents}
-use Rattle.journal.specs.declared.item.Item.{Item}
+use Rattle.std.proofs.Common.{[], ◌++◌, ◌∙◌, ◌∷◌, ◌≡◌, ◌≤◌, All, Bool, List, None, Option, Some, ap, append-nil, append_assoc, arith, codes, decimal, false, inl, inr, length, refl, subst, true, ℕ}
+use Rattle.base.proofs.Exports.{All-append, All-cons, All-nil, flat_map-append}
+use Rattle.control_laws.specs.Exports.{AreEvents}
+use Rattle.update_machine.specs.Exports.{Event, IsPlay, IsSetting, Item, Leaving, Setting}
 use Rattle.journal_text.specs.Lines.{journal_text}
-use Rattle.meters.specs.Seen.{Seen}
+use Rattle.meters.specs.Exports.{Seen}
 use Rattle.meters.specs.declared.flows.FlowRecord.{FlowRecord}
-use Rattle.policy_rules.specs.declared.packet.Leaving.{Leaving}
-use Rattle.steps.specs.Limits.{max_events}
-use Rattle.steps.specs.Steps.{max_number}
-use Rattle.steps.specs.declared.step.Event.{Event}
-use Rattle.trace_audit.specs.Reading.{AreGood, lines_of}
+use Rattle.steps.specs.Exports.{max_events, max_number}
+use Rattle.trace_audit.specs.Exports.{AreGood, lines_of}
 use Rattle.trace_texts.specs.Texts.{IsAnsweredTo, IsLastLine, TextsAreGood, with_line_feeds}
 use Rattle.trace_texts.proofs.LinePieces.{IsOneLine, joined, number_line, tested}
-use Rattle.update_machine.specs.Full.{IsPlay}
-use Rattle.update_machine.specs.Setting.{IsSetting, Setting}
-use Rattle.command_line.specs.Commands.{Command}
+use Rattle.command_line.specs.Exports.{Command}
 use Rattle.command_line.specs.Commands as asked
 use Rattle.command_line.specs.declared.report.Report.{Report}
 use Rattle.command_line.specs.declared.report.Report.TheVariants as report
-use Rattle.difane_cli.specs.Audits.{IsGoodTrace, TellsLines}
-use Rattle.difane_cli.specs.Run.{IsPlayOf, MayBePlayed}
-use Rattle.difane_cli.specs.Tasks.{Inputs}
-use Rattle.difane_cli.specs.Texts.{last_lines, line_by, meter_line, meter_lines, notes_line, play_text, quiet_line, replay_text}
+use Rattle.difane_cli.specs.Exports.{Inputs, IsGoodTrace, IsPlayOf, MayBePlayed, TellsLines, last_lines, line_by, meter_line, meter_lines, notes_line, play_text, quiet_line, replay_text}
 
 -- ---- the last lines, without their line feeds
 

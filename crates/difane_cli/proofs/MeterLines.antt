@@ -1,17 +1,13 @@
 -- The lines of meters, and the text of a replay, which has the last lines behind the journal's.
-use Rattle.std.specs.Prelude.{⊤, Bool}
-use Rattle.std.proofs.Common.{ℕ, ◌≡◌, ◌≢◌, Option, Some, None, Result, Ok, Err, List, [], ◌∷◌, ◌++◌, length, map, refl, ap, sym, subst, append-nil, ◌∙◌, arith}
-use Rattle.std.specs.List.{flat_map}
-use Rattle.journal.specs.declared.item.Item.{Item}
+use Rattle.base.proofs.Exports.{⊤}
+use Rattle.std.proofs.Common.{[], ◌++◌, ◌∙◌, ◌∷◌, ◌≡◌, ◌≢◌, Bool, Err, List, None, Ok, Option, Result, Some, ap, append-nil, arith, flat_map, length, map, refl, subst, sym, ℕ}
+use Rattle.update_machine.specs.Exports.{Item, Leaving, Net}
 use Rattle.journal_text.specs.Lines.{journal_text}
 use Rattle.journal_text.proofs.LineGains.{nothing_gained}
-use Rattle.meters.specs.Seen.{Seen}
-use Rattle.net_file.specs.declared.net.Net.{Net}
-use Rattle.policy_rules.specs.declared.packet.Leaving.{Leaving}
-use Rattle.shelf.specs.Sink.{with_gained, GainedPart, SinkState}
+use Rattle.meters.specs.Exports.{Seen}
+use Rattle.shelf.specs.Exports.{GainedPart, IsAfterWrite, SinkState, gained-gained, with_gained}
 use Rattle.shelf.specs.declared.output.SinkError.{SinkError}
-use Rattle.shelf.specs.SinkWrites.{gained-gained, IsAfterWrite}
-use Rattle.difane_cli.specs.Texts.{last_lines, line_by, meter_line, meter_lines, notes_line, replay_text}
+use Rattle.difane_cli.specs.Exports.{last_lines, line_by, meter_line, meter_lines, notes_line, replay_text}
 use Rattle.difane_cli.proofs.SinkGains.{GainedPart-behind}
 
 -- ---- one line

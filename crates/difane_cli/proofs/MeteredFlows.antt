@@ -1,25 +1,17 @@
 -- What flows tell: the counts of new flow meters are right.
-use Rattle.std.proofs.Common.{ℕ, ◌≡◌, ◌↔◌, ◌∙◌, Bool, true, All, Option, Some, None, List, [], ◌∷◌, map, refl, subst, sym}
-use Rattle.std.proofs.lemmas.List.Elements.{All-cons, All-nil}
-use Rattle.std.specs.List.{range_with_len}
-use Rattle.command_line.specs.Commands.{Command, Replay, ReplayCommand}
-use Rattle.command_line.specs.Grammar.{command_of}
+use Rattle.std.proofs.Common.{[], ◌↔◌, ◌∙◌, ◌∷◌, ◌≡◌, All, Bool, List, None, Option, Some, map, refl, subst, sym, true, ℕ}
+use Rattle.base.proofs.Exports.{All-cons, All-nil, range_with_len}
+use Rattle.command_line.specs.Exports.{Command, Replay, ReplayCommand, command_of}
 use Rattle.command_line.specs.declared.report.Report.{Report}
 use Rattle.command_line.specs.declared.report.Report.TheVariants as report
-use Rattle.difane_cli.specs.FlowLines.{AreCounted, gone_by}
-use Rattle.difane_cli.specs.Run.{ByReport, Outcome, Played}
-use Rattle.difane_cli.specs.Texts.{play_text}
-use Rattle.difane_cli.specs.Writes.{Wrote}
+use Rattle.difane_cli.specs.Exports.{AreCounted, ByReport, MeteredOutcome, Outcome, Played, TellsFlows, WritesCounts, Wrote, asks_flows, gone_by, most_headers, new_meter, new_meters, play_text}
 use Rattle.difane_cli.specs.declared.status.Status.{Status}
 use Rattle.difane_cli.specs.declared.status.Status.TheVariants as status
 use Rattle.flow_export.specs.Counted.{IsNewMeter}
-use Rattle.journal.specs.declared.item.Item.{Item}
-use Rattle.meters.specs.Seen.{Seen}
+use Rattle.update_machine.specs.Exports.{Item}
+use Rattle.meters.specs.Exports.{Seen}
 use Rattle.difane_cli.proofs.AsksFlows.{TellsIfAny, flows_tell}
-use Rattle.difane_cli.specs.Metered.{WritesCounts, MeteredOutcome, TellsFlows}
-use Rattle.difane_cli.specs.NewMeters.{asks_flows, most_headers, new_meter, new_meters}
-use Rattle.shelf.specs.Shelf.{Files}
-use Rattle.shelf.specs.Sink.{SinkState}
+use Rattle.shelf.specs.Exports.{Files, SinkState}
 
 is_new : (port : ℕ) → IsNewMeter most_headers (new_meter true port)
 is_new port = record {

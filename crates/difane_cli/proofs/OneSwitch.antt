@@ -1,20 +1,16 @@
 -- The plan of a policy on the network of one switch.
-use Rattle.std.proofs.Common.{ℕ, ◌≡◌, ◌≤◌, ◌+◌, ◌&&◌, Bool, true, false, refl, Ok, List, [], ◌∷◌, length, leb, arith}
-use Rattle.std.proofs.lemmas.Bool.Decides.{nat_tests}
-use Rattle.net_file.specs.Net.{solo_net}
-use Rattle.cut_tree.specs.DefinedTree.{IsDefinedTree, tree_of}
-use Rattle.cut_tree.specs.Shape.{End}
-use Rattle.cut_tree.specs.Laws.{TreeLaws}
+use Rattle.std.proofs.Common.{[], ◌&&◌, ◌+◌, ◌∷◌, ◌≡◌, ◌≤◌, Bool, List, Ok, arith, false, leb, length, refl, true, ℕ}
+use Rattle.base.proofs.Exports.{nat_tests}
+use Rattle.net_file.specs.Exports.{solo_net}
+use Rattle.cut_tree.specs.Exports.{End, IsDefinedTree, TreeLaws, tree_of}
 use Rattle.partition.specs.Parts.{numbered_from}
 use Rattle.partition.specs.Plan.{plan_of}
 use Rattle.partition.proofs.CallerLemmas.{planned}
 use Rattle.placement.specs.Order.{in_order}
 use Rattle.placement.specs.Placement.{has_room, is_earlier, load_before, placement_of}
-use Rattle.policy_rules.specs.Policy.{IsPolicy}
-use Rattle.policy_rules.specs.RuleList.{rules_of, word_total}
-use Rattle.policy_rules.specs.declared.policy.Row.{Row}
-use Rattle.policy_rules.specs.Laws.{RuleListLaws}
-use Rattle.ternary.specs.Meets.{any_word}
+use Rattle.policy_rules.specs.Exports.{IsPolicy, RuleListLaws, rules_of, word_total}
+use Rattle.update_machine.specs.Exports.{Row}
+use Rattle.ternary.specs.Exports.{any_word}
 
 and_false : (b : Bool) → (b && false) ≡ false
 and_false true = refl

@@ -1,33 +1,19 @@
 -- What comes of a play, by what became of its text.
-use Rattle.std.specs.Prelude.{⊤, is_some}
-use Rattle.std.proofs.Common.{ℕ, ◌≡◌, ◌⊎◌, ◌++◌, All, IsTrue, arith, inl, inr, length, refl, subst, sym, Bool, Option, Some, None, Result, Ok, Err, List}
-use Rattle.std.proofs.lemmas.List.{take_all}
-use Rattle.std.specs.Option.{ForSome}
-use Rattle.journal.specs.declared.item.Item.{Item}
+use Rattle.base.proofs.Exports.{ForSome, ⊤}
+use Rattle.std.proofs.Common.{◌++◌, ◌≡◌, ◌⊎◌, All, Bool, Err, IsTrue, List, None, Ok, Option, Result, Some, arith, inl, inr, is_some, length, refl, subst, sym, take_all, ℕ}
+use Rattle.update_machine.specs.Exports.{IsPlay, Item, Net, Setting}
 use Rattle.flow_export.specs.Counted.{FlowLaws}
-use Rattle.meters.specs.Seen.{Seen}
-use Rattle.net_file.specs.Owners.{port_mask}
-use Rattle.net_file.specs.declared.net.Net.{Net}
-use Rattle.update_machine.specs.Full.{IsPlay}
-use Rattle.packet_laws.specs.OnTheWay.{HeldOnTheWay, HoldsSoFar}
-use Rattle.update_machine.specs.Setting.{Setting}
-use Rattle.difane_cli.specs.Tasks.{Inputs, Play}
-use Rattle.shelf.specs.Shelf.{Files}
-use Rattle.shelf.specs.Sink.{SinkState}
+use Rattle.meters.specs.Exports.{Seen}
+use Rattle.net_file.specs.Exports.{port_mask}
+use Rattle.packet_laws.specs.Exports.{HeldOnTheWay, HoldsSoFar}
+use Rattle.difane_cli.specs.Exports.{AnswerLaws, AreCounted, CountFlows, Inputs, IsAfterText, IsAnswer, IsPlayOf, IsVerdict, IsWhetherQuiet, MayBePlayed, Play, PlayOutcome, Played, Unfinished, WantsMemory, asks_quiet, gone_by, is_asked, is_made, known_task, play_text, status_after}
+use Rattle.shelf.specs.Exports.{Files, SinkState}
 use Rattle.shelf.specs.declared.output.SinkError.{SinkError}
 use Rattle.shelf.specs.declared.output.SinkError.TheVariants as sink
-use Rattle.difane_cli.specs.FlowLines.{AreCounted, CountFlows, gone_by}
-use Rattle.difane_cli.specs.Texts.{play_text}
-use Rattle.difane_cli.specs.Verdict.{IsWhetherQuiet, IsVerdict, asks_quiet, is_asked}
-use Rattle.difane_cli.specs.Inputs.{known_task}
 use Rattle.difane_cli.proofs.GoodTraces.{good_trace}
 use Rattle.difane_cli.proofs.StatedInputs.{stated_by}
-use Rattle.difane_cli.specs.Laws.{AnswerLaws}
 use Rattle.difane_cli.proofs.QuietVerdicts.{verdict}
-use Rattle.difane_cli.specs.Run.{IsAnswer, IsPlayOf, MayBePlayed, PlayOutcome, Played, Unfinished, WantsMemory, is_made}
-use Rattle.difane_cli.specs.Ending.{status_after}
-use Rattle.difane_cli.specs.Prints.{IsAfterText}
-use Rattle.command_line.specs.Commands.{Command}
+use Rattle.command_line.specs.Exports.{Command}
 use Rattle.replay.specs.Leavings.{kept_by, left_in}
 
 -- what the journal of a play is, and what follows

@@ -1,44 +1,26 @@
 -- What is proposed for a plan fits it, and its peak is between the bound and the old one.
-use Rattle.std.proofs.Common.{ℕ, zero, suc, Bool, IsTrue, Option, None, Result, Ok, Err, ◌≡◌, ◌∙◌, ◌<◌, ◌≤◌, ◌⊎◌, List, [], ◌∷◌, length, map, get_or, refl, ap, sym, subst, inl, inr, All, arith}
-use Rattle.std.specs.List.{concat, range_with_len}
-use Rattle.std.specs.Prelude.{⊤, codes, decimal}
-use Rattle.std.proofs.lemmas.List.{get_or_default, length-append, length-map}
-use Rattle.std.proofs.lemmas.List.FromFn.{length-range_with_len}
-use Rattle.std.proofs.lemmas.Slice.Zip.{firsts-zip}
-use Rattle.controller.specs.Leads.{LeadEveryHeader}
-use Rattle.controller.specs.Plan.{PlanValue}
-use Rattle.journal.specs.declared.item.Item.{Item}
-use Rattle.net_file.specs.Net.{IsNet}
-use Rattle.net_file.specs.declared.net.Net.{Net}
+use Rattle.std.proofs.Common.{[], ◌<◌, ◌∙◌, ◌∷◌, ◌≡◌, ◌≤◌, ◌⊎◌, All, Bool, Err, IsTrue, List, None, Ok, Option, Result, ap, arith, codes, decimal, get_or, inl, inr, length, length-append, map, refl, subst, suc, sym, zero, ℕ}
+use Rattle.base.proofs.Exports.{concat, firsts-zip, get_or_default, length-map, length-range_with_len, range_with_len, ⊤}
+use Rattle.controller.specs.Exports.{LeadEveryHeader, PlanValue}
+use Rattle.update_machine.specs.Exports.{Item, Net, Partition, Row, Setting, current_mark, plan_at}
+use Rattle.net_file.specs.Exports.{IsNet}
 use Rattle.partition.specs.Plan.{Hosted, IsPlan, rooms_of, sizes_of}
 use Rattle.placement.specs.Placement.{IsPlacement}
-use Rattle.policy_rules.specs.Partitions.{LastCovers}
-use Rattle.policy_rules.specs.declared.policy.Row.{Row}
-use Rattle.policy_rules.specs.declared.rules.Partition.{Partition}
+use Rattle.policy_rules.specs.Exports.{LastCovers}
 use Rattle.policy_rules.proofs.CallerLemmas.{first_match-scan}
 use Rattle.rebalance.specs.Loads.{Fits, bound, peak, weight}
 use Rattle.rebalance.specs.Spread.{AreWeighed, IsProposal, SpreadLaws}
 use Rattle.replay.specs.InForce.{IsPlanInForce}
-use Rattle.shelf.specs.Shelf.{Files}
-use Rattle.shelf.specs.Sink.{GainedPart, SinkState}
-use Rattle.shelf.specs.SinkWrites.{IsAfterWrite}
+use Rattle.shelf.specs.Exports.{Files, GainedPart, IsAfterWrite, SinkState}
 use Rattle.shelf.specs.declared.output.SinkError.{SinkError}
 use Rattle.shelf.specs.declared.output.SinkError.TheVariants as sink
 use Rattle.show_text.specs.Text.{compile_text}
-use Rattle.switch_table.specs.Tables.{part_of}
-use Rattle.update_machine.specs.Marks.{current_mark}
-use Rattle.update_machine.specs.Setting.{Setting}
-use Rattle.update_machine.specs.Versions.{plan_at}
-use Rattle.command_line.specs.Commands.{ReplayCommand}
+use Rattle.switch_table.specs.Exports.{part_of}
+use Rattle.command_line.specs.Exports.{ReplayCommand}
 use Rattle.command_line.specs.Commands as asked
-use Rattle.difane_cli.specs.Ending.{status_after}
-use Rattle.difane_cli.specs.Proposed.{ProposalOutcome}
-use Rattle.difane_cli.specs.Run.{IsAnswer}
-use Rattle.difane_cli.specs.Tasks.{Inputs}
-use Rattle.difane_cli.specs.Writes.{Wrote}
+use Rattle.difane_cli.specs.Exports.{Inputs, IsAfterProposal, IsAnswer, IsFoundFor, IsProposedFor, ProposalOutcome, Proposes, ProposesFor, Wrote, sizes_in, status_after, targets_by_partition, weights_in, with_targets}
 use Rattle.difane_cli.specs.declared.proposing.Proposal.{Proposal}
 use Rattle.difane_cli.specs.declared.status.Status.TheVariants as status
-use Rattle.difane_cli.specs.Proposals.{IsAfterProposal, IsFoundFor, IsProposedFor, Proposes, ProposesFor, sizes_in, targets_by_partition, weights_in, with_targets}
 
 -- ---- the plan
 

@@ -1,15 +1,10 @@
 -- What an answer to the question whether the network is quiet says.
-use Rattle.std.specs.Prelude.{is_some}
-use Rattle.std.proofs.Common.{ℕ, ◌≡◌, Bool, true, false, Option, Some, None, List, refl, sym, true≢false}
-use Rattle.journal.specs.declared.item.Item.{Item}
-use Rattle.control_laws.specs.Always.{AreEvents}
-use Rattle.steps.specs.declared.step.Event.{Event}
-use Rattle.update_machine.specs.Full.{IsPlay}
-use Rattle.update_machine.specs.Quiet.{IsQuiet}
-use Rattle.update_machine.specs.Setting.{IsSetting, Setting}
-use Rattle.packet_laws.specs.Between.{HoldsBetween}
-use Rattle.forwarding_laws.specs.ToRest.{HasComeToRest}
-use Rattle.difane_cli.specs.Verdict.{IsWhetherQuiet, IsVerdict, Says, is_asked}
+use Rattle.std.proofs.Common.{◌≡◌, Bool, List, None, Option, Some, false, is_some, refl, sym, true, true≢false, ℕ}
+use Rattle.update_machine.specs.Exports.{Event, IsPlay, IsQuiet, IsSetting, Item, Setting}
+use Rattle.control_laws.specs.Exports.{AreEvents}
+use Rattle.packet_laws.specs.Exports.{HoldsBetween}
+use Rattle.forwarding_laws.specs.Exports.{HasComeToRest}
+use Rattle.difane_cli.specs.Exports.{IsVerdict, IsWhetherQuiet, Says, is_asked}
 
 -- what holds between steps, where the network is quiet
 abbrev pub QuietLaws : Type 0

@@ -1,16 +1,11 @@
 -- Which names a refusal names.
-use Rattle.std.specs.Prelude.{IfErr, unwrap_or}
-use Rattle.std.proofs.Common.{ℕ, ◌≡◌, ◌<◌, Result, Ok, Err, List, [], ◌∷◌, ◌++◌, arith, inl, inr, length, refl, subst, sym, zero, suc, get_or}
-use Rattle.net_file.specs.declared.net.Net.{Net}
+use Rattle.std.proofs.Common.{[], ◌++◌, ◌<◌, ◌∷◌, ◌≡◌, Err, IfErr, List, Ok, Result, arith, get_or, inl, inr, length, refl, subst, suc, sym, unwrap_or, zero, ℕ}
+use Rattle.update_machine.specs.Exports.{Net, PolicyFile, Row, plan_code}
 use Rattle.partition.specs.Plan.{Hosted, plan_of}
 use Rattle.policy_rules.specs.Hosted as no_plan
-use Rattle.policy_rules.specs.Hosted.{NoPlan}
-use Rattle.policy_rules.specs.declared.file.PolicyFile.{PolicyFile}
-use Rattle.policy_rules.specs.declared.policy.Row.{Row}
-use Rattle.update_machine.specs.Pieces.{plan_code}
-use Rattle.world.specs.Files.{first_policy}
-use Rattle.difane_cli.specs.Ending.{IsOneOf, NamesOneOf, StopNamesOneOf, StopsCheck, status_of}
-use Rattle.difane_cli.specs.Inputs.{first_plan, plan_from, plan_on, refused_whole}
+use Rattle.policy_rules.specs.Exports.{NoPlan}
+use Rattle.world.specs.Exports.{first_policy}
+use Rattle.difane_cli.specs.Exports.{IsOneOf, NamesOneOf, StopNamesOneOf, StopsCheck, first_plan, plan_from, plan_on, refused_whole, status_of}
 use Rattle.difane_cli.specs.declared.status.Refusal.{Refusal}
 use Rattle.difane_cli.specs.declared.status.Status.{Status}
 use Rattle.difane_cli.specs.declared.status.Status.TheVariants as status

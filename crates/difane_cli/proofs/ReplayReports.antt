@@ -1,17 +1,13 @@
 -- What is to be told of a replay decides what comes of it.
-use Rattle.std.proofs.Common.{◌≡◌, ◌≢◌, ◌∙◌, ◌⊎◌, Bool, IsTrue, Option, Some, None, List, refl, sym, subst, ap, inl, inr}
-use Rattle.journal.specs.declared.item.Item.{Item}
-use Rattle.meters.specs.Seen.{Seen}
-use Rattle.shelf.specs.Shelf.{Files}
-use Rattle.shelf.specs.Sink.{SinkState}
-use Rattle.command_line.specs.Commands.{Command, ReplayCommand}
+use Rattle.std.proofs.Common.{◌∙◌, ◌≡◌, ◌≢◌, ◌⊎◌, Bool, IsTrue, List, None, Option, Some, ap, inl, inr, refl, subst, sym}
+use Rattle.update_machine.specs.Exports.{Item}
+use Rattle.meters.specs.Exports.{Seen}
+use Rattle.shelf.specs.Exports.{Files, SinkState}
+use Rattle.command_line.specs.Exports.{Command, ReplayCommand}
 use Rattle.command_line.specs.Commands as asked
 use Rattle.command_line.specs.declared.report.Report.{Report}
 use Rattle.command_line.specs.declared.report.Report.TheVariants as report
-use Rattle.difane_cli.specs.Ending.{GivesBack, RanOut}
-use Rattle.difane_cli.specs.Proposed.{ProposalOutcome}
-use Rattle.difane_cli.specs.Run.{ByReport, IsAnswer, IsPlayOf, Outcome, PlayOutcome, is_made}
-use Rattle.difane_cli.specs.Tasks.{Inputs}
+use Rattle.difane_cli.specs.Exports.{ByReport, GivesBack, Inputs, IsAnswer, IsPlayOf, Outcome, PlayOutcome, ProposalOutcome, RanOut, is_made}
 use Rattle.difane_cli.specs.declared.status.Status.{Status}
 
 pub play_outcome : (command : Command) (inputs : Inputs) (files : Option Files)

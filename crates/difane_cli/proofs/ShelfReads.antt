@@ -1,14 +1,11 @@
 -- Reads of a shelf, one after another.
-use Rattle.std.proofs.Common.{ℕ, zero, suc, ◌≡◌, ◌+◌, ◌≤◌, Bool, true, false, Option, Some, None, Ok, List, ◌∷◌, length, refl, ap, ◌∙◌, subst, arith}
-use Rattle.std.specs.Option.{ForSome}
-use Rattle.net_file.specs.Owners.{port_mask}
-use Rattle.net_file.specs.declared.net.Net.{Net}
-use Rattle.steps.specs.declared.step.Event.{Event}
-use Rattle.shelf.specs.Sink.{next_count}
-use Rattle.shelf.specs.Shelf.{Files, ShelfState, IsAfterReads}
-use Rattle.shelf.specs.Scripts.{counted_up}
-use Rattle.difane_cli.specs.Inputs.{file_reads, most_reads, net_reads, read_net, read_schedule, switch_on, up_to_refusal}
-use Rattle.command_line.specs.Commands.{Print, PrintCommand, Replay, ReplayCommand}
+use Rattle.std.proofs.Common.{◌+◌, ◌∙◌, ◌∷◌, ◌≡◌, ◌≤◌, Bool, List, None, Ok, Option, Some, ap, arith, false, length, refl, subst, suc, true, zero, ℕ}
+use Rattle.base.proofs.Exports.{ForSome}
+use Rattle.net_file.specs.Exports.{port_mask}
+use Rattle.update_machine.specs.Exports.{Event, Net}
+use Rattle.shelf.specs.Exports.{Files, IsAfterReads, ShelfState, counted_up, next_count}
+use Rattle.difane_cli.specs.Exports.{file_reads, most_reads, net_reads, read_net, read_schedule, switch_on, up_to_refusal}
+use Rattle.command_line.specs.Exports.{Print, PrintCommand, Replay, ReplayCommand}
 
 counted_up-counted_up : (n m x : ℕ) → counted_up n (counted_up m x) ≡ counted_up (n + m) x
 counted_up-counted_up zero m x = ap (λ k. counted_up k x) (omega arith)

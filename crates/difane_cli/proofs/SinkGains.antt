@@ -1,10 +1,8 @@
 -- What a sink gained by several writes.
-use Rattle.std.proofs.Common.{ℕ, inr, ◌≡◌, ◌+◌, Option, Result, Ok, Err, OnErr, List, ◌++◌, length, take, ap, ◌∙◌, sym, arith, length-append}
-use Rattle.std.proofs.Math.Seq.{take-append-add}
-use Rattle.std.proofs.lemmas.List.{take-append-le}
-use Rattle.shelf.specs.Sink.{with_gained, GainedPart, SinkState}
-use Rattle.shelf.specs.SinkWrites.{gained-gained}
-use Rattle.difane_cli.specs.Writes.{WrotePart}
+use Rattle.std.proofs.Common.{◌++◌, ◌+◌, ◌∙◌, ◌≡◌, Err, List, Ok, OnErr, Option, Result, ap, arith, inr, length, length-append, sym, take, ℕ}
+use Rattle.base.proofs.Exports.{take-append-add, take-append-le}
+use Rattle.shelf.specs.Exports.{GainedPart, SinkState, gained-gained, with_gained}
+use Rattle.difane_cli.specs.Exports.{WrotePart}
 
 -- a part of the next bytes, behind what was written, is a part of the whole
 pub GainedPart-behind : (before middle now : Option (List ℕ)) (front piece rest : List ℕ)

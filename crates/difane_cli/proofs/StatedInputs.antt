@@ -1,29 +1,16 @@
 -- The inputs of a replay that is accepted are what its files state.
-use Rattle.std.specs.Prelude.{nat_le, if◌then◌else◌}
-use Rattle.std.specs.List.{AllZip}
-use Rattle.std.specs.Option.{ForSome}
-use Rattle.std.proofs.Common.{ℕ, ◌≡◌, ◌∙◌, Bool, true, false, Option, Some, None, Result, Ok, Err, List, [], ◌∷◌, ap, length, refl, subst, sym}
-use Rattle.net_file.specs.Owners.{port_mask}
-use Rattle.net_file.specs.Reading.{net_of}
-use Rattle.net_file.specs.Refusals.{net_code}
-use Rattle.net_file.specs.declared.net.Net.{Net}
-use Rattle.policy_file.specs.Changes.{is_change_text, policy_file_of}
-use Rattle.policy_file.specs.Ports.{first_in_file}
-use Rattle.policy_file.specs.Reading.{policy_code}
+use Rattle.std.proofs.Common.{[], if◌then◌else◌, ◌∙◌, ◌∷◌, ◌≡◌, Bool, Err, List, None, Ok, Option, Result, Some, ap, false, length, nat_le, refl, subst, sym, true, ℕ}
+use Rattle.base.proofs.Exports.{AllZip, ForSome}
+use Rattle.net_file.specs.Exports.{net_code, net_of, port_mask}
+use Rattle.update_machine.specs.Exports.{Event, InRow, Net, PolicyFile, Whole}
+use Rattle.policy_file.specs.Exports.{first_in_file, is_change_text, policy_code, policy_file_of}
 use Rattle.policy_file.specs.declared.ports.NoPort.{NoPort}
-use Rattle.policy_rules.specs.declared.file.PolicyFile.{PolicyFile}
-use Rattle.policy_rules.specs.declared.file.PolicyFile.TheVariants.{Whole}
-use Rattle.base.specs.declared.row.InRow.{InRow}
 use Rattle.schedule.specs.Reading.{schedule_of}
 use Rattle.schedule.specs.Refusals.{schedule_code}
-use Rattle.shelf.specs.Shelf.{Files, file_named}
-use Rattle.steps.specs.declared.step.Event.{Event}
-use Rattle.command_line.specs.Commands.{Command, ReplayCommand}
+use Rattle.shelf.specs.Exports.{Files, file_named}
+use Rattle.command_line.specs.Exports.{Command, ReplayCommand}
 use Rattle.command_line.specs.Commands as asked
-use Rattle.difane_cli.specs.Codes.{first_change, most_bytes, too_long}
-use Rattle.difane_cli.specs.Inputs.{and_then, content_from, content_of, first_plan, first_stated, inputs_of, known_task, net_stated, play_task, policy_stated, read_file, read_files, read_from, read_net, read_schedule, refused_whole, schedule_in, stated_as, task_of, with_ports}
-use Rattle.difane_cli.specs.Run.{AreStatedBy, AreStated, States}
-use Rattle.difane_cli.specs.Tasks.{Inputs, Play}
+use Rattle.difane_cli.specs.Exports.{AreStated, AreStatedBy, Inputs, Play, States, and_then, content_from, content_of, first_change, first_plan, first_stated, inputs_of, known_task, most_bytes, net_stated, play_task, policy_stated, read_file, read_files, read_from, read_net, read_schedule, refused_whole, schedule_in, stated_as, task_of, too_long, with_ports}
 use Rattle.difane_cli.specs.declared.status.Refusal.{Refusal}
 use Rattle.difane_cli.proofs.FileChecks.{stated_so}
 

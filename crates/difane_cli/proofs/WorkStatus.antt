@@ -1,18 +1,15 @@
 -- What the status of work that was begun says, and what became of the memory.
-use Rattle.std.specs.Prelude.{⊤}
-use Rattle.std.proofs.Common.{ℕ, ◌≡◌, ◌⊎◌, inl, inr, refl, subst, Bool, Option, Some, None, Result, Ok, Err, IsErrOf, OnErr, IsTrue, List}
-use Rattle.journal.specs.declared.item.Item.{Item}
-use Rattle.shelf.specs.Sink.{SinkState}
+use Rattle.base.proofs.Exports.{⊤}
+use Rattle.std.proofs.Common.{◌≡◌, ◌⊎◌, Bool, Err, IsErrOf, IsTrue, List, None, Ok, OnErr, Option, Result, Some, inl, inr, refl, subst, ℕ}
+use Rattle.update_machine.specs.Exports.{Item}
+use Rattle.shelf.specs.Exports.{SinkState}
 use Rattle.shelf.specs.declared.output.SinkError.{SinkError}
 use Rattle.shelf.specs.declared.output.SinkError.TheVariants as sink
-use Rattle.difane_cli.specs.Ending.{IsAfterWork, MayWantMemory, RanOut, status_after}
-use Rattle.difane_cli.specs.Run.{IsPlayOf, is_made}
-use Rattle.difane_cli.specs.Tasks.{Inputs}
-use Rattle.difane_cli.specs.Verdict.{asks_quiet, is_asked}
+use Rattle.difane_cli.specs.Exports.{Inputs, IsAfterWork, IsPlayOf, MayWantMemory, RanOut, asks_quiet, is_asked, is_made, status_after}
 use Rattle.command_line.specs.declared.report.Report.{Report}
 use Rattle.command_line.specs.declared.report.Report.TheVariants as told
 use Rattle.difane_cli.specs.declared.status.Status.TheVariants as status
-use Rattle.command_line.specs.Commands.{Command}
+use Rattle.command_line.specs.Exports.{Command}
 use Rattle.command_line.specs.Commands as asked
 
 pub after_work : (written : Result (⊤) SinkError) (full : Option ℕ)

@@ -1,20 +1,15 @@
 -- What became of an audit, by its status; and that what a replay prints is a good trace.
-use Rattle.std.specs.Prelude.{⊤, ℕ, ◌≡◌, ◌≤◌, ◌⊎◌, All, IsSome, Option, Some, Ok, List, [], codes, length}
-use Rattle.std.specs.Option.{ForSome}
-use Rattle.journal.specs.declared.item.Item.{Item}
-use Rattle.policy_file.specs.Changes.{file_length}
-use Rattle.policy_rules.specs.PolicyFiles.{IsPolicyFile}
-use Rattle.policy_rules.specs.declared.file.PolicyFile.{PolicyFile}
-use Rattle.shelf.specs.Shelf.{Files}
-use Rattle.shelf.specs.Sink.{GainedPart, SinkState}
-use Rattle.trace_audit.specs.Decided.{AreJustified}
-use Rattle.trace_audit.specs.Reading.{AreGood, TraceLine, lines_of}
-use Rattle.trace_audit.specs.Run.{AreRun}
-use Rattle.trace_audit.specs.Verdicts.{IsFirstBad}
+use Rattle.std.specs.Prelude.{[], ◌≡◌, ◌≤◌, ◌⊎◌, All, IsSome, List, Ok, Option, Some, codes, length, ℕ, ⊤}
+use Rattle.base.specs.Exports.{ForSome}
+use Rattle.update_machine.specs.Exports.{Item, PolicyFile}
+use Rattle.policy_file.specs.Exports.{file_length}
+use Rattle.policy_rules.specs.Exports.{IsPolicyFile}
+use Rattle.shelf.specs.Exports.{Files, GainedPart, SinkState}
+use Rattle.trace_audit.specs.Exports.{AreGood, AreJustified, AreRun, IsFirstBad, TraceLine, lines_of}
 use Rattle.trace_audit.specs.declared.trace.Verdict.{Verdict}
 use Rattle.trace_audit.specs.declared.trace.Verdict.TheVariants.{Yes, No}
-use Rattle.world.specs.Files.{first_policy}
-use Rattle.command_line.specs.Commands.{AuditCommand}
+use Rattle.world.specs.Exports.{first_policy}
+use Rattle.command_line.specs.Exports.{AuditCommand}
 use Rattle.command_line.specs.Commands as asked
 use Rattle.command_line.specs.declared.report.Report.{Report}
 use Rattle.command_line.specs.declared.report.Report.TheVariants as report

@@ -1,8 +1,8 @@
 -- What the files that a command read are to the definitions.
-use Rattle.std.specs.Prelude.{⊤, ◌≡◌, ◌≤◌, length}
-use Rattle.net_file.specs.Net.{IsNet}
-use Rattle.steps.specs.Limits.{max_events}
-use Rattle.world.specs.State.{IsBegun, setting_at}
+use Rattle.std.specs.Prelude.{◌≡◌, ◌≤◌, length, ⊤}
+use Rattle.net_file.specs.Exports.{IsNet}
+use Rattle.steps.specs.Exports.{max_events}
+use Rattle.world.specs.Exports.{IsBegun, setting_at}
 use Rattle.difane_cli.specs.Run.{IsPlayOf, MayBePlayed}
 use Rattle.difane_cli.specs.Tasks.{Auditing, Inputs, Printing, Task, Audit, Play, Print}
 use Rattle.command_line.specs.Commands as grammar

@@ -1,14 +1,11 @@
 -- Which status a command ends with, and what brings one about.
-use Rattle.std.specs.Prelude.{⊤, ℕ, ◌≡◌, ◌≢◌, ◌≤◌, ◌⊎◌, Bool, Option, Some, None, Result, Ok, Err, IsOk, IsTrue, List, [], ◌∷◌, ◌++◌, option_to_list}
-use Rattle.std.specs.Option.{ForSome}
-use Rattle.base.specs.declared.error.Failure.{Failure}
+use Rattle.std.specs.Prelude.{[], ◌++◌, ◌∷◌, ◌≡◌, ◌≢◌, ◌≤◌, ◌⊎◌, Bool, Err, IsOk, IsTrue, List, None, Ok, Option, Result, Some, option_to_list, ℕ, ⊤}
+use Rattle.base.specs.Exports.{ForSome}
+use Rattle.update_machine.specs.Exports.{Failure, InRow, Item}
 use Rattle.base.specs.declared.error.Failure.TheVariants as failure
-use Rattle.base.specs.declared.row.InRow.{InRow}
-use Rattle.journal.specs.declared.item.Item.{Item}
-use Rattle.shelf.specs.Shelf.{Files, IsAfterReads, ShelfState}
-use Rattle.shelf.specs.Sink.{Rose, SinkState}
+use Rattle.shelf.specs.Exports.{Files, IsAfterReads, Rose, ShelfState, SinkState}
 use Rattle.shelf.specs.declared.output.SinkError.{SinkError}
-use Rattle.command_line.specs.Commands.{Command}
+use Rattle.command_line.specs.Exports.{Command}
 use Rattle.command_line.specs.Commands as asked
 use Rattle.command_line.specs.declared.report.Report.TheVariants as report
 use Rattle.difane_cli.specs.Codes.{missing_file, too_long}

@@ -1,16 +1,12 @@
 -- What `flows` writes: the flow records of the meters that left, and then of those that stayed; and
 -- what these count.
-use Rattle.std.specs.Prelude.{ℕ, All, Option, Some, None, List, [], ◌++◌}
-use Rattle.std.specs.List.{flat_map}
+use Rattle.std.specs.Prelude.{[], ◌++◌, All, List, None, Option, Some, flat_map, ℕ}
 use Rattle.flow_export.specs.Counted.{IsCounted, IsNewMeter}
 use Rattle.flow_export.specs.Lines.{flow_lines}
-use Rattle.journal.specs.declared.item.Item.{Item}
-use Rattle.meters.specs.Gone.{gone_records}
-use Rattle.meters.specs.Meters.{flow_records_of}
-use Rattle.meters.specs.Seen.{Seen}
+use Rattle.update_machine.specs.Exports.{Item, Net}
+use Rattle.meters.specs.Exports.{Seen, flow_records_of, gone_records}
 use Rattle.meters.specs.declared.flows.FlowRecord.{FlowRecord}
-use Rattle.net_file.specs.Owners.{port_mask}
-use Rattle.net_file.specs.declared.net.Net.{Net}
+use Rattle.net_file.specs.Exports.{port_mask}
 use Rattle.replay.specs.Leavings.{left_in}
 
 -- the records of the meters that leave while the packets of this journal leave the network

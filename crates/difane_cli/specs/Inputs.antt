@@ -1,32 +1,20 @@
 -- The task of a command: the contents of its files, or its load case, or the first refusal in the
 -- order of work.
-use Rattle.std.specs.Prelude.{⊤, ℕ, ◌+◌, Bool, true, false, nat_le, if◌then◌else◌, Option, Some, None, option_map, Result, Ok, Err, is_ok, unwrap_or, List, [], ◌∷◌, length, map, slice_index_or, codes}
-use Rattle.std.specs.Option.{option_map_or}
+use Rattle.std.specs.Prelude.{[], if◌then◌else◌, ◌+◌, ◌∷◌, Bool, Err, List, None, Ok, Option, Result, Some, codes, false, is_ok, length, map, nat_le, option_map, slice_index_or, true, unwrap_or, ℕ, ⊤}
+use Rattle.base.specs.Exports.{option_map_or}
 use Rattle.schedule.specs.Case.{LoadCase, load_case}
-use Rattle.net_file.specs.Net.{solo_net}
-use Rattle.net_file.specs.Reading.{net_of}
-use Rattle.net_file.specs.Refusals.{net_code}
-use Rattle.net_file.specs.declared.net.Net.{Net}
-use Rattle.net_file.specs.Owners.{port_mask, switch_number}
+use Rattle.net_file.specs.Exports.{net_code, net_of, port_mask, solo_net, switch_number}
+use Rattle.update_machine.specs.Exports.{Event, InRow, Net, PolicyFile, Row, Whole, plan_code, setting_of}
 use Rattle.partition.specs.Plan.{Hosted, plan_of}
 use Rattle.policy_rules.specs.Hosted as no_plan
-use Rattle.policy_rules.specs.declared.file.PolicyFile.{PolicyFile}
-use Rattle.policy_rules.specs.declared.file.PolicyFile.TheVariants.{Whole}
-use Rattle.policy_rules.specs.declared.policy.Row.{Row}
-use Rattle.policy_rules.specs.Hosted.{NoPlan}
-use Rattle.policy_file.specs.Changes.{is_change_text, policy_file_of}
-use Rattle.policy_file.specs.Ports.{first_in_file, first_without_port}
-use Rattle.policy_file.specs.Reading.{policy_code, policy_of}
+use Rattle.policy_rules.specs.Exports.{NoPlan}
+use Rattle.policy_file.specs.Exports.{first_in_file, first_without_port, is_change_text, policy_code, policy_file_of, policy_of}
 use Rattle.policy_file.specs.declared.ports.NoPort.{NoPort}
-use Rattle.base.specs.declared.row.InRow.{InRow}
 use Rattle.schedule.specs.Reading.{schedule_of}
 use Rattle.schedule.specs.Refusals.{schedule_code}
-use Rattle.steps.specs.declared.step.Event.{Event}
-use Rattle.shelf.specs.Shelf.{Files, file_named}
-use Rattle.update_machine.specs.Pieces.{plan_code}
-use Rattle.update_machine.specs.Setting.{setting_of}
-use Rattle.world.specs.Files.{first_policy}
-use Rattle.command_line.specs.Commands.{AuditCommand, Command, PrintCommand, ReplayCommand}
+use Rattle.shelf.specs.Exports.{Files, file_named}
+use Rattle.world.specs.Exports.{first_policy}
+use Rattle.command_line.specs.Exports.{AuditCommand, Command, PrintCommand, ReplayCommand}
 use Rattle.command_line.specs.Commands as asked
 use Rattle.difane_cli.specs.Codes.{first_change, missing_file, most_bytes, most_trace_bytes, no_port, no_such_switch, too_long}
 use Rattle.command_line.specs.declared.report.Report.TheVariants as report

@@ -1,8 +1,8 @@
 -- How much a replay takes.
 use Rattle.std.specs.Prelude.{◌≤◌, All, length}
-use Rattle.policy_file.specs.Changes.{file_length}
-use Rattle.steps.specs.Limits.{max_events}
-use Rattle.command_line.specs.Grammar.{most_policies}
+use Rattle.policy_file.specs.Exports.{file_length}
+use Rattle.steps.specs.Exports.{max_events}
+use Rattle.command_line.specs.Exports.{most_policies}
 use Rattle.difane_cli.specs.Tasks.{Inputs}
 
 -- there are at most 64 files and 100,000 events, and each policy and each change has at most 2,000

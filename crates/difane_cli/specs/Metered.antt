@@ -1,19 +1,16 @@
 -- The outcome of a call that begins with a new meter at each port.
-use Rattle.std.specs.Prelude.{ℕ, ◌≡◌, Bool, true, Option, Some, None, List}
-use Rattle.command_line.specs.Commands.{Command}
-use Rattle.command_line.specs.Grammar.{command_of}
+use Rattle.std.specs.Prelude.{◌≡◌, Bool, List, None, Option, Some, true, ℕ}
+use Rattle.command_line.specs.Exports.{Command, command_of}
 use Rattle.difane_cli.specs.FlowLines.{AreCounted, flow_text, gone_by}
 use Rattle.difane_cli.specs.Run.{IsAnswer, Outcome}
 use Rattle.difane_cli.specs.Tasks.{Inputs}
 use Rattle.difane_cli.specs.Writes.{Wrote}
 use Rattle.difane_cli.specs.declared.status.Status.{Status}
-use Rattle.journal.specs.declared.item.Item.{Item}
-use Rattle.meters.specs.Seen.{Seen}
-use Rattle.net_file.specs.declared.net.Net.{Net}
+use Rattle.update_machine.specs.Exports.{Item, Net}
+use Rattle.meters.specs.Exports.{Seen}
 use Rattle.difane_cli.specs.NewMeters.{asks_flows, new_meters}
 use Rattle.replay.specs.Leavings.{kept_by}
-use Rattle.shelf.specs.Shelf.{Files}
-use Rattle.shelf.specs.Sink.{SinkState}
+use Rattle.shelf.specs.Exports.{Files, SinkState}
 
 -- the outcome of the command that the arguments are, with these meters
 abbrev pub MeteredOutcome : (texts : List (List ℕ)) → Option Files → (takes_memory : Bool) → Status

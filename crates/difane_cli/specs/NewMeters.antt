@@ -1,8 +1,8 @@
 -- The meters with which the program begins: a new one at each port.
-use Rattle.std.specs.Prelude.{ℕ, Bool, true, false, List, [], ◌∷◌, bytes_eq, codes, length, map, nat_le}
-use Rattle.std.specs.List.{range_with_len}
+use Rattle.std.specs.Prelude.{[], ◌∷◌, Bool, List, bytes_eq, codes, false, length, map, nat_le, true, ℕ}
+use Rattle.base.specs.Exports.{range_with_len}
 use Rattle.flow_export.specs.Flows.{flows, headers_of}
-use Rattle.meters.specs.Seen.{Seen}
+use Rattle.meters.specs.Exports.{Seen}
 
 -- the first argument is the word `flows`
 abbrev pub asks_flows : List (List ℕ) → Bool

@@ -1,9 +1,7 @@
 -- What a command that plays nothing does, once its files are read.
-use Rattle.std.specs.Prelude.{ℕ, Option, List}
-use Rattle.net_file.specs.declared.net.Net.{Net}
+use Rattle.std.specs.Prelude.{List, Option, ℕ}
+use Rattle.update_machine.specs.Exports.{Net, PolicyFile, Row}
 use Rattle.partition.specs.Plan.{Hosted}
-use Rattle.policy_rules.specs.declared.file.PolicyFile.{PolicyFile}
-use Rattle.policy_rules.specs.declared.policy.Row.{Row}
 
 -- a policy planned on a network, and the switch whose tables are asked for
 pub record Printing : Type 0 where

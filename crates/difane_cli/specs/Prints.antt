@@ -1,27 +1,23 @@
 -- What became of a command that prints a plan or tables, by its status; and the output after
 -- writing a text.
-use Rattle.std.specs.Prelude.{ℕ, ◌≡◌, ◌⊎◌, All, Option, Some, None, is_some, IsTrue, Ok, List, [], ⊤, ◌≢◌, Bool, Result, Err, IsErrOf, OnErr, OnOk, ◌≤◌, length}
-use Rattle.std.specs.Option.{ForSome}
-use Rattle.net_file.specs.Owners.{port_mask, switch_number}
-use Rattle.net_file.specs.declared.net.Net.{Net}
+use Rattle.std.specs.Prelude.{[], ◌≡◌, ◌≢◌, ◌≤◌, ◌⊎◌, All, Bool, Err, IsErrOf, IsTrue, List, None, Ok, OnErr, OnOk, Option, Result, Some, is_some, length, ℕ, ⊤}
+use Rattle.base.specs.Exports.{ForSome}
+use Rattle.net_file.specs.Exports.{port_mask, switch_number}
+use Rattle.update_machine.specs.Exports.{Header, Item, Net}
 use Rattle.partition.specs.Plan.{IsPlan, plan_of}
-use Rattle.five_tuple.specs.declared.header.Header.{Header}
-use Rattle.policy_file.specs.Ports.{names_port_of}
-use Rattle.policy_rules.specs.Policy.{IsFirstMatch, IsPolicy}
-use Rattle.policy_rules.specs.Scan.{scan}
+use Rattle.policy_file.specs.Exports.{names_port_of}
+use Rattle.policy_rules.specs.Exports.{IsFirstMatch, IsPolicy, scan}
 use Rattle.show_text.specs.Text.{compile_text, table_text}
-use Rattle.switch_table.specs.Tables.{tables_of}
-use Rattle.shelf.specs.Shelf.{Files}
-use Rattle.shelf.specs.Sink.{GainedPart, SinkState, with_gained, Rose}
+use Rattle.switch_table.specs.Exports.{tables_of}
+use Rattle.shelf.specs.Exports.{Files, GainedPart, Rose, SinkState, with_gained}
 use Rattle.shelf.specs.declared.output.SinkError.{SinkError}
 use Rattle.shelf.specs.declared.output.SinkError.TheVariants.{Failed, NoMemory}
-use Rattle.journal.specs.declared.item.Item.{Item}
-use Rattle.controller.specs.Leads.{LeadEveryHeader}
+use Rattle.controller.specs.Exports.{LeadEveryHeader}
 use Rattle.difane_cli.specs.Inputs.{known_task}
 use Rattle.difane_cli.specs.Tasks.{Print, Printing, IsNetOf}
 use Rattle.difane_cli.specs.declared.status.Status.{Status}
 use Rattle.difane_cli.specs.Writes.{Wrote, Unplayed, WrotePart}
-use Rattle.command_line.specs.Commands.{PrintCommand}
+use Rattle.command_line.specs.Exports.{PrintCommand}
 use Rattle.command_line.specs.Commands as asked
 use Rattle.difane_cli.specs.declared.status.Status.TheVariants as status
 

@@ -1,25 +1,18 @@
 -- The placement that `rebalance` proposes after a play, computed from how many packets asked each
 -- partition.
-use Rattle.std.specs.Prelude.{ℕ, ◌≡◌, ◌⊎◌, ◌≤◌, Bool, IsErrOf, OnOk, Result, Err, IsTrue, ◌≢◌, ⊤, List, [], ◌∷◌, length, map, codes, decimal}
-use Rattle.std.specs.List.{concat, zip}
-use Rattle.controller.specs.Leads.{LeadEveryHeader}
-use Rattle.journal.specs.declared.item.Item.{Item}
-use Rattle.net_file.specs.declared.net.Net.{Net}
+use Rattle.std.specs.Prelude.{[], ◌∷◌, ◌≡◌, ◌≢◌, ◌≤◌, ◌⊎◌, Bool, Err, IsErrOf, IsTrue, List, OnOk, Result, codes, decimal, length, map, zip, ℕ, ⊤}
+use Rattle.base.specs.Exports.{concat}
+use Rattle.controller.specs.Exports.{LeadEveryHeader}
+use Rattle.update_machine.specs.Exports.{Header, Item, Net, Row, Setting, current_mark, plan_at, policy_at}
 use Rattle.partition.specs.Plan.{Hosted, IsPlan, rooms_of}
-use Rattle.five_tuple.specs.declared.header.Header.{Header}
-use Rattle.policy_rules.specs.Policy.{IsFirstMatch}
-use Rattle.policy_rules.specs.Scan.{scan}
-use Rattle.policy_rules.specs.declared.policy.Row.{Row}
+use Rattle.policy_rules.specs.Exports.{IsFirstMatch, scan}
 use Rattle.rebalance.specs.Loads.{Fits, bound, peak, weights_of}
 use Rattle.rebalance.specs.Spread.{IsProposal}
-use Rattle.shelf.specs.Sink.{GainedPart, Rose, SinkState}
+use Rattle.shelf.specs.Exports.{GainedPart, Rose, SinkState}
 use Rattle.shelf.specs.declared.output.SinkError.{SinkError}
 use Rattle.shelf.specs.declared.output.SinkError.TheVariants.{Failed, NoMemory}
 use Rattle.show_text.specs.Text.{compile_text}
-use Rattle.switch_table.specs.Tables.{part_of}
-use Rattle.update_machine.specs.Marks.{current_mark}
-use Rattle.update_machine.specs.Setting.{Setting}
-use Rattle.update_machine.specs.Versions.{plan_at, policy_at}
+use Rattle.switch_table.specs.Exports.{part_of}
 use Rattle.difane_cli.specs.Writes.{Wrote}
 use Rattle.difane_cli.specs.declared.proposing.Proposal.{Proposal}
 

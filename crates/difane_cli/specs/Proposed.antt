@@ -1,7 +1,7 @@
 -- What became of a replay that proposes a placement, by its status.
-use Rattle.std.specs.Prelude.{ℕ, ◌≡◌, ◌⊎◌, Bool, Option, Some, None, IsTrue, List}
-use Rattle.journal.specs.declared.item.Item.{Item}
-use Rattle.shelf.specs.Sink.{GainedPart, SinkState}
+use Rattle.std.specs.Prelude.{◌≡◌, ◌⊎◌, Bool, IsTrue, List, None, Option, Some, ℕ}
+use Rattle.update_machine.specs.Exports.{Item}
+use Rattle.shelf.specs.Exports.{GainedPart, SinkState}
 use Rattle.difane_cli.specs.Proposals.{Proposes}
 use Rattle.difane_cli.specs.Tasks.{Inputs}
 use Rattle.difane_cli.specs.Writes.{Unplayed, Wrote}

@@ -1,30 +1,22 @@
 -- First tier. The outcome of a call of the program, by its status: a replay's, or a load case's.
-use Rattle.std.specs.Prelude.{⊤, ℕ, ◌≡◌, ◌⊎◌, Bool, Option, Some, None, Result, Ok, IsTrue, List, [], length, All, true, false}
-use Rattle.std.specs.List.{AllZip}
-use Rattle.std.specs.Option.{ForSome}
-use Rattle.net_file.specs.Reading.{net_of}
-use Rattle.policy_file.specs.Changes.{policy_file_of}
+use Rattle.std.specs.Prelude.{[], ◌≡◌, ◌⊎◌, All, Bool, IsTrue, List, None, Ok, Option, Result, Some, false, length, true, ℕ, ⊤}
+use Rattle.base.specs.Exports.{AllZip, ForSome}
+use Rattle.net_file.specs.Exports.{net_of}
+use Rattle.policy_file.specs.Exports.{policy_file_of}
 use Rattle.schedule.specs.Reading.{schedule_of}
-use Rattle.shelf.specs.Shelf.{Files, file_named}
-use Rattle.shelf.specs.Sink.{GainedPart, SinkState}
-use Rattle.journal.specs.declared.item.Item.{Item}
-use Rattle.meters.specs.Seen.{Seen}
-use Rattle.update_machine.specs.Causes.{HasCause, HaveCauses}
-use Rattle.update_machine.specs.Full.{IsPlay}
-use Rattle.update_machine.specs.Machine.{IsRun}
-use Rattle.update_machine.specs.Setting.{IsSetting}
-use Rattle.steps.specs.Steps.{IsEvent}
-use Rattle.packet_laws.specs.StrongCauses.{StrongCause}
-use Rattle.packet_laws.specs.OnTheWay.{HeldOnTheWay}
-use Rattle.packet_laws.specs.Entries.{AreEntered, rows_played}
-use Rattle.forwarding_laws.specs.Working.{KeepsWorking}
+use Rattle.shelf.specs.Exports.{Files, GainedPart, SinkState, file_named}
+use Rattle.update_machine.specs.Exports.{HasCause, HaveCauses, IsPlay, IsRun, IsSetting, Item}
+use Rattle.meters.specs.Exports.{Seen}
+use Rattle.steps.specs.Exports.{IsEvent}
+use Rattle.packet_laws.specs.Exports.{AreEntered, HeldOnTheWay, StrongCause, rows_played}
+use Rattle.forwarding_laws.specs.Exports.{KeepsWorking}
 use Rattle.schedule.specs.Case.{load_case}
 use Rattle.difane_cli.specs.Limits.{AreWithinLimits}
 use Rattle.difane_cli.specs.FlowLines.{CountFlows, gone_by}
 use Rattle.difane_cli.specs.Inputs.{case_inputs, known_task}
 use Rattle.difane_cli.specs.Texts.{play_text}
 use Rattle.difane_cli.specs.Verdict.{IsVerdict, asks_quiet, is_asked}
-use Rattle.command_line.specs.Commands.{Command, ReplayCommand}
+use Rattle.command_line.specs.Exports.{Command, ReplayCommand}
 use Rattle.command_line.specs.Commands as asked
 use Rattle.command_line.specs.declared.report.Report.{Report}
 use Rattle.command_line.specs.declared.report.Report.TheVariants as report

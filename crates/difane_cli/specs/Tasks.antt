@@ -1,9 +1,7 @@
 -- First tier. What a command does, once its files are read.
-use Rattle.std.specs.Prelude.{ℕ, Option, List, ◌≡◌, Some, None}
-use Rattle.net_file.specs.declared.net.Net.{Net}
-use Rattle.net_file.specs.Net.{IsNet, solo_net}
-use Rattle.steps.specs.declared.step.Event.{Event}
-use Rattle.update_machine.specs.Setting.{Setting}
+use Rattle.std.specs.Prelude.{◌≡◌, List, None, Option, Some, ℕ}
+use Rattle.update_machine.specs.Exports.{Event, Net, Setting}
+use Rattle.net_file.specs.Exports.{IsNet, solo_net}
 use Rattle.command_line.specs.declared.report.Report.{Report}
 pub use Rattle.difane_cli.specs.NotPlayed.{Auditing, Printing}
 

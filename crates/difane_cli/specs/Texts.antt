@@ -1,13 +1,11 @@
 -- First tier. What a command writes: the text of a play, and the line of a status.
-use Rattle.std.specs.Prelude.{ℕ, Bool, true, false, Option, Some, None, List, [], ◌∷◌, ◌++◌, codes, decimal, length}
-use Rattle.std.specs.List.{concat, flat_map}
-use Rattle.journal.specs.declared.item.Item.{Item}
+use Rattle.std.specs.Prelude.{[], ◌++◌, ◌∷◌, Bool, List, None, Option, Some, codes, decimal, false, flat_map, length, true, ℕ}
+use Rattle.base.specs.Exports.{concat}
+use Rattle.update_machine.specs.Exports.{Item, Leaving, Net}
 use Rattle.journal_text.specs.Lines.{journal_text}
-use Rattle.journal_reports.specs.Summary.{counts_text}
-use Rattle.meters.specs.Seen.{Seen}
+use Rattle.journal_reports.specs.Exports.{counts_text}
+use Rattle.meters.specs.Exports.{Seen}
 use Rattle.meters.specs.declared.flows.FlowRecord.{FlowRecord}
-use Rattle.net_file.specs.declared.net.Net.{Net}
-use Rattle.policy_rules.specs.declared.packet.Leaving.{Leaving}
 use Rattle.command_line.specs.declared.report.Report.{Report}
 use Rattle.difane_cli.specs.FlowLines.{flows_text}
 use Rattle.difane_cli.specs.declared.status.Status.{Status}

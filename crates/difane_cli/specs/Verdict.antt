@@ -1,10 +1,8 @@
 -- What a replay says of its network if it is asked to: whether it is quiet after the journal, and
 -- what is true of all switches if it is.
-use Rattle.std.specs.Prelude.{⊤, ℕ, ◌≡◌, ◌↔◌, Bool, true, false, Option, Some, None, is_some, IsTrue, List}
-use Rattle.journal.specs.declared.item.Item.{Item}
-use Rattle.forwarding_laws.specs.ToRest.{HasComeToRest}
-use Rattle.update_machine.specs.Quiet.{IsQuiet}
-use Rattle.update_machine.specs.Setting.{Setting}
+use Rattle.std.specs.Prelude.{◌↔◌, ◌≡◌, Bool, IsTrue, List, None, Option, Some, false, is_some, true, ℕ, ⊤}
+use Rattle.update_machine.specs.Exports.{IsQuiet, Item, Setting}
+use Rattle.forwarding_laws.specs.Exports.{HasComeToRest}
 use Rattle.command_line.specs.declared.report.Report.{Report}
 use Rattle.command_line.specs.declared.report.Report.TheVariants as report
 

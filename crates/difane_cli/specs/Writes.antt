@@ -1,7 +1,7 @@
 -- First tier. A command's journal and outputs at its end, whatever it did.
-use Rattle.std.specs.Prelude.{ℕ, ◌≡◌, ◌⊎◌, List, [], ◌≤◌, Bool, IsTrue}
-use Rattle.shelf.specs.Sink.{with_gained, GainedPart, SinkState, Rose}
-use Rattle.journal.specs.declared.item.Item.{Item}
+use Rattle.std.specs.Prelude.{[], ◌≡◌, ◌≤◌, ◌⊎◌, Bool, IsTrue, List, ℕ}
+use Rattle.shelf.specs.Exports.{GainedPart, Rose, SinkState, with_gained}
+use Rattle.update_machine.specs.Exports.{Item}
 
 -- the output gained this text; if it is empty the output's state is the same
 pub record Wrote (text : List ℕ) (before now : SinkState) : Type 0 where

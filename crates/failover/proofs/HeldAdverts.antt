@@ -1,13 +1,9 @@
 -- What a database holds.
-use Rattle.std.proofs.Common.{◌≡◌, ◌≢◌, ℕ, ◌<◌, ◌⊎◌, Bool, true, false, cond, nat_lt, ◌&&◌, Option, Some, None, List, length, set, map, refl, sym, ◌∙◌, ap, subst, arith, get_or-set_same, get_or-set_other, length-set, inl, inr}
-use Rattle.std.proofs.lemmas.Bool.{cases_eq, cases_lt}
-use Rattle.std.proofs.lemmas.Bool.Decides.{nat_tests}
-use Rattle.std.proofs.lemmas.List.{get_or-replicate, length-replicate, get_or_past}
-use Rattle.std.proofs.lemmas.List.FromFn.{get_or-map-range_with_len, length-map-range_with_len}
+use Rattle.std.proofs.Common.{◌&&◌, ◌<◌, ◌∙◌, ◌≡◌, ◌≢◌, ◌⊎◌, Bool, List, None, Option, Some, ap, arith, cond, false, get_or-set_other, get_or-set_same, inl, inr, length, length-set, map, nat_lt, refl, set, subst, sym, true, ℕ}
+use Rattle.base.proofs.Exports.{cases_eq, cases_lt, get_or-map-range_with_len, get_or-replicate, get_or_past, length-map-range_with_len, length-replicate, nat_tests}
 use Rattle.failover.specs.declared.advert.Advert.{Advert}
-use Rattle.base.specs.Masks.{switches}
-use Rattle.failover.specs.Adverts.{held_advert, is_news, after_hearing, no_adverts, first_of, first_adverts}
-use Rattle.failover.specs.Newest.{AreByOrigin}
+use Rattle.base.specs.Exports.{switches}
+use Rattle.failover.specs.Exports.{AreByOrigin, after_hearing, first_adverts, first_of, held_advert, is_news, no_adverts}
 
 -- an advert at the place of its origin
 set_by_origin : (adverts : List (Option Advert)) (advert : Advert) → AreByOrigin adverts →

@@ -1,15 +1,9 @@
 -- The rows of known links.
-use Rattle.std.proofs.Common.{◌≡◌, ◌≢◌, ℕ, ◌+◌, ◌<◌, ◌≤◌, Bool, true, false, not, ◌&&◌, ◌==◌, nat_le, List, [], ◌∷◌, length, get_or, ◌⊎◌, inl, inr, Option, map, set, length-set, get_or-set_same, get_or-set_other, None, ◌↔◌, IsTrue, refl, sym, ◌∙◌, ap, subst, arith}
-use Rattle.std.proofs.lemmas.Bool.Decides.{nat_tests}
-use Rattle.std.proofs.lemmas.Bool.{cases_lt, and_parts, eqb-true, eq-eqb}
-use Rattle.std.proofs.lemmas.List.{get_or_past, get_or-map, length-map}
+use Rattle.std.proofs.Common.{[], ◌&&◌, ◌+◌, ◌<◌, ◌==◌, ◌↔◌, ◌∙◌, ◌∷◌, ◌≡◌, ◌≢◌, ◌≤◌, ◌⊎◌, Bool, IsTrue, List, None, Option, ap, arith, eq-eqb, eqb-true, false, get_or, get_or-set_other, get_or-set_same, inl, inr, length, length-set, map, nat_le, not, refl, set, subst, sym, true, ℕ}
+use Rattle.base.proofs.Exports.{and_parts, cases_lt, get_or-map, get_or-switches, get_or_past, has-zero, has_mask, has_mask_past, length-map, length-switches, nat_tests, same_sets}
 use Rattle.failover.specs.declared.advert.Advert.{Advert}
-use Rattle.base.specs.Masks.{has, switches}
-use Rattle.base.specs.ComputedMasks.{mask_where, mask_of}
-use Rattle.failover.specs.Links.{named_links, is_link, links_at, known_links, neighbours_named, has_link}
-use Rattle.failover.specs.Paths.{IsIsolated}
-use Rattle.failover.specs.Isolated.{is_isolated, names_neighbour, IsDatabase, links_of_each}
-use Rattle.base.proofs.CallerLemmas.{has-zero, same_sets, length-switches, get_or-switches, has_mask, has_mask_past}
+use Rattle.base.specs.Exports.{has, mask_of, mask_where, switches}
+use Rattle.failover.specs.Exports.{IsDatabase, IsIsolated, has_link, is_isolated, is_link, known_links, links_at, links_of_each, named_links, names_neighbour, neighbours_named}
 use Rattle.failover.proofs.LinkBalls.{and_both, apart_tests, false_of}
 use Rattle.failover.proofs.LinkSets.{has_link-turned}
 use Rattle.failover.proofs.WiderLoop.{AreBothWays}

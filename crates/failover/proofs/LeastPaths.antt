@@ -1,12 +1,8 @@
 -- The route of the search is the least path.
-use Rattle.std.proofs.Common.{◌≡◌, ℕ, zero, suc, ◌<◌, ◌≤◌, true, false, nat_eq, List, [], ◌∷◌, length, refl, sym, ◌∙◌, ap, subst, arith, inl, inr}
-use Rattle.std.specs.List.{IsDistinct, AllByRecursion}
-use Rattle.std.proofs.lemmas.Bool.{cases_lt, eqb-true}
-use Rattle.base.specs.Masks.{has}
-use Rattle.failover.specs.Paths.{IsAtMost}
-use Rattle.failover.specs.Routes.{ball, path_after}
-use Rattle.failover.specs.Search.{IsAway}
-use Rattle.failover.specs.Links.{LinksLead}
+use Rattle.std.proofs.Common.{[], ◌<◌, ◌∙◌, ◌∷◌, ◌≡◌, ◌≤◌, List, ap, arith, eqb-true, false, inl, inr, length, nat_eq, refl, subst, suc, sym, true, zero, ℕ}
+use Rattle.base.proofs.Exports.{AllByRecursion, IsDistinct, cases_lt}
+use Rattle.base.specs.Exports.{has}
+use Rattle.failover.specs.Exports.{IsAtMost, IsAway, LinksLead, ball, path_after}
 use Rattle.failover.proofs.LinkBalls.{false_of, apart_tests, ball_grows, ball_gains, at_target, has_target, next_step}
 
 -- ---- the route leads to the target

@@ -1,14 +1,8 @@
 -- The switches at most k links away from a target, and the least of them that is one link nearer.
-use Rattle.std.proofs.Common.{◌≡◌, ℕ, zero, suc, ◌^◌, ◌<◌, ◌≤◌, ◌⊎◌, Bool, true, false, not, ◌&&◌, ◌||◌, ◌==◌, List, length, get_or, refl, sym, ◌∙◌, arith, inl, inr}
-use Rattle.std.specs.Int.Bits.{bit_and}
-use Rattle.std.proofs.lemmas.Bool.{cases_lt, cases_eq, and_parts}
-use Rattle.std.proofs.lemmas.Bool.Decides.{nat_tests}
-use Rattle.std.proofs.lemmas.Nat.{pow_below, or_lt, and_le_r}
-use Rattle.base.specs.Masks.{has}
-use Rattle.base.specs.ComputedMasks.{least_in}
-use Rattle.failover.specs.Routes.{grown_ball, ball, least_neighbour_in}
-use Rattle.failover.specs.Search.{IsAway}
-use Rattle.base.proofs.CallerLemmas.{has-or, has-and, has-zero, has-pow_same, has-pow_other, mask_where_at, mask_where_lt, least_lt, has_least, least_below, some_of}
+use Rattle.std.proofs.Common.{◌&&◌, ◌<◌, ◌==◌, ◌^◌, ◌||◌, ◌∙◌, ◌≡◌, ◌≤◌, ◌⊎◌, Bool, List, arith, bit_and, false, get_or, inl, inr, length, not, refl, suc, sym, true, zero, ℕ}
+use Rattle.base.proofs.Exports.{and_le_r, and_parts, cases_eq, cases_lt, has-and, has-or, has-pow_other, has-pow_same, has-zero, has_least, least_below, least_lt, mask_where_at, mask_where_lt, nat_tests, or_lt, pow_below, some_of}
+use Rattle.base.specs.Exports.{has, least_in}
+use Rattle.failover.specs.Exports.{IsAway, ball, grown_ball, least_neighbour_in}
 
 -- ---- Bool
 

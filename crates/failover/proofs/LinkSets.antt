@@ -1,14 +1,9 @@
 -- Sets of links.
-use Rattle.std.proofs.Common.{◌≡◌, ◌≢◌, ℕ, ◌^◌, ◌<◌, ◌≤◌, ◌⊎◌, min, max, Bool, true, false, ◌&&◌, ◌==◌, ◌||◌, List, length, get_or, set, IsTrue, refl, sym, ◌∙◌, ap, arith, get_or-set_same, get_or-set_other, length-set, inl, inr}
-use Rattle.std.specs.Int.Bits.{bit_or}
-use Rattle.std.proofs.lemmas.Bool.{cases_eq, cases_lt, and_parts, eqb-true, eq-eqb}
-use Rattle.std.proofs.lemmas.List.{get_or-replicate, length-replicate, get_or_past, get_or_default, same_lists}
-use Rattle.std.proofs.Math.Bool.{or-false}
-use Rattle.base.specs.Masks.{has}
-use Rattle.failover.specs.DownSet.{is_link_of, IsLinkSet}
-use Rattle.failover.specs.Links.{has_link, no_links, with_link}
+use Rattle.std.proofs.Common.{◌&&◌, ◌<◌, ◌==◌, ◌^◌, ◌||◌, ◌∙◌, ◌≡◌, ◌≢◌, ◌≤◌, ◌⊎◌, Bool, IsTrue, List, ap, arith, bit_or, eq-eqb, eqb-true, false, get_or, get_or-set_other, get_or-set_same, inl, inr, length, length-set, max, min, refl, set, sym, true, ℕ}
+use Rattle.base.proofs.Exports.{and_parts, cases_eq, cases_lt, get_or-replicate, get_or_default, get_or_past, has-or, has-pow_other, has-pow_same, has-zero, length-replicate, or-false, same_lists, same_sets}
+use Rattle.base.specs.Exports.{has}
+use Rattle.failover.specs.Exports.{IsLinkSet, has_link, is_link_of, no_links, with_link}
 use Rattle.failover.proofs.LinkBalls.{and_both, or_left, or_right, or_cases, apart_tests, false_of}
-use Rattle.base.proofs.CallerLemmas.{has-or, has-zero, has-pow_same, has-pow_other, same_sets}
 
 no_row : (k : ℕ) → get_or no_links k 0 ≡ 0
 no_row k = elim (cases_lt k 64)

@@ -1,12 +1,8 @@
 -- The newest advert of an origin.
-use Rattle.std.proofs.Common.{◌≡◌, ◌≢◌, ℕ, ◌<◌, Bool, true, false, nat_lt, ◌&&◌, ◌++◌, All, option_to_list, Option, Some, None, List, [], ◌∷◌, refl, sym, ◌∙◌, ap, subst, arith, append_assoc, append-nil, inl, inr, ◌||◌, ◌==◌}
-use Rattle.std.specs.Option.{option_map_or}
-use Rattle.std.proofs.lemmas.Bool.{cases_eq}
-use Rattle.std.proofs.lemmas.Bool.Decides.{nat_tests}
-use Rattle.std.proofs.lemmas.List.Elements.{All-cons, All-nil, All-append, All-push, All-weaker, All-same}
+use Rattle.std.proofs.Common.{[], ◌&&◌, ◌++◌, ◌<◌, ◌==◌, ◌||◌, ◌∙◌, ◌∷◌, ◌≡◌, ◌≢◌, All, Bool, List, None, Option, Some, ap, append-nil, append_assoc, arith, false, inl, inr, nat_lt, option_to_list, refl, subst, sym, true, ℕ}
+use Rattle.base.proofs.Exports.{All-append, All-cons, All-nil, All-push, All-same, All-weaker, cases_eq, nat_tests, option_map_or}
 use Rattle.failover.specs.declared.advert.Advert.{Advert}
-use Rattle.failover.specs.Adverts.{held_advert, is_newer, is_news, after_hearing, after_hearing_all}
-use Rattle.failover.specs.Newest.{AreByOrigin, IsNewest}
+use Rattle.failover.specs.Exports.{AreByOrigin, IsNewest, after_hearing, after_hearing_all, held_advert, is_newer, is_news}
 use Rattle.failover.proofs.LinkBalls.{apart_tests}
 use Rattle.failover.proofs.HeldAdverts.{hearing, held_heard, held_others, by_origin-hearing}
 

@@ -1,17 +1,9 @@
 -- How the search ends: with the least path, or where no path is.
-use Rattle.std.proofs.Common.{◌≡◌, ℕ, zero, suc, ◌+◌, ◌-◌, ◌<◌, ◌≤◌, ◌⊎◌, Bool, true, false, ◌&&◌, ◌==◌, nat_eq, nat_lt, Option, Some, None, option_map, List, [], ◌∷◌, length, All, refl, sym, ◌∙◌, ap, subst, arith, inl, inr, IsSomeAnd, IfSome}
-use Rattle.std.specs.List.{list_any}
-use Rattle.std.proofs.lemmas.Bool.{cases_lt, eqb-true}
-use Rattle.std.proofs.lemmas.Bool.Decides.{nat_tests}
-use Rattle.std.proofs.lemmas.List.Elements.{All-cons, All-nil}
-use Rattle.std.proofs.lemmas.Map.Steps.{length-le_from_distinct_below}
+use Rattle.std.proofs.Common.{[], ◌&&◌, ◌+◌, ◌-◌, ◌<◌, ◌==◌, ◌∙◌, ◌∷◌, ◌≡◌, ◌≤◌, ◌⊎◌, All, Bool, IfSome, IsSomeAnd, List, None, Option, Some, ap, arith, eqb-true, false, inl, inr, length, nat_eq, nat_lt, option_map, refl, subst, suc, sym, true, zero, ℕ}
+use Rattle.base.proofs.Exports.{All-cons, All-nil, cases_lt, length-le_from_distinct_below, list_any, nat_tests}
 use Rattle.failover.specs.declared.advert.Advert.{Advert}
-use Rattle.base.specs.Masks.{has, switches}
-use Rattle.failover.specs.Links.{known_links, LinksLead, IsPath, IsReachable}
-use Rattle.failover.specs.Paths.{IsAtMost, IsLeastPath, IsRoute}
-use Rattle.failover.specs.Routes.{grown_ball, ball, path_after, links_away, route_to, first_route, route_of}
-use Rattle.failover.specs.RouteList.{IsRouteList}
-use Rattle.failover.specs.Search.{IsAway, IsOutOfReach}
+use Rattle.base.specs.Exports.{has, switches}
+use Rattle.failover.specs.Exports.{IsAtMost, IsAway, IsLeastPath, IsOutOfReach, IsPath, IsReachable, IsRoute, IsRouteList, LinksLead, ball, first_route, grown_ball, known_links, links_away, path_after, route_of, route_to}
 use Rattle.failover.proofs.LinkBalls.{false_of, apart_tests, or_cases}
 use Rattle.failover.proofs.LeastPaths.{length-onward, onward_leads, onward_distinct, onward_least, reaches}
 

@@ -1,13 +1,8 @@
 -- The route as it is written down.
-use Rattle.std.proofs.Common.{◌≡◌, ℕ, zero, suc, ◌+◌, ◌-◌, ◌^◌, ◌<◌, false, inl, inr, Some, ◌≤◌, List, [], ◌∷◌, ◌++◌, length, get_or, set, take, drop, replicate, refl, sym, ◌∙◌, ap, subst, arith, get_or-set_same, get_or-set_other, append_assoc, length-drop, length-take, add-one}
-use Rattle.std.proofs.lemmas.List.{take_more, drop-drop, get_or-drop, take_all, drop_at, take_at}
-use Rattle.std.proofs.lemmas.Bool.{cases_eq}
-use Rattle.std.proofs.Math.Seq.{set-append_seam}
-use Rattle.std.specs.Int.Bits.{bit_and}
-use Rattle.base.specs.Masks.{has}
-use Rattle.failover.specs.RouteList.{IsRouteList}
-use Rattle.failover.specs.Routes.{grown_ball, ball, least_neighbour_in, path_after, route_to}
-use Rattle.failover.specs.Search.{IsAway, IsOutOfReach, AreBalls, path_by_balls}
+use Rattle.std.proofs.Common.{[], ◌++◌, ◌+◌, ◌-◌, ◌<◌, ◌^◌, ◌∙◌, ◌∷◌, ◌≡◌, ◌≤◌, List, Some, add-one, ap, append_assoc, arith, bit_and, drop, drop-drop, drop_at, false, get_or, get_or-drop, get_or-set_other, get_or-set_same, inl, inr, length, length-drop, length-take, refl, replicate, set, subst, suc, sym, take, take_all, take_at, zero, ℕ}
+use Rattle.base.proofs.Exports.{cases_eq, set-append_seam, take_more}
+use Rattle.base.specs.Exports.{has}
+use Rattle.failover.specs.Exports.{AreBalls, IsAway, IsOutOfReach, IsRouteList, ball, grown_ball, least_neighbour_in, path_after, path_by_balls, route_to}
 use Rattle.failover.proofs.LinkBalls.{wider_meets}
 use Rattle.failover.proofs.RouteSearch.{still_out, found_is_least, path_is_route_list, route_to-away}
 

@@ -1,16 +1,8 @@
 -- The loop over the neighbours that a switch names.
-use Rattle.std.proofs.Common.{◌≡◌, ℕ, ◌+◌, ◌-◌, ◌*◌, ◌%◌, ◌^◌, ◌<◌, Bool, true, false, not, ◌&&◌, ◌||◌, ◌==◌, List, get_or, refl, sym, ◌∙◌, ap, arith, inl, inr}
-use Rattle.std.specs.Int.{bit_at, bit_not, w64}
-use Rattle.std.specs.Int.Bits.{bit_and, bit_or, bit_xor, xor_add_and, or_lt, xor_lt}
-use Rattle.std.proofs.lemmas.Bool.{cases_eq, eq-eqb, and_parts}
-use Rattle.std.proofs.lemmas.Bool.Decides.{nat_tests}
-use Rattle.std.proofs.lemmas.Nat.{pow_pos, pow_below, and_le_l, and_le_r}
-use Rattle.std.proofs.lemmas.Nat.Bits.{bit_at_xor, bit_at_not, bit_at_ones, bit_at-lt, bit_at-pow_same, and_pow}
-use Rattle.std.proofs.Math.Bool.{and-true}
-use Rattle.base.specs.Masks.{has}
-use Rattle.base.specs.ComputedMasks.{only_if, least_in}
-use Rattle.failover.specs.Links.{is_link, links_at}
-use Rattle.base.proofs.CallerLemmas.{has-or, has-and, has-zero, has_only_same, has_only_other, has_least, same_masks, only_if_lt, has_mask, has-xor_other}
+use Rattle.std.proofs.Common.{◌%◌, ◌&&◌, ◌*◌, ◌+◌, ◌-◌, ◌<◌, ◌==◌, ◌^◌, ◌||◌, ◌∙◌, ◌≡◌, Bool, List, ap, arith, bit_and, bit_or, bit_xor, eq-eqb, false, get_or, inl, inr, not, pow_pos, refl, sym, true, w64, ℕ}
+use Rattle.base.proofs.Exports.{and-true, and_le_l, and_le_r, and_parts, and_pow, bit_at, bit_at-lt, bit_at-pow_same, bit_at_not, bit_at_ones, bit_at_xor, bit_not, cases_eq, has-and, has-or, has-xor_other, has-zero, has_least, has_mask, has_only_other, has_only_same, nat_tests, only_if_lt, or_lt, pow_below, same_masks, xor_add_and, xor_lt}
+use Rattle.base.specs.Exports.{has, least_in, only_if}
+use Rattle.failover.specs.Exports.{is_link, links_at}
 use Rattle.failover.proofs.LinkBalls.{apart_tests}
 
 -- the row has the links to the switches within a set that are not left

@@ -1,13 +1,8 @@
 -- The loop over the switches of a ball, where each link is known from both its ends.
-use Rattle.std.proofs.Common.{◌≡◌, ℕ, ◌^◌, ◌<◌, ◌⊎◌, Bool, true, false, List, length, get_or, refl, sym, ◌∙◌, ap, arith, inl, inr}
-use Rattle.std.specs.Int.Bits.{bit_or, bit_xor, or_lt, xor_lt}
-use Rattle.std.proofs.lemmas.Bool.{cases_eq}
-use Rattle.std.proofs.lemmas.Nat.{pow_below}
-use Rattle.std.proofs.lemmas.Bool.Decides.{same_from_decides}
-use Rattle.base.specs.Masks.{has}
-use Rattle.failover.specs.Routes.{grown_ball, least_neighbour_in}
-use Rattle.failover.specs.Search.{IsEdge}
-use Rattle.base.proofs.CallerLemmas.{has-or, has-zero, same_masks, has-xor_other}
+use Rattle.std.proofs.Common.{◌<◌, ◌^◌, ◌∙◌, ◌≡◌, ◌⊎◌, Bool, List, ap, arith, bit_or, bit_xor, false, get_or, inl, inr, length, refl, sym, true, ℕ}
+use Rattle.base.proofs.Exports.{cases_eq, has-or, has-xor_other, has-zero, or_lt, pow_below, same_from_decides, same_masks, xor_lt}
+use Rattle.base.specs.Exports.{has}
+use Rattle.failover.specs.Exports.{IsEdge, grown_ball, least_neighbour_in}
 use Rattle.failover.proofs.LinkBalls.{added_is_nearer, apart_tests, or_cases, or_left, or_right, true_of, wider_gains, wider_keeps, wider_lt}
 use Rattle.failover.proofs.RowLoop.{has_less-same, has_both, has_first}
 

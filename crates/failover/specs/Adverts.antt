@@ -1,9 +1,8 @@
 -- Link-state adverts, and the newest of each origin (OSPF, RFC 2328, section 13.1, with a boot
 -- number instead of its ages).
-use Rattle.std.specs.Prelude.{ℕ, Bool, true, ◌&&◌, ◌||◌, ◌==◌, nat_lt, if◌then◌else◌, Option, Some, None, List, map, fold, replicate, slice_index, slice_index_or, slice_set}
-use Rattle.std.specs.Option.{option_map_or}
+use Rattle.std.specs.Prelude.{if◌then◌else◌, ◌&&◌, ◌==◌, ◌||◌, Bool, List, None, Option, Some, fold, map, nat_lt, replicate, slice_index, slice_index_or, slice_set, true, ℕ}
+use Rattle.base.specs.Exports.{option_map_or, switches}
 use Rattle.failover.specs.declared.advert.Advert.{Advert}
-use Rattle.base.specs.Masks.{switches}
 
 -- (boot, seq) is greater, the boot compared first
 abbrev pub is_newer : Advert → Advert → Bool

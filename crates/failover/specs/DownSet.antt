@@ -1,7 +1,7 @@
 -- A set of links between two different switches, as 64 masks: mask k has the greater numbers to
 -- which k has a link in the set.
-use Rattle.std.specs.Prelude.{ℕ, ◌≡◌, ◌<◌, Bool, ◌&&◌, ◌||◌, ◌==◌, List, length, slice_index, IsTrue}
-use Rattle.base.specs.Masks.{has}
+use Rattle.std.specs.Prelude.{◌&&◌, ◌<◌, ◌==◌, ◌||◌, ◌≡◌, Bool, IsTrue, List, length, slice_index, ℕ}
+use Rattle.base.specs.Exports.{has}
 
 -- no mask has a switch but greater ones, so equal sets are equal lists
 pub record IsLinkSet (links : List ℕ) : Type 0 where

@@ -1,11 +1,11 @@
 -- What is in a database of adverts, which switches adverts name, and at which switches no known
 -- link ends.
-use Rattle.std.specs.Prelude.{ℕ, Bool, not, ◌&&◌, ◌==◌, Option, List, ◌≡◌, map}
+use Rattle.std.specs.Prelude.{◌&&◌, ◌==◌, ◌≡◌, Bool, List, Option, map, not, ℕ}
 use Rattle.failover.specs.declared.advert.Advert.{Advert}
 use Rattle.failover.specs.Adverts.{held_advert}
 use Rattle.failover.specs.Links.{neighbours_named, named_links, links_at}
 use Rattle.failover.specs.Newest.{AreByOrigin}
-use Rattle.base.specs.Masks.{has, switches}
+use Rattle.base.specs.Exports.{has, switches}
 
 -- the origin's advert, if there is one, names this neighbour
 unfoldable pub names_neighbour : List (Option Advert) → ℕ → ℕ → Bool

@@ -1,8 +1,8 @@
 -- The laws of adverts, of sets of links, of known links and of routes: `x_laws` of the crate
 -- ensures the record of each.
-use Rattle.std.specs.Prelude.{ℕ, ◌≡◌, ◌≢◌, ◌<◌, ◌↔◌, not, ◌&&◌, ◌||◌, false, Option, Some, List, ◌++◌, length, option_to_list, slice_index, IsTrue}
+use Rattle.std.specs.Prelude.{◌&&◌, ◌++◌, ◌<◌, ◌||◌, ◌↔◌, ◌≡◌, ◌≢◌, IsTrue, List, Option, Some, false, length, not, option_to_list, slice_index, ℕ}
 use Rattle.failover.specs.declared.advert.Advert.{Advert}
-use Rattle.base.specs.Masks.{has}
+use Rattle.base.specs.Exports.{has}
 use Rattle.failover.specs.Adverts.{held_advert, is_news, after_hearing, after_hearing_all, no_adverts, first_of, first_adverts}
 use Rattle.failover.specs.DownSet.{is_link_of, IsLinkSet}
 use Rattle.failover.specs.Links.{named_links, is_link, known_links, has_link, no_links, with_link, LinksLead, IsPath, IsReachable}

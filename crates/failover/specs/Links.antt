@@ -1,10 +1,8 @@
 -- The links that a switch knows: those that both ends name (RFC 2328, section 16.1), and its own
 -- neighbours are those that it sees itself.
-use Rattle.std.specs.Prelude.{ℕ, ◌≡◌, Bool, not, ◌&&◌, ◌==◌, Option, Some, None, List, map, slice_index, slice_set, ◌^◌, min, max, bit_or, replicate, ◌<◌, nat_eq, [], ◌∷◌, IsTrue}
-use Rattle.std.specs.List.{IsDistinct}
+use Rattle.std.specs.Prelude.{[], ◌&&◌, ◌<◌, ◌==◌, ◌^◌, ◌∷◌, ◌≡◌, Bool, IsTrue, List, None, Option, Some, bit_or, map, max, min, nat_eq, not, replicate, slice_index, slice_set, ℕ}
+use Rattle.base.specs.Exports.{IsDistinct, has, mask_of, switches}
 use Rattle.failover.specs.declared.advert.Advert.{Advert}
-use Rattle.base.specs.Masks.{has, switches}
-use Rattle.base.specs.ComputedMasks.{mask_of}
 
 -- the link of two switches, in either order, is in the set
 unfoldable pub has_link : List ℕ → ℕ → ℕ → Bool

@@ -1,5 +1,5 @@
 -- The newest advert of an origin (OSPF, RFC 2328, section 13.1).
-use Rattle.std.specs.Prelude.{ℕ, ◌≡◌, ◌≢◌, Option, Some, None, List, ◌∷◌, ◌++◌, length, All, IsTrue, IsFalse}
+use Rattle.std.specs.Prelude.{◌++◌, ◌∷◌, ◌≡◌, ◌≢◌, All, IsFalse, IsTrue, List, None, Option, Some, length, ℕ}
 use Rattle.failover.specs.declared.advert.Advert.{Advert}
 use Rattle.failover.specs.Adverts.{is_newer, held_advert}
 

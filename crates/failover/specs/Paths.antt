@@ -1,6 +1,6 @@
 -- Routes by paths: the first target that a path reaches, by the fewest links, and of those the
 -- least list.
-use Rattle.std.specs.Prelude.{⊤, ℕ, ◌≡◌, ◌≢◌, ◌<◌, ◌≤◌, ◌⊎◌, Option, None, List, [], ◌∷◌, length, IsSomeAnd}
+use Rattle.std.specs.Prelude.{[], ◌<◌, ◌∷◌, ◌≡◌, ◌≢◌, ◌≤◌, ◌⊎◌, IsSomeAnd, List, None, Option, length, ℕ, ⊤}
 use Rattle.failover.specs.Links.{AreJoined, IsPath, IsReachable}
 
 -- the target is another switch, at which no link ends

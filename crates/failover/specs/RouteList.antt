@@ -1,7 +1,6 @@
 -- One to 64 distinct switches, in 64 places.
-use Rattle.std.specs.Prelude.{ℕ, ◌≡◌, ◌-◌, ◌<◌, ◌≤◌, nat_eq, List, length, take, drop, replicate, All}
-use Rattle.std.specs.List.{IsDistinct}
-use Rattle.base.specs.Filled.{filled_places, filled-take}
+use Rattle.std.specs.Prelude.{◌-◌, ◌<◌, ◌≡◌, ◌≤◌, All, List, drop, length, nat_eq, replicate, take, ℕ}
+use Rattle.base.specs.Exports.{IsDistinct, filled-take, filled_places}
 use Rattle.failover.specs.declared.path.Route.TheInside.{Inside}
 
 -- one or more distinct switches

@@ -1,10 +1,9 @@
 -- The route as a function that computes: breadth first from the target (Moore, "The Shortest Path
 -- Through a Maze", 1959), then each
 -- time to the least switch that is one link nearer.
-use Rattle.std.specs.Prelude.{ℕ, zero, suc, ◌^◌, true, false, not, ◌&&◌, ◌==◌, nat_lt, Option, Some, None, option_map, List, [], ◌∷◌, bit_and, bit_or, slice_index}
+use Rattle.std.specs.Prelude.{[], ◌&&◌, ◌==◌, ◌^◌, ◌∷◌, List, None, Option, Some, bit_and, bit_or, false, nat_lt, not, option_map, slice_index, suc, true, zero, ℕ}
 use Rattle.failover.specs.declared.advert.Advert.{Advert}
-use Rattle.base.specs.Masks.{has}
-use Rattle.base.specs.ComputedMasks.{mask_where, least_in}
+use Rattle.base.specs.Exports.{has, least_in, mask_where}
 use Rattle.failover.specs.Links.{known_links}
 
 -- a set of switches, and those that have a link into it

@@ -1,6 +1,6 @@
 -- What a breadth-first search has found, before its route is written down.
-use Rattle.std.specs.Prelude.{ℕ, zero, suc, ◌≡◌, ◌<◌, true, false, List, [], ◌∷◌, slice_index}
-use Rattle.base.specs.Masks.{has}
+use Rattle.std.specs.Prelude.{[], ◌<◌, ◌∷◌, ◌≡◌, List, false, slice_index, suc, true, zero, ℕ}
+use Rattle.base.specs.Exports.{has}
 use Rattle.failover.specs.Routes.{ball, least_neighbour_in}
 
 -- the switch is k links away from the target, and no fewer

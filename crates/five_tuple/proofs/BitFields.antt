@@ -1,13 +1,10 @@
 -- Bit fields that lie apart, and two numbers that agree in their high bits.
-use Rattle.std.proofs.Common.{◌≡◌, ◌+◌, ◌*◌, ◌/◌, ◌^◌, ◌<◌, ◌%◌, ℕ, nat_eq, bit_or, sym, ap, ◌∙◌, arith, refl}
-use Rattle.std.proofs.Math.Nat.{mod-eq_of_lt}
+use Rattle.std.proofs.Common.{◌%◌, ◌*◌, ◌+◌, ◌/◌, ◌<◌, ◌^◌, ◌∙◌, ◌≡◌, ap, arith, bit_or, bit_xor, eq-eqb, eqb-true, mod-eq_of_lt, nat_eq, refl, sym, ℕ}
 use Rattle.std.proofs.lemmas.Nat.{or_shifted, xor_shr, and_le_l, and_le_r}
-use Rattle.std.proofs.lemmas.Bool.{eqb-true, eq-eqb}
 use Rattle.std.proofs.lemmas.Bool.Decides.{same_from_decides, Decides-eqb}
 use Rattle.five_tuple.specs.declared.header.Header.{Header}
-use Rattle.five_tuple.specs.Header.{number_of}
-use Rattle.five_tuple.specs.HeaderNumbers.{header_numbered}
-use Rattle.std.specs.Int.Bits.{bit_xor, xor_self, xor_add_and}
+use Rattle.five_tuple.specs.Exports.{header_numbered, number_of}
+use Rattle.std.specs.Int.Bits.{xor_self, xor_add_and}
 
 -- a field is joined below a number that has only zeros there
 or_below : (n a k b : ℕ) → n ≡ a * 2 ^ k → b < 2 ^ k → bit_or n b ≡ n + b

@@ -2,10 +2,10 @@
 -- under masks that pack five masks.
 pub use Rattle.five_tuple.proofs.CoverOf.{is_cover_of}
 pub use Rattle.five_tuple.proofs.SplitParts.{parts_at, parts_none}
-use Rattle.std.proofs.Common.{ℕ, ◌≡◌, ◌∙◌, ◌+◌, ◌*◌, ◌^◌, ◌<◌, ◌&&◌, eqb, bit_and, ap, sym, arith}
+use Rattle.std.proofs.Common.{◌&&◌, ◌*◌, ◌+◌, ◌<◌, ◌^◌, ◌∙◌, ◌≡◌, ap, arith, bit_and, eqb, sym, ℕ}
 use Rattle.std.proofs.lemmas.Bool.Decides.{Decides-eqb, Decides-like, Decides-and, same_from_decides}
 use Rattle.std.proofs.lemmas.Nat.{and_le_l, and_block}
-use Rattle.five_tuple.specs.HeaderNumbers.{packed_number}
+use Rattle.five_tuple.specs.Exports.{packed_number}
 
 -- the fields below the first have their bits
 pub record HasBits (d p q r : ℕ) : Type 0 where

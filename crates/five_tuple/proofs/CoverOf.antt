@@ -1,15 +1,12 @@
 -- `cover_of` gives the blocks that `IsCover` describes, and the code finds their sizes.
-use Rattle.std.proofs.Common.{ℕ, zero, suc, ◌≡◌, ◌∙◌, ◌+◌, ◌-◌, ◌*◌, ◌<◌, ◌≤◌, ◌^◌, ◌%◌, min, Bool, true, false, cond, eqb, leb, List, [], ◌∷◌, length, refl, ap, subst, ◌⊎◌, inl, inr, arith}
-use Rattle.std.specs.Int.{bit_at, trailing_zeros, w32}
-use Rattle.std.proofs.Math.Nat.{mod-one, pow-suc, pow-le-pow_right}
-use Rattle.std.proofs.lemmas.Bool.{cases_lt, lt-ltb, le-ltb, and_parts, eqb-true, eq-eqb, leb-true, le-leb}
-use Rattle.std.proofs.lemmas.Nat.{mod-pow-add, pow_pos}
+use Rattle.std.proofs.Common.{[], ◌%◌, ◌*◌, ◌+◌, ◌-◌, ◌<◌, ◌^◌, ◌∙◌, ◌∷◌, ◌≡◌, ◌≤◌, ◌⊎◌, Bool, List, ap, arith, cond, eq-eqb, eqb, eqb-true, false, inl, inr, le-leb, le-ltb, leb, leb-true, length, lt-ltb, min, pow-suc, pow_pos, refl, subst, suc, true, w32, zero, ℕ}
+use Rattle.std.specs.Int.{bit_at, trailing_zeros}
+use Rattle.std.proofs.Math.Nat.{mod-one, pow-le-pow_right}
+use Rattle.std.proofs.lemmas.Bool.{cases_lt, and_parts}
+use Rattle.std.proofs.lemmas.Nat.{mod-pow-add}
 use Rattle.std.proofs.lemmas.Nat.Bits.{bit_at-trailing_zeros}
 use lib.Count.{count_trailing_zeros}
-use Rattle.five_tuple.specs.Cover.{Block, IsBlock, IsLargestBlock, IsCover, fits_at, largest_up_to, blocks_from, cover_of}
-use Rattle.five_tuple.specs.Laws.{IsCoverOf}
-use Rattle.five_tuple.specs.Header.{PortRangeValue}
-use Rattle.five_tuple.specs.SoundFields.{IsPortRange}
+use Rattle.five_tuple.specs.Exports.{Block, IsBlock, IsCover, IsCoverOf, IsLargestBlock, IsPortRange, PortRangeValue, blocks_from, cover_of, fits_at, largest_up_to}
 use Rattle.five_tuple.proofs.PortCovers.{exponent_small, aligned_down, exact, disjoint, ascending, masked, few, same_cover}
 
 -- ---- the function and the relation

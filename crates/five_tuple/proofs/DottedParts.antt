@@ -1,15 +1,12 @@
 -- A text's first part before a dot, read byte by byte.
-use Rattle.std.proofs.Common.{◌≡◌, ◌≢◌, ◌⊎◌, ℕ, add-one, ◌+◌, ◌<◌, ◌≤◌, List, [], ◌∷◌, ◌++◌, length, take, drop, get_or, true, false, Some, None, Option, position, refl, ap, sym, ◌∙◌, subst, arith, inl, inr}
-use Rattle.std.specs.Prelude.{◌==◌, ◌&&◌, nat_lt, not}
+use Rattle.std.proofs.Common.{[], ◌&&◌, ◌++◌, ◌+◌, ◌<◌, ◌==◌, ◌∙◌, ◌∷◌, ◌≡◌, ◌≢◌, ◌≤◌, ◌⊎◌, List, None, Option, Some, add-one, ap, arith, drop, drop-cons, eq-eqb, eqb-true, false, get_or, get_or-take, inl, inr, length, length-take, ltb-false, ltb-true, nat_lt, not, position, refl, subst, sym, take, take-append-drop, take-take, true, ℕ}
 use Rattle.std.specs.Char.{is_ascii_digit}
 use Rattle.std.specs.List.{list_all}
 use Rattle.std.specs.Str.Parse.{digits_value}
-use Rattle.std.proofs.lemmas.Bool.{and_cases, and_parts, cases_lt, both_ways, eq-eqb, eqb-true, ltb-false, ltb-true, not-false, not-true}
-use Rattle.std.proofs.lemmas.List.{get_or-take, length-take, take-append-drop, take-take}
-use Rattle.std.proofs.Math.Seq.{drop-cons}
+use Rattle.std.proofs.lemmas.Bool.{and_cases, and_parts, cases_lt, both_ways, not-false, not-true}
 use Rattle.std.proofs.lemmas.List.Quantifiers.{position-Some}
 use Rattle.std.proofs.lemmas.List.Splits.{slice_split_at}
-use Rattle.five_tuple.specs.Texts.{IsByteBefore, LacksByte, address_from, address_of, address_of_parts, has_leading_zero, number_up_to, parts_round}
+use Rattle.five_tuple.specs.Exports.{IsByteBefore, LacksByte, address_from, address_of, address_of_parts, has_leading_zero, number_up_to, parts_round}
 use Rattle.five_tuple.proofs.WrittenNumbers.{accepted, leading_zero, no_digit, other_byte, too_large}
 use Rattle.five_tuple.proofs.PartReadings.{address_reads}
 use Rattle.five_tuple.proofs.SplitParts.{digits_are_one_part, digits_lack, parts_at, parts_none}

@@ -1,7 +1,7 @@
 -- What a reader of parts finds, where it takes them off one at a time and reads the last as a
 -- number.
-use Rattle.std.proofs.Common.{◌≡◌, ℕ, List, ◌∷◌, Some, None, Option, inl, inr, refl, sym}
-use Rattle.five_tuple.specs.Texts.{number_up_to, address_from, address_of, block_from, block_of_parts, range_from, range_of_parts, parts_round}
+use Rattle.std.proofs.Common.{◌∷◌, ◌≡◌, List, None, Option, Some, inl, inr, refl, sym, ℕ}
+use Rattle.five_tuple.specs.Exports.{address_from, address_of, block_from, block_of_parts, number_up_to, parts_round, range_from, range_of_parts}
 use Rattle.five_tuple.proofs.SplitParts.{last_part}
 
 no_last : (x y z : Option ℕ) → address_from x y z None ≡ None

@@ -1,18 +1,13 @@
 -- Each printed form has plain characters alone.
-use Rattle.std.proofs.Common.{◌≡◌, ◌<◌, ◌^◌, ◌/◌, ◌%◌, ◌&&◌, ◌==◌, ℕ, List, ◌∷◌, ◌++◌, true, refl, arith}
-use Rattle.std.specs.Prelude.{codes}
+use Rattle.std.proofs.Common.{◌%◌, ◌&&◌, ◌++◌, ◌/◌, ◌<◌, ◌==◌, ◌^◌, ◌∷◌, ◌≡◌, List, arith, codes, decimal, refl, true, ℕ}
 use Rattle.std.specs.Char.{is_ascii_digit}
-use Rattle.std.specs.Fmt.{decimal}
 use Rattle.std.specs.List.{AllPass, list_all}
 use Rattle.std.proofs.lemmas.Bool.{cond_both, or_left}
 use Rattle.std.proofs.lemmas.List.Elements.{All-append, All-cons, All-weaker}
 use Rattle.std.proofs.lemmas.List.Sums.{AllPass-from_list_all}
 use Rattle.five_tuple.specs.declared.matching.Proto.{Proto}
 use Rattle.five_tuple.specs.declared.matching.Proto.TheVariants.{Any, Is}
-use Rattle.five_tuple.specs.Header.{AddressBlock, PortRangeValue}
-use Rattle.five_tuple.specs.SoundFields.{IsAddressBlock, IsPortRange, IsProtocol}
-use Rattle.five_tuple.specs.Printing.{address_text, proto_number_text}
-use Rattle.five_tuple.specs.RowPrinting.{is_plain_char, prefix_text, range_text, proto_text}
+use Rattle.five_tuple.specs.Exports.{AddressBlock, IsAddressBlock, IsPortRange, IsProtocol, PortRangeValue, address_text, is_plain_char, prefix_text, proto_number_text, proto_text, range_text}
 use Rattle.five_tuple.proofs.RoundTrip.{decimal_is_digits}
 
 abbrev IsPlain : List ℕ → Type 0

@@ -1,14 +1,14 @@
 -- What holds of a cover of ports, by induction over its blocks.
-use Rattle.std.proofs.Common.{◌≡◌, ◌<◌, ◌≤◌, ◌+◌, ◌-◌, ◌*◌, ◌/◌, ◌%◌, ◌^◌, ◌&&◌, ◌||◌, ◌==◌, ℕ, zero, suc, List, [], ◌∷◌, ◌++◌, append_assoc, length, false, eqb, leb, ltb, nat_le, bit_and, refl, ap, sym, subst, ◌∙◌, inl, inr, arith}
-use Rattle.std.specs.List.{All, AllPairs, list_any}
-use Rattle.std.proofs.Math.Nat.{div-eq_of_lt-le, mod-lt, mod-one, mod-eq_of_lt, pow-suc, pow-le-pow_right}
-use Rattle.std.proofs.lemmas.Bool.{cases_eq, cases_lt, eqb-true, ltb-true, leb-true, le-leb, and_parts}
+use Rattle.std.proofs.Common.{[], ◌%◌, ◌&&◌, ◌*◌, ◌++◌, ◌+◌, ◌-◌, ◌/◌, ◌<◌, ◌==◌, ◌^◌, ◌||◌, ◌∙◌, ◌∷◌, ◌≡◌, ◌≤◌, All, AllPairs, List, ap, append_assoc, arith, bit_and, eqb, eqb-true, false, inl, inr, le-leb, leb, leb-true, length, ltb, ltb-true, mod-eq_of_lt, mod-lt, nat_le, pow-suc, pow_pos, refl, subst, suc, sym, zero, ℕ}
+use Rattle.std.specs.List.{list_any}
+use Rattle.std.proofs.Math.Nat.{div-eq_of_lt-le, mod-one, pow-le-pow_right}
+use Rattle.std.proofs.lemmas.Bool.{cases_eq, cases_lt, and_parts}
 use Rattle.std.proofs.lemmas.Bool.Decides.{nat_tests, Decides-eqb, Decides-ltb, Decides-like, Decides-and, same_from_decides}
 use Rattle.std.proofs.lemmas.List.Elements.{All-cons}
 use Rattle.std.proofs.lemmas.List.Kept.{AllPairs-cons}
-use Rattle.std.proofs.lemmas.Nat.{and_le_l, mod-mul-add, mod-pow-add, pow_below, pow_pos, shr_split}
+use Rattle.std.proofs.lemmas.Nat.{and_le_l, mod-mul-add, mod-pow-add, pow_below, shr_split}
 use Rattle.std.proofs.lemmas.Nat.Bits.{and_high_mask}
-use Rattle.five_tuple.specs.Cover.{IsBlock, IsLargestBlock, IsCover, block_holds, AreBlocksApart, IsPortBlock}
+use Rattle.five_tuple.specs.Exports.{AreBlocksApart, IsBlock, IsCover, IsLargestBlock, IsPortBlock, block_holds}
 
 pub exponent_small : (first high e : ℕ) → IsBlock first high e → high < 2 ^ 16 → e ≤ 16
 exponent_small first high e b h =

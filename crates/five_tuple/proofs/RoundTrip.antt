@@ -1,11 +1,9 @@
 -- Each printed form is read back to what it prints.
-use Rattle.std.proofs.Common.{◌≡◌, ◌<◌, ◌≤◌, ◌+◌, ◌-◌, ◌*◌, ◌/◌, ◌%◌, ◌^◌, ◌&&◌, ◌==◌, ℕ, List, [], ◌∷◌, ◌++◌, length, get_or, true, false, Some, refl, ap, sym, ◌∙◌, inl, inr, arith, rules}
-use Rattle.std.specs.Prelude.{codes, bytes_eq}
+use Rattle.std.proofs.Common.{[], ◌%◌, ◌&&◌, ◌*◌, ◌++◌, ◌+◌, ◌-◌, ◌/◌, ◌<◌, ◌==◌, ◌^◌, ◌∙◌, ◌∷◌, ◌≡◌, ◌≤◌, All, List, Some, ap, arith, bytes_eq, codes, decimal, eq-eqb, eqb-true, false, get_or, inl, inr, le-leb, length, ne_eqb, refl, rules, sym, true, ℕ}
 use Rattle.std.specs.Char.{is_ascii_digit}
-use Rattle.std.specs.Fmt.{decimal}
-use Rattle.std.specs.List.{All, list_all, join_with_byte}
+use Rattle.std.specs.List.{list_all, join_with_byte}
 use Rattle.std.specs.Str.Parse.{digits_value}
-use Rattle.std.proofs.lemmas.Bool.{and_left, and_parts, and_right, cases_lt, eq-eqb, false≢true, ne_eqb, eqb-true, cases_Bool, both_ways, false_from_ne_true, true_from_ne_false, le-leb}
+use Rattle.std.proofs.lemmas.Bool.{and_left, and_parts, and_right, cases_lt, false≢true, cases_Bool, both_ways, false_from_ne_true, true_from_ne_false}
 use Rattle.std.proofs.lemmas.Fmt.{decimal_digit, decimal_nonempty, first_decimal, digits_decimal, digits_value-decimal}
 use Rattle.std.proofs.lemmas.List.{get_or_append_left}
 use Rattle.std.proofs.lemmas.List.Elements.{All-append, All-cons}
@@ -17,11 +15,7 @@ use Rattle.std.proofs.lemmas.Slice.Eq.{bytes_eq-Decides}
 use Rattle.std.proofs.lemmas.Str.Parse.{IsNumeralModel, numerals_by_value}
 use Rattle.five_tuple.specs.declared.matching.Proto.{Proto}
 use Rattle.five_tuple.specs.declared.matching.Proto.TheVariants.{Any, Is}
-use Rattle.five_tuple.specs.Header.{AddressBlock, PortRangeValue}
-use Rattle.five_tuple.specs.SoundFields.{IsAddressBlock, IsPortRange, IsProtocol}
-use Rattle.five_tuple.specs.Printing.{address_text, proto_number_text}
-use Rattle.five_tuple.specs.Texts.{has_leading_zero, number_up_to, address_of, prefix_of, range_of, proto_number_of, proto_of, parts_round, block_round}
-use Rattle.five_tuple.specs.RowPrinting.{prefix_text, range_text, proto_text}
+use Rattle.five_tuple.specs.Exports.{AddressBlock, IsAddressBlock, IsPortRange, IsProtocol, PortRangeValue, address_of, address_text, block_round, has_leading_zero, number_up_to, parts_round, prefix_of, prefix_text, proto_number_of, proto_number_text, proto_of, proto_text, range_of, range_text}
 use Rattle.five_tuple.proofs.WrittenNumbers.{accepted}
 use Rattle.five_tuple.proofs.SplitParts.{digits_lack, digits_are_one_part}
 use Rattle.five_tuple.proofs.PartReadings.{address_reads, block_reads, range_reads}

@@ -1,14 +1,14 @@
 -- The parts of a text round a byte, taken off one at a time.
-use Rattle.std.proofs.Common.{◌≡◌, ◌+◌, ◌<◌, ℕ, List, [], ◌∷◌, length, take, drop, true, false, ltb, leb, ◌&&◌, ◌==◌, Some, None, position, Option, ◌⊎◌, inl, inr, refl, ap, ◌∙◌, arith, sym}
-use Rattle.std.specs.List.{All, position_or_len, list_all}
-use Rattle.std.proofs.lemmas.Bool.{ltb-true, ltb-false, false_from_ne_true, and_parts, eqb-true, both_ways, cond-true}
+use Rattle.std.proofs.Common.{[], ◌&&◌, ◌+◌, ◌<◌, ◌==◌, ◌∙◌, ◌∷◌, ◌≡◌, ◌⊎◌, All, List, None, Option, Some, ap, arith, drop, eqb-true, false, inl, inr, leb, length, ltb, ltb-false, ltb-true, position, refl, sym, take, true, ℕ}
+use Rattle.std.specs.List.{position_or_len, list_all}
+use Rattle.std.proofs.lemmas.Bool.{false_from_ne_true, and_parts, both_ways, cond-true}
 use Rattle.std.proofs.lemmas.List.Folds.{list_all_at}
 use Rattle.std.proofs.lemmas.Option.{cond_some, none-some}
 use Rattle.std.proofs.lemmas.List.Splits.{slice_split_first, slice_split_none, length-slice_split}
 use Rattle.std.proofs.lemmas.List.Sums.{fails_before_first}
 use Rattle.std.specs.Char.{is_ascii_digit}
 use Rattle.std.specs.Str.Parse.{digits_value}
-use Rattle.five_tuple.specs.Texts.{is_number, number_up_to, parts_round}
+use Rattle.five_tuple.specs.Exports.{is_number, number_up_to, parts_round}
 
 -- the first such byte stands at this place
 pub parts_at : (byte : ℕ) (text : List ℕ) (at : ℕ) → position (λ b. b == byte) text ≡ Some at

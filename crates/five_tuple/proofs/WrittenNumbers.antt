@@ -1,6 +1,6 @@
 -- When a text writes a number, one cause at a time.
-use Rattle.std.proofs.Common.{◌≡◌, ◌<◌, ◌≤◌, ◌+◌, ◌-◌, ◌*◌, ℕ, List, length, take, get_or, true, false, not, ◌&&◌, leb, Some, None, ap, ◌∙◌, arith}
-use Rattle.std.proofs.lemmas.Bool.{le-ltb, lt-ltb, le-leb, lt-leb, and_left, and_right}
+use Rattle.std.proofs.Common.{◌&&◌, ◌*◌, ◌+◌, ◌-◌, ◌<◌, ◌∙◌, ◌≡◌, ◌≤◌, List, None, Some, ap, arith, false, get_or, le-ltb, leb, length, not, take, true, ℕ}
+use Rattle.std.proofs.lemmas.Bool.{lt-ltb, le-leb, lt-leb, and_left, and_right}
 use Rattle.std.proofs.lemmas.List.Folds.{list_all_at}
 use Rattle.std.proofs.lemmas.Str.Parse.{digits_value-take-le}
 use Rattle.std.proofs.lemmas.Int.Digits.{digits_value_more}
@@ -8,7 +8,7 @@ use Rattle.std.proofs.lemmas.Bool.Decides.{nat_tests}
 use Rattle.std.specs.Char.{is_ascii_digit, digit_value}
 use Rattle.std.specs.List.{list_all}
 use Rattle.std.specs.Str.Parse.{digits_value}
-use Rattle.five_tuple.specs.Texts.{has_leading_zero, is_number, number_up_to}
+use Rattle.five_tuple.specs.Exports.{has_leading_zero, is_number, number_up_to}
 
 module _ (most : ℕ) (text : List ℕ) where
   refused : is_number text && leb (digits_value 10 text) most ≡ false

@@ -1,6 +1,6 @@
 -- A range of ports as aligned blocks whose sizes are powers of two (V. Srinivasan, G. Varghese, S.
 -- Suri, M. Waldvogel: Fast and Scalable Layer Four Switching, where ranges become prefixes).
-use Rattle.std.specs.Prelude.{ℕ, zero, suc, ◌≡◌, ◌+◌, ◌-◌, ◌%◌, ◌^◌, ◌<◌, ◌≤◌, Bool, ◌&&◌, ◌==◌, nat_lt, nat_le, if◌then◌else◌, IsTrue, List, [], ◌∷◌, bit_and}
+use Rattle.std.specs.Prelude.{[], if◌then◌else◌, ◌%◌, ◌&&◌, ◌+◌, ◌-◌, ◌<◌, ◌==◌, ◌^◌, ◌∷◌, ◌≡◌, ◌≤◌, Bool, IsTrue, List, bit_and, nat_le, nat_lt, suc, zero, ℕ}
 use Rattle.five_tuple.specs.Header.{PortRangeValue}
 
 -- ---- blocks

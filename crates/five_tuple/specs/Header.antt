@@ -1,6 +1,6 @@
 -- First tier. A header, its number, and when the fields of a policy's row match it: addresses and
 -- protocol of RFC 791, ports of RFC 768 and RFC 793, blocks of RFC 4632; the packing is our own.
-use Rattle.std.specs.Prelude.{ℕ, ◌+◌, ◌*◌, ◌^◌, ◌<◌, ◌-◌, ◌/◌, Bool, true, ◌&&◌, ◌==◌, nat_le}
+use Rattle.std.specs.Prelude.{◌&&◌, ◌*◌, ◌+◌, ◌-◌, ◌/◌, ◌<◌, ◌==◌, ◌^◌, Bool, nat_le, true, ℕ}
 use Rattle.five_tuple.specs.declared.header.Fields.{Fields}
 use Rattle.five_tuple.specs.declared.header.Header.{Header}
 use Rattle.five_tuple.specs.declared.matching.Proto.{Proto}

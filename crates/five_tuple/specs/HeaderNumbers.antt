@@ -1,5 +1,5 @@
 -- The header of five fields and that of a number, and when two headers are the same.
-use Rattle.std.specs.Prelude.{ℕ, ◌/◌, ◌%◌, ◌^◌, Bool, ◌&&◌, ◌==◌}
+use Rattle.std.specs.Prelude.{◌%◌, ◌&&◌, ◌/◌, ◌==◌, ◌^◌, Bool, ℕ}
 use Rattle.five_tuple.specs.declared.header.Fields.{Fields}
 use Rattle.five_tuple.specs.declared.header.Header.{Header}
 use Rattle.five_tuple.specs.Header.{fields_of, number_of}

@@ -1,6 +1,6 @@
 -- The laws of header numbers, of covers and of printed forms: a function of the crate ensures the
 -- record of each.
-use Rattle.std.specs.Prelude.{ℕ, ◌≡◌, ◌^◌, ◌<◌, ◌≤◌, ◌↔◌, IsTrue, All, AllPairs, List, decimal, length}
+use Rattle.std.specs.Prelude.{◌<◌, ◌^◌, ◌↔◌, ◌≡◌, ◌≤◌, All, AllPairs, IsTrue, List, decimal, length, ℕ}
 use Rattle.std.specs.List.{AllPass, list_any}
 use Rattle.five_tuple.specs.declared.header.Header.{Header}
 use Rattle.five_tuple.specs.declared.matching.Proto.{Proto}

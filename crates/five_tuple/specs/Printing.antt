@@ -1,5 +1,5 @@
 -- First tier. The printed forms of a policy's and a packet's fields: each is read back to it.
-use Rattle.std.specs.Prelude.{ℕ, ◌/◌, ◌%◌, ◌^◌, ◌==◌, if◌then◌else◌, List, [], ◌∷◌, decimal, codes}
+use Rattle.std.specs.Prelude.{[], if◌then◌else◌, ◌%◌, ◌/◌, ◌==◌, ◌^◌, ◌∷◌, List, codes, decimal, ℕ}
 use Rattle.std.specs.List.{join_with_byte}
 use Rattle.five_tuple.specs.declared.header.Fields.{Fields}
 

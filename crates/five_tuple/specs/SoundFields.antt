@@ -1,6 +1,6 @@
 -- What is true of the fields of a policy's row: its blocks of addresses, ranges of ports and
 -- protocols.
-use Rattle.std.specs.Prelude.{◌^◌, ◌<◌, ⊤, ◌≡◌, ◌-◌, ◌%◌, ◌≤◌}
+use Rattle.std.specs.Prelude.{◌%◌, ◌-◌, ◌<◌, ◌^◌, ◌≡◌, ◌≤◌, ⊤}
 use Rattle.five_tuple.specs.Header.{AddressBlock, PortRangeValue}
 use Rattle.five_tuple.specs.declared.matching.Proto.{Proto}
 use Rattle.five_tuple.specs.declared.matching.Proto.TheVariants.{Any, Is}

@@ -2,7 +2,7 @@
 -- (RFC 1123, section 2.1), and a block has a slash and its length after it (RFC 4632, section 3.1).
 -- That a number has neither sign nor leading zero, and the keywords and the dash, are this
 -- project's own.
-use Rattle.std.specs.Prelude.{ℕ, ◌≡◌, ◌*◌, ◌+◌, ◌^◌, Bool, not, ◌&&◌, ◌==◌, nat_lt, nat_le, if◌then◌else◌, List, [], ◌∷◌, length, slice_index, Option, Some, None, option_map, codes, bytes_eq, ◌-◌, ◌/◌}
+use Rattle.std.specs.Prelude.{[], if◌then◌else◌, ◌&&◌, ◌*◌, ◌+◌, ◌-◌, ◌/◌, ◌==◌, ◌^◌, ◌∷◌, ◌≡◌, Bool, List, None, Option, Some, bytes_eq, codes, length, nat_le, nat_lt, not, option_map, slice_index, ℕ}
 use Rattle.std.specs.List.{list_all, slice_split}
 use Rattle.std.specs.Char.{is_ascii_digit}
 use Rattle.std.specs.Str.Parse.{digits_value}

@@ -1,17 +1,11 @@
 -- What the records of flow meters count: each record of a meter that stays, and where none leaves,
 -- each record.
-use Rattle.std.proofs.Common.{ℕ, ◌≡◌, ◌∙◌, ◌+◌, ◌==◌, ◌&&◌, ◌||◌, ◌≤◌, suc, Bool, true, false, cond, not, All, List, [], ◌∷◌, ◌++◌, length, map, filter, refl, ap, sym, subst, arith}
-use Rattle.std.specs.List.{flat_map}
-use Rattle.std.proofs.lemmas.Grind.{flat_map-append}
-use Rattle.std.proofs.lemmas.List.{append-nil, length-map}
-use Rattle.std.proofs.lemmas.List.Elements.{All-append, All-cons, All-filter, All-head, All-nil, All-tail}
-use Rattle.std.proofs.lemmas.List.Sums.{count_by-le-length, length-filter, sum_by-cons}
-use Rattle.five_tuple.specs.HeaderNumbers.{header_eq}
+use Rattle.std.proofs.Common.{[], ◌&&◌, ◌++◌, ◌+◌, ◌==◌, ◌||◌, ◌∙◌, ◌∷◌, ◌≡◌, ◌≤◌, All, Bool, List, ap, append-nil, arith, cond, false, filter, flat_map, length, map, not, refl, subst, suc, sym, true, ℕ}
+use Rattle.base.proofs.Exports.{All-append, All-cons, All-filter, All-head, All-nil, All-tail, count_by-le-length, flat_map-append, length-filter, length-map, sum_by-cons}
+use Rattle.five_tuple.specs.Exports.{header_eq}
 use Rattle.five_tuple.specs.declared.header.Header.{Header}
-use Rattle.base.specs.Masks.{has}
-use Rattle.meters.specs.Gone.{gone_after, gone_records, leaves_with, leaving_records}
-use Rattle.meters.specs.Meters.{PortLeavings, has_ended, is_ended_within, kept_meters, leavings_of, meter_with, meters_after, flow_records_of}
-use Rattle.meters.specs.Seen.{Seen}
+use Rattle.base.specs.Exports.{has}
+use Rattle.meters.specs.Exports.{PortLeavings, Seen, flow_records_of, gone_after, gone_records, has_ended, is_ended_within, kept_meters, leaves_with, leaving_records, leavings_of, meter_with, meters_after}
 use Rattle.meters.specs.declared.flows.FlowRecord.{FlowRecord}
 use Rattle.meters.proofs.MetersKept.{kept-append, kept-nothing, kept-one, kept_on}
 use Rattle.policy_rules.specs.declared.packet.Leaving.{Leaving}

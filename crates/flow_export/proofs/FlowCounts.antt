@@ -1,14 +1,8 @@
 -- The counts of a list of leavings with one more: its header is counted once more, at its place, or
 -- behind the others as a new one.
-use Rattle.std.proofs.Common.{ℕ, Option, Some, ◌≡◌, ◌∙◌, ◌+◌, ◌≤◌, Bool, true, false, cond, not, ◌||◌, ◌&&◌, eqb, List, [], ◌∷◌, ◌++◌, append-nil, length, map, filter, refl, ap, sym, subst, arith}
-use Rattle.std.specs.List.{list_any}
-use Rattle.std.specs.Map.{lookup}
-use Rattle.std.specs.Option.{unwrap_or}
-use Rattle.std.proofs.lemmas.Bool.{and_from, and_parts, eq-eqb, eqb-true, false_from_ne_true, false≢true, or_parts}
-use Rattle.std.proofs.lemmas.List.{length-map}
-use Rattle.std.proofs.lemmas.List.Elements.{filter-append}
-use Rattle.std.proofs.lemmas.List.Sums.{count_by-le-length, sum_by-cons, sum_by_push}
-use Rattle.five_tuple.specs.HeaderNumbers.{header_eq}
+use Rattle.std.proofs.Common.{[], ◌&&◌, ◌++◌, ◌+◌, ◌||◌, ◌∙◌, ◌∷◌, ◌≡◌, ◌≤◌, Bool, List, Option, Some, ap, append-nil, arith, cond, eq-eqb, eqb, eqb-true, false, filter, length, map, not, refl, subst, sym, true, unwrap_or, ℕ}
+use Rattle.base.proofs.Exports.{and_from, and_parts, count_by-le-length, false_from_ne_true, false≢true, filter-append, length-map, list_any, lookup, or_parts, sum_by-cons, sum_by_push}
+use Rattle.five_tuple.specs.Exports.{header_eq}
 use Rattle.five_tuple.specs.declared.header.Header.{Header}
 use Rattle.indexmap.specs.IndexMap.{insert_entry}
 use Rattle.meters.specs.declared.flows.FlowRecord.{FlowRecord}

@@ -1,11 +1,8 @@
 -- What the records of flow meters count among the packets that left a network.
-use Rattle.std.specs.Prelude.{ℕ, ◌≡◌, ◌==◌, ◌&&◌, All, List, [], ◌++◌, count_by, length}
-use Rattle.std.specs.List.{flat_map}
-use Rattle.five_tuple.specs.HeaderNumbers.{header_eq}
+use Rattle.std.specs.Prelude.{[], ◌&&◌, ◌++◌, ◌==◌, ◌≡◌, All, List, count_by, flat_map, length, ℕ}
+use Rattle.five_tuple.specs.Exports.{header_eq}
 use Rattle.five_tuple.specs.declared.header.Header.{Header}
-use Rattle.meters.specs.Gone.{gone_records}
-use Rattle.meters.specs.Meters.{PortLeavings, kept_meters, flow_records_of}
-use Rattle.meters.specs.Seen.{Seen}
+use Rattle.meters.specs.Exports.{PortLeavings, Seen, flow_records_of, gone_records, kept_meters}
 use Rattle.meters.specs.declared.flows.FlowRecord.{FlowRecord}
 use Rattle.flow_export.specs.Flows.{IsFlowMeter}
 

@@ -1,8 +1,7 @@
 -- The counts of a flow meter, as a map has them.
-use Rattle.std.specs.Prelude.{ℕ, List, map}
-use Rattle.std.specs.Map.{lookup}
-use Rattle.std.specs.Option.{unwrap_or}
-use Rattle.five_tuple.specs.HeaderNumbers.{header_eq}
+use Rattle.std.specs.Prelude.{List, map, unwrap_or, ℕ}
+use Rattle.base.specs.Exports.{lookup}
+use Rattle.five_tuple.specs.Exports.{header_eq}
 use Rattle.five_tuple.specs.declared.header.Header.{Header}
 use Rattle.policy_rules.specs.declared.packet.Leaving.{Leaving}
 use Rattle.flow_export.specs.Flows.{headers_of, packets_of}

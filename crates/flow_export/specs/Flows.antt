@@ -1,8 +1,8 @@
 -- The flows of a list of leavings: which headers it has, and how many packets had each.
-use Rattle.std.specs.Prelude.{ℕ, ◌≡◌, not, List, [], ◌∷◌, count_by, filter, length, map, nat_le}
-use Rattle.five_tuple.specs.HeaderNumbers.{header_eq}
+use Rattle.std.specs.Prelude.{[], ◌∷◌, ◌≡◌, List, count_by, filter, length, map, nat_le, not, ℕ}
+use Rattle.five_tuple.specs.Exports.{header_eq}
 use Rattle.five_tuple.specs.declared.header.Header.{Header}
-use Rattle.meters.specs.Seen.{Seen}
+use Rattle.meters.specs.Exports.{Seen}
 use Rattle.meters.specs.declared.flows.FlowRecord.{FlowRecord}
 use Rattle.policy_rules.specs.declared.packet.Leaving.{Leaving}
 

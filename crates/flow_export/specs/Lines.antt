@@ -1,7 +1,6 @@
 -- The lines of flow records.
-use Rattle.std.specs.Prelude.{ℕ, List, ◌++◌, codes, decimal}
-use Rattle.std.specs.List.{flat_map}
-use Rattle.five_tuple.specs.Printing.{fields_text}
+use Rattle.std.specs.Prelude.{◌++◌, List, codes, decimal, flat_map, ℕ}
+use Rattle.five_tuple.specs.Exports.{fields_text}
 use Rattle.meters.specs.declared.flows.FlowRecord.{FlowRecord}
 
 -- the line of a record, with its line feed

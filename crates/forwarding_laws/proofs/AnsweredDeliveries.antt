@@ -1,32 +1,12 @@
 -- What was delivered within calm steps was delivered by one of them; so a switch answered it then.
-use Rattle.std.proofs.Common.{ℕ, ◌≡◌, ◌≤◌, ◌<◌, ◌==◌, ◌||◌, Bool, true, false, Some, List, [], ◌∷◌, ◌++◌, refl, ap, sym, subst, ◌∙◌, append-nil, append_assoc, arith, inl}
-use Rattle.std.specs.Prelude.{IfSome, IsTrue}
-use Rattle.std.proofs.lemmas.Bool.{eq-eqb, eqb-true}
-use Rattle.std.proofs.lemmas.Option.{IfSome_then}
-use Rattle.ctrl_msg.specs.declared.message.Body.{Body}
-use Rattle.ctrl_msg.specs.declared.message.Body.TheVariants.{Install, OpenAt, Stamp, Installed, Stamped}
-use Rattle.ctrl_msg.specs.Kinds.{to_controller}
-use Rattle.journal.specs.declared.item.Item.{Item}
+use Rattle.std.proofs.Common.{[], ◌++◌, ◌<◌, ◌==◌, ◌||◌, ◌∙◌, ◌∷◌, ◌≡◌, ◌≤◌, Bool, IfSome, IsTrue, List, Some, ap, append-nil, append_assoc, arith, eq-eqb, eqb-true, false, inl, refl, subst, sym, true, ℕ}
+use Rattle.base.proofs.Exports.{IfSome_then}
+use Rattle.update_machine.specs.Exports.{Body, Confirm, Deliver, HaveCauses, Install, Installed, Item, OpenAt, Resend, Setting, Stamp, Stamped, Step, StepOfRow, after_steps, body_to_switch, boot_of, deliver_items, delivery_items, is_deliverable, is_for_boot, is_up, items_then, message_of, next_message, nothing, piece, serves, switch_items, to_switch, was_delivered}
+use Rattle.ctrl_msg.specs.Exports.{to_controller}
 use Rattle.journal.specs.declared.item.Item.TheVariants as item
-use Rattle.steps.specs.declared.step.Step.{Step}
-use Rattle.steps.specs.declared.step.Step.TheVariants.{Confirm, Deliver, Resend}
-use Rattle.update_machine.specs.Answers.{StepOfRow, after_steps}
-use Rattle.update_machine.specs.Boots.{boot_of, is_for_boot, is_up, body_to_switch}
-use Rattle.update_machine.specs.Causes.{HaveCauses}
-use Rattle.update_machine.specs.Deliveries.{delivery_items, switch_items}
-use Rattle.update_machine.specs.Links.{message_of, serves}
-use Rattle.update_machine.specs.Messages.{is_deliverable, next_message, was_delivered}
-use Rattle.update_machine.specs.Moves.{items_then}
-use Rattle.update_machine.specs.Pieces.{deliver_items, nothing, piece}
-use Rattle.update_machine.specs.Setting.{Setting}
-use Rattle.update_machine.specs.Settling.{to_switch}
-use Rattle.update_machine.proofs.CallerLemmas.{AreOf}
-use Rattle.control_laws.proofs.ItemFacts.{fact_on}
-use Rattle.control_laws.proofs.FactsGrown.{serving_more}
-use Rattle.control_laws.proofs.ReachedCauses.{behind_piece}
-use Rattle.convergence_laws.proofs.AnsweredMessages.{answer_of, delivery_is, opens}
-use Rattle.convergence_laws.proofs.PlainItems.{IsPlain, Plain, delivery_plain, is_plain, step_plain}
-use Rattle.convergence_laws.proofs.MessageCourses.{IsInOrder, caused_traced, deliverable_sent, delivered_more, next_grows}
+use Rattle.update_machine.proofs.Exports.{AreOf}
+use Rattle.control_laws.proofs.Exports.{behind_piece, fact_on, serving_more}
+use Rattle.convergence_laws.proofs.Exports.{IsInOrder, IsPlain, Plain, answer_of, caused_traced, deliverable_sent, delivered_more, delivery_is, delivery_plain, is_plain, next_grows, opens, step_plain}
 use Rattle.forwarding_laws.proofs.CalmItems.{Calmly, IsCalmStep, Stays, calm_causes, calm_piece, calm_steps, calm_through, stays}
 use Rattle.forwarding_laws.proofs.SentSince.{IsSince, sends_since, since_calm}
 

@@ -1,28 +1,14 @@
 -- The entries of a cache are of the stamp of its switch, or of later versions.
-use Rattle.std.proofs.Common.{ℕ, zero, suc, ◌≡◌, ◌≤◌, ◌||◌, Bool, true, false, if◌then◌else◌, Option, Some, None, List, [], ◌∷◌, ◌++◌, length, max, take, drop, refl, ap, subst, ◌∙◌, arith, inl, inr}
-use Rattle.std.specs.Prelude.{filter, nat_le, nat_lt, option_and_then}
-use Rattle.std.specs.List.{list_any}
-use Rattle.std.proofs.lemmas.Bool.Decides.{nat_tests}
-use Rattle.ctrl_msg.specs.declared.message.Body.{Body}
-use Rattle.ctrl_msg.specs.declared.message.Body.TheVariants.{OpenAt, Stamp, CacheRule}
-use Rattle.switch_table.specs.Cache.{CacheValue, newest_entries, same_key}
-use Rattle.switch_table.specs.Carried.{after_carry, carried_entry, is_carried, under}
-use Rattle.switch_table.specs.declared.cache.CacheEntry.{CacheEntry}
-use Rattle.ternary.specs.Word.{WordValue}
-use Rattle.journal.specs.declared.item.Item.{Item}
+use Rattle.std.proofs.Common.{[], if◌then◌else◌, ◌++◌, ◌||◌, ◌∙◌, ◌∷◌, ◌≡◌, ◌≤◌, Bool, List, None, Option, Some, ap, arith, drop, false, filter, inl, inr, length, max, nat_le, nat_lt, option_and_then, refl, subst, suc, take, true, zero, ℕ}
+use Rattle.base.proofs.Exports.{list_any, nat_tests}
+use Rattle.update_machine.specs.Exports.{Body, CacheEntry, CacheRule, HaveCauses, Item, OpenAt, Setting, Stamp, body_to_switch, boot_of, cache_after, cache_of, changes_cache, concerns_switch, heard, is_up, stamp_in, stamp_of, touched_by}
+use Rattle.switch_table.specs.Exports.{CacheValue, after_carry, carried_entry, is_carried, newest_entries, same_key, under}
+use Rattle.ternary.specs.Exports.{WordValue}
 use Rattle.journal.specs.declared.item.Item.TheVariants as item
-use Rattle.update_machine.specs.Boots.{body_to_switch, boot_of, heard, is_up}
-use Rattle.update_machine.specs.Caches.{cache_after, cache_of, changes_cache}
-use Rattle.update_machine.specs.Causes.{HaveCauses}
-use Rattle.update_machine.specs.Concerns.{concerns_switch}
-use Rattle.update_machine.specs.Setting.{Setting}
-use Rattle.update_machine.specs.Touched.{touched_by}
-use Rattle.update_machine.specs.Versions.{stamp_in, stamp_of}
-use Rattle.update_machine.proofs.CallerLemmas.{folded_append, start_laws, switch_keeps}
-use Rattle.control_laws.specs.ItemCauses.{HasItemCause}
-use Rattle.control_laws.proofs.ItemFacts.{AreKept, fact_on}
-use Rattle.control_laws.proofs.FactsGrown.{boot_more, heard_more, raised, stamp_told, up_more}
-use Rattle.convergence_laws.proofs.ListElements.{IsIn, in_either, of_filter, of_filter_map}
+use Rattle.update_machine.proofs.Exports.{folded_append, start_laws, switch_keeps}
+use Rattle.control_laws.specs.Exports.{HasItemCause}
+use Rattle.control_laws.proofs.Exports.{AreKept, boot_more, fact_on, heard_more, raised, stamp_told, up_more}
+use Rattle.convergence_laws.proofs.Exports.{IsIn, in_either, of_filter, of_filter_map}
 
 -- the entries are of this version or of later ones
 abbrev AreFrom : ℕ → List CacheEntry → Type 0

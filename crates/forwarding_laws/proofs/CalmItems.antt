@@ -1,42 +1,13 @@
 -- The items of confirmations, resends and deliveries: no switch goes down or comes up, no link
 -- changes, nothing is forgotten and no policy is submitted. What they leave as it was, and what
 -- only grows.
-use Rattle.std.proofs.Common.{ℕ, ◌≡◌, ◌≤◌, ◌<◌, ◌==◌, Bool, true, false, if◌then◌else◌, Some, None, List, [], ◌∷◌, ◌++◌, refl, ap, sym, subst, ◌∙◌, append-nil, append_assoc, arith}
-use Rattle.std.specs.Prelude.{⊤, IsTrue, IsFalse, unwrap_or}
-use Rattle.std.specs.Option.{option_or}
-use Rattle.std.proofs.lemmas.Bool.Decides.{nat_tests}
-use Rattle.ctrl_msg.specs.declared.message.Body.{Body}
-use Rattle.ctrl_msg.specs.declared.message.Message.{Message}
-use Rattle.journal.specs.declared.item.Item.{Item}
+use Rattle.std.proofs.Common.{[], if◌then◌else◌, ◌++◌, ◌<◌, ◌==◌, ◌∙◌, ◌∷◌, ◌≡◌, ◌≤◌, Bool, IsFalse, IsTrue, List, None, Some, ap, append-nil, append_assoc, arith, false, refl, subst, sym, true, unwrap_or, ℕ}
+use Rattle.base.proofs.Exports.{nat_tests, option_or, ⊤}
+use Rattle.update_machine.specs.Exports.{Body, Confirm, Deliver, HaveCauses, Item, Message, Resend, Setting, Step, StepOfRow, TakesNext, acked_stamp, after_steps, boot_of, current_mark, first_number, gives_waited_for, has_acked, is_forgotten, is_up, is_waited_for, known_boot, link_changes, message_of, next_message, open_sent, opened_at, piece, retired_mark, send_items, serves, step_items, switch_items, version_count}
 use Rattle.journal.specs.declared.item.Item.TheVariants as item
-use Rattle.steps.specs.declared.step.Step.{Step}
-use Rattle.steps.specs.declared.step.Step.TheVariants.{Confirm, Deliver, Resend}
-use Rattle.update_machine.specs.Answers.{StepOfRow, after_steps}
-use Rattle.update_machine.specs.Boots.{boot_of, is_up}
-use Rattle.update_machine.specs.Causes.{HaveCauses}
-use Rattle.update_machine.specs.Deliveries.{link_changes, switch_items}
-use Rattle.update_machine.specs.Links.{message_of, serves}
-use Rattle.update_machine.specs.Marks.{acked_stamp, current_mark, first_number, has_acked, known_boot, open_sent, opened_at, retired_mark}
-use Rattle.update_machine.specs.Messages.{is_forgotten, next_message, send_items}
-use Rattle.update_machine.specs.Numbers.{TakesNext}
-use Rattle.update_machine.specs.Pieces.{piece, step_items}
-use Rattle.update_machine.specs.Quiet.{gives_waited_for, is_waited_for}
-use Rattle.update_machine.specs.Setting.{Setting}
-use Rattle.update_machine.specs.Versions.{version_count}
-use Rattle.update_machine.proofs.CallerLemmas.{AreOf, have_append, have_first, next_rises}
-use Rattle.control_laws.proofs.AcknowledgedSinceOpening.{acked_more}
-use Rattle.control_laws.proofs.BootsKnown.{known_rises}
-use Rattle.control_laws.proofs.BoundedVersions.{current_rises}
-use Rattle.control_laws.proofs.ControllerCommands.{IsControl, confirm_control, controller_control}
-use Rattle.control_laws.proofs.DeliveryCauses.{deliver_has}
-use Rattle.control_laws.proofs.ItemFacts.{AreKept, Both, fact_on, have_both, have_weaker}
-use Rattle.control_laws.proofs.FactsGrown.{boot_more, count_more, last_more, message_more, opened_at_more, opened_in, serving_more, up_more}
-use Rattle.control_laws.proofs.GreatestNumbers.{acked_stamp_rises}
-use Rattle.control_laws.proofs.SwitchOpenings.{opened_on}
-use Rattle.control_laws.proofs.RetiredVersions.{retired_rises}
-use Rattle.control_laws.proofs.ResentBySwitches.{resends_any, sends_any}
-use Rattle.control_laws.proofs.SwitchCases.{switch_cases}
-use Rattle.convergence_laws.proofs.MessageCourses.{IsInOrder, forgotten_more, pieces_in_order}
+use Rattle.update_machine.proofs.Exports.{AreOf, have_append, have_first, next_rises}
+use Rattle.control_laws.proofs.Exports.{AreKept, Both, IsControl, acked_more, acked_stamp_rises, boot_more, confirm_control, controller_control, count_more, current_rises, deliver_has, fact_on, have_both, have_weaker, known_rises, last_more, message_more, opened_at_more, opened_in, opened_on, resends_any, retired_rises, sends_any, serving_more, switch_cases, up_more}
+use Rattle.convergence_laws.proofs.Exports.{IsInOrder, forgotten_more, pieces_in_order}
 
 -- ---- calm items
 

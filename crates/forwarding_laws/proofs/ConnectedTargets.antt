@@ -1,42 +1,19 @@
 -- The leg of a packet has targets, which are switches of the network: so in a connected network the
 -- links lead to one.
-use Rattle.std.proofs.Common.{ℕ, ◌≡◌, ◌<◌, ◌⊎◌, Some, List, [], ◌∷◌, All, length, get_or, map, Ok, ap, sym, subst, ◌∙◌, arith, inl, inr, Contains}
-use Rattle.std.specs.Prelude.{⊤, option_to_list, unwrap_or}
-use Rattle.std.specs.Option.{option_map_or}
-use Rattle.std.proofs.lemmas.List.{get_or-map, length-map}
-use Rattle.std.proofs.lemmas.List.Elements.{All-cons, All-nil}
-use Rattle.net_file.specs.Joins.{owner_of}
-use Rattle.net_file.specs.declared.net.Net.{Net}
+use Rattle.std.proofs.Common.{[], ◌<◌, ◌∙◌, ◌∷◌, ◌≡◌, ◌⊎◌, All, Contains, List, Ok, Some, ap, arith, get_or, inl, inr, length, map, option_to_list, subst, sym, unwrap_or, ℕ}
+use Rattle.base.proofs.Exports.{All-cons, All-nil, get_or-map, length-map, option_map_or, ⊤}
+use Rattle.net_file.specs.Exports.{owner_of}
+use Rattle.update_machine.specs.Exports.{AreTargets, BeginsAnswer, Cause, Event, Exit, HasPlan, HaveCauses, IsPlanOf, IsSetting, Item, Leg, Net, Row, Seek, Setting, hosted_in, plan_at, policy_at}
 use Rattle.net_file.proofs.RowPlaces.{ports}
 use Rattle.partition.specs.Plan.{Hosted, IsPlan, sizes_of}
-use Rattle.policy_rules.specs.declared.packet.Cause.{Cause}
-use Rattle.policy_rules.specs.declared.packet.Leg.{Leg}
-use Rattle.policy_rules.specs.declared.packet.Leg.TheVariants.{Exit, Seek}
-use Rattle.policy_rules.specs.declared.policy.Row.{Row}
-use Rattle.journal.specs.declared.item.Item.{Item}
 use Rattle.journal.specs.declared.item.Item.TheVariants as item
-use Rattle.steps.specs.Steps.{HasSwitch}
-use Rattle.steps.specs.declared.step.Event.{Event}
-use Rattle.update_machine.specs.Answers.{BeginsAnswer}
-use Rattle.update_machine.specs.Causes.{AreTargets, HaveCauses}
-use Rattle.update_machine.specs.Setting.{IsPlanOf, IsSetting, Setting}
-use Rattle.update_machine.specs.Versions.{HasPlan, hosted_in, plan_at, policy_at}
-use Rattle.control_laws.specs.Always.{AreEvents}
-use Rattle.control_laws.proofs.ItemFacts.{Behind, Both, have_both, have_weaker}
-use Rattle.packet_laws.specs.Facts.{what_is_known}
-use Rattle.packet_laws.specs.KeptFacts.{AllKept}
-use Rattle.packet_laws.specs.OnWay.{IsExiting}
-use Rattle.packet_laws.specs.Stages.{stage_of}
-use Rattle.packet_laws.specs.PacketCauses.{FindsNoRoute, IsBlockedOn, TakesLeg}
-use Rattle.packet_laws.proofs.AllKept.{kept_before, known_before, knows}
-use Rattle.packet_laws.proofs.PacketEnds.{decision_out}
-use Rattle.packet_laws.proofs.PacketsHere.{IsHere, exiting_of, leg_in}
-use Rattle.packet_laws.proofs.KeptFacts.{Knows, here_known, port_named}
-use Rattle.packet_laws.proofs.PlanLookups.{version_planned}
-use Rattle.packet_laws.proofs.ReachedJournals.{reached}
-use Rattle.packet_laws.proofs.RestingPackets.{IsWayItem, Past}
-use Rattle.convergence_laws.proofs.ListElements.{in_at}
-use Rattle.forwarding_laws.specs.Rollout.{AreCutOff, DropsNothing, IsConnected, IsStuckCutOff, NoneIsStuck, NothingFails}
+use Rattle.steps.specs.Exports.{HasSwitch}
+use Rattle.control_laws.specs.Exports.{AreEvents}
+use Rattle.control_laws.proofs.Exports.{Behind, Both, have_both, have_weaker}
+use Rattle.packet_laws.specs.Exports.{AllKept, FindsNoRoute, IsBlockedOn, IsExiting, TakesLeg, stage_of, what_is_known}
+use Rattle.packet_laws.proofs.Exports.{IsHere, IsWayItem, Knows, Past, decision_out, exiting_of, here_known, kept_before, known_before, knows, leg_in, port_named, reached, version_planned}
+use Rattle.convergence_laws.proofs.Exports.{in_at}
+use Rattle.forwarding_laws.specs.Exports.{AreCutOff, DropsNothing, IsConnected, IsStuckCutOff, NoneIsStuck, NothingFails}
 use Rattle.forwarding_laws.proofs.StandingItems.{stands_in}
 
 -- there are some, and all are switches of the network

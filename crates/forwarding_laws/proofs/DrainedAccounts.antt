@@ -1,29 +1,14 @@
 -- Behind a drain no packet travels, so each that entered has ended.
-use Rattle.std.proofs.Common.{ℕ, ◌≡◌, ◌⊎◌, ◌==◌, Bool, true, false, if◌then◌else◌, Option, Some, None, option_map, List, [], ◌∷◌, ◌++◌, refl, ap, sym, subst, ◌∙◌, inl, inr}
-use Rattle.std.specs.Prelude.{unwrap_or}
-use Rattle.std.specs.Option.{option_or}
-use Rattle.std.proofs.lemmas.Bool.{eq-eqb, eqb-true}
-use Rattle.five_tuple.specs.declared.header.Header.{Header}
-use Rattle.journal.specs.declared.item.Item.{Item}
+use Rattle.std.proofs.Common.{[], if◌then◌else◌, ◌++◌, ◌==◌, ◌∙◌, ◌∷◌, ◌≡◌, ◌⊎◌, Bool, List, None, Option, Some, ap, eq-eqb, eqb-true, false, inl, inr, option_map, refl, subst, sym, true, unwrap_or, ℕ}
+use Rattle.base.proofs.Exports.{option_or}
+use Rattle.update_machine.specs.Exports.{Answers, AreNumbered, BeginsAnswer, Drain, Event, HasCause, HaveCauses, Header, Hop, IsSetting, Item, LeavesRightly, Lose, Setting, gives_travelling, last_given, next_hop, next_travelling, packet_number, packets_in, present_step, travels}
 use Rattle.journal.specs.declared.item.Item.TheVariants as item
-use Rattle.steps.specs.declared.step.Event.{Event}
-use Rattle.steps.specs.declared.step.Event.TheVariants.{Drain}
-use Rattle.steps.specs.declared.step.Step.TheVariants.{Hop, Lose}
-use Rattle.update_machine.specs.Answers.{Answers, BeginsAnswer, next_hop}
-use Rattle.update_machine.specs.Causes.{HasCause, HaveCauses, LeavesRightly, present_step}
-use Rattle.update_machine.specs.Folds.{last_given}
-use Rattle.update_machine.specs.Numbers.{AreNumbered, packet_number}
-use Rattle.update_machine.specs.Setting.{IsSetting, Setting}
-use Rattle.update_machine.specs.Travels.{gives_travelling, next_travelling, packets_in, travels}
-use Rattle.update_machine.proofs.CallerLemmas.{answers_so_far, begins_itself}
-use Rattle.control_laws.specs.Always.{AreEvents, HoldsReached}
-use Rattle.control_laws.proofs.ItemFacts.{Both, have_both}
-use Rattle.packet_laws.specs.PacketCauses.{IsDroppedHere, PacketCause}
-use Rattle.convergence_laws.proofs.FinishedNetwork.{none_found}
-use Rattle.convergence_laws.proofs.FlushedSchedules.{last_ends}
-use Rattle.convergence_laws.proofs.ListElements.{IsIn, in_at, in_flat_map, in_right}
-use Rattle.convergence_laws.proofs.NewsLaws.{contains_in}
-use Rattle.forwarding_laws.specs.Rollout.{AllAccounted, AllAccountedOrCutOff, DropsNothing, EndsOrIsCutOff, EndsRightly, HasItem, IsConnected, IsDroppedRightly, IsStuckCutOff, NoneIsStuck, NothingFails}
+use Rattle.update_machine.proofs.Exports.{answers_so_far, begins_itself}
+use Rattle.control_laws.specs.Exports.{AreEvents, HoldsReached}
+use Rattle.control_laws.proofs.Exports.{Both, have_both}
+use Rattle.packet_laws.specs.Exports.{IsDroppedHere, PacketCause}
+use Rattle.convergence_laws.proofs.Exports.{IsIn, contains_in, in_at, in_flat_map, in_right, last_ends, none_found}
+use Rattle.forwarding_laws.specs.Exports.{AllAccounted, AllAccountedOrCutOff, DropsNothing, EndsOrIsCutOff, EndsRightly, HasItem, IsConnected, IsDroppedRightly, IsStuckCutOff, NoneIsStuck, NothingFails}
 use Rattle.forwarding_laws.proofs.StandingItems.{stands_in}
 
 -- ---- what items tell last

@@ -1,35 +1,17 @@
 -- In a journal of rows that crash no switch and fail no link nothing fails, and a packet is stuck
 -- only where the network's links lead to no target.
-use Rattle.std.proofs.Common.{ℕ, ◌≡◌, ◌≢◌, ◌<◌, ◌⊎◌, ◌==◌, ◌&&◌, ◌||◌, Bool, true, false, not, if◌then◌else◌, Option, Some, None, List, [], ◌∷◌, ◌++◌, length, refl, ap, sym, subst, ◌∙◌, arith, inl, inr}
-use Rattle.std.specs.Prelude.{⊤, IsTrue, IsFalse, get_or}
-use Rattle.std.specs.List.{list_any}
-use Rattle.std.specs.Option.{option_map_or}
-use Rattle.std.proofs.lemmas.Bool.{cases_eq, eq-eqb, ne_eqb}
-use Rattle.std.proofs.lemmas.List.Folds.{list_any-append}
-use Rattle.net_file.specs.Joins.{are_linked}
-use Rattle.net_file.specs.Net.{IsNet}
+use Rattle.std.proofs.Common.{[], if◌then◌else◌, ◌&&◌, ◌++◌, ◌<◌, ◌==◌, ◌||◌, ◌∙◌, ◌∷◌, ◌≡◌, ◌≢◌, ◌⊎◌, Bool, IsFalse, IsTrue, List, None, Option, Some, ap, arith, eq-eqb, false, get_or, inl, inr, length, ne_eqb, not, refl, subst, sym, true, ℕ}
+use Rattle.base.proofs.Exports.{cases_eq, list_any, list_any-append, option_map_or, ⊤}
+use Rattle.net_file.specs.Exports.{IsNet, are_linked}
 use Rattle.net_file.proofs.RowPlaces.{links}
-use Rattle.journal.specs.declared.item.Item.{Item}
+use Rattle.update_machine.specs.Exports.{BeginsAnswer, Claim, Crash, Event, HasCause, HaveCauses, IsSetting, IsStuckRightly, Item, Leads, LinkDown, One, Setting, Step, StepOfRow, after_steps, can_use, claim_of, finds_down, gives_step, is_end, is_open, is_up, piece, present_step}
 use Rattle.journal.specs.declared.item.Item.TheVariants as item
-use Rattle.steps.specs.declared.step.Event.{Event}
-use Rattle.steps.specs.declared.step.Event.TheVariants.{One}
-use Rattle.steps.specs.declared.step.Step.{Step}
-use Rattle.steps.specs.declared.step.Step.TheVariants.{Crash, LinkDown}
-use Rattle.update_machine.specs.Answers.{BeginsAnswer, StepOfRow, after_steps}
-use Rattle.update_machine.specs.Boots.{is_up}
-use Rattle.update_machine.specs.Causes.{HasCause, HaveCauses, IsStuckRightly, Leads, finds_down, gives_step, is_open, present_step}
-use Rattle.update_machine.specs.Links.{Claim, can_use, claim_of, is_end}
-use Rattle.update_machine.specs.Pieces.{piece}
-use Rattle.update_machine.specs.Setting.{IsSetting, Setting}
-use Rattle.update_machine.proofs.CallerLemmas.{AreOf, HasNexts, IsEventOf, first_steps_are, have_append, have_take, last_given_append, start_laws}
-use Rattle.control_laws.specs.Always.{AreEvents, HoldsReached}
-use Rattle.control_laws.proofs.BothCauses.{HasBothCauses, behind_both}
-use Rattle.control_laws.proofs.ItemFacts.{AreKept, Behind, Both, have_both, have_weaker, piece_has, with_fact}
-use Rattle.control_laws.proofs.FactsGrown.{up_more}
-use Rattle.packet_laws.proofs.SparedPackets.{IsNoRow}
-use Rattle.packet_laws.proofs.RestingPackets.{no_rows}
-use Rattle.packet_laws.specs.PacketCauses.{PacketCause}
-use Rattle.forwarding_laws.specs.Rollout.{DropsNothing, FailsNothing, NothingFails, fails}
+use Rattle.update_machine.proofs.Exports.{AreOf, HasNexts, IsEventOf, first_steps_are, have_append, have_take, last_given_append, start_laws}
+use Rattle.control_laws.specs.Exports.{AreEvents, HoldsReached}
+use Rattle.control_laws.proofs.Exports.{AreKept, Behind, Both, HasBothCauses, behind_both, have_both, have_weaker, piece_has, up_more, with_fact}
+use Rattle.packet_laws.proofs.Exports.{IsNoRow, no_rows}
+use Rattle.packet_laws.specs.Exports.{PacketCause}
+use Rattle.forwarding_laws.specs.Exports.{DropsNothing, FailsNothing, NothingFails, fails}
 use Rattle.forwarding_laws.proofs.ConnectedTargets.{IsKeptItem, are_kept_items, stuck_among}
 use Rattle.forwarding_laws.proofs.WholeClaims.{ClaimsAll, are_claimed}
 use Rattle.forwarding_laws.proofs.UnfailingItems.{IsUnfailing, all_up, all_usable}

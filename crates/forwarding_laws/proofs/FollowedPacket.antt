@@ -1,51 +1,20 @@
 -- A packet that entered behind a quiet journal, followed item by item as long as packets alone
 -- move.
-use Rattle.std.proofs.Common.{ℕ, ◌≡◌, ◌<◌, ◌==◌, ◌∙◌, if◌then◌else◌, Bool, true, false, Some, None, List, [], ◌∷◌, ◌++◌, All, refl, ap, sym, subst, arith, inl, inr, ◌⊎◌}
-use Rattle.std.specs.Prelude.{IsFalse, IsTrue, find, option_map, unwrap_or}
-use Rattle.std.specs.Option.{option_or}
-use Rattle.std.proofs.lemmas.Bool.{eq-eqb, eqb-true, ne_eqb}
-use Rattle.std.proofs.lemmas.List.Elements.{Contains-append_left, Contains-push}
-use Rattle.base.specs.Masks.{has}
-use Rattle.base.proofs.OptionsMade.{some_same}
-use Rattle.five_tuple.specs.declared.header.Header.{Header}
-use Rattle.net_file.specs.Net.{IsNet}
-use Rattle.policy_rules.specs.Hosted.{Hosted, is_in}
-use Rattle.policy_rules.specs.declared.packet.Cause.{Cause}
-use Rattle.policy_rules.specs.declared.packet.Leaving.{Leaving}
-use Rattle.policy_rules.specs.declared.packet.Leg.{Leg}
-use Rattle.policy_rules.specs.declared.packet.Leg.TheVariants.{Seek, Exit}
-use Rattle.policy_rules.specs.declared.policy.Action.{Action}
+use Rattle.std.proofs.Common.{[], if◌then◌else◌, ◌++◌, ◌<◌, ◌==◌, ◌∙◌, ◌∷◌, ◌≡◌, ◌⊎◌, All, Bool, IsFalse, IsTrue, List, None, Some, ap, arith, eq-eqb, eqb-true, false, find, inl, inr, ne_eqb, option_map, refl, subst, sym, true, unwrap_or, ℕ}
+use Rattle.base.proofs.Exports.{Contains-append_left, Contains-push, option_or, some_same}
+use Rattle.base.specs.Exports.{has}
+use Rattle.update_machine.specs.Exports.{Action, Cause, Crash, Decision, Exit, Header, IsSetting, Item, Leaving, Leg, Lose, Seek, Setting, Step, decision_of, gives_decision, gives_header, gives_standing, gives_step, gives_travelling, header_in, last_given, next_packet, plan_at, present_step, retired_mark, route_from, standing, targets_of, travels, version_count}
+use Rattle.net_file.specs.Exports.{IsNet}
+use Rattle.policy_rules.specs.Exports.{Hosted, is_in}
 use Rattle.policy_rules.specs.declared.policy.Action.TheVariants as action
-use Rattle.journal.specs.declared.item.Item.{Item}
 use Rattle.journal.specs.declared.item.Item.TheVariants as item
-use Rattle.steps.specs.Steps.{HasSwitch}
-use Rattle.steps.specs.declared.step.Step.{Step}
-use Rattle.steps.specs.declared.step.Step.TheVariants.{Crash, Lose}
-use Rattle.update_machine.specs.Adverts.{route_from}
-use Rattle.update_machine.specs.Causes.{gives_step, present_step}
-use Rattle.update_machine.specs.Marks.{retired_mark}
-use Rattle.update_machine.specs.Packets.{Decision, decision_of, gives_decision, gives_header, gives_standing, header_in, next_packet, standing}
-use Rattle.update_machine.specs.Setting.{IsSetting, Setting}
-use Rattle.update_machine.specs.Travels.{gives_travelling, travels}
-use Rattle.update_machine.specs.Versions.{plan_at, version_count}
-use Rattle.update_machine.specs.PacketRoutes.{targets_of}
-use Rattle.update_machine.specs.Folds.{last_given}
-use Rattle.update_machine.proofs.CallerLemmas.{folded_append, last_given_append}
-use Rattle.convergence_laws.proofs.CallerLemmas.{AreKept, Behind, Both, StaysSo, moves, reach_more, stays_on}
-use Rattle.convergence_laws.specs.Converged.{AreUnusable, HasConverged, Reaches}
-use Rattle.convergence_laws.specs.Updated.{IsUpdated}
-use Rattle.packet_laws.specs.Facts.{changes_mark, entry_mark}
-use Rattle.packet_laws.specs.KeptFacts.{AllKept}
-use Rattle.packet_laws.specs.StrongCauses.{FurtherCause, SeeksRightly, StrongCause}
-use Rattle.packet_laws.specs.PacketCauses.{PacketCause}
-use Rattle.packet_laws.proofs.AllKept.{Before, known_before, knows}
-use Rattle.packet_laws.proofs.PacketEnds.{stands_known}
-use Rattle.packet_laws.proofs.PacketsHere.{IsHere}
-use Rattle.packet_laws.proofs.KeptFacts.{here_known}
-use Rattle.packet_laws.proofs.PacketBlocks.{standing_more, travels_more}
-use Rattle.packet_laws.proofs.RestingPackets.{IsWayItem, Past}
-use Rattle.packet_laws.proofs.ServedPackets.{packet_more}
-use Rattle.forwarding_laws.specs.Forwards.{EndsBy, FindsNoTarget, IsStuckApart}
+use Rattle.steps.specs.Exports.{HasSwitch}
+use Rattle.update_machine.proofs.Exports.{folded_append, last_given_append}
+use Rattle.convergence_laws.proofs.Exports.{AreKept, Behind, Both, StaysSo, moves, reach_more, stays_on}
+use Rattle.convergence_laws.specs.Exports.{AreUnusable, HasConverged, IsUpdated, Reaches}
+use Rattle.packet_laws.specs.Exports.{AllKept, FurtherCause, PacketCause, SeeksRightly, StrongCause, changes_mark, entry_mark}
+use Rattle.packet_laws.proofs.Exports.{Before, IsHere, IsWayItem, Past, here_known, known_before, knows, packet_more, standing_more, stands_known, travels_more}
+use Rattle.forwarding_laws.specs.Exports.{EndsBy, FindsNoTarget, IsStuckApart}
 use Rattle.forwarding_laws.proofs.PassingSteps.{MarksStay, Passes, marks_stay, passes_walks}
 use Rattle.forwarding_laws.proofs.UsableWalks.{apart_from}
 

@@ -1,54 +1,19 @@
 -- A packet that enters behind a quiet journal is followed over its step and the hops of a drain,
 -- and has ended then.
-use Rattle.std.proofs.Common.{ℕ, ◌≡◌, ◌+◌, ◌-◌, ◌<◌, ◌≤◌, ◌==◌, ◌∙◌, true, false, Option, Some, None, List, [], ◌∷◌, ◌++◌, Contains, length, refl, ap, sym, subst, append_assoc, arith, inl, inr, ◌⊎◌}
-use Rattle.std.specs.Prelude.{IsTrue, find, option_map}
-use Rattle.std.specs.List.{range_with_len}
-use Rattle.std.specs.Option.{option_or}
-use Rattle.std.proofs.lemmas.Bool.{eq-eqb}
-use Rattle.std.proofs.lemmas.List.Elements.{All-contains}
-use Rattle.std.proofs.lemmas.List.FromFn.{get_or-range_with_len, length-range_with_len}
-use Rattle.base.proofs.ListsFound.{find_none}
-use Rattle.five_tuple.specs.Header.{IsHeader}
-use Rattle.five_tuple.specs.declared.header.Header.{Header}
-use Rattle.policy_rules.specs.Policy.{IsFirstMatch}
-use Rattle.policy_rules.specs.Scan.{scan}
-use Rattle.policy_rules.specs.declared.policy.Row.{Row}
+use Rattle.std.proofs.Common.{[], ◌++◌, ◌+◌, ◌-◌, ◌<◌, ◌==◌, ◌∙◌, ◌∷◌, ◌≡◌, ◌≤◌, ◌⊎◌, Contains, IsTrue, List, None, Option, Some, ap, append_assoc, arith, eq-eqb, false, find, inl, inr, length, option_map, refl, subst, sym, true, ℕ}
+use Rattle.base.proofs.Exports.{All-contains, find_none, get_or-range_with_len, length-range_with_len, option_or, range_with_len}
+use Rattle.five_tuple.specs.Exports.{IsHeader}
+use Rattle.update_machine.specs.Exports.{AreAll, Decision, HaveCauses, Header, Hop, IsSetting, Item, Packet, Row, Setting, Step, StepOfRow, after_steps, count_of, decision_of, gives_header, header_in, is_packet, is_up, items_then, last_given, lookup_items, next_hop, next_packet, next_travelling, packet_items, packets_in, piece, policy_at, serves, switches_of, travels, version_count}
+use Rattle.policy_rules.specs.Exports.{IsFirstMatch, scan}
 use Rattle.policy_rules.proofs.CallerLemmas.{first_match-scan}
-use Rattle.journal.specs.declared.item.Item.{Item}
 use Rattle.journal.specs.declared.item.Item.TheVariants as item
-use Rattle.steps.specs.Steps.{HasSwitch}
-use Rattle.steps.specs.declared.step.Step.{Step}
-use Rattle.steps.specs.declared.step.Step.TheVariants.{Hop, Packet}
-use Rattle.update_machine.specs.Answers.{AreAll, StepOfRow, after_steps, next_hop}
-use Rattle.update_machine.specs.Boots.{is_up}
-use Rattle.update_machine.specs.Causes.{HaveCauses}
-use Rattle.update_machine.specs.Folds.{count_of, last_given}
-use Rattle.update_machine.specs.Links.{serves}
-use Rattle.update_machine.specs.Moves.{items_then, lookup_items}
-use Rattle.update_machine.specs.Packets.{Decision, decision_of, gives_header, header_in, is_packet, next_packet}
-use Rattle.update_machine.specs.Pieces.{packet_items, piece}
-use Rattle.update_machine.specs.Setting.{IsSetting, Setting}
-use Rattle.update_machine.specs.SwitchNumbers.{switches_of}
-use Rattle.update_machine.specs.Travels.{next_travelling, packets_in, travels}
-use Rattle.update_machine.specs.Versions.{policy_at, version_count}
-use Rattle.update_machine.proofs.CallerLemmas.{count_of_append, last_given_append, switch_keeps}
-use Rattle.convergence_laws.proofs.CallerLemmas.{Behind, Both, NamesOwn, fact_on, have_both, have_rest, moves, stays_itself, stays_on}
-use Rattle.convergence_laws.specs.Converged.{HasConverged}
-use Rattle.convergence_laws.specs.Updated.{IsUpdated}
-use Rattle.packet_laws.specs.Amended.{hit_in}
-use Rattle.packet_laws.specs.Facts.{what_is_known}
-use Rattle.packet_laws.specs.KeptFacts.{AllKept}
-use Rattle.packet_laws.specs.OnWay.{IsUnknown}
-use Rattle.packet_laws.specs.StrongCauses.{StrongCause}
-use Rattle.packet_laws.proofs.AllKept.{all_kept, kept_before}
-use Rattle.packet_laws.proofs.AmendedPolicies.{IsRightly, all_right}
-use Rattle.packet_laws.proofs.PacketEnds.{decision_out}
-use Rattle.packet_laws.proofs.PacketsHere.{found_in}
-use Rattle.packet_laws.proofs.PacketBlocks.{standing_more, travels_more}
-use Rattle.packet_laws.proofs.RestingPackets.{IsSettled, IsWayItem, Past, numbered, piece_settled, ways_of_all}
-use Rattle.packet_laws.proofs.ServedPackets.{packet_more}
-use Rattle.packet_laws.proofs.StronglyCaused.{strongly_caused}
-use Rattle.forwarding_laws.specs.Forwards.{FindsNoTarget, IsForwarded, QuietForwards}
+use Rattle.steps.specs.Exports.{HasSwitch}
+use Rattle.update_machine.proofs.Exports.{count_of_append, last_given_append, switch_keeps}
+use Rattle.convergence_laws.proofs.Exports.{Behind, Both, NamesOwn, fact_on, have_both, have_rest, moves, stays_itself, stays_on}
+use Rattle.convergence_laws.specs.Exports.{HasConverged, IsUpdated}
+use Rattle.packet_laws.specs.Exports.{AllKept, IsUnknown, StrongCause, hit_in, what_is_known}
+use Rattle.packet_laws.proofs.Exports.{IsRightly, IsSettled, IsWayItem, Past, all_kept, all_right, decision_out, found_in, kept_before, numbered, packet_more, piece_settled, standing_more, strongly_caused, travels_more, ways_of_all}
+use Rattle.forwarding_laws.specs.Exports.{FindsNoTarget, IsForwarded, QuietForwards}
 use Rattle.forwarding_laws.proofs.FollowedPacket.{Fate, Follows, IsEnded, IsFollowed, follows_on, mark_more, step_more, undecided_by}
 use Rattle.forwarding_laws.proofs.PassingSteps.{MarksStay, Passes, hop_passes, marks_stay, packet_passes}
 

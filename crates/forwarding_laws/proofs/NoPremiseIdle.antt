@@ -1,39 +1,16 @@
 -- No premise of recovery and of rollouts is idle: schedules of two switches that lack one,
 -- computed; and three that recover, though their networks aren't quiet.
-use Rattle.std.proofs.Common.{ℕ, ◌≡◌, ◌+◌, ◌∙◌, ◌⊎◌, inl, inr, Some, None, List, [], ◌∷◌, ◌++◌, zero, suc, true, false, Bool, take, drop, Contains, Option, option_map, map, refl, ap, sym, true≢false, append-nil, arith}
-use Rattle.std.specs.Prelude.{◌&&◌, ◌||◌, ◌==◌, IsTrue, Ok, codes, not}
-use Rattle.std.proofs.lemmas.Bool.{and_parts}
-use Rattle.failover.specs.Links.{no_links, with_link}
-use Rattle.policy_rules.specs.declared.packet.Cause.TheVariants.{NoAuthority}
-use Rattle.policy_rules.specs.declared.packet.Leg.TheVariants.{Seek}
-use Rattle.ctrl_msg.specs.declared.message.Body.{Body}
-use Rattle.ctrl_msg.specs.declared.message.Body.TheVariants.{Advertise, Installed}
-use Rattle.ctrl_msg.specs.declared.message.Message.{Message}
-use Rattle.ctrl_msg.specs.declared.message.Place.{Place}
+use Rattle.std.proofs.Common.{[], ◌&&◌, ◌++◌, ◌+◌, ◌==◌, ◌||◌, ◌∙◌, ◌∷◌, ◌≡◌, ◌⊎◌, Bool, Contains, IsTrue, List, None, Ok, Option, Some, ap, append-nil, arith, codes, drop, false, inl, inr, map, not, option_map, refl, suc, sym, take, true, true≢false, zero, ℕ}
+use Rattle.base.proofs.Exports.{All-cons, All-from_recursion, All-nil, and_parts}
+use Rattle.failover.specs.Exports.{no_links, with_link}
+use Rattle.update_machine.specs.Exports.{Advertise, Answers, AreAll, AreReceived, AreSteps, Body, Confirm, Crash, Deliver, Event, Flush, Forget, HaveCauses, Hop, Installed, IsQuiet, IsReceived, IsReplaced, Item, LinkDown, LinkUp, Lose, Message, NoAuthority, One, Packet, Place, Replaces, Resend, Restart, Seek, Setting, Step, StepOfRow, Update, after_steps, is_later_body, is_up, is_waited_for, next_delivery, next_waiting, piece, was_delivered}
 use Rattle.ctrl_msg.specs.declared.message.Place.TheVariants as receiver
-use Rattle.journal.specs.declared.item.Item.{Item}
 use Rattle.journal.specs.declared.item.Item.TheVariants as item
-use Rattle.std.proofs.lemmas.List.Elements.{All-cons, All-from_recursion, All-nil}
-use Rattle.steps.specs.Steps.{HasSwitch}
-use Rattle.steps.specs.declared.step.Event.{Event}
-use Rattle.steps.specs.declared.step.Event.TheVariants.{Flush, One}
-use Rattle.steps.specs.declared.step.Step.{Step}
-use Rattle.steps.specs.declared.step.Step.TheVariants.{Confirm, Crash, Deliver, Forget, Hop, LinkDown, LinkUp, Lose, Packet, Resend, Restart, Update}
-use Rattle.update_machine.specs.Answers.{Answers, AreAll, AreSteps, StepOfRow, after_steps, next_delivery}
-use Rattle.update_machine.specs.Boots.{is_up}
-use Rattle.update_machine.specs.Causes.{HaveCauses}
-use Rattle.update_machine.specs.Messages.{next_waiting}
-use Rattle.update_machine.specs.Pieces.{piece}
-use Rattle.update_machine.specs.Quiet.{AreReceived, IsQuiet, IsReceived, IsReplaced, Replaces, is_later_body, is_waited_for}
-use Rattle.update_machine.specs.Setting.{Setting}
-use Rattle.update_machine.specs.Messages.{was_delivered}
-use Rattle.update_machine.proofs.ExampleNetworks.{advert, at, by_action, network, one, open_net, out_or_drop, plan_p, plan_q, switch, to, to_controller}
-use Rattle.convergence_laws.specs.Updated.{IsUpdated}
-use Rattle.forwarding_laws.specs.NothingOld.{HoldNewestAlone}
-use Rattle.forwarding_laws.specs.Recovery.{AskEach, EndsInRecovery}
-use Rattle.forwarding_laws.specs.Rollout.{AllAccounted, DropsNothing, EndsRightly, FailsNothing, HasItem, NoneIsStuck, NothingFails}
+use Rattle.steps.specs.Exports.{HasSwitch}
+use Rattle.update_machine.proofs.Exports.{advert, at, by_action, left_by, network, one, open_net, out_or_drop, plan_p, plan_q, switch, to, to_controller}
+use Rattle.convergence_laws.specs.Exports.{IsUpdated}
+use Rattle.forwarding_laws.specs.Exports.{AllAccounted, AskEach, DropsNothing, EndsInRecovery, EndsRightly, FailsNothing, HasItem, HoldNewestAlone, NoneIsStuck, NothingFails}
 use Rattle.forwarding_laws.proofs.RecoveredNetworks.{recovered_updated}
-use Rattle.update_machine.proofs.ComputedSteps.{left_by}
 
 -- ---- schedules of single steps, and such that end in a flush
 

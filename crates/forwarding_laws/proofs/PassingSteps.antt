@@ -1,21 +1,11 @@
 -- What the steps of packets write once a packet entered: no switch, link, policy or mark changes.
-use Rattle.std.proofs.Common.{ℕ, ◌≡◌, List, [], ◌∷◌, refl, ◌∙◌, rules}
-use Rattle.std.specs.Prelude.{⊤, IsFalse, IsTrue}
-use Rattle.five_tuple.specs.declared.header.Header.{Header}
-use Rattle.journal.specs.declared.item.Item.{Item}
+use Rattle.std.proofs.Common.{[], ◌∙◌, ◌∷◌, ◌≡◌, IsFalse, IsTrue, List, refl, rules, ℕ}
+use Rattle.base.proofs.Exports.{⊤}
+use Rattle.update_machine.specs.Exports.{HaveCauses, Header, Hop, Item, Packet, Setting, concerns_controller, concerns_policies, current_mark, is_opening, next_packet, piece, plan_at, policy_at, retired_mark, version_count}
 use Rattle.journal.specs.declared.item.Item.TheVariants as item
-use Rattle.steps.specs.declared.step.Step.TheVariants.{Hop, Packet}
-use Rattle.update_machine.specs.Causes.{HaveCauses}
-use Rattle.update_machine.specs.Concerns.{concerns_controller, concerns_policies, is_opening}
-use Rattle.update_machine.specs.Marks.{current_mark, retired_mark}
-use Rattle.update_machine.specs.Packets.{next_packet}
-use Rattle.update_machine.specs.Pieces.{piece}
-use Rattle.update_machine.specs.Setting.{Setting}
-use Rattle.update_machine.specs.Versions.{plan_at, policy_at, version_count}
-use Rattle.update_machine.proofs.CallerLemmas.{controller_keeps, policies_keep}
-use Rattle.convergence_laws.proofs.CallerLemmas.{AreKept, Both, IsWork, Walks, have_both, have_weaker, hop_work, moves, packet_works, piece_has, rule_cases}
-use Rattle.packet_laws.proofs.SparedPackets.{IsNoRow}
-use Rattle.packet_laws.proofs.RestingPackets.{no_rows}
+use Rattle.update_machine.proofs.Exports.{controller_keeps, policies_keep}
+use Rattle.convergence_laws.proofs.Exports.{AreKept, Both, IsWork, Walks, have_both, have_weaker, hop_work, moves, packet_works, piece_has, rule_cases}
+use Rattle.packet_laws.proofs.Exports.{IsNoRow, no_rows}
 
 -- items of packets that enter and move
 abbrev pub Comes : Setting → List Item → Item → Type 0

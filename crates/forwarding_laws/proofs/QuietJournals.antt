@@ -1,17 +1,12 @@
 -- What holds of quiet journals between steps, by the laws that say it one by one.
-use Rattle.std.proofs.Common.{List, sym, subst, take}
-use Rattle.journal.specs.declared.item.Item.{Item}
-use Rattle.net_file.specs.Net.{IsNet}
-use Rattle.update_machine.specs.Quiet.{IsQuiet}
-use Rattle.update_machine.specs.Setting.{IsSetting, Setting}
-use Rattle.convergence_laws.specs.Converged.{HasConverged}
-use Rattle.convergence_laws.proofs.CallerLemmas.{HoldsAtEnds}
-use Rattle.convergence_laws.specs.Stuck.{GetStuckApart}
-use Rattle.convergence_laws.specs.Updated.{IsUpdated}
-use Rattle.packet_laws.specs.Between.{HoldsBetween, steps_played}
-use Rattle.packet_laws.proofs.ReachedJournals.{between}
-use Rattle.forwarding_laws.specs.Forwards.{QuietForwards}
-use Rattle.forwarding_laws.specs.ToRest.{HasComeToRest}
+use Rattle.std.proofs.Common.{List, subst, sym, take}
+use Rattle.update_machine.specs.Exports.{IsQuiet, IsSetting, Item, Setting}
+use Rattle.net_file.specs.Exports.{IsNet}
+use Rattle.convergence_laws.specs.Exports.{GetStuckApart, HasConverged, IsUpdated}
+use Rattle.convergence_laws.proofs.Exports.{HoldsAtEnds}
+use Rattle.packet_laws.specs.Exports.{HoldsBetween, steps_played}
+use Rattle.packet_laws.proofs.Exports.{between}
+use Rattle.forwarding_laws.specs.Exports.{HasComeToRest, QuietForwards}
 use Rattle.forwarding_laws.proofs.ForwardedPacket.{forwards}
 
 -- what holds where steps end holds between them

@@ -1,41 +1,16 @@
 -- Behind recovery neighbours agree: each switch was asked to send all that it holds, passed on what
 -- it learnt then, and all of that was delivered.
-use Rattle.std.proofs.Common.{ℕ, ◌≡◌, ◌≢◌, ◌≤◌, ◌<◌, ◌==◌, false, if◌then◌else◌, Some, None, List, [], ◌∷◌, ◌++◌, length, refl, ap, sym, subst, ◌∙◌, append-nil, append_assoc, arith, inl, inr}
-use Rattle.std.specs.Prelude.{IsTrue}
-use Rattle.std.proofs.lemmas.Bool.Decides.{nat_tests}
-use Rattle.ctrl_msg.specs.declared.message.Body.TheVariants.{Advertise}
-use Rattle.ctrl_msg.specs.declared.message.Message.{Message}
-use Rattle.failover.specs.declared.advert.Advert.{Advert}
-use Rattle.base.specs.Masks.{has}
-use Rattle.net_file.specs.Net.{IsNet}
-use Rattle.journal.specs.declared.item.Item.{Item}
+use Rattle.std.proofs.Common.{[], if◌then◌else◌, ◌++◌, ◌<◌, ◌==◌, ◌∙◌, ◌∷◌, ◌≡◌, ◌≢◌, ◌≤◌, IsTrue, List, None, Some, ap, append-nil, append_assoc, arith, false, inl, inr, length, refl, subst, sym, ℕ}
+use Rattle.base.proofs.Exports.{nat_tests}
+use Rattle.update_machine.specs.Exports.{Advert, Advertise, HaveCauses, Item, Message, Resend, Setting, StepOfRow, advert_to, after_steps, boot_of, heard, held_adverts, is_up, near, next_message, other_advert, own_advert, piece, resend_items, resent_by_controller, resent_by_switch, sends_or_nothing, switches_of}
+use Rattle.base.specs.Exports.{has}
+use Rattle.net_file.specs.Exports.{IsNet}
 use Rattle.journal.specs.declared.item.Item.TheVariants as item
-use Rattle.steps.specs.Steps.{HasSwitch}
-use Rattle.steps.specs.declared.step.Step.TheVariants.{Resend}
-use Rattle.update_machine.specs.Adverts.{held_adverts, own_advert}
-use Rattle.update_machine.specs.Answers.{StepOfRow, after_steps}
-use Rattle.update_machine.specs.Boots.{boot_of, heard, is_up}
-use Rattle.update_machine.specs.Causes.{HaveCauses}
-use Rattle.update_machine.specs.Deliveries.{advert_to}
-use Rattle.update_machine.specs.LinkMasks.{near, other_advert}
-use Rattle.update_machine.specs.Messages.{next_message}
-use Rattle.update_machine.specs.Pieces.{piece, resend_items, resent_by_switch, sends_or_nothing}
-use Rattle.update_machine.specs.Setting.{Setting}
-use Rattle.update_machine.specs.Settling.{resent_by_controller}
-use Rattle.update_machine.specs.SwitchNumbers.{switches_of}
-use Rattle.control_laws.proofs.NetLinks.{ends_serve}
-use Rattle.control_laws.proofs.OwnAdverts.{same_seq}
-use Rattle.control_laws.proofs.ReachedCauses.{behind_piece}
-use Rattle.control_laws.proofs.ResentBySwitches.{resends_any}
-use Rattle.convergence_laws.specs.News.{IsAsNew, NeighboursAgree}
-use Rattle.convergence_laws.proofs.AgreeingNeighbours.{AreSpread, IsGivenNew, TellsOwn, spread_agree}
-use Rattle.convergence_laws.proofs.ChangedLinksTold.{ends_there, held_in, newest_held, own_held}
-use Rattle.convergence_laws.proofs.GivenAdverts.{HasNews, IsHad, IsStill, IsToldTo, Leaves, as_new_itself, had_back, sends_tell, stills_leave, told_stills}
-use Rattle.convergence_laws.proofs.ListElements.{IsIn, in_filter, in_filter_map, in_left, in_range}
-use Rattle.convergence_laws.proofs.AdvertNews.{Spread}
-use Rattle.convergence_laws.proofs.ReceivedMessages.{heard_in_boot}
-use Rattle.convergence_laws.proofs.MessageCourses.{next_grows}
-use Rattle.update_machine.proofs.CallerLemmas.{have_append}
+use Rattle.steps.specs.Exports.{HasSwitch}
+use Rattle.control_laws.proofs.Exports.{behind_piece, ends_serve, resends_any, same_seq}
+use Rattle.convergence_laws.specs.Exports.{IsAsNew, NeighboursAgree}
+use Rattle.convergence_laws.proofs.Exports.{AreSpread, HasNews, IsGivenNew, IsHad, IsIn, IsStill, IsToldTo, Leaves, Spread, TellsOwn, as_new_itself, ends_there, had_back, heard_in_boot, held_in, in_filter, in_filter_map, in_left, in_range, newest_held, next_grows, own_held, sends_tell, spread_agree, stills_leave, told_stills}
+use Rattle.update_machine.proofs.Exports.{have_append}
 use Rattle.forwarding_laws.proofs.ResentMessages.{advert_resent, resent}
 use Rattle.forwarding_laws.proofs.RecoveryRows.{AreEach, IsAmong}
 use Rattle.forwarding_laws.proofs.SentSince.{IsFlushed, since_delivered}

@@ -1,42 +1,13 @@
 -- Behind recovery the controller knows of each switch that is up what it needs.
-use Rattle.std.proofs.Common.{ℕ, ◌≡◌, ◌≤◌, ◌<◌, ◌⊎◌, Bool, true, false, Some, None, List, [], length, refl, ap, sym, subst, ◌∙◌, arith, inl, inr}
-use Rattle.std.specs.Prelude.{All, IfSome, IsTrue, IsFalse}
-use Rattle.std.proofs.lemmas.Bool.{cases_lt, eq-eqb}
-use Rattle.ctrl_msg.specs.Bodies.{body_boot}
-use Rattle.ctrl_msg.specs.declared.message.Body.{Body}
-use Rattle.ctrl_msg.specs.declared.message.Body.TheVariants.{Hello, Install, Installed, OpenAt, Stamp, Stamped}
-use Rattle.ctrl_msg.specs.declared.message.Message.{Message}
-use Rattle.ctrl_msg.specs.Kinds.{to_controller}
-use Rattle.journal.specs.declared.item.Item.{Item}
-use Rattle.switch_table.specs.declared.tables.Tables.{Tables}
-use Rattle.ternary.specs.Word.{WordValue}
-use Rattle.update_machine.specs.Boots.{boot_of, is_for_boot, is_up}
-use Rattle.update_machine.specs.Causes.{HaveCauses}
-use Rattle.update_machine.specs.Links.{message_of, serves}
-use Rattle.update_machine.specs.Marks.{acked_stamp, controller_heard, current_mark, has_acked, is_member, is_over, known_boot, open_version, opened_at}
-use Rattle.update_machine.specs.Messages.{next_message, was_delivered}
-use Rattle.update_machine.specs.Setting.{Setting}
-use Rattle.update_machine.specs.Pieces.{resent_by_switch}
-use Rattle.update_machine.specs.Settling.{resent_by_controller, to_switch}
-use Rattle.update_machine.specs.SwitchNumbers.{switches_of}
-use Rattle.update_machine.specs.Touched.{touched_by}
-use Rattle.update_machine.specs.Versions.{tables_at, version_count}
-use Rattle.update_machine.proofs.CallerLemmas.{start_laws}
-use Rattle.control_laws.specs.ItemCauses.{HasItemCause, IsRightStamp}
-use Rattle.control_laws.specs.Touched.{stamp_to}
-use Rattle.control_laws.proofs.BootsKnown.{by_number}
-use Rattle.control_laws.proofs.ItemFacts.{AreKept, fact_on}
-use Rattle.control_laws.proofs.GreatestNumbers.{acked_stamp_opened}
-use Rattle.control_laws.proofs.FactsGrown.{opened_in, opened_is}
-use Rattle.control_laws.proofs.MarkLaws.{acknowledged, bounded}
-use Rattle.control_laws.proofs.SwitchOpenings.{OpeningsStand, member_of, opened_on, openings_at_first, openings_on}
-use Rattle.convergence_laws.proofs.CaughtUp.{AreReady, IsCaughtUp, items_caused}
-use Rattle.convergence_laws.proofs.DownSwitches.{caused_recorded}
-use Rattle.convergence_laws.proofs.InstalledTables.{TablesSent}
-use Rattle.convergence_laws.proofs.ListElements.{IsIn, each_in, in_left, in_right}
-use Rattle.convergence_laws.proofs.MessageCourses.{IsInOrder, IsTraced, caused_traced}
-use Rattle.convergence_laws.proofs.UpdatesEnd.{first_acked, hello_known, installed_acked, opened_stamps, some_opening, stamped_acked}
-use Rattle.update_machine.specs.Sendings.{sendings}
+use Rattle.std.proofs.Common.{[], ◌<◌, ◌∙◌, ◌≡◌, ◌≤◌, ◌⊎◌, All, Bool, IfSome, IsFalse, IsTrue, List, None, Some, ap, arith, eq-eqb, false, inl, inr, length, refl, subst, sym, true, ℕ}
+use Rattle.base.proofs.Exports.{cases_lt}
+use Rattle.ctrl_msg.specs.Exports.{body_boot, to_controller}
+use Rattle.update_machine.specs.Exports.{Body, HaveCauses, Hello, Install, Installed, Item, Message, OpenAt, Setting, Stamp, Stamped, Tables, acked_stamp, boot_of, controller_heard, current_mark, has_acked, is_for_boot, is_member, is_over, is_up, known_boot, message_of, next_message, open_version, opened_at, resent_by_controller, resent_by_switch, sendings, serves, switches_of, tables_at, to_switch, touched_by, version_count, was_delivered}
+use Rattle.ternary.specs.Exports.{WordValue}
+use Rattle.update_machine.proofs.Exports.{start_laws}
+use Rattle.control_laws.specs.Exports.{HasItemCause, IsRightStamp, stamp_to}
+use Rattle.control_laws.proofs.Exports.{AreKept, OpeningsStand, acked_stamp_opened, acknowledged, bounded, by_number, fact_on, member_of, opened_in, opened_is, opened_on, openings_at_first, openings_on}
+use Rattle.convergence_laws.proofs.Exports.{AreReady, IsCaughtUp, IsIn, IsInOrder, IsTraced, TablesSent, caused_recorded, caused_traced, each_in, first_acked, hello_known, in_left, in_right, installed_acked, items_caused, opened_stamps, some_opening, stamped_acked}
 use Rattle.forwarding_laws.proofs.CalmItems.{Calmly, Stays, acked_grows, calm_causes, stamp_grows, stays}
 use Rattle.forwarding_laws.proofs.RecoveryRows.{IsConfirmed, all_confirmed_on}
 use Rattle.forwarding_laws.proofs.AnsweredDeliveries.{IsAnsweredSince, IsDeliveredIn, delivered_answered}

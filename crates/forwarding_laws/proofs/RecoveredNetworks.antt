@@ -1,43 +1,16 @@
 -- Recovery, of each journal that answers a schedule that ends in it.
-use Rattle.std.proofs.Common.{ℕ, zero, suc, ◌≡◌, ◌≤◌, ◌⊎◌, Bool, true, false, Option, Some, None, option_map, List, [], ◌∷◌, ◌++◌, refl, sym, subst, ◌∙◌, arith, inl, inr}
-use Rattle.std.specs.Prelude.{IsTrue}
-use Rattle.ctrl_msg.specs.declared.message.Message.{Message}
-use Rattle.net_file.specs.Net.{IsNet}
-use Rattle.journal.specs.declared.item.Item.{Item}
+use Rattle.std.proofs.Common.{[], ◌++◌, ◌∙◌, ◌∷◌, ◌≡◌, ◌≤◌, ◌⊎◌, Bool, IsTrue, List, None, Option, Some, arith, false, inl, inr, option_map, refl, subst, suc, sym, true, zero, ℕ}
+use Rattle.update_machine.specs.Exports.{Answers, AreAll, Deliver, Event, Flush, HaveCauses, IsSetting, Item, Message, Resend, Setting, Step, StepOfRow, TakesNext, after_steps, is_forgotten, message_of, next_delivery, next_message, next_waiting, piece, was_delivered}
+use Rattle.net_file.specs.Exports.{IsNet}
 use Rattle.journal.specs.declared.item.Item.TheVariants as item
-use Rattle.steps.specs.Steps.{HasSwitch}
-use Rattle.steps.specs.declared.step.Event.{Event}
-use Rattle.steps.specs.declared.step.Event.TheVariants.{Flush}
-use Rattle.steps.specs.declared.step.Step.{Step}
-use Rattle.steps.specs.declared.step.Step.TheVariants.{Deliver, Resend}
-use Rattle.update_machine.specs.Answers.{Answers, AreAll, StepOfRow, after_steps, next_delivery}
-use Rattle.update_machine.specs.Causes.{HaveCauses}
-use Rattle.update_machine.specs.Links.{message_of}
-use Rattle.update_machine.specs.Messages.{is_forgotten, next_message, next_waiting, was_delivered}
-use Rattle.update_machine.specs.Pieces.{piece}
-use Rattle.update_machine.specs.Setting.{IsSetting, Setting}
-use Rattle.update_machine.specs.Numbers.{TakesNext}
-use Rattle.update_machine.proofs.CallerLemmas.{AreOf, after_append, start_laws}
-use Rattle.control_laws.specs.Always.{AreEvents, HoldsAtEnds}
-use Rattle.control_laws.proofs.BootsKnown.{by_number}
-use Rattle.control_laws.proofs.ItemFacts.{AreKept, fact_on, steps_have}
-use Rattle.convergence_laws.specs.Converged.{HasConverged}
-use Rattle.convergence_laws.specs.News.{NeighboursAgree}
-use Rattle.convergence_laws.specs.Stuck.{GetStuckApart}
-use Rattle.convergence_laws.specs.Updated.{IsUpdated}
-use Rattle.convergence_laws.proofs.AgreeingNeighbours.{AreSpread, TellsOwn}
-use Rattle.convergence_laws.proofs.CaughtUp.{AreReady, caught_updated}
-use Rattle.convergence_laws.proofs.FinishedNetwork.{sent_delivered}
-use Rattle.convergence_laws.proofs.AdvertFloods.{steps_spread}
-use Rattle.convergence_laws.proofs.FlushedSchedules.{all_end, flush_ends, none_waits}
-use Rattle.convergence_laws.proofs.AdvertNews.{Spread}
-use Rattle.convergence_laws.proofs.MessageCourses.{AreTraced, IsInOrder, caused_traced, next_first, next_grows, pieces_in_order}
-use Rattle.convergence_laws.proofs.NewsLaws.{ends_spread, ends_tell}
-use Rattle.convergence_laws.proofs.UpdatesEnd.{steps_ready}
-use Rattle.packet_laws.specs.Between.{HoldsBetween}
-use Rattle.forwarding_laws.specs.Forwards.{QuietForwards}
-use Rattle.forwarding_laws.specs.Recovered.{AllDelivered, HasRecovered}
-use Rattle.forwarding_laws.specs.Recovery.{EndsInRecovery}
+use Rattle.steps.specs.Exports.{HasSwitch}
+use Rattle.update_machine.proofs.Exports.{AreOf, after_append, start_laws}
+use Rattle.control_laws.specs.Exports.{AreEvents, HoldsAtEnds}
+use Rattle.control_laws.proofs.Exports.{AreKept, by_number, fact_on, steps_have}
+use Rattle.convergence_laws.specs.Exports.{GetStuckApart, HasConverged, IsUpdated, NeighboursAgree}
+use Rattle.convergence_laws.proofs.Exports.{AreReady, AreSpread, AreTraced, IsInOrder, Spread, TellsOwn, all_end, caught_updated, caused_traced, ends_spread, ends_tell, flush_ends, next_first, next_grows, none_waits, pieces_in_order, sent_delivered, steps_ready, steps_spread}
+use Rattle.packet_laws.specs.Exports.{HoldsBetween}
+use Rattle.forwarding_laws.specs.Exports.{AllDelivered, EndsInRecovery, HasRecovered, QuietForwards}
 use Rattle.forwarding_laws.proofs.RecoveredAdverts.{recovered_agree, resends_spread}
 use Rattle.forwarding_laws.proofs.CalmItems.{Calmly, IsCalmStep, calm_rest, calm_row, calm_steps, calm_through, stays}
 use Rattle.forwarding_laws.proofs.RecoveredControl.{IsAsked, IsRecovered, recovered_caught}

@@ -1,35 +1,15 @@
 -- The steps of a schedule that ends in recovery: those of its first rows and of its confirmations,
 -- behind which no switch is waited for that is down; resends of each switch; and deliveries of all
 -- that waits.
-use Rattle.std.proofs.Common.{ℕ, ◌≡◌, ◌+◌, ◌==◌, ◌||◌, Bool, true, false, List, [], ◌∷◌, ◌++◌, length, refl, ap, sym, subst, ◌∙◌, append-nil, append_assoc, arith, inl, inr, ◌⊎◌}
-use Rattle.std.specs.Prelude.{All, Contains, IsTrue, IsFalse, not}
-use Rattle.std.specs.List.{AllByRecursion}
-use Rattle.std.proofs.lemmas.Bool.{eq-eqb}
-use Rattle.std.proofs.lemmas.List.Elements.{All-from_recursion, recursion_from_All}
-use Rattle.journal.specs.declared.item.Item.{Item}
+use Rattle.std.proofs.Common.{[], ◌++◌, ◌+◌, ◌==◌, ◌||◌, ◌∙◌, ◌∷◌, ◌≡◌, ◌⊎◌, All, Bool, Contains, IsFalse, IsTrue, List, ap, append-nil, append_assoc, arith, eq-eqb, false, inl, inr, length, not, refl, subst, sym, true, ℕ}
+use Rattle.base.proofs.Exports.{All-from_recursion, AllByRecursion, recursion_from_All}
+use Rattle.update_machine.specs.Exports.{Answers, AreAll, AreSteps, Confirm, Event, Flush, Item, One, Resend, Setting, Step, StepOfRow, after_steps, confirm_items, gives_waited_for, is_up, is_waited_for, items_then, next_delivery, nothing, piece, settling, switches_of}
 use Rattle.journal.specs.declared.item.Item.TheVariants as item
-use Rattle.steps.specs.Steps.{HasSwitch}
-use Rattle.steps.specs.declared.step.Event.{Event}
-use Rattle.steps.specs.declared.step.Event.TheVariants.{One, Flush}
-use Rattle.steps.specs.declared.step.Step.{Step}
-use Rattle.steps.specs.declared.step.Step.TheVariants.{Confirm, Resend}
-use Rattle.update_machine.specs.Answers.{Answers, AreAll, AreSteps, StepOfRow, after_steps, next_delivery}
-use Rattle.update_machine.specs.Boots.{is_up}
-use Rattle.update_machine.specs.Moves.{items_then}
-use Rattle.update_machine.specs.Pieces.{confirm_items, nothing, piece}
-use Rattle.update_machine.specs.Quiet.{gives_waited_for, is_waited_for}
-use Rattle.update_machine.specs.Setting.{Setting}
-use Rattle.update_machine.specs.Settling.{settling}
-use Rattle.update_machine.specs.SwitchNumbers.{switches_of}
-use Rattle.update_machine.proofs.CallerLemmas.{AreOf, after_append}
-use Rattle.control_laws.proofs.ControllerCommands.{IsControl, settling_control}
-use Rattle.control_laws.proofs.ItemFacts.{fact_on, have_weaker}
-use Rattle.control_laws.proofs.FactsGrown.{last_more, up_more}
-use Rattle.control_laws.proofs.ReachedCauses.{behind_piece}
-use Rattle.control_laws.proofs.MessageSends.{each_range}
-use Rattle.control_laws.proofs.ToldToController.{each_weaker}
-use Rattle.convergence_laws.proofs.ListElements.{IsIn, in_at}
-use Rattle.forwarding_laws.specs.Recovery.{AskEach, EndsInRecovery}
+use Rattle.steps.specs.Exports.{HasSwitch}
+use Rattle.update_machine.proofs.Exports.{AreOf, after_append}
+use Rattle.control_laws.proofs.Exports.{IsControl, behind_piece, each_range, each_weaker, fact_on, have_weaker, last_more, settling_control, up_more}
+use Rattle.convergence_laws.proofs.Exports.{IsIn, in_at}
+use Rattle.forwarding_laws.specs.Exports.{AskEach, EndsInRecovery}
 use Rattle.forwarding_laws.proofs.CalmItems.{Calmly, IsCalm, IsCalmStep, Stays, calm_piece, calm_steps, calm_through, control_is_calm, next_confirmed, stays}
 
 -- ---- the steps of rows, and of those behind them

@@ -1,26 +1,10 @@
 -- What each switch sends again, and what is sent to it again.
-use Rattle.std.proofs.Common.{ℕ, ◌≡◌, ◌+◌, ◌-◌, ◌≤◌, ◌<◌, ◌==◌, Bool, true, false, not, if◌then◌else◌, List, [], ◌∷◌, ◌++◌, map, refl, ap, sym, subst, arith, inl, inr}
-use Rattle.std.specs.Prelude.{IsTrue, IsFalse, filter, nat_lt}
-use Rattle.std.specs.List.{flat_map}
-use Rattle.std.proofs.lemmas.Bool.Decides.{nat_tests}
-use Rattle.ctrl_msg.specs.declared.message.Message.{Message}
-use Rattle.failover.specs.declared.advert.Advert.{Advert}
-use Rattle.journal.specs.declared.item.Item.{Item}
+use Rattle.std.proofs.Common.{[], if◌then◌else◌, ◌++◌, ◌+◌, ◌-◌, ◌<◌, ◌==◌, ◌∷◌, ◌≡◌, ◌≤◌, Bool, IsFalse, IsTrue, List, ap, arith, false, filter, flat_map, inl, inr, map, nat_lt, not, refl, subst, sym, true, ℕ}
+use Rattle.base.proofs.Exports.{nat_tests}
+use Rattle.update_machine.specs.Exports.{Advert, Item, Message, Resend, Setting, acked_stamp, advert_to, collect_for, current_mark, has_acked, held_adverts, hello_of, install_for, is_member, is_over, is_up, near, next_message, open_for, open_version, piece, resend_items, resent_by_controller, resent_by_switch, resent_to_member, retired_mark, sends_or_nothing, stamp_for, switches_in, unacked_installs, version_count, versions_from_current}
 use Rattle.journal.specs.declared.item.Item.TheVariants as item
-use Rattle.steps.specs.declared.step.Step.TheVariants.{Resend}
-use Rattle.update_machine.specs.Adverts.{held_adverts}
-use Rattle.update_machine.specs.Boots.{is_up}
-use Rattle.update_machine.specs.Deliveries.{advert_to, switches_in}
-use Rattle.update_machine.specs.LinkMasks.{near}
-use Rattle.update_machine.specs.Marks.{acked_stamp, current_mark, has_acked, is_member, is_over, open_version, retired_mark}
-use Rattle.update_machine.specs.Messages.{next_message}
-use Rattle.update_machine.specs.Pieces.{hello_of, piece, resend_items, resent_by_switch, sends_or_nothing}
-use Rattle.update_machine.specs.Setting.{Setting}
-use Rattle.update_machine.specs.Settling.{collect_for, install_for, open_for, resent_by_controller, resent_to_member, stamp_for, unacked_installs, versions_from_current}
-use Rattle.update_machine.specs.Versions.{version_count}
-use Rattle.control_laws.proofs.ReachedCauses.{behind_piece}
-use Rattle.control_laws.proofs.ResentParts.{later_versions}
-use Rattle.convergence_laws.proofs.ListElements.{IsIn, in_filter, in_flat_map, in_left, in_map, in_range, in_right}
+use Rattle.control_laws.proofs.Exports.{behind_piece, later_versions}
+use Rattle.convergence_laws.proofs.Exports.{IsIn, in_filter, in_flat_map, in_left, in_map, in_range, in_right}
 use Rattle.forwarding_laws.proofs.SentSince.{IsSince, sends_since}
 
 -- ---- by the switch

@@ -1,39 +1,14 @@
 -- Behind one more resend of each switch and a flush, each switch that is up was told what is
 -- retired, and so holds the tables of the newest version alone.
-use Rattle.std.proofs.Common.{ℕ, ◌≡◌, ◌≢◌, ◌≤◌, ◌<◌, ◌⊎◌, ◌==◌, ◌&&◌, ◌||◌, Bool, true, false, List, [], ◌∷◌, length, refl, ap, sym, subst, ◌∙◌, arith, inl, inr}
-use Rattle.std.specs.Prelude.{IsTrue, IsFalse, All, not}
-use Rattle.std.specs.List.{list_any}
-use Rattle.std.proofs.lemmas.Bool.{cases_eq, eq-eqb, ne_eqb}
-use Rattle.std.proofs.lemmas.Bool.Decides.{nat_tests}
-use Rattle.std.proofs.lemmas.List.Elements.{All-from_recursion, recursion_from_All}
-use Rattle.ctrl_msg.specs.declared.message.Body.{Body}
-use Rattle.ctrl_msg.specs.declared.message.Body.TheVariants.{Collect}
-use Rattle.switch_table.specs.declared.cache.CacheEntry.{CacheEntry}
-use Rattle.journal.specs.declared.item.Item.{Item}
-use Rattle.update_machine.specs.Boots.{boot_of, heard, is_in_first_boot, is_up}
-use Rattle.update_machine.specs.Caches.{cache_of}
-use Rattle.update_machine.specs.Causes.{HaveCauses}
-use Rattle.update_machine.specs.Links.{serves}
-use Rattle.update_machine.specs.Marks.{is_member, is_over, known_boot, retired_mark}
-use Rattle.update_machine.specs.Messages.{next_message}
-use Rattle.update_machine.specs.Pieces.{resent_by_switch}
-use Rattle.update_machine.specs.Sendings.{Sending, sendings}
-use Rattle.update_machine.specs.Setting.{Setting}
-use Rattle.update_machine.specs.Settling.{resent_by_controller, to_switch}
-use Rattle.update_machine.specs.SwitchNumbers.{switches_of}
-use Rattle.update_machine.specs.Versions.{collects_version, holds_version, installs_version, stamp_of, version_count}
-use Rattle.control_laws.specs.ItemCauses.{HasItemCause}
-use Rattle.control_laws.proofs.SwitchOpenings.{IsServing, member_of}
-use Rattle.control_laws.proofs.PlannedTables.{tables_planned}
-use Rattle.control_laws.proofs.ServingSwitches.{serving_hold}
-use Rattle.convergence_laws.specs.Updated.{IsUpdated}
-use Rattle.convergence_laws.proofs.CaughtUp.{items_caused}
-use Rattle.convergence_laws.proofs.ListElements.{IsIn, all_in, each_in, each_of_in, in_range, in_right}
-use Rattle.convergence_laws.proofs.ReceivedMessages.{heard_in_boot, own_boot}
-use Rattle.convergence_laws.proofs.MessageCourses.{IsTraced, caused_traced}
-use Rattle.packet_laws.specs.Travelling.{RulesAreRight}
-use Rattle.packet_laws.specs.Rules.{IsRightEntry}
-use Rattle.forwarding_laws.specs.NothingOld.{CacheNewestAlone, HoldNewestAlone}
+use Rattle.std.proofs.Common.{[], ◌&&◌, ◌<◌, ◌==◌, ◌||◌, ◌∙◌, ◌∷◌, ◌≡◌, ◌≢◌, ◌≤◌, ◌⊎◌, All, Bool, IsFalse, IsTrue, List, ap, arith, eq-eqb, false, inl, inr, length, ne_eqb, not, refl, subst, sym, true, ℕ}
+use Rattle.base.proofs.Exports.{All-from_recursion, cases_eq, list_any, nat_tests, recursion_from_All}
+use Rattle.update_machine.specs.Exports.{Body, CacheEntry, Collect, HaveCauses, Item, Sending, Setting, boot_of, cache_of, collects_version, heard, holds_version, installs_version, is_in_first_boot, is_member, is_over, is_up, known_boot, next_message, resent_by_controller, resent_by_switch, retired_mark, sendings, serves, stamp_of, switches_of, to_switch, version_count}
+use Rattle.control_laws.specs.Exports.{HasItemCause}
+use Rattle.control_laws.proofs.Exports.{IsServing, member_of, serving_hold, tables_planned}
+use Rattle.convergence_laws.specs.Exports.{IsUpdated}
+use Rattle.convergence_laws.proofs.Exports.{IsIn, IsTraced, all_in, caused_traced, each_in, each_of_in, heard_in_boot, in_range, in_right, items_caused, own_boot}
+use Rattle.packet_laws.specs.Exports.{IsRightEntry, RulesAreRight}
+use Rattle.forwarding_laws.specs.Exports.{CacheNewestAlone, HoldNewestAlone}
 use Rattle.forwarding_laws.proofs.CacheStamps.{caches_above}
 use Rattle.forwarding_laws.proofs.CalmItems.{Stays, calm_causes, stays}
 use Rattle.forwarding_laws.proofs.RecoveredControl.{IsAsked, IsRecovered}

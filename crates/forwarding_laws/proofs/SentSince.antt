@@ -1,21 +1,10 @@
 -- What was sent with a number from a bound on.
-use Rattle.std.proofs.Common.{ℕ, ◌≡◌, ◌+◌, ◌≤◌, ◌⊎◌, Bool, true, false, Some, None, List, [], ◌∷◌, ◌++◌, refl, ap, sym, subst, ◌∙◌, append_assoc, arith, inl, inr}
-use Rattle.std.specs.Prelude.{IsTrue, IsFalse}
-use Rattle.std.proofs.lemmas.Bool.{cases_lt}
-use Rattle.ctrl_msg.specs.declared.message.Body.{Body}
-use Rattle.ctrl_msg.specs.declared.message.Message.{Message}
-use Rattle.ctrl_msg.specs.Kinds.{to_controller}
-use Rattle.journal.specs.declared.item.Item.{Item}
+use Rattle.std.proofs.Common.{[], ◌++◌, ◌+◌, ◌∙◌, ◌∷◌, ◌≡◌, ◌≤◌, ◌⊎◌, Bool, IsFalse, IsTrue, List, None, Some, ap, append_assoc, arith, false, inl, inr, refl, subst, sym, true, ℕ}
+use Rattle.base.proofs.Exports.{cases_lt}
+use Rattle.update_machine.specs.Exports.{Body, Item, Message, Setting, boot_at, controller_heard, is_forgotten, message_of, next_message, next_waiting, send_items, sendings, sent_from, was_delivered}
+use Rattle.ctrl_msg.specs.Exports.{to_controller}
 use Rattle.journal.specs.declared.item.Item.TheVariants as item
-use Rattle.update_machine.specs.Links.{message_of}
-use Rattle.update_machine.specs.Marks.{controller_heard}
-use Rattle.update_machine.specs.Messages.{is_forgotten, next_message, next_waiting, send_items, sent_from, was_delivered}
-use Rattle.update_machine.specs.Sendings.{boot_at, sendings}
-use Rattle.update_machine.specs.Setting.{Setting}
-use Rattle.convergence_laws.proofs.FinishedNetwork.{one_delivered}
-use Rattle.convergence_laws.proofs.ListElements.{IsIn, each_in, in_right}
-use Rattle.convergence_laws.proofs.ReceivedMessages.{sendings_on}
-use Rattle.convergence_laws.proofs.MessageCourses.{AreTraced, IsSent, IsTraced, sendings_more, sent_by}
+use Rattle.convergence_laws.proofs.Exports.{AreTraced, IsIn, IsSent, IsTraced, each_in, in_right, one_delivered, sendings_more, sendings_on, sent_by}
 use Rattle.forwarding_laws.proofs.CalmItems.{Calmly, stays}
 
 pub record IsSince (since : ℕ) (journal : List Item) (message : Message) : Type 0 where

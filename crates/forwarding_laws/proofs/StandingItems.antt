@@ -1,8 +1,7 @@
 -- Each item of a journal has its cause behind those that stand before it.
-use Rattle.std.proofs.Common.{◌≡◌, List, [], ◌∷◌, ◌++◌, ap, sym, subst, append-nil, append_assoc, inl, inr}
-use Rattle.journal.specs.declared.item.Item.{Item}
-use Rattle.update_machine.specs.Causes.{HaveCauses}
-use Rattle.convergence_laws.proofs.ListElements.{IsIn}
+use Rattle.std.proofs.Common.{[], ◌++◌, ◌∷◌, ◌≡◌, List, ap, append-nil, append_assoc, inl, inr, subst, sym}
+use Rattle.update_machine.specs.Exports.{HaveCauses, Item}
+use Rattle.convergence_laws.proofs.Exports.{IsIn}
 
 -- the item stands among these, and it is so behind those before it
 pub record Stands (is : List Item → Item → Type 0) (before items : List Item) (x : Item)

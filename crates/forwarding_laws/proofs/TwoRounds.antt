@@ -1,23 +1,11 @@
 -- Behind recovery and one more round nothing old is left.
-use Rattle.std.proofs.Common.{List, [], refl, sym, subst}
-use Rattle.std.specs.Prelude.{All}
-use Rattle.journal.specs.declared.item.Item.{Item}
-use Rattle.steps.specs.declared.step.Event.{Event}
-use Rattle.update_machine.specs.Answers.{Answers, AreSteps, StepOfRow, after_steps}
-use Rattle.update_machine.specs.Causes.{HaveCauses}
-use Rattle.update_machine.specs.Setting.{IsSetting, Setting}
-use Rattle.update_machine.specs.SwitchNumbers.{switches_of}
-use Rattle.control_laws.specs.Always.{AreEvents, HoldsAtEnds, HoldsReached}
-use Rattle.control_laws.specs.ItemCauses.{HasItemCause}
-use Rattle.control_laws.proofs.ItemFacts.{steps_have}
-use Rattle.control_laws.proofs.PieceCauses.{pieces_have}
-use Rattle.convergence_laws.specs.Converged.{HasConverged}
-use Rattle.convergence_laws.specs.Stuck.{GetStuckApart}
-use Rattle.convergence_laws.specs.Updated.{IsUpdated}
-use Rattle.packet_laws.specs.Between.{HoldsBetween}
-use Rattle.packet_laws.specs.Travelling.{RulesAreRight}
-use Rattle.forwarding_laws.specs.NothingOld.{CacheNewestAlone, EndsInTwoRounds, LeavesNothingOld}
-use Rattle.forwarding_laws.specs.Recovery.{EndsInRecovery}
+use Rattle.std.proofs.Common.{[], All, List, refl, subst, sym}
+use Rattle.update_machine.specs.Exports.{Answers, AreSteps, Event, HaveCauses, IsSetting, Item, Setting, StepOfRow, after_steps, switches_of}
+use Rattle.control_laws.specs.Exports.{AreEvents, HasItemCause, HoldsAtEnds, HoldsReached}
+use Rattle.control_laws.proofs.Exports.{pieces_have, steps_have}
+use Rattle.convergence_laws.specs.Exports.{GetStuckApart, HasConverged, IsUpdated}
+use Rattle.packet_laws.specs.Exports.{HoldsBetween, RulesAreRight}
+use Rattle.forwarding_laws.specs.Exports.{CacheNewestAlone, EndsInRecovery, EndsInTwoRounds, LeavesNothingOld}
 use Rattle.forwarding_laws.proofs.RecoveredNetworks.{Agrees, ForwardsBy, calm_recovers, ends_calm, ends_recovered, ends_updated, recovered_updated}
 use Rattle.forwarding_laws.proofs.SecondRounds.{cache_newest, hold_newest}
 use Rattle.forwarding_laws.proofs.RecoveryRows.{EndsCalmly, IsConfirmed, all_confirmed_on, ends_by, ends_calmly}

@@ -1,24 +1,13 @@
 -- Items that crash no switch and fail no link: all links of the network can be used, and each
 -- advert names all links of its origin.
-use Rattle.std.proofs.Common.{ℕ, ◌≡◌, ◌<◌, ◌==◌, ◌&&◌, ◌||◌, min, max, Bool, true, false, if◌then◌else◌, Some, None, List, [], ◌∷◌, ◌++◌, refl, ap, ◌∙◌}
-use Rattle.std.specs.Prelude.{⊤, IsTrue, unwrap_or}
-use Rattle.std.specs.List.{list_any}
-use Rattle.base.specs.Masks.{has}
-use Rattle.base.proofs.CallerLemmas.{has_mask}
-use Rattle.failover.specs.declared.advert.Advert.{Advert}
-use Rattle.net_file.specs.Joins.{are_linked, joins}
-use Rattle.net_file.specs.declared.net.LinkRow.{LinkRow}
-use Rattle.net_file.specs.declared.net.Net.{Net}
-use Rattle.journal.specs.declared.item.Item.{Item}
+use Rattle.std.proofs.Common.{[], if◌then◌else◌, ◌&&◌, ◌++◌, ◌<◌, ◌==◌, ◌||◌, ◌∙◌, ◌∷◌, ◌≡◌, Bool, IsTrue, List, None, Some, ap, false, max, min, refl, true, unwrap_or, ℕ}
+use Rattle.base.proofs.Exports.{has_mask, list_any, ⊤}
+use Rattle.base.specs.Exports.{has}
+use Rattle.update_machine.specs.Exports.{Advert, HaveCauses, Item, LinkRow, Net, Setting, can_use, gives_link, is_link_up, is_usable, own_advert, serves}
+use Rattle.net_file.specs.Exports.{are_linked, joins}
 use Rattle.journal.specs.declared.item.Item.TheVariants as item
-use Rattle.update_machine.specs.Adverts.{own_advert}
-use Rattle.update_machine.specs.Causes.{HaveCauses}
-use Rattle.update_machine.specs.Links.{can_use, gives_link, is_link_up, is_usable, serves}
-use Rattle.update_machine.specs.Setting.{Setting}
-use Rattle.update_machine.proofs.CallerLemmas.{near_usable, start_laws}
-use Rattle.control_laws.proofs.AllAdverts.{IsAdvertFact}
-use Rattle.control_laws.proofs.ItemFacts.{AreKept, fact_on, have_front}
-use Rattle.control_laws.proofs.FactsGrown.{last_more, serving_more}
+use Rattle.update_machine.proofs.Exports.{near_usable, start_laws}
+use Rattle.control_laws.proofs.Exports.{AreKept, IsAdvertFact, fact_on, have_front, last_more, serving_more}
 
 abbrev pub IsUnfailing : List Item → Item → Type 0
 IsUnfailing before (item.Down s) = ⊥

@@ -1,12 +1,11 @@
 -- Ways over links that can be used lead back, and what isn't reached from their end isn't reached
 -- from their beginning.
-use Rattle.std.proofs.Common.{ℕ, List, [], ◌∷◌, All, subst}
-use Rattle.std.proofs.lemmas.List.Elements.{All-weaker}
-use Rattle.net_file.specs.Net.{IsNet}
-use Rattle.journal.specs.declared.item.Item.{Item}
-use Rattle.update_machine.specs.Setting.{Setting}
-use Rattle.convergence_laws.specs.Converged.{LeadsOver, Reaches}
-use Rattle.convergence_laws.proofs.CallerLemmas.{near_back}
+use Rattle.std.proofs.Common.{[], ◌∷◌, All, List, subst, ℕ}
+use Rattle.base.proofs.Exports.{All-weaker}
+use Rattle.net_file.specs.Exports.{IsNet}
+use Rattle.update_machine.specs.Exports.{Item, Setting}
+use Rattle.convergence_laws.specs.Exports.{LeadsOver, Reaches}
+use Rattle.convergence_laws.proofs.Exports.{near_back}
 
 turn_round : (setting : Setting) (journal : List Item) → IsNet setting.net → (there at target : ℕ)
     (rest : List ℕ) → LeadsOver setting journal there at rest

@@ -1,27 +1,13 @@
 -- Where nothing fails each switch is claimed to have all its links.
-use Rattle.std.proofs.Common.{ℕ, ◌≡◌, ◌<◌, ◌==◌, ◌&&◌, ◌||◌, Bool, true, false, if◌then◌else◌, Option, Some, None, List, [], ◌∷◌, refl, ap, sym, subst, ◌∙◌, arith}
-use Rattle.std.specs.Prelude.{⊤, nat_lt, option_and_then}
-use Rattle.std.proofs.lemmas.Bool.Decides.{nat_tests}
-use Rattle.ctrl_msg.specs.declared.message.Body.{Body}
-use Rattle.ctrl_msg.specs.declared.message.Body.TheVariants.{Advertise}
-use Rattle.ctrl_msg.specs.declared.message.Message.{Message}
-use Rattle.ctrl_msg.specs.declared.message.Place.{Place}
+use Rattle.std.proofs.Common.{[], if◌then◌else◌, ◌&&◌, ◌<◌, ◌==◌, ◌||◌, ◌∙◌, ◌∷◌, ◌≡◌, Bool, List, None, Option, Some, ap, arith, false, nat_lt, option_and_then, refl, subst, sym, true, ℕ}
+use Rattle.base.proofs.Exports.{bit_at, nat_tests, ⊤}
+use Rattle.update_machine.specs.Exports.{Advert, Advertise, Body, Claim, HaveCauses, Item, Message, Net, Place, Setting, changes_claim, claim_by, claim_in, claim_of, message_of, newer_of}
 use Rattle.ctrl_msg.specs.declared.message.Place.TheVariants as receiver
-use Rattle.std.specs.Int.{bit_at}
-use Rattle.base.specs.Masks.{has}
-use Rattle.failover.specs.declared.advert.Advert.{Advert}
-use Rattle.net_file.specs.Joins.{are_linked}
-use Rattle.net_file.specs.declared.net.Net.{Net}
-use Rattle.journal.specs.declared.item.Item.{Item}
+use Rattle.base.specs.Exports.{has}
+use Rattle.net_file.specs.Exports.{are_linked}
 use Rattle.journal.specs.declared.item.Item.TheVariants as item
-use Rattle.update_machine.specs.Causes.{HaveCauses}
-use Rattle.update_machine.specs.Links.{Claim, changes_claim, claim_by, claim_in, claim_of, message_of, newer_of}
-use Rattle.update_machine.specs.Setting.{Setting}
-use Rattle.update_machine.proofs.CallerLemmas.{have_append}
-use Rattle.control_laws.proofs.AllAdverts.{AreSuch, IfAdvert, such_at_first, such_kept}
-use Rattle.control_laws.proofs.BothCauses.{HasBothCauses}
-use Rattle.control_laws.proofs.LinkClaims.{claim_more}
-use Rattle.control_laws.proofs.ItemFacts.{AreKept, Both, fact_on}
+use Rattle.update_machine.proofs.Exports.{have_append}
+use Rattle.control_laws.proofs.Exports.{AreKept, AreSuch, Both, HasBothCauses, IfAdvert, claim_more, fact_on, such_at_first, such_kept}
 use Rattle.forwarding_laws.proofs.UnfailingItems.{IsUnfailing, NamesAll, NamesAllSafely, all_fact}
 
 -- the claim is of all links of this switch

@@ -1,19 +1,9 @@
 -- The laws of recovery and of rollouts, of plays.
-use Rattle.std.proofs.Common.{ℕ, ◌≡◌, Option, Some, None, List, [], ◌∷◌, ◌++◌, sym, subst}
-use Rattle.journal.specs.declared.item.Item.{Item}
-use Rattle.steps.specs.declared.step.Event.{Event}
-use Rattle.steps.specs.declared.step.Event.TheVariants.{Drain}
-use Rattle.control_laws.specs.Always.{AreEvents}
-use Rattle.update_machine.specs.Answers.{Answers, BeginsAnswer}
-use Rattle.update_machine.specs.Causes.{HaveCauses}
-use Rattle.update_machine.specs.Full.{IsPlay}
-use Rattle.update_machine.specs.Setting.{IsSetting, Setting}
-use Rattle.packet_laws.proofs.StepsOfPlays.{play_begins}
-use Rattle.forwarding_laws.specs.NothingOld.{EndsInTwoRounds, LeavesNothingOld}
-use Rattle.forwarding_laws.specs.Recovered.{HasRecovered}
-use Rattle.forwarding_laws.specs.Recovery.{EndsInRecovery}
-use Rattle.forwarding_laws.specs.Rollout.{AllAccounted, AllAccountedOrCutOff, DropsNothing, IsConnected, NoneIsStuck, NothingFails}
-use Rattle.forwarding_laws.specs.Working.{EndsInDrain, PlaysKeepWorking}
+use Rattle.std.proofs.Common.{[], ◌++◌, ◌∷◌, ◌≡◌, List, None, Option, Some, subst, sym, ℕ}
+use Rattle.update_machine.specs.Exports.{Answers, BeginsAnswer, Drain, Event, HaveCauses, IsPlay, IsSetting, Item, Setting}
+use Rattle.control_laws.specs.Exports.{AreEvents}
+use Rattle.packet_laws.proofs.Exports.{play_begins}
+use Rattle.forwarding_laws.specs.Exports.{AllAccounted, AllAccountedOrCutOff, DropsNothing, EndsInDrain, EndsInRecovery, EndsInTwoRounds, HasRecovered, IsConnected, LeavesNothingOld, NoneIsStuck, NothingFails, PlaysKeepWorking}
 
 -- a play that didn't stop full answers its events
 play_answers : (setting : Setting) (events : List Event) (journal : List Item) (full : Option ℕ)

@@ -2,30 +2,15 @@
 -- is dropped or leaves by its port, or it is stuck if no links lead on. Packets are those of Yu,
 -- Rexford, Freedman and Wang, "Scalable Flow-Based Networking with DIFANE", SIGCOMM 2010; that
 -- they end like this is our own notion.
-use Rattle.std.specs.Prelude.{ℕ, ◌≡◌, ◌⊎◌, ◌++◌, Option, Some, None, List, All, Contains, IsTrue, find, option_map}
-use Rattle.five_tuple.specs.Header.{IsHeader}
-use Rattle.five_tuple.specs.declared.header.Header.{Header}
-use Rattle.net_file.specs.Joins.{owner_of}
-use Rattle.policy_rules.specs.Hosted.{is_in}
-use Rattle.policy_rules.specs.Policy.{IsFirstMatch}
-use Rattle.policy_rules.specs.declared.packet.Cause.{Cause}
-use Rattle.policy_rules.specs.declared.packet.Leaving.{Leaving}
-use Rattle.policy_rules.specs.declared.packet.Leg.{Leg}
-use Rattle.policy_rules.specs.declared.packet.Leg.TheVariants.{Seek, Exit}
-use Rattle.policy_rules.specs.declared.policy.Action.{Action}
+use Rattle.std.specs.Prelude.{◌++◌, ◌≡◌, ◌⊎◌, All, Contains, IsTrue, List, None, Option, Some, find, option_map, ℕ}
+use Rattle.five_tuple.specs.Exports.{IsHeader}
+use Rattle.update_machine.specs.Exports.{Action, AreAll, Cause, Exit, Header, Item, Leaving, Leg, Packet, Seek, Setting, StepOfRow, after_steps, decision_of, is_up, next_hop, next_packet, piece, plan_at, policy_at, targets_of, version_count}
+use Rattle.net_file.specs.Exports.{owner_of}
+use Rattle.policy_rules.specs.Exports.{IsFirstMatch, is_in}
 use Rattle.policy_rules.specs.declared.policy.Action.TheVariants as action
-use Rattle.journal.specs.declared.item.Item.{Item}
 use Rattle.journal.specs.declared.item.Item.TheVariants as item
-use Rattle.steps.specs.Steps.{HasSwitch}
-use Rattle.steps.specs.declared.step.Step.TheVariants.{Packet}
-use Rattle.update_machine.specs.Answers.{AreAll, StepOfRow, after_steps, next_hop}
-use Rattle.update_machine.specs.Boots.{is_up}
-use Rattle.update_machine.specs.Packets.{decision_of, next_packet}
-use Rattle.update_machine.specs.Pieces.{piece}
-use Rattle.update_machine.specs.Setting.{Setting}
-use Rattle.update_machine.specs.Versions.{plan_at, policy_at, version_count}
-use Rattle.update_machine.specs.PacketRoutes.{targets_of}
-use Rattle.convergence_laws.specs.Converged.{Reaches}
+use Rattle.steps.specs.Exports.{HasSwitch}
+use Rattle.convergence_laws.specs.Exports.{Reaches}
 
 -- the packet got, by the newest version of `before`, the first match of this header, with this
 -- action

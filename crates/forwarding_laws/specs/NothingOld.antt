@@ -3,17 +3,9 @@
 -- flush of the first one wasn't sent yet what is retired. That versions are collected once no
 -- packet needs them is from Reitblatt, Foster, Rexford, Schlesinger and Walker, "Abstractions for
 -- Network Update".
-use Rattle.std.specs.Prelude.{ℕ, ◌≡◌, ◌==◌, List, [], ◌∷◌, ◌++◌, All, IsTrue}
-use Rattle.journal.specs.declared.item.Item.{Item}
-use Rattle.net_file.specs.declared.net.Net.{Net}
-use Rattle.steps.specs.Steps.{HasSwitch}
-use Rattle.steps.specs.declared.step.Event.{Event}
-use Rattle.steps.specs.declared.step.Event.TheVariants.{Flush}
-use Rattle.steps.specs.declared.step.Step.TheVariants.{Resend}
-use Rattle.update_machine.specs.Boots.{is_up}
-use Rattle.update_machine.specs.Caches.{cache_of}
-use Rattle.update_machine.specs.Setting.{Setting}
-use Rattle.update_machine.specs.Versions.{holds_version, version_count}
+use Rattle.std.specs.Prelude.{[], ◌++◌, ◌==◌, ◌∷◌, ◌≡◌, All, IsTrue, List, ℕ}
+use Rattle.update_machine.specs.Exports.{Event, Flush, Item, Net, Resend, Setting, cache_of, holds_version, is_up, version_count}
+use Rattle.steps.specs.Exports.{HasSwitch}
 use Rattle.forwarding_laws.specs.Recovered.{HasRecovered}
 use Rattle.forwarding_laws.specs.Recovery.{AskEach, EndsInRecovery}
 

@@ -1,13 +1,7 @@
 -- The result of recovery.
-use Rattle.std.specs.Prelude.{ℕ, ◌≡◌, ◌⊎◌, Some, List, IsTrue}
-use Rattle.ctrl_msg.specs.declared.message.Message.{Message}
-use Rattle.journal.specs.declared.item.Item.{Item}
-use Rattle.update_machine.specs.Links.{message_of}
-use Rattle.update_machine.specs.Messages.{is_forgotten, was_delivered}
-use Rattle.update_machine.specs.Setting.{Setting}
-use Rattle.convergence_laws.specs.Converged.{HasConverged}
-use Rattle.convergence_laws.specs.Stuck.{GetStuckApart}
-use Rattle.convergence_laws.specs.Updated.{IsUpdated}
+use Rattle.std.specs.Prelude.{◌≡◌, ◌⊎◌, IsTrue, List, Some, ℕ}
+use Rattle.update_machine.specs.Exports.{Item, Message, Setting, is_forgotten, message_of, was_delivered}
+use Rattle.convergence_laws.specs.Exports.{GetStuckApart, HasConverged, IsUpdated}
 use Rattle.forwarding_laws.specs.Forwards.{QuietForwards}
 
 -- each message that was sent was delivered, or was forgotten

@@ -2,13 +2,9 @@
 -- switch that is up is asked to send again, and all that waits is delivered. A row without an
 -- effect, as the confirmation of a switch that is up, does nothing: so an author of rows need not
 -- know which switches are up. The recipe is our own.
-use Rattle.std.specs.Prelude.{ℕ, ◌≡◌, List, [], ◌∷◌, ◌++◌, All, Contains}
-use Rattle.net_file.specs.declared.net.Net.{Net}
-use Rattle.steps.specs.Steps.{HasSwitch}
-use Rattle.steps.specs.declared.step.Event.{Event}
-use Rattle.steps.specs.declared.step.Event.TheVariants.{One, Flush}
-use Rattle.steps.specs.declared.step.Step.{Step}
-use Rattle.steps.specs.declared.step.Step.TheVariants.{Confirm, Resend}
+use Rattle.std.specs.Prelude.{[], ◌++◌, ◌∷◌, ◌≡◌, All, Contains, List, ℕ}
+use Rattle.update_machine.specs.Exports.{Confirm, Event, Flush, Net, One, Resend, Step}
+use Rattle.steps.specs.Exports.{HasSwitch}
 
 -- the rows take this step of some switch each, and there is one for each switch of the network
 pub record AskEach (net : Net) (step : ℕ → Step) (rows : List Event) : Type 0 where

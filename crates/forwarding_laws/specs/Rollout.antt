@@ -2,23 +2,11 @@
 -- the controller are lost, repeated or reordered: no packet is dropped by the network. That an
 -- update drops none is a requirement of Reitblatt, Foster, Rexford, Schlesinger and Walker,
 -- "Abstractions for Network Update".
-use Rattle.std.specs.Prelude.{⊤, ℕ, ◌≡◌, ◌≢◌, Bool, true, false, Some, List, [], ◌∷◌, ◌++◌, All, Contains, IsFalse}
-use Rattle.five_tuple.specs.declared.header.Header.{Header}
-use Rattle.journal.specs.declared.item.Item.{Item}
+use Rattle.std.specs.Prelude.{[], ◌++◌, ◌∷◌, ◌≡◌, ◌≢◌, All, Bool, Contains, IsFalse, List, Some, false, true, ℕ, ⊤}
+use Rattle.update_machine.specs.Exports.{AreTargets, Cause, Crash, Decision, Drop, Event, Header, Item, Leads, LeavesRightly, Leg, LinkDown, Lose, Net, One, Setting, Step, decision_of, present_step, standing}
 use Rattle.journal.specs.declared.item.Item.TheVariants as item
-use Rattle.net_file.specs.Joins.{are_linked}
-use Rattle.net_file.specs.declared.net.Net.{Net}
-use Rattle.policy_rules.specs.declared.packet.Cause.{Cause}
-use Rattle.policy_rules.specs.declared.packet.Leg.{Leg}
-use Rattle.policy_rules.specs.declared.policy.Action.TheVariants.{Drop}
-use Rattle.steps.specs.Steps.{HasSwitch}
-use Rattle.steps.specs.declared.step.Event.{Event}
-use Rattle.steps.specs.declared.step.Event.TheVariants.{One}
-use Rattle.steps.specs.declared.step.Step.{Step}
-use Rattle.steps.specs.declared.step.Step.TheVariants.{Crash, LinkDown, Lose}
-use Rattle.update_machine.specs.Causes.{AreTargets, Leads, LeavesRightly, present_step}
-use Rattle.update_machine.specs.Packets.{Decision, decision_of, standing}
-use Rattle.update_machine.specs.Setting.{Setting}
+use Rattle.net_file.specs.Exports.{are_linked}
+use Rattle.steps.specs.Exports.{HasSwitch}
 
 -- a row that crashes a switch or fails a link
 abbrev pub fails : Step → Bool

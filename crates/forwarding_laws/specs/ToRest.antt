@@ -1,11 +1,7 @@
 -- What is true of a quiet network.
 use Rattle.std.specs.Prelude.{List}
-use Rattle.journal.specs.declared.item.Item.{Item}
-use Rattle.update_machine.specs.Quiet.{IsQuiet}
-use Rattle.update_machine.specs.Setting.{Setting}
-use Rattle.convergence_laws.specs.Converged.{HasConverged}
-use Rattle.convergence_laws.specs.Stuck.{GetStuckApart}
-use Rattle.convergence_laws.specs.Updated.{IsUpdated}
+use Rattle.update_machine.specs.Exports.{IsQuiet, Item, Setting}
+use Rattle.convergence_laws.specs.Exports.{GetStuckApart, HasConverged, IsUpdated}
 use Rattle.forwarding_laws.specs.Forwards.{QuietForwards}
 
 -- the network is quiet: so the switches know the usable links, a packet that had found no link

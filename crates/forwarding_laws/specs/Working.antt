@@ -1,14 +1,9 @@
 -- What the journal of a play says of its network at work: it recovers if the schedule ends in
 -- recovery, nothing old is left after a second round, and a rollout drops nothing. For a play that
 -- stopped full only the last is true, because it didn't reach its end.
-use Rattle.std.specs.Prelude.{ℕ, ◌≡◌, Option, None, List, [], ◌∷◌, ◌++◌}
-use Rattle.journal.specs.declared.item.Item.{Item}
-use Rattle.steps.specs.declared.step.Event.{Event}
-use Rattle.steps.specs.declared.step.Event.TheVariants.{Drain}
-use Rattle.control_laws.specs.Always.{AreEvents}
-use Rattle.update_machine.specs.Causes.{HaveCauses}
-use Rattle.update_machine.specs.Full.{IsPlay}
-use Rattle.update_machine.specs.Setting.{IsSetting, Setting}
+use Rattle.std.specs.Prelude.{[], ◌++◌, ◌∷◌, ◌≡◌, List, None, Option, ℕ}
+use Rattle.update_machine.specs.Exports.{Drain, Event, HaveCauses, IsPlay, IsSetting, Item, Setting}
+use Rattle.control_laws.specs.Exports.{AreEvents}
 use Rattle.forwarding_laws.specs.NothingOld.{EndsInTwoRounds, LeavesNothingOld}
 use Rattle.forwarding_laws.specs.Recovered.{HasRecovered}
 use Rattle.forwarding_laws.specs.Recovery.{EndsInRecovery}

@@ -1,16 +1,13 @@
 -- What the buckets of a switch hold.
-use Rattle.std.proofs.Common.{ℕ, ◌≡◌, ◌≢◌, ◌+◌, ◌≤◌, ◌<◌, ◌⊎◌, ◌==◌, Bool, true, false, if◌then◌else◌, List, [], ◌∷◌, ◌++◌, length, get_or, set, take, drop, refl, ap, sym, subst, ◌∙◌, arith, inl, inr}
-use Rattle.std.specs.Prelude.{◌↔◌, nat_lt}
+use Rattle.std.proofs.Common.{[], if◌then◌else◌, ◌++◌, ◌+◌, ◌<◌, ◌==◌, ◌↔◌, ◌∙◌, ◌∷◌, ◌≡◌, ◌≢◌, ◌≤◌, ◌⊎◌, Bool, List, ap, arith, drop, eq-eqb, eqb-true, false, get_or, get_or-set_other, get_or-set_same, inl, inr, length, length-set, nat_lt, refl, set, subst, sym, take, take-append-drop, true, ℕ}
 use Rattle.std.specs.Option.{option_map_or}
-use Rattle.std.proofs.lemmas.Bool.{cases_lt, eq-eqb, eqb-true}
+use Rattle.std.proofs.lemmas.Bool.{cases_lt}
 use Rattle.std.proofs.lemmas.Bool.Decides.{nat_tests}
-use Rattle.std.proofs.lemmas.List.{get_or-set_other, get_or-set_same, get_or_append_left, get_or_push, length-set, take-append-drop, take_more}
+use Rattle.std.proofs.lemmas.List.{get_or_append_left, get_or_push, take_more}
 use Rattle.std.proofs.lemmas.Option.{slice_get-get_or, slice_get_cases, slice_get_past}
-use Rattle.ctrl_msg.specs.declared.message.Body.{Body}
-use Rattle.ctrl_msg.specs.declared.message.Message.{Message}
+use Rattle.update_machine.specs.Exports.{Body, Message}
 use Rattle.journal_reports.specs.declared.bucket.Bucket.{Bucket}
-use Rattle.journal_reports.specs.Judging.{SaysAsMuch}
-use Rattle.journal_reports.specs.Buckets.{AreEmpty, HasSaying, IsKeptInBucket, bucket_of, messages_at, bucket_messages, subject}
+use Rattle.journal_reports.specs.Exports.{AreEmpty, HasSaying, IsKeptInBucket, SaysAsMuch, bucket_messages, bucket_of, messages_at, subject}
 use Rattle.journal_reports.proofs.SayingAsMuch.{later_more, means_of, says_through}
 
 -- ---- what says as much is in the same bucket

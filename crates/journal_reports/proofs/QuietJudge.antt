@@ -1,21 +1,14 @@
 -- The judge answers as the definition says.
-use Rattle.std.proofs.Common.{ℕ, zero, suc, ◌≡◌, ◌+◌, ◌≤◌, ◌<◌, ◌&&◌, ◌||◌, Bool, true, false, not, List, [], ◌∷◌, length, get_or, drop, refl, ap, sym, subst, ◌∙◌, arith}
-use Rattle.std.specs.Prelude.{◌↔◌, All, IsTrue, IsFalse}
+use Rattle.std.proofs.Common.{[], ◌&&◌, ◌+◌, ◌<◌, ◌||◌, ◌↔◌, ◌∙◌, ◌∷◌, ◌≡◌, ◌≤◌, All, Bool, IsFalse, IsTrue, List, ap, arith, drop, false, get_or, length, not, refl, subst, suc, sym, true, zero, ℕ}
 use Rattle.std.specs.List.{list_all, range_with_len}
 use Rattle.std.proofs.lemmas.List.{at_drop_all}
 use Rattle.std.proofs.lemmas.List.Elements.{All-from_recursion}
 use Rattle.std.proofs.lemmas.List.Sums.{AllPass-from_list_all, list_all-from_AllPass}
-use Rattle.journal.specs.declared.item.Item.{Item}
+use Rattle.update_machine.specs.Exports.{AreReceived, IsQuiet, Item, Setting, is_delivery, is_up, is_waited_for, switches_of, was_delivered}
 use Rattle.journal.specs.declared.item.Item.TheVariants as item
-use Rattle.update_machine.specs.Boots.{is_up}
-use Rattle.update_machine.specs.Messages.{is_delivery, was_delivered}
-use Rattle.update_machine.specs.Quiet.{AreReceived, IsQuiet, is_waited_for}
-use Rattle.update_machine.specs.Setting.{Setting}
-use Rattle.update_machine.specs.SwitchNumbers.{switches_of}
-use Rattle.convergence_laws.proofs.ListElements.{all_in, each_of_in}
+use Rattle.convergence_laws.proofs.Exports.{all_in, each_of_in}
 use Rattle.journal_reports.specs.declared.traffic.Traffic.{Traffic}
-use Rattle.journal_reports.specs.Judging.{concerned_switch, has_mark, is_missed, is_named, status_in}
-use Rattle.journal_reports.specs.Traffic.{AreTraffic, ConcernsOne, IsAfter, IsTraffic}
+use Rattle.journal_reports.specs.Exports.{AreTraffic, ConcernsOne, IsAfter, IsTraffic, concerned_switch, has_mark, is_missed, is_named, status_in}
 use Rattle.journal_reports.proofs.ReadItems.{IsReadNext, mark_first, none_delivered, not_received, received_first, traffic_first}
 
 -- ---- switches

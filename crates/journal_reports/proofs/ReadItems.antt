@@ -1,26 +1,16 @@
 -- What one item before those that were read makes of a switch and of its messages.
-use Rattle.std.proofs.Common.{ℕ, ◌≡◌, ◌<◌, ◌⊎◌, ◌&&◌, ◌||◌, Bool, true, false, not, Option, Some, None, Result, Ok, Err, List, [], ◌∷◌, ◌++◌, length, get_or, length-append, refl, ap, sym, subst, ◌∙◌, arith, inl, inr}
-use Rattle.std.specs.Prelude.{◌↔◌, IfOk, IsTrue, IsFalse, OnOk, nat_lt, option_map}
+use Rattle.std.proofs.Common.{[], ◌&&◌, ◌++◌, ◌<◌, ◌||◌, ◌↔◌, ◌∙◌, ◌∷◌, ◌≡◌, ◌⊎◌, Bool, Err, IfOk, IsFalse, IsTrue, List, None, Ok, OnOk, Option, Result, Some, ap, arith, false, get_or, inl, inr, length, length-append, nat_lt, not, option_map, refl, subst, sym, true, ℕ}
 use Rattle.std.specs.List.{list_any}
 use Rattle.std.specs.Option.{option_map_or}
 use Rattle.std.proofs.lemmas.Bool.{and_parts, cases_lt}
 use Rattle.std.proofs.lemmas.List.{get_or_append_left, get_or_push}
-use Rattle.ctrl_msg.specs.declared.message.Body.{Body}
-use Rattle.ctrl_msg.specs.declared.message.Message.{Message}
-use Rattle.ctrl_msg.specs.declared.message.Place.{Place}
+use Rattle.update_machine.specs.Exports.{AreReceived, Body, IsReceived, IsReplaced, Item, Message, Place, Replaces, Setting, begins_boot, count_of, is_delivery, is_of_boot, is_old_answer, matters, speaker, was_delivered}
 use Rattle.ctrl_msg.specs.declared.message.Place.TheVariants as receiver
-use Rattle.journal.specs.declared.item.Item.{Item}
 use Rattle.journal.specs.declared.item.Item.TheVariants as item
-use Rattle.update_machine.specs.Folds.{count_of}
-use Rattle.update_machine.specs.Messages.{is_delivery, was_delivered}
-use Rattle.update_machine.specs.Quiet.{AreReceived, IsReceived, IsReplaced, Replaces, begins_boot, is_of_boot, is_old_answer, matters, speaker}
-use Rattle.update_machine.specs.Setting.{Setting}
-use Rattle.convergence_laws.proofs.ReceivedMessages.{delivered_append}
+use Rattle.convergence_laws.proofs.Exports.{delivered_append}
 use Rattle.journal_reports.specs.declared.status.SwitchStatus.{SwitchStatus}
 use Rattle.journal_reports.specs.declared.traffic.Traffic.{Traffic}
-use Rattle.journal_reports.specs.Judging.{SaysAsMuch, concerned_switch, has_mark, is_named, matters_to, status_in, switch_of_message}
-use Rattle.journal_reports.specs.Buckets.{AreEmpty, IsKeptInBucket}
-use Rattle.journal_reports.specs.Traffic.{AreTraffic, ConcernsOne, IsAdded, IsAfter, IsMet, IsTraffic}
+use Rattle.journal_reports.specs.Exports.{AreEmpty, AreTraffic, ConcernsOne, IsAdded, IsAfter, IsKeptInBucket, IsMet, IsTraffic, SaysAsMuch, concerned_switch, has_mark, is_named, matters_to, status_in, switch_of_message}
 use Rattle.journal_reports.proofs.MessageBuckets.{kept_through, none_kept}
 use Rattle.journal_reports.proofs.SayingAsMuch.{matters_too, no_cache_rule, replaces_of, says_of}
 

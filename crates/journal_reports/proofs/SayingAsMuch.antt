@@ -1,22 +1,15 @@
 -- What says as much as another message.
-use Rattle.std.proofs.Common.{ℕ, ◌≡◌, ◌⊎◌, Some, ◌&&◌, ◌||◌, ◌==◌, Bool, true, false, refl, ap, sym, subst, ◌∙◌, arith, inl, inr}
-use Rattle.std.specs.Prelude.{IsTrue, IsFalse}
-use Rattle.std.proofs.lemmas.Bool.{and_parts, eq-eqb, eqb-true, or_right}
+use Rattle.std.proofs.Common.{◌&&◌, ◌==◌, ◌||◌, ◌∙◌, ◌≡◌, ◌⊎◌, Bool, IsFalse, IsTrue, Some, ap, arith, eq-eqb, eqb-true, false, inl, inr, refl, subst, sym, true, ℕ}
+use Rattle.std.proofs.lemmas.Bool.{and_parts, or_right}
 use Rattle.std.proofs.lemmas.Bool.Decides.{nat_tests}
-use Rattle.control_laws.proofs.ItemFacts.{own}
-use Rattle.ctrl_msg.specs.Bodies.{body_boot}
-use Rattle.ctrl_msg.specs.declared.message.Body.{Body}
-use Rattle.ctrl_msg.specs.declared.message.Body.TheVariants.{Install, OpenAt, Stamp, Collect, CacheRule, Advertise, Hello, Installed, Stamped}
-use Rattle.ctrl_msg.specs.declared.message.Message.{Message}
-use Rattle.ctrl_msg.specs.declared.message.Place.{Place}
+use Rattle.control_laws.proofs.Exports.{own}
+use Rattle.ctrl_msg.specs.Exports.{body_boot}
+use Rattle.update_machine.specs.Exports.{Advert, Advertise, Body, CacheRule, Collect, Hello, Install, Installed, Message, OpenAt, Place, Replaces, Stamp, Stamped, are_old_tables, is_advert, is_later_body, is_old_answer, speaker}
 use Rattle.ctrl_msg.specs.declared.message.Place.TheVariants as receiver
-use Rattle.failover.specs.Adverts.{is_newer}
-use Rattle.failover.specs.declared.advert.Advert.{Advert}
+use Rattle.failover.specs.Exports.{is_newer}
 use Rattle.failover.proofs.NewestAdvert.{newer_through}
-use Rattle.update_machine.specs.Quiet.{Replaces, are_old_tables, is_advert, is_later_body, is_old_answer, speaker}
 use Rattle.journal_reports.specs.declared.status.SwitchStatus.{SwitchStatus}
-use Rattle.journal_reports.specs.Buckets.{subject}
-use Rattle.journal_reports.specs.Judging.{HaveSameLists, SaysAsMuch, is_same, is_same_receiver, matters_to, replaces_body}
+use Rattle.journal_reports.specs.Exports.{HaveSameLists, SaysAsMuch, is_same, is_same_receiver, matters_to, replaces_body, subject}
 
 -- ---- what replaces a body is the same, or is later
 

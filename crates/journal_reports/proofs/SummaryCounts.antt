@@ -1,14 +1,10 @@
 -- What is counted of one more item.
-use Rattle.std.specs.Prelude.{unwrap_or}
+use Rattle.std.proofs.Common.{[], ◌++◌, ◌+◌, ◌<◌, ◌^◌, ◌∙◌, ◌∷◌, ◌≡◌, Bool, List, None, Option, Some, ap, arith, false, length, refl, true, unwrap_or, ℕ}
 use Rattle.std.specs.Option.{option_or}
-use Rattle.std.proofs.Common.{◌≡◌, ℕ, ◌+◌, ◌<◌, ◌^◌, Bool, true, false, Option, Some, None, List, [], ◌∷◌, ◌++◌, length, refl, ap, ◌∙◌, arith}
 use Rattle.std.proofs.lemmas.List.Sums.{count_by-le-length}
-use Rattle.journal.specs.declared.item.Item.{Item}
-use Rattle.update_machine.specs.Folds.{count_of, last_given}
-use Rattle.update_machine.specs.Marks.{current_mark, retired_mark, gives_current, gives_retired}
-use Rattle.update_machine.specs.Packets.{is_packet}
-use Rattle.update_machine.proofs.CallerLemmas.{count_of_append, last_given_append}
-use Rattle.journal_reports.specs.Summary.{CountsHaveRoom, counted_with, item_counts, is_cached, is_closed, is_dropped, is_entered, is_left, is_lost, is_sent, is_stuck, one_more}
+use Rattle.update_machine.specs.Exports.{Item, count_of, current_mark, gives_current, gives_retired, is_packet, last_given, retired_mark}
+use Rattle.update_machine.proofs.Exports.{count_of_append, last_given_append}
+use Rattle.journal_reports.specs.Exports.{CountsHaveRoom, counted_with, is_cached, is_closed, is_dropped, is_entered, is_left, is_lost, is_sent, is_stuck, item_counts, one_more}
 
 count_more : (test : Item → Bool) (before : List Item) (item : Item)
     → count_of test (before ++ item ∷ []) ≡ one_more (test item) (count_of test before)

@@ -1,14 +1,12 @@
 -- What one more item makes of a switch's status.
-use Rattle.std.proofs.Common.{ℕ, ◌≡◌, ◌+◌, ◌<◌, take, length, get_or, true, false, List, [], ◌∷◌, ◌++◌, refl, ap, sym, ◌∙◌, append-nil}
+use Rattle.std.proofs.Common.{[], ◌++◌, ◌+◌, ◌<◌, ◌∙◌, ◌∷◌, ◌≡◌, List, ap, append-nil, false, get_or, length, refl, sym, take, true, ℕ}
 use Rattle.std.proofs.lemmas.List.{take_more}
-use Rattle.journal.specs.declared.item.Item.{Item}
+use Rattle.update_machine.specs.Exports.{Item, boot_of, current_mark, is_up}
 use Rattle.journal.specs.declared.item.Item.TheVariants as item
-use Rattle.update_machine.specs.Boots.{boot_of, is_up}
-use Rattle.update_machine.specs.Marks.{current_mark}
-use Rattle.control_laws.proofs.FactsGrown.{boot_more, current_more, up_more}
-use Rattle.convergence_laws.proofs.DownSwitches.{waited_more}
+use Rattle.control_laws.proofs.Exports.{boot_more, current_more, up_more}
+use Rattle.convergence_laws.proofs.Exports.{waited_more}
 use Rattle.journal_reports.specs.declared.status.SwitchStatus.{SwitchStatus}
-use Rattle.journal_reports.specs.Judging.{status_with, status_in, status_item}
+use Rattle.journal_reports.specs.Exports.{status_in, status_item, status_with}
 
 status_more : (before : List Item) (item : Item) (s : ℕ)
     → status_in (before ++ item ∷ []) s ≡ status_with item (status_in before s)

@@ -1,9 +1,7 @@
 -- Messages of a switch that are kept, by buckets.
-use Rattle.std.specs.Prelude.{ℕ, ◌≡◌, ◌⊎◌, ◌<◌, nat_lt, if◌then◌else◌, List, [], ◌∷◌, length, get_or, slice_get}
+use Rattle.std.specs.Prelude.{[], if◌then◌else◌, ◌<◌, ◌∷◌, ◌≡◌, ◌⊎◌, List, get_or, length, nat_lt, slice_get, ℕ}
 use Rattle.std.specs.Option.{option_map_or}
-use Rattle.ctrl_msg.specs.declared.message.Body.{Body}
-use Rattle.ctrl_msg.specs.declared.message.Body.TheVariants.{Install, OpenAt, Advertise, Installed}
-use Rattle.ctrl_msg.specs.declared.message.Message.{Message}
+use Rattle.update_machine.specs.Exports.{Advertise, Body, Install, Installed, Message, OpenAt}
 use Rattle.journal_reports.specs.Judging.{SaysAsMuch}
 use Rattle.journal_reports.specs.declared.bucket.Bucket.{Bucket}
 

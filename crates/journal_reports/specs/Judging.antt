@@ -1,21 +1,12 @@
 -- How the judge of a quiet network tests a message: whether it matters to a switch, and whether it
 -- replaces another one. That this decides whether the network is quiet is its contract.
-use Rattle.std.specs.Prelude.{⊤, ℕ, ◌≡◌, ◌⊎◌, Bool, true, false, not, ◌&&◌, ◌||◌, ◌==◌, nat_eq, nat_lt, Option, Some, None, unwrap_or, option_map, List, [], ◌∷◌, IsTrue, slice_index_or}
+use Rattle.std.specs.Prelude.{[], ◌&&◌, ◌==◌, ◌||◌, ◌∷◌, ◌≡◌, ◌⊎◌, Bool, IsTrue, List, None, Option, Some, false, nat_eq, nat_lt, not, option_map, slice_index_or, true, unwrap_or, ℕ, ⊤}
 use Rattle.std.specs.Option.{option_eq, option_map_or}
-use Rattle.ctrl_msg.specs.Bodies.{body_boot}
-use Rattle.ctrl_msg.specs.Kinds.{body_version}
-use Rattle.ctrl_msg.specs.declared.message.Body.{Body}
-use Rattle.ctrl_msg.specs.declared.message.Body.TheVariants.{Install, OpenAt, Stamp, Collect, Advertise, Hello, Installed, Stamped}
-use Rattle.ctrl_msg.specs.declared.message.Message.{Message}
-use Rattle.ctrl_msg.specs.declared.message.Place.{Place}
+use Rattle.ctrl_msg.specs.Exports.{body_boot, body_version}
+use Rattle.update_machine.specs.Exports.{Advert, Advertise, Body, Collect, Hello, Install, Installed, Item, Message, OpenAt, Place, Stamp, Stamped, are_old_tables, boot_of, carries_boot, current_mark, gives_boot, gives_current, gives_up, gives_waited_for, is_advert, is_of_boot, is_old_answer, is_up, is_waited_for, speaker}
 use Rattle.ctrl_msg.specs.declared.message.Place.TheVariants as receiver
-use Rattle.failover.specs.Adverts.{is_newer}
-use Rattle.failover.specs.declared.advert.Advert.{Advert}
-use Rattle.journal.specs.declared.item.Item.{Item}
+use Rattle.failover.specs.Exports.{is_newer}
 use Rattle.journal.specs.declared.item.Item.TheVariants as item
-use Rattle.update_machine.specs.Boots.{boot_of, is_up, gives_boot, gives_up}
-use Rattle.update_machine.specs.Marks.{current_mark, gives_current}
-use Rattle.update_machine.specs.Quiet.{are_old_tables, carries_boot, is_advert, is_of_boot, is_old_answer, is_waited_for, speaker, gives_waited_for}
 use Rattle.journal_reports.specs.declared.status.SwitchStatus.{SwitchStatus}
 
 -- ---- marks of delivered messages

@@ -1,12 +1,8 @@
 -- What became of the packets of a play, what was sent in it, and which versions it ended with.
-use Rattle.std.specs.Prelude.{ℕ, ◌<◌, ◌+◌, ◌-◌, ◌^◌, Bool, true, false, if◌then◌else◌, unwrap_or, List, [], ◌∷◌, ◌++◌, codes, decimal, Option, Some, None}
-use Rattle.journal.specs.declared.item.Item.{Item}
+use Rattle.std.specs.Prelude.{[], if◌then◌else◌, ◌++◌, ◌+◌, ◌-◌, ◌<◌, ◌^◌, ◌∷◌, Bool, List, None, Option, Some, codes, decimal, false, true, unwrap_or, ℕ}
+use Rattle.update_machine.specs.Exports.{How, Item, count_of, current_mark, gives_current, gives_retired, is_packet, retired_mark}
 use Rattle.journal.specs.declared.item.Item.TheVariants as item
-use Rattle.policy_rules.specs.declared.packet.How.{How}
 use Rattle.policy_rules.specs.declared.packet.How.TheVariants as how
-use Rattle.update_machine.specs.Folds.{count_of}
-use Rattle.update_machine.specs.Marks.{current_mark, retired_mark, gives_current, gives_retired}
-use Rattle.update_machine.specs.Packets.{is_packet}
 use Rattle.journal_reports.specs.declared.summary.Summary.{Summary}
 
 -- ---- which items are counted

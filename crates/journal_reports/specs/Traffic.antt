@@ -1,10 +1,8 @@
 -- What is read about each switch and its messages, from the end of a journal backwards.
-use Rattle.std.specs.Prelude.{⊤, ℕ, ◌≡◌, ◌<◌, ◌⊎◌, ◌↔◌, ◌&&◌, Bool, true, not, List, get_or, length, IsTrue}
+use Rattle.std.specs.Prelude.{◌&&◌, ◌<◌, ◌↔◌, ◌≡◌, ◌⊎◌, Bool, IsTrue, List, get_or, length, not, true, ℕ, ⊤}
 use Rattle.std.specs.List.{list_any}
-use Rattle.ctrl_msg.specs.declared.message.Message.{Message}
-use Rattle.journal.specs.declared.item.Item.{Item}
+use Rattle.update_machine.specs.Exports.{IsReplaced, Item, Message, begins_boot, matters}
 use Rattle.journal.specs.declared.item.Item.TheVariants as item
-use Rattle.update_machine.specs.Quiet.{IsReplaced, begins_boot, matters}
 use Rattle.journal_reports.specs.declared.traffic.Traffic.{Traffic}
 use Rattle.journal_reports.specs.Judging.{SaysAsMuch, concerned_switch, has_mark, is_named, matters_to, status_in}
 use Rattle.journal_reports.specs.Buckets.{IsKeptInBucket}

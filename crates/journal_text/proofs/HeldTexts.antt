@@ -1,5 +1,5 @@
 -- A text that a line holds, put at the end of another line.
-use Rattle.std.proofs.Common.{ℕ, zero, suc, ◌≡◌, ◌≤◌, List, [], ◌∷◌, ◌++◌, take, take-take, refl, ap, arith}
+use Rattle.std.proofs.Common.{[], ◌++◌, ◌∷◌, ◌≡◌, ◌≤◌, List, ap, arith, refl, suc, take, take-take, zero, ℕ}
 use Rattle.lines.specs.Pushes.{line_with}
 
 take_back : (n m : ℕ) (xs ys : List ℕ) → n ≤ m → take n (xs ++ take m ys) ≡ take n (xs ++ ys)

@@ -1,14 +1,11 @@
 -- What a sink gained by the lines of a journal.
-use Rattle.std.specs.Prelude.{⊤, ◌≢◌, Err, IsErrOf, IsTrue, Result}
-use Rattle.std.proofs.Common.{ℕ, ◌≡◌, ◌+◌, ◌<◌, ◌≤◌, ◌==◌, Bool, true, false, Option, None, Some, List, [], ◌∷◌, ◌++◌, length, take, drop, get_or, refl, ap, subst, ◌∙◌, sym, arith, append-nil, append_assoc, length-append}
-use Rattle.std.proofs.lemmas.Grind.{flat_map-append}
-use Rattle.std.proofs.lemmas.List.{take-append-drop, take-append-le, take_all, take_more}
+use Rattle.base.proofs.Exports.{flat_map-append, take-append-le, take_more, ⊤}
+use Rattle.std.proofs.Common.{[], ◌++◌, ◌+◌, ◌<◌, ◌==◌, ◌∙◌, ◌∷◌, ◌≡◌, ◌≢◌, ◌≤◌, Bool, Err, IsErrOf, IsTrue, List, None, Option, Result, Some, ap, append-nil, append_assoc, arith, drop, false, get_or, length, length-append, refl, subst, sym, take, take-append-drop, take_all, true, ℕ}
 use Rattle.journal.specs.declared.item.Item.{Item}
 use Rattle.journal_text.specs.Lines.{item_line, journal_text}
 use Rattle.lines.specs.Pushes.{line_with}
 use Rattle.net_file.specs.declared.net.Net.{Net}
-use Rattle.shelf.specs.Sink.{GainedPart, Rose, SinkState, with_gained}
-use Rattle.shelf.specs.SinkWrites.{IsAfterWrite, IsGathered}
+use Rattle.shelf.specs.Exports.{GainedPart, IsAfterWrite, IsGathered, Rose, SinkState, with_gained}
 use Rattle.shelf.specs.declared.output.SinkError.{SinkError}
 use Rattle.shelf.specs.declared.output.SinkError.TheVariants.{Failed, NoMemory}
 

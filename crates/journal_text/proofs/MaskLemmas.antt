@@ -1,12 +1,7 @@
 -- The switches of a mask, the least one first.
-use Rattle.std.proofs.Common.{ℕ, zero, suc, ◌≡◌, ◌≢◌, ◌+◌, ◌^◌, ◌<◌, ◌≤◌, Bool, true, false, [], ◌∷◌, sym, inl, inr, arith, refl}
-use Rattle.std.specs.Prelude.{filter}
-use Rattle.std.specs.Int.Bits.{bit_xor}
-use Rattle.std.specs.List.{range_with_len}
-use Rattle.std.proofs.lemmas.Bool.{cases_eq}
-use Rattle.base.specs.Masks.{has, switches}
-use Rattle.base.specs.ComputedMasks.{least_in}
-use Rattle.base.proofs.CallerLemmas.{has-xor_other, has-zero, least_below, least_lt}
+use Rattle.std.proofs.Common.{[], ◌+◌, ◌<◌, ◌^◌, ◌∷◌, ◌≡◌, ◌≢◌, ◌≤◌, Bool, arith, bit_xor, false, filter, inl, inr, refl, suc, sym, true, zero, ℕ}
+use Rattle.base.proofs.Exports.{cases_eq, has-xor_other, has-zero, least_below, least_lt, range_with_len}
+use Rattle.base.specs.Exports.{has, least_in, switches}
 use Rattle.failover.proofs.RowLoop.{first_left, has_less-same}
 
 -- tests that agree on a range pick the same of it

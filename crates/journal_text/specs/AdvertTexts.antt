@@ -1,5 +1,5 @@
 -- Adverts that were written before, each with its text as far as a line holds it.
-use Rattle.std.specs.Prelude.{⊤, ◌≡◌, ◌≤◌, All, Option, Some, None, [], take}
+use Rattle.std.specs.Prelude.{[], ◌≡◌, ◌≤◌, All, None, Option, Some, take, ⊤}
 use Rattle.net_file.specs.declared.net.Net.{Net}
 use Rattle.journal_text.specs.Lines.{advert_text}
 use Rattle.journal_text.specs.declared.advert_texts.AdvertText.{AdvertText}

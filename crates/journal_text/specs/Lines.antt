@@ -1,22 +1,21 @@
 -- First tier. The lines of a journal: one for each item, in which switches have their names.
-use Rattle.std.specs.Prelude.{ℕ, ◌==◌, Bool, true, false, min, max, if◌then◌else◌, Option, List, [], ◌∷◌, ◌++◌, filter, codes, decimal}
-use Rattle.std.specs.List.{flat_map}
+use Rattle.std.specs.Prelude.{[], if◌then◌else◌, ◌++◌, ◌==◌, ◌∷◌, Bool, List, Option, codes, decimal, false, filter, flat_map, max, min, true, ℕ}
 use Rattle.ctrl_msg.specs.declared.message.Body.{Body}
 use Rattle.ctrl_msg.specs.declared.message.Body.TheVariants.{Install, OpenAt, Stamp, Collect, CacheRule, Advertise, Hello, Installed, Stamped}
 use Rattle.ctrl_msg.specs.declared.message.Place.{Place}
 use Rattle.ctrl_msg.specs.declared.message.Place.TheVariants as receiver
-use Rattle.base.specs.Masks.{has, switches}
+use Rattle.base.specs.Exports.{has, switches}
 use Rattle.failover.specs.declared.advert.Advert.{Advert}
-use Rattle.five_tuple.specs.Printing.{fields_text}
-use Rattle.net_file.specs.Net.{name_of, names_text}
+use Rattle.five_tuple.specs.Exports.{fields_text}
+use Rattle.net_file.specs.Exports.{name_of, names_text}
 use Rattle.net_file.specs.declared.net.Net.{Net}
-use Rattle.policy_rules.specs.Policy.{action_text, rule_text}
+use Rattle.policy_rules.specs.Exports.{action_text, rule_text}
 use Rattle.policy_rules.specs.declared.packet.Cause.{Cause}
 use Rattle.policy_rules.specs.declared.packet.Cause.TheVariants.{NoAuthority, NoRoute}
 use Rattle.policy_rules.specs.declared.packet.How.{How}
 use Rattle.policy_rules.specs.declared.packet.How.TheVariants.{Cached, Authority}
 use Rattle.policy_rules.specs.declared.policy.Action.{Action}
-use Rattle.ternary.specs.Word.{WordValue, word_text}
+use Rattle.ternary.specs.Exports.{WordValue, word_text}
 use Rattle.journal.specs.declared.item.Item.{Item}
 use Rattle.journal.specs.declared.item.Item.TheVariants as item
 use Rattle.steps.specs.declared.step.Step.{Step}

@@ -1,9 +1,9 @@
 -- Items as their types have them, and the law of how long their lines are.
-use Rattle.std.specs.Prelude.{⊤, ℕ, ◌≤◌, List, [], ◌∷◌, ◌++◌, length}
+use Rattle.std.specs.Prelude.{[], ◌++◌, ◌∷◌, ◌≤◌, List, length, ℕ, ⊤}
 use Rattle.ctrl_msg.specs.declared.message.Body.{Body}
 use Rattle.ctrl_msg.specs.declared.message.Body.TheVariants.{Install, OpenAt, Stamp, Collect, CacheRule, Advertise, Hello, Installed, Stamped}
-use Rattle.five_tuple.specs.Header.{IsHeader}
-use Rattle.net_file.specs.Net.{IsNet}
+use Rattle.five_tuple.specs.Exports.{IsHeader}
+use Rattle.net_file.specs.Exports.{IsNet}
 use Rattle.net_file.specs.declared.net.Net.{Net}
 use Rattle.policy_rules.specs.declared.packet.How.{How}
 use Rattle.policy_rules.specs.declared.packet.How.TheVariants.{Cached, Authority}

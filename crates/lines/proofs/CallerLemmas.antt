@@ -1,6 +1,5 @@
 -- What proofs above cite: of pieces put at the end of a line, and of tables of pairs of digits.
-use Rattle.std.proofs.Common.{ℕ, ◌≡◌, ◌+◌, ◌-◌, ◌*◌, ◌<◌, ◌≤◌, Bool, true, ◌&&◌, T, eqb, List, [], ◌∷◌, ◌++◌, length, take, get_or, append-nil, append_assoc, ap, ◌∙◌, refl, inl, inr, zero, suc, arith, eq-zero-or-pos, eqb→eq}
-use Rattle.std.proofs.lemmas.List.{take_all}
+use Rattle.std.proofs.Common.{[], ◌&&◌, ◌*◌, ◌++◌, ◌+◌, ◌-◌, ◌<◌, ◌∙◌, ◌∷◌, ◌≡◌, ◌≤◌, Bool, List, T, ap, append-nil, append_assoc, arith, eq-zero-or-pos, eqb, eqb→eq, get_or, inl, inr, length, refl, suc, take, take_all, true, zero, ℕ}
 use Rattle.lines.specs.Pushes.{line_with}
 use lib.Ieee.Fits.{and_l, and_r}
 

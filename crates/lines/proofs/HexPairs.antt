@@ -1,8 +1,8 @@
 -- Hexadecimal digits, two at a time.
-use Rattle.std.proofs.Common.{ℕ, ◌≡◌, ◌+◌, ◌*◌, ◌/◌, ◌%◌, ◌<◌, false, List, [], ◌∷◌, ◌++◌, length, length-set, drop, set, get_or, refl, ap, sym, ◌∙◌, arith, add-one, append_assoc}
+use Rattle.std.proofs.Common.{[], ◌%◌, ◌*◌, ◌++◌, ◌+◌, ◌/◌, ◌<◌, ◌∙◌, ◌∷◌, ◌≡◌, List, add-one, ap, append_assoc, arith, drop, false, get_or, length, length-set, refl, set, sym, ℕ}
 use Rattle.std.specs.Fmt.{digit_glyph}
 use Rattle.std.proofs.lemmas.List.{drop-set, set_comm}
-use Rattle.ternary.specs.Word.{hex_digits}
+use Rattle.ternary.specs.Exports.{hex_digits}
 use Rattle.lines.proofs.CallerLemmas.{pair_at}
 use Rattle.lines.specs.declared.rules.TheConstants.{HEX_PAIRS}
 

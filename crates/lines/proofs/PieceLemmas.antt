@@ -1,7 +1,6 @@
 -- Pieces put behind the first bytes of a line's array.
-use Rattle.std.proofs.Common.{ℕ, ◌≡◌, ◌≤◌, ◌+◌, ◌-◌, List, ◌++◌, length, take, drop, ap, ap₂, ◌∙◌, sym, arith, append_assoc, length-drop, take-take}
+use Rattle.std.proofs.Common.{◌++◌, ◌+◌, ◌-◌, ◌∙◌, ◌≡◌, ◌≤◌, List, ap, append_assoc, ap₂, arith, drop, length, length-append, length-drop, length-take, length-take-le, sym, take, take-append-drop, take-take, take_all, ℕ}
 use Rattle.std.proofs.Math.Seq.{take-append-add}
-use Rattle.std.proofs.lemmas.List.{length-append, length-take, length-take-le, take-append-drop, take_all}
 use Rattle.std.proofs.lemmas.Slice.{take-put_mid}
 use borrow.Rule.Slice.PartMut.{put_mid}
 use Rattle.lines.specs.Pushes.{line_with}

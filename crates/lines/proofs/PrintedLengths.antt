@@ -1,23 +1,19 @@
 -- How long printed forms are: each has a bound, and the bounds of parts, one behind another, are
 -- added.
-use Rattle.std.proofs.Common.{ℕ, zero, suc, ◌≡◌, ◌+◌, ◌*◌, ◌/◌, ◌%◌, ◌^◌, ◌<◌, ◌≤◌, ◌==◌, true, false, List, [], ◌∷◌, ◌++◌, length, get_or, subst, inl, inr, arith}
-use Rattle.std.specs.Prelude.{◌⊎◌, Option, Some, None, codes, decimal, if◌then◌else◌, slice_get}
+use Rattle.std.proofs.Common.{[], if◌then◌else◌, ◌%◌, ◌*◌, ◌++◌, ◌+◌, ◌/◌, ◌<◌, ◌==◌, ◌^◌, ◌∷◌, ◌≡◌, ◌≤◌, ◌⊎◌, List, None, Option, Some, arith, codes, decimal, false, get_or, inl, inr, length, length-append, slice_get, subst, suc, true, zero, ℕ}
 use Rattle.std.specs.Fmt.{digit_glyph}
 use Rattle.std.proofs.lemmas.Fmt.{length-decimal-le}
-use Rattle.std.proofs.lemmas.List.{length-append}
 use Rattle.std.proofs.lemmas.List.Elements.{All-get_or}
 use Rattle.std.proofs.lemmas.Option.{slice_get_cases}
-use Rattle.five_tuple.specs.Header.{IsHeader}
-use Rattle.five_tuple.specs.Printing.{address_text, fields_text, proto_number_text}
+use Rattle.five_tuple.specs.Exports.{IsHeader, address_text, fields_text, proto_number_text}
 use Rattle.five_tuple.specs.declared.header.Header.{Header}
-use Rattle.net_file.specs.Laws.{NameLaws}
-use Rattle.net_file.specs.Net.{IsNet, IsSwitchRow, name_of, names_text}
+use Rattle.net_file.specs.Exports.{IsNet, IsSwitchRow, NameLaws, name_of, names_text}
 use Rattle.net_file.specs.declared.net.Net.{Net}
 use Rattle.net_file.specs.declared.net.SwitchRow.{SwitchRow}
-use Rattle.policy_rules.specs.Policy.{action_text, rule_text}
+use Rattle.policy_rules.specs.Exports.{action_text, rule_text}
 use Rattle.policy_rules.specs.declared.policy.Action.{Action}
 use Rattle.policy_rules.specs.declared.policy.Action.TheVariants.{Drop, Out}
-use Rattle.ternary.specs.Word.{WordValue, hex_digits, word_text}
+use Rattle.ternary.specs.Exports.{WordValue, hex_digits, word_text}
 use Rattle.lines.specs.Sizes.{IsAction, IsNumber, IsRule}
 
 -- at most so many bytes

@@ -1,8 +1,7 @@
 -- The decimal digits of short numbers, two at a time.
-use Rattle.std.proofs.Common.{ℕ, ◌≡◌, ◌<◌, ◌≤◌, ◌+◌, ◌*◌, ◌/◌, ◌%◌, List, [], ◌∷◌, ◌++◌, length, take, set, get_or, refl, arith, ap, ◌∙◌, sym, append_assoc, length-set}
-use Rattle.std.specs.Prelude.{decimal}
+use Rattle.std.proofs.Common.{[], ◌%◌, ◌*◌, ◌++◌, ◌+◌, ◌/◌, ◌<◌, ◌∙◌, ◌∷◌, ◌≡◌, ◌≤◌, List, ap, append_assoc, arith, decimal, get_or, length, length-set, refl, set, sym, take, take_all, ℕ}
 use Rattle.std.proofs.lemmas.Fmt.{decimal_digit, decimal_step}
-use Rattle.std.proofs.lemmas.List.{take_all, take_more_set}
+use Rattle.std.proofs.lemmas.List.{take_more_set}
 use Rattle.lines.specs.Pushes.{line_with}
 use Rattle.lines.specs.declared.digits.TheConstants.{PAIRS}
 use Rattle.lines.proofs.CallerLemmas.{pair_at}

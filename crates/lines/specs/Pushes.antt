@@ -1,5 +1,5 @@
 -- What a line of at most 2,048 bytes has of the pieces that are added at its end.
-use Rattle.std.specs.Prelude.{ℕ, List, ◌++◌, take}
+use Rattle.std.specs.Prelude.{◌++◌, List, take, ℕ}
 
 -- the line with a piece at its end, as far as there is room
 unfoldable pub line_with : List ℕ → List ℕ → List ℕ

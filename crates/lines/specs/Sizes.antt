@@ -1,5 +1,5 @@
 -- What fields have by their types: numbers of 32 bits.
-use Rattle.std.specs.Prelude.{⊤, ℕ, ◌<◌, ◌^◌, Option, Some, None}
+use Rattle.std.specs.Prelude.{◌<◌, ◌^◌, None, Option, Some, ℕ, ⊤}
 use Rattle.policy_rules.specs.declared.policy.Action.{Action}
 use Rattle.policy_rules.specs.declared.policy.Action.TheVariants.{Drop, Out}
 

@@ -1,19 +1,13 @@
 -- The message that comes out of its frames.
-use Rattle.std.proofs.Common.{◌≡◌, ℕ, ◌+◌, ◌-◌, ◌≤◌, ◌^◌, Some, List, [], ◌∷◌, length, length-drop, take, drop, add-one, refl, sym, ap, subst, ◌∙◌, arith}
-use Rattle.std.specs.Prelude.{All, slice_get}
-use Rattle.std.proofs.lemmas.List.{append-nil, take_all}
-use Rattle.std.proofs.lemmas.List.Elements.{All-head}
-use Rattle.std.proofs.lemmas.Option.{slice_get_within}
+use Rattle.std.proofs.Common.{[], ◌+◌, ◌-◌, ◌^◌, ◌∙◌, ◌∷◌, ◌≡◌, ◌≤◌, All, List, Some, add-one, ap, append-nil, arith, drop, length, length-drop, refl, slice_get, subst, sym, take, take_all, ℕ}
+use Rattle.base.proofs.Exports.{All-head, slice_get_within}
 use Rattle.ctrl_msg.specs.declared.message.Message.{Message}
-use Rattle.wire.specs.Assembly.{AreAllHeld, IsRefusedFrame, with_frame}
-use Rattle.wire.specs.Frames.{AreFrames, count_in_frame, frames, chunk_of}
-use Rattle.wire.specs.Messages.{IsSpelling}
+use Rattle.wire.specs.Exports.{AreAllHeld, AreFrames, IsRefusedFrame, IsSpelling, chunk_of, count_in_frame, frames, with_frame}
 use Rattle.wire.proofs.FrameAssembly.{spelled_by}
 use Rattle.wire.proofs.MessageDecoding.{one_message}
-use Rattle.message_bag.specs.Feeding.{HasFrames}
+use Rattle.message_bag.specs.Exports.{AreOfMessage, HasFrames}
 use Rattle.message_bag.proofs.InOrder.{all_before, comes_next, frames_before, none_before}
 use Rattle.message_bag.proofs.FrameSizes.{IsSized, few_frames, frames_sized, length_frames}
-use Rattle.message_bag.specs.KeptFrames.{AreOfMessage}
 
 pub are_frames : (m : Message) (fs : List (List ℕ)) → HasFrames m → fs ≡ frames m → AreFrames m fs
 are_frames m fs has is = record { fits = has.fits; frames_are = is }

@@ -1,10 +1,7 @@
 -- First frames that lie one after the other: more bytes behind them change none.
-use Rattle.std.proofs.Common.{◌≡◌, ℕ, Option, List, [], ◌∷◌, ◌++◌, length, length-append, length-drop, take, drop, map, refl, ap, ◌∙◌, arith}
-use Rattle.std.specs.Prelude.{All}
-use Rattle.std.proofs.Math.Seq.{drop-append_seam}
-use Rattle.std.proofs.lemmas.List.{drop-append-le, map_push, take-append-le, take_all}
-use Rattle.std.proofs.lemmas.List.Elements.{All-head, All-push, All-tail}
-use Rattle.message_bag.specs.KeptFrames.{IsWithin, first_in}
+use Rattle.std.proofs.Common.{[], ◌++◌, ◌∙◌, ◌∷◌, ◌≡◌, All, List, Option, ap, arith, drop, length, length-append, length-drop, map, refl, take, take_all, ℕ}
+use Rattle.base.proofs.Exports.{All-head, All-push, All-tail, drop-append-le, drop-append_seam, map_push, take-append-le}
+use Rattle.message_bag.specs.Exports.{IsWithin, first_in}
 use Rattle.message_bag.specs.declared.firsts.Span.{Span}
 
 one_stays : (bytes more : List ℕ) (span : Span) → IsWithin bytes span → first_in (bytes ++ more) span ≡ first_in bytes span

@@ -1,19 +1,12 @@
 -- An assembler that was fed with frames of a message holds those that have come.
-use Rattle.std.proofs.Common.{◌≡◌, ◌≢◌, ℕ, ◌+◌, ◌<◌, Bool, true, false, cond, inl, inr, List, [], ◌∷◌, length, Some, None, refl, sym, ap, subst, ◌∙◌, arith}
-use Rattle.std.specs.Prelude.{IsSome, is_some, slice_index_or, ◌↔◌}
-use Rattle.std.specs.List.{Contains, flat_map}
-use Rattle.std.proofs.lemmas.Bool.{cases_eq, ne_eqb}
-use Rattle.std.proofs.lemmas.List.Elements.{All-contains, All-contains_itself, All-head, All-tail}
-use Rattle.std.proofs.lemmas.Option.{same_Some}
-use Rattle.base.proofs.OptionsByTest.{some_passes}
-use Rattle.base.proofs.OptionsMade.{the_some}
+use Rattle.std.proofs.Common.{[], ◌+◌, ◌<◌, ◌↔◌, ◌∙◌, ◌∷◌, ◌≡◌, ◌≢◌, Bool, Contains, IsSome, List, None, Some, ap, arith, cond, false, flat_map, inl, inr, is_some, length, ne_eqb, refl, slice_index_or, subst, sym, true, ℕ}
+use Rattle.base.proofs.Exports.{All-contains, All-contains_itself, All-head, All-tail, cases_eq, same_Some, some_passes, the_some}
 use Rattle.ctrl_msg.specs.declared.message.Message.{Message}
-use Rattle.wire.specs.Frames.{AreFrames, count_in_frame, frames, chunk_of, chunks, place_in_frame}
-use Rattle.wire.specs.Assembly.{held_at, with_frame, AreAllHeld, AreRising, IsOfCount, IsRefusedFrame, too_short, too_long, past_the_count, another_count, another_frame, no_message}
+use Rattle.wire.specs.Exports.{AreAllHeld, AreFrames, AreRising, IsOfCount, IsRefusedFrame, another_count, another_frame, chunk_of, chunks, count_in_frame, frames, held_at, no_message, past_the_count, place_in_frame, too_long, too_short, with_frame}
 use Rattle.wire.proofs.FrameAssembly.{spelled_by}
 use Rattle.wire.proofs.MessageDecoding.{one_message}
 use Rattle.wire.proofs.FramesHeld.{all_held, first_is, held_count, same_place}
-use Rattle.message_bag.specs.Feeding.{AreAllAmong, AreOf, HasFrames, held_after}
+use Rattle.message_bag.specs.Exports.{AreAllAmong, AreOf, HasFrames, held_after}
 use Rattle.message_bag.proofs.HeldFrames.{found_there, held_part, held_there, is_found, part, part_all, part_none, part_rises, with_part}
 use Rattle.message_bag.proofs.FrameSizes.{IsSized, frames_rise, frames_sized, length_frames}
 

@@ -1,24 +1,14 @@
 -- The frames of a message: of one count, at rising places, and none is empty or too long.
-use Rattle.std.proofs.Common.{◌≡◌, ℕ, zero, suc, ◌+◌, ◌-◌, ◌*◌, ◌≤◌, ◌<◌, ◌^◌, true, None, List, [], ◌∷◌, length, length-drop, take, drop, refl, sym, ap, subst, ◌∙◌, arith, ◌&&◌}
-use Rattle.std.specs.Prelude.{All}
-use Rattle.std.specs.Int.{div_ceil}
-use Rattle.std.specs.List.{AllByRecursion}
-use Rattle.std.proofs.lemmas.Grind.{div_ceil_times}
-use Rattle.std.proofs.lemmas.List.{length-take}
-use Rattle.std.proofs.lemmas.List.Elements.{All-from_recursion}
-use Rattle.std.proofs.lemmas.Bool.{and_parts}
+use Rattle.std.proofs.Common.{[], ◌&&◌, ◌*◌, ◌+◌, ◌-◌, ◌<◌, ◌^◌, ◌∙◌, ◌∷◌, ◌≡◌, ◌≤◌, All, List, None, ap, arith, drop, length, length-drop, length-take, refl, subst, suc, sym, take, true, zero, ℕ}
+use Rattle.base.proofs.Exports.{All-from_recursion, AllByRecursion, and_parts, div_ceil, div_ceil_times}
 use Rattle.ctrl_msg.specs.declared.message.Body.{Body}
 use Rattle.ctrl_msg.specs.declared.message.Body.TheVariants.{Install, Stamp}
 use Rattle.ctrl_msg.specs.declared.message.Message.{Message}
 use Rattle.wire.specs.Fields as form
-use Rattle.wire.specs.Fields.{n4}
-use Rattle.wire.specs.Messages.{message, spelled_fields, body, fields_fit, receiver, stamp_form, suits_receiver}
-use Rattle.wire.specs.Frames.{frame, frames, frames_from, chunks, place_in_frame, equal_chunks, head_len, most_of_chunk}
-use Rattle.wire.specs.Assembly.{AreRising, IsOfCount}
+use Rattle.wire.specs.Exports.{AreRising, IsOfCount, body, chunks, equal_chunks, fields_fit, frame, frames, frames_from, head_len, message, most_of_chunk, n4, place_in_frame, receiver, spelled_fields, stamp_form, suits_receiver}
 use Rattle.wire.proofs.FrameBytes.{length_frame, place_of_frame, count_of_frame, chunk_of_frame}
 use Rattle.wire.proofs.SpellingCuts.{few_chunks}
-use Rattle.message_bag.specs.Feeding.{HasFrames}
-use Rattle.message_bag.specs.KeptFrames.{tables_version}
+use Rattle.message_bag.specs.Exports.{HasFrames, tables_version}
 use Rattle.message_bag.proofs.SpellingLengths.{length_message, fields_short, install_long, stamp_short, few_words}
 
 -- ---- places and counts

@@ -1,10 +1,9 @@
 -- A message is known by its frames, for proofs of the crates above too.
-use Rattle.std.proofs.Common.{◌≡◌, Bool, true, false, if◌then◌else◌, [], refl, sym, ◌∙◌}
+use Rattle.std.proofs.Common.{[], if◌then◌else◌, ◌∙◌, ◌≡◌, Bool, false, refl, sym, true}
 use Rattle.ctrl_msg.specs.declared.message.Message.{Message}
 use Rattle.message_bag.proofs.FrameArrivals.{same_message}
-use Rattle.wire.specs.Frames.{frames}
-use Rattle.wire.specs.Messages.{message as form}
-use Rattle.message_bag.specs.Posts.{posted_frames}
+use Rattle.wire.specs.Exports.{frames, message as form}
+use Rattle.message_bag.specs.Exports.{posted_frames}
 
 -- of a message that has a spelling they are its frames
 pub framed_is : (m : Message) → form.fits m ≡ true → posted_frames m ≡ frames m

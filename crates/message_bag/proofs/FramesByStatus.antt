@@ -1,14 +1,8 @@
 -- Frames of all beside what became of each message.
-use Rattle.std.proofs.Common.{◌≡◌, ◌-◌, ◌<◌, ◌≤◌, ℕ, Bool, true, false, Option, Some, None, List, [], ◌∷◌, ◌++◌, zero, suc, length, min, set, refl, ap, sym, ◌∙◌, arith}
-use Rattle.std.specs.Prelude.{is_some, not, slice_get, if◌then◌else◌}
-use Rattle.std.specs.List.{zip}
-use Rattle.std.specs.Option.{option_and_then, option_map_or}
-use Rattle.std.proofs.lemmas.Slice.Zip.{length-zip, seconds-zip}
-use Rattle.base.proofs.ListsJoined.{zip_pushed}
+use Rattle.std.proofs.Common.{[], if◌then◌else◌, ◌++◌, ◌-◌, ◌<◌, ◌∙◌, ◌∷◌, ◌≡◌, ◌≤◌, Bool, List, None, Option, Some, ap, arith, false, is_some, length, min, not, option_and_then, refl, set, slice_get, suc, sym, true, zero, zip, ℕ}
+use Rattle.base.proofs.Exports.{length-zip, option_map_or, seconds-zip, zip_pushed}
 use Rattle.ctrl_msg.specs.declared.message.Message.{Message}
-use Rattle.message_bag.specs.Deliveries.{is_deliverable, may_be_delivered, waiting_status}
-use Rattle.message_bag.specs.Numbered.{with_changed}
-use Rattle.message_bag.specs.Posts.{Post, frames_posted, new_post, posted_frames, remembered_frames, statuses_of, with_status}
+use Rattle.message_bag.specs.Exports.{Post, frames_posted, is_deliverable, may_be_delivered, new_post, posted_frames, remembered_frames, statuses_of, waiting_status, with_changed, with_status}
 use Rattle.message_bag.specs.declared.deliveries.MessageState.{MessageState}
 
 -- what became of one changes

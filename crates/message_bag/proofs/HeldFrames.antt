@@ -1,11 +1,7 @@
 -- Those of rising frames whose places pass a test, as an assembler holds them.
-use Rattle.std.proofs.Common.{◌≡◌, ◌≢◌, ℕ, zero, suc, ◌+◌, ◌≤◌, ◌<◌, Bool, true, false, cond, eqb, ltb, inl, inr, List, [], ◌∷◌, length, filter, Option, Some, None, refl, sym, ap, ◌∙◌, arith}
-use Rattle.std.specs.Prelude.{IsSome, slice_index_or}
-use Rattle.std.specs.List.{Contains}
-use Rattle.std.proofs.lemmas.Bool.{cases_lt, cases_eq, le-ltb, lt-ltb, ne_eqb}
-use Rattle.base.proofs.OptionsMade.{none_is_not}
-use Rattle.wire.specs.Frames.{place_in_frame}
-use Rattle.wire.specs.Assembly.{held_at, with_frame, AreRising}
+use Rattle.std.proofs.Common.{[], ◌+◌, ◌<◌, ◌∙◌, ◌∷◌, ◌≡◌, ◌≢◌, ◌≤◌, Bool, Contains, IsSome, List, None, Option, Some, ap, arith, cond, eqb, false, filter, inl, inr, le-ltb, length, lt-ltb, ltb, ne_eqb, refl, slice_index_or, suc, sym, true, zero, ℕ}
+use Rattle.base.proofs.Exports.{cases_eq, cases_lt, none_is_not}
+use Rattle.wire.specs.Exports.{AreRising, held_at, place_in_frame, with_frame}
 use Rattle.wire.proofs.FramesHeld.{all_higher, first_is, held_above, none_lower, step_held, same_place}
 
 abbrev pub part : (ℕ → Bool) → List (List ℕ) → List (List ℕ)

@@ -1,17 +1,12 @@
 -- The frames of a message that come in the order of their places, as an assembler is fed with them
 -- that puts a message together at once.
-use Rattle.std.proofs.Common.{◌≡◌, ◌≢◌, ℕ, zero, suc, ◌+◌, ◌<◌, ◌≤◌, ◌^◌, true, ltb, inl, inr, List, [], ◌∷◌, length, Some, sym, ap, subst, ◌∙◌, arith}
-use Rattle.std.specs.Prelude.{IsSome, slice_get}
-use Rattle.std.specs.List.{Contains}
-use Rattle.std.proofs.lemmas.Bool.{cases_lt, le-ltb, lt-ltb}
-use Rattle.std.proofs.lemmas.Option.{slice_get_within, same_Some}
-use Rattle.base.proofs.OptionsByTest.{some_passes}
+use Rattle.std.proofs.Common.{[], ◌+◌, ◌<◌, ◌^◌, ◌∙◌, ◌∷◌, ◌≡◌, ◌≢◌, ◌≤◌, Contains, IsSome, List, Some, ap, arith, inl, inr, le-ltb, length, lt-ltb, ltb, slice_get, subst, suc, sym, true, zero, ℕ}
+use Rattle.base.proofs.Exports.{cases_lt, same_Some, slice_get_within, some_passes}
 use Rattle.ctrl_msg.specs.declared.message.Message.{Message}
-use Rattle.wire.specs.Frames.{count_in_frame, frame, frames, frames_from, chunks, place_in_frame}
-use Rattle.wire.specs.Assembly.{held_at, with_frame, AreAllHeld, IsRefusedFrame}
+use Rattle.wire.specs.Exports.{AreAllHeld, IsRefusedFrame, chunks, count_in_frame, frame, frames, frames_from, held_at, place_in_frame, with_frame}
 use Rattle.wire.proofs.FrameBytes.{place_of_frame}
 use Rattle.wire.proofs.FramesHeld.{all_held}
-use Rattle.message_bag.specs.Feeding.{HasFrames}
+use Rattle.message_bag.specs.Exports.{HasFrames}
 use Rattle.message_bag.proofs.FrameArrivals.{IsOneOf, is_one_of, never_refused}
 use Rattle.message_bag.proofs.HeldFrames.{held_part, part, part_all, part_none, with_part}
 use Rattle.message_bag.proofs.FrameSizes.{few_frames, frames_rise, length_frames}

@@ -1,23 +1,18 @@
 -- Messages with tables and without: of how many frames they are, and what the first one says.
-use Rattle.std.proofs.Common.{◌≡◌, ℕ, ◌+◌, ◌-◌, ◌≤◌, ◌<◌, ◌^◌, true, Some, None, Result, Ok, Err, List, [], ◌∷◌, ◌++◌, length, take, drop, get_or, add-one, refl, sym, ap, subst, ◌∙◌, append_assoc, arith}
-use Rattle.std.specs.Prelude.{IfOk, MatchResult, OnOk, slice_get}
-use Rattle.std.proofs.lemmas.List.{length-append, length-take, take_all, take_at}
-use Rattle.std.proofs.lemmas.Option.{same_Some}
+use Rattle.std.proofs.Common.{[], ◌++◌, ◌+◌, ◌-◌, ◌<◌, ◌^◌, ◌∙◌, ◌∷◌, ◌≡◌, ◌≤◌, Err, IfOk, List, MatchResult, None, Ok, OnOk, Result, Some, add-one, ap, append_assoc, arith, drop, get_or, length, length-append, length-take, refl, slice_get, subst, sym, take, take_all, take_at, true, ℕ}
+use Rattle.base.proofs.Exports.{same_Some}
 use Rattle.ctrl_msg.specs.declared.message.Body.{Body}
 use Rattle.ctrl_msg.specs.declared.message.Body.TheVariants.{Install}
 use Rattle.ctrl_msg.specs.declared.message.Message.{Message}
 use Rattle.ctrl_msg.specs.declared.message.Place.{Place}
 use Rattle.switch_table.specs.declared.tables.Tables.{Tables}
-use Rattle.wire.specs.Fields.{n4, tables}
-use Rattle.wire.specs.Frames.{AreFrames, chunks_behind_head, frame, frames, frames_of, frames_of_version, head_len, chunk_of}
-use Rattle.wire.specs.Messages.{IsFront, message_front, message, spelled_front, suits_receiver}
+use Rattle.wire.specs.Exports.{AreFrames, IsFront, chunk_of, chunks_behind_head, frame, frames, frames_of, frames_of_version, head_len, message, message_front, n4, spelled_front, suits_receiver, tables}
 use Rattle.wire.proofs.FrameBytes.{length_frame, length_n4, chunk_of_frame}
 use Rattle.wire.proofs.InstallationFronts.{one_front}
-use Rattle.message_bag.specs.Installing.{frame_count, install_frames, table_frames}
+use Rattle.message_bag.specs.Exports.{AreOfInstall, AreOfMessage, CarryTables, frame_count, install_frames, table_frames, tables_version}
 use Rattle.message_bag.proofs.FrameArrivals.{same_message}
 use Rattle.message_bag.proofs.TablesRestamped.{behind, fits_too, same_count}
 use Rattle.message_bag.proofs.InstallationSpelling.{fits_parts, fits_whole, installed, length_behind, some_behind, suits_any}
-use Rattle.message_bag.specs.KeptFrames.{AreOfInstall, AreOfMessage, CarryTables, tables_version}
 
 -- ---- a message of one frame
 

@@ -1,20 +1,14 @@
 -- An installation is spelled as its front and its tables.
-use Rattle.std.proofs.Common.{◌≡◌, ℕ, ◌+◌, ◌-◌, ◌≤◌, true, ◌&&◌, List, [], ◌∷◌, ◌++◌, length, add-one, refl, sym, ap, ◌∙◌, append_assoc, arith}
-use Rattle.std.specs.Int.{div_ceil}
-use Rattle.std.proofs.lemmas.Grind.{div_ceil_times}
-use Rattle.std.proofs.lemmas.List.{drop_at, length-append, take_at}
-use Rattle.std.proofs.lemmas.Bool.{and_parts}
+use Rattle.std.proofs.Common.{[], ◌&&◌, ◌++◌, ◌+◌, ◌-◌, ◌∙◌, ◌∷◌, ◌≡◌, ◌≤◌, List, add-one, ap, append_assoc, arith, drop_at, length, length-append, refl, sym, take_at, true, ℕ}
+use Rattle.base.proofs.Exports.{and_parts, div_ceil, div_ceil_times}
 use Rattle.ctrl_msg.specs.declared.message.Place.{Place}
 use Rattle.ctrl_msg.specs.declared.message.Place.TheVariants.{Switch, Controller}
 use Rattle.ctrl_msg.specs.declared.message.Body.TheVariants.{Install}
 use Rattle.switch_table.specs.declared.tables.Tables.{Tables}
-use Rattle.wire.specs.Fields.{n1, n4, partition, region, tables}
-use Rattle.wire.specs.Format.{list_of}
-use Rattle.wire.specs.Frames.{chunks_behind_head, frame, frames, frames_from, frames_of, most_of_chunk, equal_chunks}
-use Rattle.wire.specs.Messages.{body, message_front, install_form, message, receiver, spelled_front, suits_receiver}
+use Rattle.wire.specs.Exports.{body, chunks_behind_head, equal_chunks, frame, frames, frames_from, frames_of, install_form, list_of, message, message_front, most_of_chunk, n1, n4, partition, receiver, region, spelled_front, suits_receiver, tables}
 use Rattle.wire.proofs.SpellingCuts.{length-slices}
 use Rattle.wire.proofs.FrameBytes.{length_n4}
-use Rattle.message_bag.specs.Installing.{frame_count, install_frames, table_frames, table_chunks}
+use Rattle.message_bag.specs.Exports.{frame_count, install_frames, table_chunks, table_frames}
 use Rattle.message_bag.proofs.SpellingLengths.{length_kind, length_receiver}
 use Rattle.message_bag.proofs.FrameSizes.{length_from}
 

@@ -1,10 +1,8 @@
 -- What has a number after a call, for proofs of the crates above too.
-use Rattle.std.proofs.Common.{◌≡◌, ◌+◌, ℕ, Option, Some, None, List, [], ◌∷◌, ◌++◌, zero, suc, length, map, set, refl, add-one, arith, length-set}
-use Rattle.std.specs.Prelude.{slice_get, option_map, ◌==◌, if◌then◌else◌}
-use Rattle.std.specs.Option.{option_map_or}
-use Rattle.base.proofs.ListsByPlace.{get_pushed, get_set_found}
+use Rattle.std.proofs.Common.{[], if◌then◌else◌, ◌++◌, ◌+◌, ◌==◌, ◌∷◌, ◌≡◌, List, None, Option, Some, add-one, arith, length, length-set, map, option_map, refl, set, slice_get, suc, zero, ℕ}
+use Rattle.base.proofs.Exports.{get_pushed, get_set_found, option_map_or}
 use Prim.Native.Nat.compare.{suc-suc}
-use Rattle.message_bag.specs.Numbered.{item_numbered, with_changed}
+use Rattle.message_bag.specs.Exports.{item_numbered, with_changed}
 
 -- one more gets the next number; the others stay
 pub numbered_pushed : {X : Type 0} (xs : List X) (x : X) (number : ℕ)

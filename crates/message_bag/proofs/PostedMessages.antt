@@ -1,19 +1,12 @@
 -- What is kept of a message that is posted, and that what was kept stays.
-use Rattle.std.proofs.Common.{◌≡◌, ℕ, true, Option, Some, None, Result, Ok, Err, List, [], ◌∷◌, ◌++◌, length, drop, get_or, map, refl, sym, ap, subst, ◌∙◌, arith}
-use Rattle.std.specs.Prelude.{All, OnErr, OnOk}
-use Rattle.std.proofs.lemmas.List.{get_or-take, length-take, map_push, take_all}
-use Rattle.std.proofs.lemmas.List.Elements.{All-head, All-push, All-tail}
+use Rattle.std.proofs.Common.{[], ◌++◌, ◌∙◌, ◌∷◌, ◌≡◌, All, Err, List, None, Ok, OnErr, OnOk, Option, Result, Some, ap, arith, drop, get_or, get_or-take, length, length-take, map, refl, subst, sym, take_all, true, ℕ}
+use Rattle.base.proofs.Exports.{All-head, All-push, All-tail, map_push}
 use Rattle.ctrl_msg.specs.declared.message.Body.TheVariants.{Install}
 use Rattle.ctrl_msg.specs.declared.message.Message.{Message}
-use Rattle.wire.specs.Fields.{n4, tables}
-use Rattle.wire.specs.Format.{spelled_number}
-use Rattle.wire.specs.Frames.{frame, frames}
-use Rattle.wire.specs.Messages.{message_front, message, spelled_front, suits_receiver}
-use Rattle.message_bag.specs.Feeding.{HasFrames}
-use Rattle.message_bag.specs.Installing.{frame_count}
+use Rattle.wire.specs.Exports.{frame, frames, message, message_front, n4, spelled_front, spelled_number, suits_receiver, tables}
+use Rattle.message_bag.specs.Exports.{AreKeptFrames, AreOfMessage, CarryTables, First, HasFrames, IsGrown, IsThere, frame_count, frames_in, tables_version}
 use Rattle.message_bag.proofs.InstallationSpelling.{fits_whole}
 use Rattle.switch_table.specs.declared.tables.Tables.{Tables}
-use Rattle.message_bag.specs.KeptFrames.{AreOfMessage, First, IsGrown, AreKeptFrames, IsThere, CarryTables, frames_in, tables_version}
 use Rattle.message_bag.proofs.InstallationFrames.{carried, only_frame}
 
 -- ---- a message of one frame

@@ -1,18 +1,10 @@
 -- A message that is posted again, and what is still posted behind more.
-use Rattle.std.proofs.Common.{◌≡◌, ◌∙◌, ◌≤◌, ◌-◌, ◌+◌, ℕ, zero, suc, true, Option, Some, None, Result, Ok, Err, List, [], ◌∷◌, ◌++◌, length, get_or, set, map, refl, subst, sym, ap, arith}
-use Rattle.std.specs.Prelude.{All, IfSome, IsSome, OnErr, OnOk, option_map, slice_get}
-use Rattle.std.proofs.lemmas.List.{length-map, map_push}
-use Rattle.std.proofs.lemmas.List.Elements.{All-push}
-use Rattle.std.proofs.lemmas.Option.{get_or_from_slice_get, slice_get-map, slice_get_within}
-use Rattle.base.proofs.ListsByPlace.{get_push_at, get_push_left}
+use Rattle.std.proofs.Common.{[], ◌++◌, ◌+◌, ◌-◌, ◌∙◌, ◌∷◌, ◌≡◌, ◌≤◌, All, Err, IfSome, IsSome, List, None, Ok, OnErr, OnOk, Option, Result, Some, ap, arith, get_or, length, map, option_map, refl, set, slice_get, subst, suc, sym, true, zero, ℕ}
+use Rattle.base.proofs.Exports.{All-push, get_or_from_slice_get, get_push_at, get_push_left, length-map, map_push, slice_get-map, slice_get_within}
 use Rattle.ctrl_msg.specs.declared.message.Message.{Message}
-use Rattle.wire.specs.Frames.{frames}
-use Rattle.wire.specs.Messages.{message as form}
+use Rattle.wire.specs.Exports.{frames, message as form}
 use Rattle.message_bag.proofs.FramedMessages.{framed_is}
-use Rattle.message_bag.specs.KeptFrames.{AreKeptFrames, First, frames_in, no_first}
-use Rattle.message_bag.specs.Numbered.{item_numbered}
-use Rattle.message_bag.specs.Posts.{posted_frames}
-use Rattle.message_bag.specs.Sharing.{ArePostedAdverts, IsPostedAdvert}
+use Rattle.message_bag.specs.Exports.{AreKeptFrames, ArePostedAdverts, First, IsPostedAdvert, frames_in, item_numbered, no_first, posted_frames}
 use Rattle.message_bag.specs.declared.sharing_bag.PostedAdvert.{PostedAdvert}
 
 -- ---- a number of a list

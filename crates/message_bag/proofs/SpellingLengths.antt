@@ -1,8 +1,6 @@
 -- How long spellings are: those of all messages but installations are short.
-use Rattle.std.proofs.Common.{◌≡◌, ℕ, ◌+◌, ◌<◌, ◌≤◌, ◌^◌, Bool, true, false, ◌++◌, length, Option, Some, None, refl, arith, ◌*◌, List, [], ◌∷◌, leb}
-use Rattle.std.proofs.lemmas.List.{length-append}
-use Rattle.std.specs.List.{flat_map, list_all}
-use Rattle.std.proofs.lemmas.Bool.{and_parts, leb-true}
+use Rattle.std.proofs.Common.{[], ◌*◌, ◌++◌, ◌+◌, ◌<◌, ◌^◌, ◌∷◌, ◌≡◌, ◌≤◌, Bool, List, None, Option, Some, arith, false, flat_map, leb, leb-true, length, length-append, refl, true, ℕ}
+use Rattle.base.proofs.Exports.{and_parts, list_all}
 use Rattle.ctrl_msg.specs.declared.message.Place.{Place}
 use Rattle.ctrl_msg.specs.declared.message.Place.TheVariants.{Switch, Controller}
 use Rattle.ctrl_msg.specs.declared.message.Body.{Body}
@@ -12,11 +10,9 @@ use Rattle.failover.specs.declared.advert.Advert.{Advert}
 use Rattle.policy_rules.specs.declared.policy.Action.{Action}
 use Rattle.policy_rules.specs.declared.policy.Action.TheVariants.{Drop, Out}
 use Rattle.switch_table.specs.declared.tables.Tables.{Tables}
-use Rattle.ternary.specs.Word.{WordValue}
-use Rattle.wire.specs.Format.{spelled_number}
-use Rattle.wire.specs.Fields.{n1, n4, n8, n16, switch, word, rule_name, action, tables, touched, touched_count}
+use Rattle.ternary.specs.Exports.{WordValue}
+use Rattle.wire.specs.Exports.{acknowledgement, action, advert, body, boot_and_version, cache_rule_form, hello, install_form, kind_number, message, n1, n16, n4, n8, receiver, rule_name, spelled_fields, spelled_number, stamp_form, switch, tables, touched, touched_count, word}
 use Rattle.wire.proofs.FrameBytes.{length_n4}
-use Rattle.wire.specs.Messages.{receiver, install_form, boot_and_version, cache_rule_form, advert, hello, acknowledgement, kind_number, spelled_fields, body, message, stamp_form}
 
 pub length_receiver : (to : Place) → length (receiver.spell to) ≡ 1
 unfolding receiver switch n1 spelled_number

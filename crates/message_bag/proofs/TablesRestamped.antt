@@ -1,19 +1,12 @@
 -- The same tables under another version: only the four bytes of the version differ.
-use Rattle.std.proofs.Common.{◌≡◌, ℕ, suc, ◌+◌, ◌-◌, ◌<◌, ◌^◌, true, ◌&&◌, List, ◌∷◌, ◌++◌, length, take, drop, refl, sym, ap, ◌∙◌, append_assoc, lt-ltb, arith}
-use Rattle.std.specs.Int.{div_ceil}
-use Rattle.std.proofs.Math.Seq.{drop-append-add, take-append-add}
-use Rattle.std.proofs.lemmas.Grind.{div_ceil_times}
-use Rattle.std.proofs.lemmas.List.{drop_at, length-append, take_at}
-use Rattle.std.proofs.lemmas.Bool.{and_parts}
+use Rattle.std.proofs.Common.{◌&&◌, ◌++◌, ◌+◌, ◌-◌, ◌<◌, ◌^◌, ◌∙◌, ◌∷◌, ◌≡◌, List, ap, append_assoc, arith, drop, drop_at, length, length-append, lt-ltb, refl, suc, sym, take, take_at, true, ℕ}
+use Rattle.base.proofs.Exports.{and_parts, div_ceil, div_ceil_times, drop-append-add, take-append-add}
 use Rattle.ctrl_msg.specs.declared.message.Place.{Place}
 use Rattle.ctrl_msg.specs.declared.message.Body.TheVariants.{Install}
 use Rattle.switch_table.specs.declared.tables.Tables.{Tables}
-use Rattle.wire.specs.Fields.{n4, partition, region, tables}
-use Rattle.wire.specs.Format.{list_of}
-use Rattle.wire.specs.Frames.{begun_with, frame, frames, frames_from, frames_of_version, most_of_chunk, equal_chunks}
-use Rattle.wire.specs.Messages.{spelled_front}
+use Rattle.wire.specs.Exports.{begun_with, equal_chunks, frame, frames, frames_from, frames_of_version, list_of, most_of_chunk, n4, partition, region, spelled_front, tables}
 use Rattle.wire.proofs.FrameBytes.{length_n4}
-use Rattle.message_bag.specs.Installing.{frame_count, table_frames, table_chunks}
+use Rattle.message_bag.specs.Exports.{frame_count, table_chunks, table_frames}
 use Rattle.message_bag.proofs.InstallationSpelling.{installed}
 
 -- ---- the chunks

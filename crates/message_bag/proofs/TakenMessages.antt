@@ -1,12 +1,9 @@
 -- What is taken out of the frames is the message of the number.
-use Rattle.std.proofs.Common.{◌≡◌, ◌⊎◌, ◌<◌, ℕ, true, Option, Some, None, Result, Ok, Err, inl, inr, List, length, refl, ap, sym, ◌∙◌, arith}
-use Rattle.std.specs.Prelude.{IfOk, IfSome, IsNone, ◌↔◌, is_some}
-use Rattle.std.specs.List.{zip}
+use Rattle.std.proofs.Common.{◌<◌, ◌↔◌, ◌∙◌, ◌≡◌, ◌⊎◌, Err, IfOk, IfSome, IsNone, List, None, Ok, Option, Result, Some, ap, arith, inl, inr, is_some, length, refl, sym, true, zip, ℕ}
 use Rattle.ctrl_msg.specs.declared.message.Message.{Message}
-use Rattle.message_bag.specs.KeptFrames.{IsPosted}
-use Rattle.wire.specs.Frames.{frames}
+use Rattle.message_bag.specs.Exports.{IsMessageOf, IsPosted, is_post_deliverable}
+use Rattle.wire.specs.Exports.{frames}
 use Rattle.message_bag.specs.Deliveries as statuses
-use Rattle.message_bag.specs.Posts.{IsMessageOf, is_post_deliverable}
 use Rattle.message_bag.specs.declared.deliveries.MessageState.{MessageState}
 use Rattle.message_bag.proofs.FramedMessages.{framed_is}
 use Rattle.message_bag.proofs.FramesByStatus.{deliverable_same, deliverable_within, the_frames}

@@ -1,15 +1,8 @@
 -- What becomes of the waiting messages when the list of statuses changes, and which one is found.
-use Rattle.std.proofs.Common.{◌≡◌, ◌+◌, ◌-◌, ◌^◌, ◌<◌, ◌≤◌, ◌∙◌, inl, inr, ap, sym, subst, refl, ℕ, Bool, true, false, cond, Option, Some, None, List, [], ◌∷◌, ◌++◌, zero, suc, length, set, get_or, take, max, eq-eqb, arith, length-append}
-use Rattle.std.specs.Prelude.{slice_get, option_map, find, IsTrue, ◌==◌, if◌then◌else◌}
-use Rattle.std.specs.Option.{option_map_or}
-use Rattle.std.specs.List.{range_with_len}
-use Rattle.std.proofs.Math.Seq.{take-append_seam}
-use Rattle.std.proofs.lemmas.Bool.{cases_lt, cases_eq, ne_eqb}
-use Rattle.std.proofs.lemmas.Grind.{common_steps}
-use Rattle.std.proofs.lemmas.Option.{get_or_from_slice_get}
+use Rattle.std.proofs.Common.{[], if◌then◌else◌, ◌++◌, ◌+◌, ◌-◌, ◌<◌, ◌==◌, ◌^◌, ◌∙◌, ◌∷◌, ◌≡◌, ◌≤◌, Bool, IsTrue, List, None, Option, Some, ap, arith, cond, eq-eqb, false, find, get_or, inl, inr, length, length-append, max, ne_eqb, option_map, refl, set, slice_get, subst, suc, sym, take, true, zero, ℕ}
+use Rattle.base.proofs.Exports.{cases_eq, cases_lt, common_steps, get_or_from_slice_get, option_map_or, range_with_len, take-append_seam}
 use Rattle.message_bag.proofs.NumberedPosts.{length_changed, numbered_changed, numbered_pushed}
-use Rattle.message_bag.specs.Deliveries.{waiting_status, waits, is_waiting, is_deliverable, next_waiting, may_be_delivered, ArePassed, IsFirstWaiting}
-use Rattle.message_bag.specs.Numbered.{item_numbered, with_changed}
+use Rattle.message_bag.specs.Exports.{ArePassed, IsFirstWaiting, is_deliverable, is_waiting, item_numbered, may_be_delivered, next_waiting, waiting_status, waits, with_changed}
 use Rattle.message_bag.specs.declared.deliveries.MessageState.{MessageState}
 
 waits_as : (statuses after : List MessageState) (number : ℕ) (b : Bool)

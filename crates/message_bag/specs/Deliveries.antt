@@ -1,8 +1,7 @@
 -- What becomes of numbered messages in a network that loses, duplicates and reorders what it
 -- carries: each is delivered any number of times, in any order, until it is forgotten.
-use Rattle.std.specs.Prelude.{ℕ, ◌≡◌, ◌+◌, ◌-◌, ◌^◌, ◌<◌, ◌≤◌, Bool, true, false, not, ◌&&◌, Option, List, length, find}
-use Rattle.std.specs.List.{range_with_len}
-use Rattle.std.specs.Option.{option_map_or}
+use Rattle.std.specs.Prelude.{◌&&◌, ◌+◌, ◌-◌, ◌<◌, ◌^◌, ◌≡◌, ◌≤◌, Bool, List, Option, false, find, length, not, true, ℕ}
+use Rattle.base.specs.Exports.{option_map_or, range_with_len}
 use Rattle.message_bag.specs.Numbered.{item_numbered}
 use Rattle.message_bag.specs.declared.deliveries.MessageState.{MessageState}
 

@@ -1,10 +1,7 @@
 -- Frames of a message with which an assembler is fed, one after another.
-use Rattle.std.specs.Prelude.{ℕ, ◌^◌, ◌<◌, ◌≡◌, true, List, [], ◌∷◌, length, All}
-use Rattle.std.specs.List.{Contains}
+use Rattle.std.specs.Prelude.{[], ◌<◌, ◌^◌, ◌∷◌, ◌≡◌, All, Contains, List, length, true, ℕ}
 use Rattle.ctrl_msg.specs.declared.message.Message.{Message}
-use Rattle.wire.specs.Assembly.{with_frame}
-use Rattle.wire.specs.Frames.{frames}
-use Rattle.wire.specs.Messages.{HasSpelling, message}
+use Rattle.wire.specs.Exports.{HasSpelling, frames, message, with_frame}
 
 -- a message that is sent in frames: it has an encoding, of fewer than 2^40 bytes
 pub record HasFrames (m : Message) : Type 0 where

@@ -1,12 +1,11 @@
 -- The frames of an installation: the first one encodes the receiver and the boot, and the others
 -- only the tables.
-use Rattle.std.specs.Prelude.{◌≡◌, ℕ, ◌+◌, true, List, ◌∷◌, length, drop}
-use Rattle.std.specs.Int.{div_ceil}
+use Rattle.std.specs.Prelude.{◌+◌, ◌∷◌, ◌≡◌, List, drop, length, true, ℕ}
+use Rattle.base.specs.Exports.{div_ceil}
 use Rattle.ctrl_msg.specs.declared.message.Place.{Place}
 use Rattle.switch_table.specs.declared.tables.Tables.{Tables}
 use Rattle.wire.specs.Fields as form
-use Rattle.wire.specs.Frames.{frame, frames_from, most_of_chunk, equal_chunks}
-use Rattle.wire.specs.Messages.{spelled_front}
+use Rattle.wire.specs.Exports.{equal_chunks, frame, frames_from, most_of_chunk, spelled_front}
 
 -- the encoding of the tables, in as few chunks as possible
 abbrev pub table_chunks : Tables → List (List ℕ)

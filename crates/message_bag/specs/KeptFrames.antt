@@ -1,14 +1,12 @@
 -- Messages that are kept as their frames.
-use Rattle.std.specs.Prelude.{ℕ, ◌≡◌, ◌+◌, ◌-◌, ◌<◌, ◌≤◌, true, Option, Some, None, List, [], ◌∷◌, ◌++◌, length, take, drop, get_or, slice_get}
+use Rattle.std.specs.Prelude.{[], ◌++◌, ◌+◌, ◌-◌, ◌<◌, ◌∷◌, ◌≡◌, ◌≤◌, List, None, Option, Some, drop, get_or, length, slice_get, take, true, ℕ}
 use Rattle.ctrl_msg.specs.declared.message.Body.{Body}
 use Rattle.ctrl_msg.specs.declared.message.Body.TheVariants.{Install}
 use Rattle.ctrl_msg.specs.declared.message.Message.{Message}
 use Rattle.message_bag.specs.Feeding.{HasFrames, HasShortSpelling}
 use Rattle.message_bag.specs.Installing.{AreBehind, frame_count}
 use Rattle.switch_table.specs.declared.tables.Tables.{Tables}
-use Rattle.wire.specs.Fields.{n4}
-use Rattle.wire.specs.Frames.{frames}
-use Rattle.wire.specs.Messages.{message}
+use Rattle.wire.specs.Exports.{frames, message, n4}
 use Rattle.message_bag.specs.declared.firsts.Span.{Span}
 
 -- the version of the tables that an installation carries

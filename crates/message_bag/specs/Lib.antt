@@ -5,3 +5,4 @@ pub mod Numbered
 pub mod Deliveries
 pub mod Posts
 pub mod Sharing
+pub mod Exports

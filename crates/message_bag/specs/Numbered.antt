@@ -1,6 +1,6 @@
 -- Things that are numbered from 1 in the order in which they came.
-use Rattle.std.specs.Prelude.{ℕ, Option, None, List, zero, suc, set, slice_get}
-use Rattle.std.specs.Option.{option_map_or}
+use Rattle.std.specs.Prelude.{List, None, Option, set, slice_get, suc, zero, ℕ}
+use Rattle.base.specs.Exports.{option_map_or}
 
 -- the one of a number
 abbrev pub item_numbered : {X : Type 0} → List X → ℕ → Option X

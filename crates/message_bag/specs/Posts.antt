@@ -1,10 +1,8 @@
 -- The messages that were posted, as the frames that travel, each with what became of it, numbered
 -- from 1 in the order in which they were posted.
-use Rattle.std.specs.Prelude.{ℕ, ◌≡◌, Bool, true, if◌then◌else◌, Option, Some, None, is_some, List, [], map}
-use Rattle.std.specs.Option.{option_and_then}
+use Rattle.std.specs.Prelude.{[], if◌then◌else◌, ◌≡◌, Bool, List, None, Option, Some, is_some, map, option_and_then, true, ℕ}
 use Rattle.ctrl_msg.specs.declared.message.Message.{Message}
-use Rattle.wire.specs.Frames.{frames}
-use Rattle.wire.specs.Messages.{message as form}
+use Rattle.wire.specs.Exports.{frames, message as form}
 use Rattle.message_bag.specs.Deliveries as statuses
 use Rattle.message_bag.specs.Numbered.{item_numbered, with_changed}
 use Rattle.message_bag.specs.declared.deliveries.MessageState.{MessageState}

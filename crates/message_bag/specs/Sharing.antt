@@ -1,5 +1,5 @@
 -- Adverts that were posted, which a bag shares when they are posted again.
-use Rattle.std.specs.Prelude.{ℕ, ◌≡◌, Option, Some, None, List, get_or}
+use Rattle.std.specs.Prelude.{◌≡◌, List, None, Option, Some, get_or, ℕ}
 use Rattle.message_bag.specs.Numbered.{item_numbered}
 use Rattle.message_bag.specs.Posts.{posted_frames}
 use Rattle.message_bag.specs.declared.sharing_bag.PostedAdvert.{PostedAdvert}

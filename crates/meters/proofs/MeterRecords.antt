@@ -1,13 +1,8 @@
 -- The records of the meters that left, meter by meter and leaving by leaving.
-use Rattle.std.proofs.Common.{◌≡◌, ℕ, ◌+◌, ◌<◌, ◌≤◌, List, [], ◌∷◌, ◌++◌, length, map, drop, set, get_or, sym, ◌∙◌, ap}
-use Rattle.std.specs.List.{flat_map, remove}
-use Rattle.std.proofs.Math.ListN.{drop_of_length-le}
-use Rattle.std.proofs.lemmas.List.{append-nil, append_assoc}
-use Rattle.base.proofs.ListsByPlace.{drop_at_item, drop_removed, drop_set}
+use Rattle.std.proofs.Common.{[], ◌++◌, ◌+◌, ◌<◌, ◌∙◌, ◌∷◌, ◌≡◌, ◌≤◌, List, ap, append-nil, append_assoc, drop, drop_of_length-le, flat_map, get_or, length, map, remove, set, sym, ℕ}
+use Rattle.base.proofs.Exports.{drop_at_item, drop_removed, drop_set}
 use Rattle.policy_rules.specs.declared.packet.Leaving.{Leaving}
-use Rattle.meters.specs.Gone.{BoardValue, board_after, gone_after, gone_records, leaving_records}
-use Rattle.meters.specs.Meters.{PortLeavings, kept_meters, meters_after}
-use Rattle.meters.specs.Seen.{Seen}
+use Rattle.meters.specs.Exports.{BoardValue, PortLeavings, Seen, board_after, gone_after, gone_records, kept_meters, leaving_records, meters_after}
 use Rattle.meters.specs.declared.flows.FlowRecord.{FlowRecord}
 use Rattle.meters.proofs.MetersKept.{kept-nothing, kept_on}
 

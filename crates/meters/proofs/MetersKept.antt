@@ -1,16 +1,8 @@
 -- The meters that stay, meter by meter and leaving by leaving.
-use Rattle.std.proofs.Common.{◌≡◌, ◌≢◌, ℕ, zero, suc, ◌+◌, ◌<◌, ◌≤◌, Bool, true, false, cond, not, ◌||◌, ◌==◌, List, [], ◌∷◌, ◌++◌, length, map, filter, take, drop, set, get_or, refl, sym, ◌∙◌, ap, add-one, arith}
-use Rattle.std.specs.List.{list_any, range_with_len, remove}
-use Rattle.std.proofs.Math.Bool.{or_assoc}
-use Rattle.std.proofs.Math.ListN.{drop_of_length-le}
-use Rattle.std.proofs.lemmas.List.{append-nil, append_assoc, length-take-le, map-append, take_all, take_more_set}
-use Rattle.std.proofs.lemmas.Bool.Decides.{nat_tests}
-use Rattle.std.proofs.lemmas.List.Elements.{filter-append}
-use Rattle.std.proofs.lemmas.Bool.{ne_eqb}
-use Rattle.base.proofs.ListsByPlace.{drop_at_item, drop_set, remove-set, seam_at}
+use Rattle.std.proofs.Common.{[], ◌++◌, ◌+◌, ◌<◌, ◌==◌, ◌||◌, ◌∙◌, ◌∷◌, ◌≡◌, ◌≢◌, ◌≤◌, Bool, List, add-one, ap, append-nil, append_assoc, arith, cond, drop, drop_of_length-le, false, filter, get_or, length, length-take-le, map, ne_eqb, not, refl, remove, set, suc, sym, take, take_all, true, zero, ℕ}
+use Rattle.base.proofs.Exports.{drop_at_item, drop_set, filter-append, list_any, map-append, nat_tests, or_assoc, range_with_len, remove-set, seam_at, take_more_set}
 use Rattle.policy_rules.specs.declared.packet.Leaving.{Leaving}
-use Rattle.meters.specs.Meters.{PortLeavings, meter_with, has_ended, is_ended_within, leavings_of, meters_after, IsNoted}
-use Rattle.meters.specs.Seen.{Seen}
+use Rattle.meters.specs.Exports.{IsNoted, PortLeavings, Seen, has_ended, is_ended_within, leavings_of, meter_with, meters_after}
 use Rattle.meters.specs.declared.meter.Stay.TheVariants as stay
 
 -- ---- the moments of one meter

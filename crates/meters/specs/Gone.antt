@@ -1,6 +1,6 @@
 -- The flow records of the meters that left, and what contracts see of a board.
-use Rattle.std.specs.Prelude.{◌≡◌, ◌==◌, ◌&&◌, if◌then◌else◌, ℕ, Bool, List, [], ◌∷◌, ◌++◌, map, filter, flat_map}
-use Rattle.base.specs.Masks.{has}
+use Rattle.std.specs.Prelude.{[], if◌then◌else◌, ◌&&◌, ◌++◌, ◌==◌, ◌∷◌, ◌≡◌, Bool, List, filter, flat_map, map, ℕ}
+use Rattle.base.specs.Exports.{has}
 use Rattle.policy_rules.specs.declared.packet.Leaving.{Leaving}
 use Rattle.meters.specs.Meters.{PortLeavings, has_ended, kept_meters, meter_with, meters_after, flow_records_of}
 use Rattle.meters.specs.Seen.{Seen}

@@ -1,3 +1,4 @@
 pub mod Gone
 pub mod Meters
 pub mod Seen
+pub mod Exports

@@ -1,7 +1,6 @@
 -- Meters: what contracts know of one, and which meters stay.
-use Rattle.std.specs.Prelude.{◌≡◌, ◌==◌, ℕ, Bool, true, false, not, List, [], ◌∷◌, ◌++◌, length, map, filter, take}
-use Rattle.std.specs.List.{list_any, range_with_len}
-use Rattle.base.specs.Masks.{has}
+use Rattle.std.specs.Prelude.{[], ◌++◌, ◌==◌, ◌∷◌, ◌≡◌, Bool, List, false, filter, length, map, not, take, true, ℕ}
+use Rattle.base.specs.Exports.{has, list_any, range_with_len}
 use Rattle.policy_rules.specs.declared.packet.Leaving.{Leaving}
 use Rattle.meters.specs.declared.flows.FlowRecord.{FlowRecord}
 use Rattle.meters.specs.declared.meter.Stay.{Stay}

@@ -1,19 +1,11 @@
 -- Ports one by one, with the mask of those before.
-use Rattle.std.proofs.Common.{ℕ, ◌≡◌, ◌^◌, Bool, true, false, not, ◌&&◌, ◌||◌, [], ◌∷◌, ◌++◌, refl, ap, sym, ◌∙◌, arith}
-use Rattle.std.specs.Prelude.{List, Ok, Some, None, codes, filter_map, is_some, map, bit_or, nat_eq}
-use Rattle.std.specs.List.{list_all, list_any}
-use Rattle.std.proofs.lemmas.List.Folds.{list_all-map, list_any-append}
+use Rattle.std.proofs.Common.{[], ◌&&◌, ◌++◌, ◌^◌, ◌||◌, ◌∙◌, ◌∷◌, ◌≡◌, Bool, List, None, Ok, Some, ap, arith, bit_or, codes, false, filter_map, is_some, map, nat_eq, not, refl, sym, true, ℕ}
+use Rattle.base.proofs.Exports.{list_all, list_all-map, list_any, list_any-append, nat_tests, or-false}
 use Rattle.toml.specs.Data.{Data, Members, as_integer, get_member}
 use Rattle.toml.specs.View.{view}
 use Rattle.toml.specs.declared.value.Value.{Value}
-use Rattle.std.proofs.lemmas.Bool.Decides.{nat_tests}
-use Rattle.std.proofs.Math.Bool.{or-false}
-use Rattle.net_file.specs.Joins.{has_port}
-use Rattle.net_file.specs.Reading.{are_distinct, are_new, array_in, port_read, ports_at}
-use Rattle.net_file.specs.Refusals.{require}
+use Rattle.net_file.specs.Exports.{IsMask, are_distinct, are_new, array_in, has_port, have_port, port_read, ports_at, require}
 use Rattle.net_file.specs.declared.net.SwitchRow.{SwitchRow}
-use Rattle.net_file.specs.Owners.{have_port}
-use Rattle.net_file.specs.Laws.{IsMask}
 use Rattle.net_file.specs.declared.error.NetRefusal.TheVariants as refusal
 use Rattle.net_file.proofs.MaskBits.{in_mask, in_mask_with}
 

@@ -1,11 +1,8 @@
 -- Bits of masks.
-use Rattle.std.proofs.Common.{ℕ, ◌≡◌, ◌^◌, ◌<◌, ◌≤◌, Bool, false, ◌||◌, ap, ◌∙◌, inl, inr}
-use Rattle.std.specs.Prelude.{bit_or, nat_eq, ◌==◌}
-use Rattle.std.specs.Int.{bit_at}
-use Rattle.std.proofs.lemmas.Bool.{cases_eq, eq-eqb, ne_eqb}
+use Rattle.std.proofs.Common.{◌<◌, ◌==◌, ◌^◌, ◌||◌, ◌∙◌, ◌≡◌, ◌≤◌, Bool, ap, bit_or, eq-eqb, false, inl, inr, nat_eq, ne_eqb, ℕ}
+use Rattle.base.proofs.Exports.{bit_at, cases_eq}
 use Rattle.base.proofs.CallerLemmas as masks
-use Rattle.base.specs.Masks.{has}
-use Rattle.base.specs.ComputedMasks.{mask_of}
+use Rattle.base.specs.Exports.{has, mask_of}
 
 abbrev pub in_mask : ℕ → ℕ → Bool
 in_mask mask k = bit_at mask k == 1

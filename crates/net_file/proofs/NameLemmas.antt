@@ -1,13 +1,7 @@
 -- Names are text.
-use Rattle.std.proofs.Common.{◌≡◌, ℕ, zero, suc, ◌<◌, true, ◌&&◌, List, [], ◌∷◌, length, leb, get_or, arith}
-use Rattle.std.specs.Bool.{IsTrue}
-use Rattle.std.specs.Char.{is_ascii_alphabetic}
-use Rattle.std.specs.Str.{IsUtf8}
-use Rattle.std.specs.Prelude.{bytes_eq, codes, not}
-use Rattle.std.proofs.lemmas.Bool.{and_parts}
-use Rattle.std.proofs.lemmas.Bool.Decides.{nat_tests}
-use Rattle.std.proofs.lemmas.Str.{IsUtf8-from_ascii}
-use Rattle.net_file.specs.Net.{are_name_bytes, is_label, is_name, is_name_byte}
+use Rattle.std.proofs.Common.{[], ◌&&◌, ◌<◌, ◌∷◌, ◌≡◌, IsTrue, IsUtf8, List, arith, bytes_eq, codes, get_or, leb, length, not, suc, true, zero, ℕ}
+use Rattle.base.proofs.Exports.{IsUtf8-from_ascii, and_parts, is_ascii_alphabetic, nat_tests}
+use Rattle.net_file.specs.Exports.{are_name_bytes, is_label, is_name, is_name_byte}
 
 small_letter : (byte : ℕ) → is_ascii_alphabetic byte ≡ true → byte < 128
 small_letter byte is = grind (arith, nat_tests)

@@ -1,22 +1,10 @@
 -- The place of the first row that passes a test, and the laws of numbers, owners and links.
-use Rattle.std.proofs.Common.{ℕ, zero, suc, ◌≡◌, ◌<◌, ◌≤◌, true, false, not, ◌&&◌, Option, Some, None, List, [], ◌∷◌, length, get_or, refl, ap, sym, subst, ◌∙◌, inl, inr, arith}
-use Rattle.std.specs.Prelude.{All, bytes_eq, codes, is_some, nat_le, slice_get, ◌==◌}
-use Rattle.std.specs.Char.{is_ascii_alphabetic}
-use Rattle.std.proofs.lemmas.Bool.{and_parts, both_ways, cases_lt, false_from_ne_true, false≢true, leb-true, not-true, or_cases, eqb-true}
-use Rattle.std.proofs.lemmas.List.Folds.{Any-from_list_any, list_any_none}
-use Rattle.std.proofs.lemmas.List.Quantifiers.{position-Some}
-use Rattle.std.proofs.lemmas.Option.{get_or_from_slice_get, slice_get_within}
-use Rattle.std.proofs.lemmas.Slice.Eq.{bytes_eq-Decides}
-use Rattle.std.proofs.Math.Bool.{or_comm}
-use Rattle.base.proofs.CallerLemmas.{mask_of_lt}
-use Rattle.base.proofs.ListsFound.{position_at, position_none, position_row, some_position}
+use Rattle.std.proofs.Common.{[], ◌&&◌, ◌<◌, ◌==◌, ◌∙◌, ◌∷◌, ◌≡◌, ◌≤◌, All, List, None, Option, Some, ap, arith, bytes_eq, codes, eqb-true, false, get_or, inl, inr, is_some, leb-true, length, nat_le, not, refl, slice_get, subst, suc, sym, true, zero, ℕ}
+use Rattle.base.proofs.Exports.{Any-from_list_any, and_parts, both_ways, bytes_eq-Decides, cases_lt, false_from_ne_true, false≢true, get_or_from_slice_get, is_ascii_alphabetic, list_any_none, mask_of_lt, not-true, or_cases, or_comm, position-Some, position_at, position_none, position_row, slice_get_within, some_position}
 use Rattle.net_file.specs.declared.net.SwitchRow.{SwitchRow}
 use Rattle.net_file.specs.declared.net.LinkRow.{LinkRow}
 use Rattle.net_file.specs.declared.net.Net.{Net}
-use Rattle.net_file.specs.Laws.{IsPlainByte, NetLinkLaws, NameLaws, PortLaws}
-use Rattle.net_file.specs.Net.{AreApart, IsLink, IsNet, IsSwitchRow, are_name_bytes, is_label, is_name, is_name_byte}
-use Rattle.net_file.specs.Owners.{have_port, port_mask}
-use Rattle.net_file.specs.Joins.{are_linked, has_port, joins, owner_of}
+use Rattle.net_file.specs.Exports.{AreApart, IsLink, IsNet, IsPlainByte, IsSwitchRow, NameLaws, NetLinkLaws, PortLaws, are_linked, are_name_bytes, has_port, have_port, is_label, is_name, is_name_byte, joins, owner_of, port_mask}
 use Rattle.net_file.proofs.MaskBits.{in_mask, in_mask_of, in_mask_past}
 
 -- ---- places

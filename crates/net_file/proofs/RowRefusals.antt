@@ -1,13 +1,12 @@
 -- The rows so far, one value further.
-use Rattle.std.proofs.Common.{ℕ, ◌≡◌, ◌+◌, Ok, Result, List, [], ◌∷◌, ◌++◌, length, refl}
+use Rattle.std.proofs.Common.{[], ◌++◌, ◌+◌, ◌∷◌, ◌≡◌, List, Ok, Result, length, refl, ℕ}
 use Rattle.toml.specs.Data.{Data}
 use Rattle.net_file.specs.declared.error.NetRefusal.{NetRefusal}
-use Rattle.net_file.specs.Refusals.{with_value}
-use Rattle.base.specs.Refusals.{IsRefusal, in_row}
+use Rattle.net_file.specs.Exports.{rows_read, with_value}
+use Rattle.base.specs.Exports.{IsRefusal, in_row}
 use Rattle.base.specs.declared.error.Failure.{Failure}
 use Rattle.base.specs.declared.error.Failure.TheVariants.{Refused, NoMemory}
 use Rattle.base.specs.declared.row.InRow.{InRow}
-use Rattle.net_file.specs.Reading.{rows_read}
 
 -- the next value states a row
 pub next_row : {X : Type 0} (base : ℕ) (read : List X → Data → Result X NetRefusal)

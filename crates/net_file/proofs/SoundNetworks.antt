@@ -1,29 +1,14 @@
 -- What a text states is a network.
-use Rattle.std.proofs.Common.{ℕ, ℤ, pos, negsuc, ◌≡◌, ◌+◌, ◌<◌, ◌≤◌, Bool, true, false, not, ◌&&◌, nat_le, Ok, Err, Result, Option, Some, None, List, [], ◌∷◌, ◌++◌, length, length-append, refl, ap, sym, subst, ◌∙◌, inl, inr, arith}
-use Rattle.std.specs.Prelude.{All, AllPairs, bytes_eq, codes, if◌then◌else◌, is_ok, nat_eq, nat_lt, ok_or, ◌==◌}
-use Rattle.std.specs.List.{list_any}
-use Rattle.std.specs.Option.{option_map_or}
-use Rattle.std.proofs.lemmas.Bool.{and_parts, both_ways, cases_lt, false_from_ne_true, false≢true, leb-true, ltb-true, not-true, or_parts, or_cases, eqb-false, eqb-true}
-use Rattle.std.proofs.lemmas.List.Elements.{All-push}
-use Rattle.std.proofs.lemmas.List.Folds.{list_any_at}
-use Rattle.std.proofs.lemmas.List.Quantifiers.{all_pairs_push, position-Some}
+use Rattle.std.proofs.Common.{[], if◌then◌else◌, ◌&&◌, ◌++◌, ◌+◌, ◌<◌, ◌==◌, ◌∙◌, ◌∷◌, ◌≡◌, ◌≤◌, All, AllPairs, Bool, Err, List, None, Ok, Option, Result, Some, ap, arith, bytes_eq, codes, eqb-true, false, inl, inr, is_ok, leb-true, length, length-append, ltb-true, nat_eq, nat_le, nat_lt, negsuc, not, ok_or, pos, refl, subst, sym, true, ℕ, ℤ}
+use Rattle.base.proofs.Exports.{All-push, all_pairs_push, and_parts, both_ways, cases_lt, eqb-false, false_from_ne_true, false≢true, list_any, list_any_at, mask_of_lt, none_passes, not-true, ok_value, option_map_or, or_cases, or_parts, position-Some}
 use Rattle.toml.specs.Data.{Data, Members, get_member, as_integer, as_str, as_table}
 use Rattle.net_file.specs.declared.error.NetRefusal.{NetRefusal}
 use Rattle.net_file.specs.declared.error.NetRefusal.TheVariants as refusal
 use Rattle.net_file.specs.declared.net.SwitchRow.{SwitchRow}
 use Rattle.net_file.specs.declared.net.LinkRow.{LinkRow}
 use Rattle.net_file.specs.declared.net.Net.{Net}
-use Rattle.net_file.specs.Keys.{at_key, number_within, of_type}
-use Rattle.base.specs.ComputedMasks.{mask_of}
-use Rattle.base.proofs.CallerLemmas.{mask_of_lt}
-use Rattle.net_file.specs.Net.{AreApart, AreOther, IsLink, IsNet, IsSwitchRow, is_name}
-use Rattle.net_file.specs.Reading.{are_distinct, are_new, array_in, document_of, end_read, ends_in, link_array, link_of, link_with, name_in, net_read, net_of, number_stated, ports_in, rows_read, number_or_default, switch_array, switch_read, switch_with}
-use Rattle.net_file.specs.Refusals.{require, with_value}
-use Rattle.base.specs.Refusals.{in_row}
-use Rattle.base.proofs.ListsOfAny.{none_passes}
-use Rattle.base.proofs.ResultsMade.{ok_value}
-use Rattle.net_file.specs.Owners.{have_name, have_port, switch_number}
-use Rattle.net_file.specs.Joins.{are_linked, has_port, joins}
+use Rattle.net_file.specs.Exports.{AreApart, AreOther, IsLink, IsNet, IsSwitchRow, are_distinct, are_linked, are_new, array_in, at_key, document_of, end_read, ends_in, has_port, have_name, have_port, is_name, joins, link_array, link_of, link_with, name_in, net_of, net_read, number_or_default, number_stated, number_within, of_type, ports_in, require, rows_read, switch_array, switch_number, switch_read, switch_with, with_value}
+use Rattle.base.specs.Exports.{in_row, mask_of}
 use Rattle.net_file.proofs.MaskBits.{in_mask, in_mask_of, in_mask_past}
 
 -- ---- what led to a value

@@ -1,9 +1,9 @@
 -- A `Value`'s items as a list.
-use Rattle.std.proofs.Common.{ℕ, ◌≡◌, ◌+◌, ◌<◌, ◌≤◌, List, [], ◌∷◌, length, drop, get_or, map, refl, ap, sym, ◌∙◌}
-use Rattle.std.proofs.lemmas.List.{drop_all, drop_more}
+use Rattle.std.proofs.Common.{[], ◌+◌, ◌<◌, ◌∙◌, ◌∷◌, ◌≡◌, ◌≤◌, List, ap, drop, get_or, length, map, refl, sym, ℕ}
+use Rattle.base.proofs.Exports.{drop_all, drop_more}
 use Rattle.toml.specs.View.{items_view, view}
 use Rattle.toml.specs.declared.value.Value.{Value}
-use Rattle.net_file.specs.Keys.{items_list}
+use Rattle.net_file.specs.Exports.{items_list}
 
 pub items_list_view : (vs : List Value) → items_list (items_view vs) ≡ map view vs
 items_list_view [] = refl

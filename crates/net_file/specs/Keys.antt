@@ -1,7 +1,7 @@
 -- The values of a TOML table: what is at a key, and the refusal of what is absent, of another type
 -- or out of range.
-use Rattle.std.specs.Prelude.{ℕ, ℤ, pos, negsuc, ◌&&◌, nat_le, if◌then◌else◌, Option, Some, None, Result, Ok, Err, List, [], ◌∷◌}
-use Rattle.std.specs.Option.{option_map_or}
+use Rattle.std.specs.Prelude.{[], if◌then◌else◌, ◌&&◌, ◌∷◌, Err, List, None, Ok, Option, Result, Some, nat_le, negsuc, pos, ℕ, ℤ}
+use Rattle.base.specs.Exports.{option_map_or}
 use Rattle.toml.specs.Data.{Data, Items, no_items, item, Members, get_member}
 use Rattle.net_file.specs.declared.error.NetRefusal.{NetRefusal}
 use Rattle.net_file.specs.declared.error.NetRefusal.TheVariants as refusal

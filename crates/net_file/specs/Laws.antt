@@ -1,6 +1,6 @@
 -- The laws of networks: `x_laws` of the crate ensures the record of each.
-use Rattle.std.specs.Prelude.{ℕ, ◌≡◌, ◌≢◌, ◌<◌, ◌≤◌, ◌==◌, true, false, Some, is_some, List, All, length, slice_get, codes, Bool}
-use Rattle.std.specs.Int.{bit_at}
+use Rattle.std.specs.Prelude.{◌<◌, ◌==◌, ◌≡◌, ◌≢◌, ◌≤◌, All, Bool, List, Some, codes, false, is_some, length, slice_get, true, ℕ}
+use Rattle.base.specs.Exports.{bit_at}
 use Rattle.net_file.specs.declared.net.SwitchRow.{SwitchRow}
 use Rattle.net_file.specs.declared.net.LinkRow.{LinkRow}
 use Rattle.net_file.specs.declared.net.Net.{Net}

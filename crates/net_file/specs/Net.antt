@@ -1,8 +1,6 @@
 -- First tier. Networks that a text can state, the one of a single switch, and names of switches.
-use Rattle.std.specs.Prelude.{ℕ, ◌≢◌, ◌-◌, ◌^◌, ◌<◌, ◌≤◌, ◌==◌, Bool, false, ◌&&◌, ◌||◌, not, nat_le, List, [], ◌∷◌, length, All, AllPairs, IsTrue, IsFalse, codes, bytes_eq, ◌++◌, slice_get}
-use Rattle.std.specs.List.{list_all, flat_map}
-use Rattle.std.specs.Char.{is_ascii_alphabetic, is_ascii_alphanumeric}
-use Rattle.std.specs.Option.{option_map_or}
+use Rattle.std.specs.Prelude.{[], ◌&&◌, ◌++◌, ◌-◌, ◌<◌, ◌==◌, ◌^◌, ◌||◌, ◌∷◌, ◌≢◌, ◌≤◌, All, AllPairs, Bool, IsFalse, IsTrue, List, bytes_eq, codes, false, flat_map, length, nat_le, not, slice_get, ℕ}
+use Rattle.base.specs.Exports.{is_ascii_alphabetic, is_ascii_alphanumeric, list_all, option_map_or}
 use Rattle.net_file.specs.declared.net.SwitchRow.{SwitchRow}
 use Rattle.net_file.specs.declared.net.LinkRow.{LinkRow}
 use Rattle.net_file.specs.declared.net.Net.{Net}

@@ -1,6 +1,6 @@
 -- What a reader of a part of the text returns.
-use Rattle.std.specs.Prelude.{◌≡◌, List, map, Result, Ok, Err}
-use Rattle.std.specs.Borrow.{Bor}
+use Rattle.std.specs.Prelude.{◌≡◌, Err, List, Ok, Result, map}
+use Rattle.base.specs.Exports.{Bor}
 use Rattle.toml.specs.Data.{Data}
 use Rattle.toml.specs.View.{view}
 use Rattle.toml.specs.declared.value.Value.{Value}

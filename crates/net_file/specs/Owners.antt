@@ -1,11 +1,10 @@
 -- Which switch has a name or a port: its number, a test, a mask, and a table.
-use Rattle.std.specs.Prelude.{ℕ, ◌≡◌, List, Option, None, slice_index_or, Bool, position, bytes_eq}
-use Rattle.std.specs.List.{list_any}
+use Rattle.std.specs.Prelude.{◌≡◌, Bool, List, None, Option, bytes_eq, position, slice_index_or, ℕ}
+use Rattle.base.specs.Exports.{list_any, mask_of}
 use Rattle.net_file.specs.declared.net.SwitchRow.{SwitchRow}
 use Rattle.net_file.specs.declared.ports.Ports.{Ports}
 use Rattle.net_file.specs.Joins.{owner_of, has_port, are_linked}
 use Rattle.net_file.specs.declared.net.LinkRow.{LinkRow}
-use Rattle.base.specs.ComputedMasks.{mask_of}
 
 -- what the table says about a port
 abbrev pub port_owner : Ports → ℕ → Option ℕ

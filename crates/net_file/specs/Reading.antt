@@ -1,14 +1,11 @@
 -- The network that a text states: a TOML 1.1 document, checked in the order of the network file.
-use Rattle.std.specs.Prelude.{ℕ, ◌+◌, ◌==◌, Bool, true, ◌&&◌, not, nat_eq, nat_le, nat_lt, is_some, if◌then◌else◌, Option, Some, None, option_and_then, ok_or, Result, Ok, Err, List, [], ◌∷◌, ◌++◌, length, codes, filter_map}
-use Rattle.std.specs.List.{list_all, list_any}
-use Rattle.std.specs.Str.{is_utf8}
+use Rattle.std.specs.Prelude.{[], if◌then◌else◌, ◌&&◌, ◌++◌, ◌+◌, ◌==◌, ◌∷◌, Bool, Err, List, None, Ok, Option, Result, Some, codes, filter_map, is_some, length, nat_eq, nat_le, nat_lt, not, ok_or, option_and_then, true, ℕ}
+use Rattle.base.specs.Exports.{in_row, is_utf8, list_all, list_any, mask_of}
 use Rattle.toml.specs.Data.{Data, Members, as_integer, as_str, as_array, as_table}
 use Rattle.toml.specs.Parse.{parse_document}
 use Rattle.net_file.specs.Keys.{at_key, items_list, number_within, of_type, integer_within}
-use Rattle.base.specs.ComputedMasks.{mask_of}
 use Rattle.net_file.specs.Net.{is_name}
 use Rattle.net_file.specs.Refusals.{require, with_value}
-use Rattle.base.specs.Refusals.{in_row}
 use Rattle.base.specs.declared.row.InRow.{InRow}
 use Rattle.net_file.specs.declared.error.NetRefusal.{NetRefusal}
 use Rattle.net_file.specs.declared.error.NetRefusal.TheVariants as refusal

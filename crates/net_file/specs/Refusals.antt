@@ -1,5 +1,5 @@
 -- Why a text states no network.
-use Rattle.std.specs.Prelude.{ℕ, Bool, if◌then◌else◌, Result, Ok, Err}
+use Rattle.std.specs.Prelude.{if◌then◌else◌, Bool, Err, Ok, Result, ℕ}
 use Rattle.net_file.specs.declared.error.NetRefusal.{NetRefusal}
 use Rattle.net_file.specs.declared.error.NetRefusal.TheVariants as refusal
 

@@ -1,7 +1,7 @@
 -- What the tests know of a world that isn't spent.
-use Rattle.std.proofs.Common.{◌≡◌, ◌<◌, ◌≤◌, false, arith}
-use Rattle.update_machine.specs.Packets.{next_packet}
-use Rattle.world.specs.State.{RefinesJournal, WorldValue}
+use Rattle.std.proofs.Common.{◌<◌, ◌≡◌, ◌≤◌, arith, false}
+use Rattle.update_machine.specs.Exports.{next_packet}
+use Rattle.world.specs.Exports.{RefinesJournal, WorldValue}
 
 -- a step may be taken as long as there are few packets
 pub few_packets : (world : WorldValue) → (world.is_spent ≡ false → RefinesJournal world)

@@ -1,49 +1,16 @@
 -- Each item that has its causes keeps all packets on their way, and all cache rules right: one
 -- induction by items.
-use Rattle.std.proofs.Common.{ℕ, ◌≡◌, ◌+◌, ◌≤◌, ◌==◌, Bool, true, false, Some, None, List, [], ◌∷◌, ◌++◌, refl, sym, subst, ◌∙◌, arith, inl, inr, ◌⊎◌}
-use Rattle.std.specs.Prelude.{All, IsTrue}
-use Rattle.std.proofs.lemmas.Bool.{eqb-true}
-use Rattle.std.proofs.lemmas.List.Elements.{All-nil, All-weaker}
-use Rattle.base.proofs.OptionsMade.{some_same}
+use Rattle.std.proofs.Common.{[], ◌++◌, ◌+◌, ◌==◌, ◌∙◌, ◌∷◌, ◌≡◌, ◌≤◌, ◌⊎◌, All, Bool, IsTrue, List, None, Some, arith, eqb-true, false, inl, inr, refl, subst, sym, true, ℕ}
+use Rattle.base.proofs.Exports.{All-nil, All-weaker, some_same}
 use Rattle.cache_maker.specs.Independent.{widen}
-use Rattle.ctrl_msg.specs.declared.message.Body.{Body}
-use Rattle.ctrl_msg.specs.declared.message.Body.TheVariants.{CacheRule}
-use Rattle.ctrl_msg.specs.declared.message.Message.{Message}
-use Rattle.five_tuple.specs.Header.{number_of}
-use Rattle.five_tuple.specs.declared.header.Header.{Header}
-use Rattle.journal.specs.declared.item.Item.{Item}
+use Rattle.update_machine.specs.Exports.{AuthorityRule, Body, CacheRule, HasPlan, HaveCauses, Header, IsSetting, Item, Message, Packet, Setting, Step, cache_of, current_mark, decision_of, found_down, header_in, leg_of, message_of, next_packet, plan_at, policy_at, present_step, retired_mark, travels}
+use Rattle.five_tuple.specs.Exports.{number_of}
 use Rattle.journal.specs.declared.item.Item.TheVariants as item
-use Rattle.steps.specs.declared.step.Step.{Step}
-use Rattle.steps.specs.declared.step.Step.TheVariants.{Packet}
-use Rattle.update_machine.specs.Caches.{cache_of}
-use Rattle.update_machine.specs.Causes.{HaveCauses, present_step}
-use Rattle.update_machine.specs.Marks.{retired_mark, current_mark}
-use Rattle.update_machine.specs.Links.{message_of}
-use Rattle.update_machine.specs.Moves.{AuthorityRule}
-use Rattle.update_machine.specs.Packets.{decision_of, header_in, next_packet}
-use Rattle.update_machine.specs.Setting.{Setting, IsSetting}
-use Rattle.update_machine.specs.Versions.{policy_at, plan_at, HasPlan}
-use Rattle.update_machine.specs.Travels.{leg_of, travels}
-use Rattle.update_machine.specs.PacketRoutes.{found_down}
-use Rattle.update_machine.proofs.CallerLemmas.{step_stays, begins_planned}
-use Rattle.control_laws.proofs.ItemFacts.{AreKept, Behind, fact_on, have_weaker, with_fact}
-use Rattle.control_laws.proofs.FactsGrown.{message_more}
-use Rattle.control_laws.proofs.ReachedCauses.{NamesOwn}
-use Rattle.control_laws.proofs.SwitchBlocks.{said_parts}
-use Rattle.control_laws.proofs.BothCauses.{HasBothCauses}
-use Rattle.control_laws.proofs.NetLinks.{links_there}
-use Rattle.control_laws.specs.ItemCauses.{HasItemCause}
-use Rattle.control_laws.proofs.CurrentVersions.{StampsAreCurrent, current_at_first, current_kept}
-use Rattle.control_laws.proofs.PlannedTables.{versions_planned}
-use Rattle.control_laws.proofs.TouchedStamps.{stamps_touched}
-use Rattle.control_laws.specs.Touched.{stamp_to}
-use Rattle.packet_laws.specs.Rules.{IsRightEntry, IsRightRule}
-use Rattle.packet_laws.specs.OnWay.{IsUnknown}
-use Rattle.packet_laws.specs.Facts.{is_of_packet, facts_after, what_is_known}
+use Rattle.update_machine.proofs.Exports.{begins_planned, step_stays}
+use Rattle.control_laws.proofs.Exports.{AreKept, Behind, HasBothCauses, NamesOwn, StampsAreCurrent, current_at_first, current_kept, fact_on, have_weaker, links_there, message_more, said_parts, stamps_touched, versions_planned, with_fact}
+use Rattle.control_laws.specs.Exports.{HasItemCause, stamp_to}
+use Rattle.packet_laws.specs.Exports.{AllKept, Blocked, BringsRight, CameIn, HasKeptFacts, IsRightEntry, IsRightRule, IsRightlyDecided, IsUnknown, Judged, OnWay, PacketCause, SendsRightRule, SendsRule, Stage, facts_after, gives_stage, is_of_packet, stage_of, what_is_known}
 use Rattle.packet_laws.proofs.PacketFacts.{facts_named, facts_other}
-use Rattle.packet_laws.specs.KeptFacts.{AllKept, BringsRight, IsRightlyDecided, HasKeptFacts}
-use Rattle.packet_laws.specs.Stages.{Blocked, CameIn, Judged, OnWay, Stage, stage_of, gives_stage}
-use Rattle.packet_laws.specs.PacketCauses.{SendsRightRule, SendsRule, PacketCause}
 use Rattle.packet_laws.proofs.CacheRules.{cache_rule_right}
 use Rattle.packet_laws.proofs.CachedEntries.{cache_holds}
 use Rattle.packet_laws.proofs.GrowingFacts.{Grows, grows, kept_on, right_on}
@@ -56,7 +23,7 @@ use Rattle.packet_laws.proofs.ServedPackets.{packet_more}
 use Rattle.packet_laws.proofs.PacketPieceCauses.{step_now}
 use Rattle.packet_laws.proofs.CarriedRules.{carried_right}
 use Rattle.packet_laws.proofs.VersionMatches.{first_match_by_scan}
-use Rattle.ternary.specs.Word.{WordValue}
+use Rattle.ternary.specs.Exports.{WordValue}
 
 -- ---- steps that were asked for
 

@@ -1,22 +1,10 @@
 -- What always holds, holds of journals that are reached, within a step too; so all that keeps
 -- versions whole holds of them.
-use Rattle.std.proofs.Common.{ℕ, ◌∙◌, List, [], ap, length, sym, subst, take}
-use Rattle.std.proofs.Math.Seq.{take-append_seam}
-use Rattle.journal.specs.declared.item.Item.{Item}
-use Rattle.update_machine.specs.Causes.{HaveCauses}
-use Rattle.update_machine.specs.Setting.{Setting, IsSetting}
-use Rattle.control_laws.specs.Always.{HoldsAlways, HoldsReached}
-use Rattle.control_laws.specs.BootLaws.{BootsAreKnown, OpensAtOneVersion, ServingIsKnown}
-use Rattle.control_laws.specs.ItemCauses.{HasItemCause}
-use Rattle.control_laws.specs.Acknowledged.{IsAckedFirst, MembersAcknowledged}
-use Rattle.control_laws.specs.Bounds.{MarksAreBounded}
-use Rattle.control_laws.specs.Heard.{AcksHold}
-use Rattle.control_laws.specs.Serving.{ServingHold}
-use Rattle.control_laws.specs.Planned.{TablesArePlanned}
-use Rattle.control_laws.specs.Touched.{StampsSayTouched}
-use Rattle.packet_laws.specs.Amended.{ChangesLeaveOthers, UntouchedStay}
-use Rattle.packet_laws.specs.Travelling.{RulesAreRight}
-use Rattle.packet_laws.specs.Whole.{KeepVersionsWhole}
+use Rattle.std.proofs.Common.{[], ◌∙◌, List, ap, length, subst, sym, take, ℕ}
+use Rattle.base.proofs.Exports.{take-append_seam}
+use Rattle.update_machine.specs.Exports.{HaveCauses, IsSetting, Item, Setting}
+use Rattle.control_laws.specs.Exports.{AcksHold, BootsAreKnown, HasItemCause, HoldsAlways, HoldsReached, IsAckedFirst, MarksAreBounded, MembersAcknowledged, OpensAtOneVersion, ServingHold, ServingIsKnown, StampsSayTouched, TablesArePlanned}
+use Rattle.packet_laws.specs.Exports.{ChangesLeaveOthers, KeepVersionsWhole, RulesAreRight, UntouchedStay}
 
 -- what always holds, holds where a journal is reached
 pub always_reached : (Holds : Setting → List Item → Type 0) → HoldsAlways Holds → HoldsReached Holds

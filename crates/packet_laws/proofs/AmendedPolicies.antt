@@ -1,32 +1,14 @@
 -- Each packet got the first match of its header under the version that decided it, and a change
 -- leaves the first match of each header that it doesn't touch.
-use Rattle.std.proofs.Common.{ℕ, ◌≡◌, ◌+◌, ◌≤◌, ◌==◌, ◌∙◌, if◌then◌else◌, Bool, true, false, Option, Some, None, List, [], ◌∷◌, ◌++◌, refl, ap, sym, subst, arith, inl, inr, ◌⊎◌}
-use Rattle.std.specs.Prelude.{unwrap_or}
-use Rattle.std.specs.Option.{option_or}
-use Rattle.std.proofs.lemmas.Bool.{eqb-true}
-use Rattle.base.proofs.OptionsMade.{some_same}
-use Rattle.five_tuple.specs.declared.header.Header.{Header}
-use Rattle.policy_rules.specs.Laws.{AmendmentLaws}
-use Rattle.policy_rules.specs.Scan.{scan}
-use Rattle.policy_rules.specs.SoundPolicies.{IsPolicy}
-use Rattle.policy_rules.specs.declared.packet.How.{How}
-use Rattle.policy_rules.specs.declared.policy.Action.{Action}
-use Rattle.policy_rules.specs.declared.policy.Row.{Row}
+use Rattle.std.proofs.Common.{[], if◌then◌else◌, ◌++◌, ◌+◌, ◌==◌, ◌∙◌, ◌∷◌, ◌≡◌, ◌≤◌, ◌⊎◌, Bool, List, None, Option, Some, ap, arith, eqb-true, false, inl, inr, refl, subst, sym, true, unwrap_or, ℕ}
+use Rattle.base.proofs.Exports.{option_or, some_same}
+use Rattle.update_machine.specs.Exports.{Action, Decision, HaveCauses, Header, How, IsSetting, Item, Row, Setting, current_mark, decision_of, gives_decision, gives_header, header_in, next_packet, policy_at, policy_in}
+use Rattle.policy_rules.specs.Exports.{AmendmentLaws, IsPolicy, scan}
 use Rattle.policy_rules.proofs.CallerLemmas.{first_match-scan}
-use Rattle.journal.specs.declared.item.Item.{Item}
 use Rattle.journal.specs.declared.item.Item.TheVariants as item
-use Rattle.update_machine.specs.Causes.{HaveCauses}
-use Rattle.update_machine.specs.Marks.{current_mark}
-use Rattle.update_machine.specs.Packets.{Decision, decision_of, header_in, gives_decision, gives_header, next_packet}
-use Rattle.update_machine.specs.Setting.{IsSetting, Setting, policy_in}
-use Rattle.update_machine.specs.Versions.{policy_at}
-use Rattle.update_machine.proofs.CallerLemmas.{last_given_append, versions_own}
-use Rattle.control_laws.proofs.ItemFacts.{AreKept, Behind, fact_on}
-use Rattle.packet_laws.specs.Amended.{ChangesLeaveOthers, hit_in}
-use Rattle.packet_laws.specs.Facts.{what_is_known}
-use Rattle.packet_laws.specs.KeptFacts.{AllKept}
-use Rattle.packet_laws.specs.Stages.{stage_of}
-use Rattle.packet_laws.specs.PacketCauses.{IsDecided, PacketCause}
+use Rattle.update_machine.proofs.Exports.{last_given_append, versions_own}
+use Rattle.control_laws.proofs.Exports.{AreKept, Behind, fact_on}
+use Rattle.packet_laws.specs.Exports.{AllKept, ChangesLeaveOthers, IsDecided, PacketCause, hit_in, stage_of, what_is_known}
 use Rattle.packet_laws.proofs.AllKept.{Before, kept_before, known_before, knows}
 use Rattle.packet_laws.proofs.GrowingFacts.{Grows, grows}
 use Rattle.packet_laws.proofs.VersionMatches.{first_match_by_scan}

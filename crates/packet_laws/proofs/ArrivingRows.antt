@@ -1,14 +1,9 @@
 -- Packets at the end of their route, on journals of few items.
-use Rattle.std.proofs.Common.{rules, ◌≡◌, Some, None, List, [], ◌∷◌}
-use Rattle.policy_rules.specs.declared.packet.Leg.TheVariants.{Seek}
-use Rattle.journal.specs.declared.item.Item.{Item}
+use Rattle.std.proofs.Common.{[], ◌∷◌, ◌≡◌, List, None, Some, rules}
+use Rattle.update_machine.specs.Exports.{Item, Seek, header_in, leg_of, next_switch, route_in, route_place, standing, travels}
 use Rattle.journal.specs.declared.item.Item.TheVariants as item
-use Rattle.update_machine.specs.Packets.{header_in, standing}
-use Rattle.update_machine.specs.Travels.{leg_of, travels}
-use Rattle.update_machine.specs.PacketRoutes.{next_switch, route_in, route_place}
-use Rattle.update_machine.proofs.ExampleNetworks.{one}
-use Rattle.packet_laws.specs.Arriving.{IsAtEnd}
-use Rattle.packet_laws.specs.Stages.{stage_of}
+use Rattle.update_machine.proofs.Exports.{one}
+use Rattle.packet_laws.specs.Exports.{IsAtEnd, stage_of}
 
 -- a packet entered at switch 0, and seeks an authority at switch 1
 abbrev seeking : List Item

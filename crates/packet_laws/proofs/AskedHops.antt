@@ -1,16 +1,11 @@
 -- Whether a travelling packet was asked to hop, and its switch has yet to do so: what each item
 -- makes of that.
-use Rattle.std.proofs.Common.{ℕ, ◌≡◌, ◌==◌, ◌&&◌, Bool, true, false, if◌then◌else◌, List, [], ◌∷◌, ◌++◌, refl, ap, subst, ◌∙◌, append_assoc}
-use Rattle.std.specs.Prelude.{IsTrue}
-use Rattle.journal.specs.declared.item.Item.{Item}
+use Rattle.std.proofs.Common.{[], if◌then◌else◌, ◌&&◌, ◌++◌, ◌==◌, ◌∙◌, ◌∷◌, ◌≡◌, Bool, IsTrue, List, ap, append_assoc, false, refl, subst, true, ℕ}
+use Rattle.update_machine.specs.Exports.{HaveCauses, Hop, Item, folded_value, travels}
 use Rattle.journal.specs.declared.item.Item.TheVariants as item
-use Rattle.steps.specs.declared.step.Step.TheVariants.{Hop}
-use Rattle.update_machine.specs.Causes.{HaveCauses}
-use Rattle.update_machine.specs.Folds.{folded_value}
-use Rattle.update_machine.specs.Travels.{travels}
-use Rattle.update_machine.proofs.CallerLemmas.{folded_append}
-use Rattle.control_laws.proofs.ItemFacts.{AreKept, fact_on}
-use Rattle.packet_laws.specs.Facts.{is_of_packet}
+use Rattle.update_machine.proofs.Exports.{folded_append}
+use Rattle.control_laws.proofs.Exports.{AreKept, fact_on}
+use Rattle.packet_laws.specs.Exports.{is_of_packet}
 use Rattle.packet_laws.proofs.SparedPackets.{IsNoRow}
 
 abbrev pub changes_asked : ℕ → List Item → Bool → Item → Bool

@@ -1,40 +1,17 @@
 -- Journals that break the promise of one whole version: the last item of each is one that no
 -- network writes. Its strong cause is refuted by the field that it breaks; where the item has a
 -- cause of the plainer sort too, that one holds.
-use Rattle.std.proofs.Common.{ℕ, zero, suc, ◌≡◌, ◌<◌, false, true, Option, Some, None, List, [], ◌∷◌, get_or, refl, ap, sym, subst, ◌∙◌, arith, inl, inr}
-use Rattle.std.specs.Prelude.{All, Contains, IsTrue, IsFalse, ◌⊎◌, ◌==◌}
-use Rattle.std.proofs.lemmas.Bool.{eqb-true}
-use Rattle.std.proofs.lemmas.Bool.Decides.{nat_tests}
-use Rattle.std.proofs.lemmas.List.Elements.{All-from_recursion}
-use Rattle.failover.specs.Links.{no_links}
-use Rattle.five_tuple.specs.Header.{number_of}
-use Rattle.base.specs.Masks.{has, switches}
-use Rattle.base.specs.ComputedMasks.{mask_where, mask_of}
+use Rattle.std.proofs.Common.{[], ◌<◌, ◌==◌, ◌∙◌, ◌∷◌, ◌≡◌, ◌⊎◌, All, Contains, IsFalse, IsTrue, List, None, Option, Some, ap, arith, eqb-true, false, get_or, inl, inr, refl, subst, suc, sym, true, zero, ℕ}
+use Rattle.base.proofs.Exports.{All-from_recursion, nat_tests}
+use Rattle.failover.specs.Exports.{no_links}
+use Rattle.five_tuple.specs.Exports.{number_of}
+use Rattle.base.specs.Exports.{has, mask_of, mask_where, switches}
 use Rattle.partition.specs.Plan.{Hosted}
-use Rattle.policy_rules.specs.declared.packet.Cause.TheVariants.{NoAuthority, NoRoute}
-use Rattle.policy_rules.specs.declared.packet.How.TheVariants.{Authority}
-use Rattle.policy_rules.specs.declared.packet.Leg.TheVariants.{Seek, Exit}
-use Rattle.policy_rules.specs.declared.policy.Action.TheVariants.{Drop, Out}
-use Rattle.policy_rules.specs.declared.rules.Rule.{Rule}
-use Rattle.ternary.specs.Word.{holds}
-use Rattle.journal.specs.declared.item.Item.{Item}
+use Rattle.update_machine.specs.Exports.{AreTargets, Authority, Crash, Decision, Deliver, Drop, Exit, HasCause, Hop, IsPlanOf, Item, Leads, LinkDown, Lose, NoAuthority, NoRoute, Out, Packet, Restart, Rule, Seek, Setting, Update, acked_stamp, claim_of, controller_heard, current_mark, decision_of, header_in, is_link_up, is_member, is_open, is_over, is_up, known_boot, message_of, near, next_policy, next_retired, next_switch, opened_at, present_step, retired_mark, route_in, route_place, serves, standing}
+use Rattle.ternary.specs.Exports.{holds}
 use Rattle.journal.specs.declared.item.Item.TheVariants as item
-use Rattle.steps.specs.declared.step.Step.TheVariants.{Packet, Hop, LinkDown, Update, Deliver, Crash, Lose, Restart}
-use Rattle.update_machine.specs.Boots.{is_up}
-use Rattle.update_machine.specs.Causes.{AreTargets, HasCause, Leads, is_open, present_step}
-use Rattle.update_machine.specs.Links.{claim_of, is_link_up, message_of, serves}
-use Rattle.update_machine.specs.Marks.{acked_stamp, controller_heard, current_mark, is_member, is_over, known_boot, next_retired, opened_at, retired_mark}
-use Rattle.update_machine.specs.Packets.{Decision, decision_of, header_in, standing}
-use Rattle.update_machine.specs.Setting.{IsPlanOf, Setting}
-use Rattle.update_machine.specs.Versions.{next_policy}
-use Rattle.update_machine.specs.PacketRoutes.{next_switch, route_in, route_place}
-use Rattle.update_machine.specs.LinkMasks.{near}
-use Rattle.update_machine.proofs.CallerLemmas.{ends_within}
-use Rattle.update_machine.proofs.ExampleVersions.{first_alone, of_first, of_second}
-use Rattle.update_machine.proofs.ExampleNetworks.{all_dropped, any_word, on, one, open_net, other, plan_p, ring, line_of_three, rule}
-use Rattle.packet_laws.specs.Facts.{entry_mark}
-use Rattle.packet_laws.specs.StrongCauses.{StrongCause}
-use Rattle.packet_laws.specs.PacketCauses.{IsLostInCrash, MovesOver}
+use Rattle.update_machine.proofs.Exports.{all_dropped, any_word, ends_within, first_alone, line_of_three, of_first, of_second, on, one, open_net, other, plan_p, ring, rule}
+use Rattle.packet_laws.specs.Exports.{IsLostInCrash, MovesOver, StrongCause, entry_mark}
 
 -- ---- packets that are stuck, where the one link failed
 

@@ -1,29 +1,16 @@
 -- The cache rule of the rule by which a partition of a plan decides a header is right: the policy
 -- decides each header of its word so.
-use Rattle.std.proofs.Common.{ℕ, zero, suc, ◌≡◌, ◌^◌, ◌-◌, ◌<◌, ◌&&◌, Bool, true, false, cond, if◌then◌else◌, Some, IsNone, List, [], ◌∷◌, map, take, refl, ap, sym, subst, ◌∙◌, arith}
-use Rattle.std.specs.Prelude.{All, IsSomeAnd, IsTrue, bit_and, find, option_map, slice_get}
-use Rattle.std.proofs.Math.Nat.{mod-eq_of_lt}
-use Rattle.std.proofs.lemmas.Bool.{eqb-true}
-use Rattle.std.proofs.lemmas.List.Elements.{All-tail}
-use Rattle.std.proofs.lemmas.Nat.{and_mask}
-use Rattle.std.proofs.lemmas.Option.{get_or_from_slice_get, slice_get-map, slice_get_within, same_Some}
+use Rattle.std.proofs.Common.{[], if◌then◌else◌, ◌&&◌, ◌-◌, ◌<◌, ◌^◌, ◌∙◌, ◌∷◌, ◌≡◌, All, Bool, IsNone, IsSomeAnd, IsTrue, List, Some, ap, arith, bit_and, cond, eqb-true, false, find, map, mod-eq_of_lt, option_map, refl, slice_get, subst, suc, sym, take, true, zero, ℕ}
+use Rattle.base.proofs.Exports.{All-tail, and_mask, get_or_from_slice_get, same_Some, slice_get-map, slice_get_within}
 use Rattle.cache_maker.specs.Independent.{IsIndependent, is_independent, widen, widening_of}
 use Rattle.cache_maker.proofs.IndependentWords.{test_true}
-use Rattle.five_tuple.specs.Header.{IsHeader, number_of}
-use Rattle.five_tuple.specs.declared.header.Header.{Header}
-use Rattle.policy_rules.specs.Hosted.{is_in}
-use Rattle.policy_rules.specs.Scan.{scan}
-use Rattle.policy_rules.specs.RuleList.{hit_of_rule}
-use Rattle.policy_rules.specs.Rules.{first_rule, is_held}
-use Rattle.policy_rules.specs.declared.policy.Row.{Row}
-use Rattle.policy_rules.specs.declared.rules.Partition.{Partition}
-use Rattle.policy_rules.specs.declared.rules.Rule.{Rule}
+use Rattle.five_tuple.specs.Exports.{IsHeader, number_of}
+use Rattle.update_machine.specs.Exports.{Header, Partition, Row, Rule, Setting}
+use Rattle.policy_rules.specs.Exports.{first_rule, hit_of_rule, is_held, is_in, scan}
 use Rattle.policy_rules.proofs.CallerLemmas.{none_from_not_some}
-use Rattle.switch_table.specs.Tables.{Hosted, part_of}
-use Rattle.ternary.specs.Word.{WordValue, holds}
-use Rattle.ternary.specs.Meets.{covers_of, exact_word, free_of, meet_of}
+use Rattle.switch_table.specs.Exports.{Hosted, part_of}
+use Rattle.ternary.specs.Exports.{WordValue, covers_of, exact_word, free_of, holds, meet_of}
 use Rattle.ternary.proofs.CallerLemmas.{covers_held, meet_disjoint}
-use Rattle.update_machine.specs.Setting.{Setting}
 use Rattle.packet_laws.proofs.PlanLookups.{Finds, IsPlanned}
 
 -- ---- headers of a word

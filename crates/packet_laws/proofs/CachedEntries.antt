@@ -1,25 +1,12 @@
 -- What holds of each cache rule that was said to a switch holds of each entry of its cache.
-use Rattle.std.proofs.Common.{ℕ, suc, ◌≡◌, ◌==◌, ◌||◌, Bool, true, false, if◌then◌else◌, Option, Some, None, List, [], ◌∷◌, ◌++◌, length, take, drop, refl, sym, subst}
-use Rattle.std.specs.Prelude.{All, nat_le, nat_lt}
-use Rattle.std.specs.List.{list_any}
-use Rattle.std.specs.Option.{option_map_or}
-use Rattle.std.proofs.lemmas.List.Elements.{All-append, All-drop, All-filter, All-nil, All-push, All-take}
-use Rattle.ctrl_msg.specs.declared.message.Body.{Body}
-use Rattle.ctrl_msg.specs.declared.message.Body.TheVariants.{OpenAt, Stamp, CacheRule}
-use Rattle.policy_rules.specs.declared.policy.Action.{Action}
-use Rattle.switch_table.specs.Cache.{CacheValue, newest_entries, after_raise, same_key}
-use Rattle.switch_table.specs.declared.cache.CacheEntry.{CacheEntry}
-use Rattle.switch_table.specs.Carried.{after_carry}
-use Rattle.ternary.specs.Word.{WordValue}
-use Rattle.journal.specs.declared.item.Item.{Item}
+use Rattle.std.proofs.Common.{[], if◌then◌else◌, ◌++◌, ◌==◌, ◌||◌, ◌∷◌, ◌≡◌, All, Bool, List, None, Option, Some, drop, false, length, nat_le, nat_lt, refl, subst, suc, sym, take, true, ℕ}
+use Rattle.base.proofs.Exports.{All-append, All-drop, All-filter, All-nil, All-push, All-take, list_any, option_map_or}
+use Rattle.update_machine.specs.Exports.{Action, Body, CacheEntry, CacheRule, Item, OpenAt, Setting, Stamp, body_to_switch, cache_after, cache_of, carried_from, changes_cache, raised_from, stamp_of, touched_by}
+use Rattle.switch_table.specs.Exports.{CacheValue, after_carry, after_raise, newest_entries, same_key}
+use Rattle.ternary.specs.Exports.{WordValue}
 use Rattle.journal.specs.declared.item.Item.TheVariants as item
-use Rattle.update_machine.specs.Boots.{body_to_switch}
-use Rattle.update_machine.specs.Caches.{cache_after, cache_of, changes_cache, raised_from, carried_from}
-use Rattle.update_machine.specs.Setting.{Setting}
-use Rattle.update_machine.specs.Versions.{stamp_of}
-use Rattle.update_machine.proofs.CallerLemmas.{folded_append}
-use Rattle.update_machine.specs.Touched.{touched_by}
-use Rattle.packet_laws.specs.Amended.{IsToldStamp}
+use Rattle.update_machine.proofs.Exports.{folded_append}
+use Rattle.packet_laws.specs.Exports.{IsToldStamp}
 
 -- the entry of a cache rule
 abbrev pub entry_of : ℕ → ℕ → WordValue → Option ℕ → Action → CacheEntry

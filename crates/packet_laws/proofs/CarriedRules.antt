@@ -1,21 +1,14 @@
 -- Cache rules that go over to a version decide as its policy does.
-use Rattle.std.proofs.Common.{ℕ, suc, ◌≡◌, ◌≤◌, ◌∙◌, ◌⊎◌, Some, List, sym, subst, inl, inr, arith, All, Contains, false}
-use Rattle.std.proofs.lemmas.List.Elements.{All-contains, All-weaker}
-use Rattle.switch_table.specs.Cache.{CacheValue}
-use Rattle.switch_table.specs.CacheLaws.{WasCarried}
-use Rattle.switch_table.specs.Carried.{after_carry, meets_any}
-use Rattle.switch_table.specs.declared.cache.CacheEntry.{CacheEntry}
+use Rattle.std.proofs.Common.{◌∙◌, ◌≡◌, ◌≤◌, ◌⊎◌, All, Contains, List, Some, arith, false, inl, inr, subst, suc, sym, ℕ}
+use Rattle.base.proofs.Exports.{All-contains, All-weaker}
+use Rattle.switch_table.specs.Exports.{CacheValue, WasCarried, after_carry, meets_any}
+use Rattle.update_machine.specs.Exports.{CacheEntry, HasPlan, IsSetting, Item, Setting, current_mark, policy_at, policy_in, touched_by}
 use Rattle.switch_table.proofs.CarryLemmas.{only_carried}
-use Rattle.journal.specs.declared.item.Item.{Item}
-use Rattle.update_machine.specs.Marks.{current_mark}
-use Rattle.update_machine.specs.Setting.{IsSetting, Setting, policy_in}
-use Rattle.update_machine.specs.Touched.{touched_by}
-use Rattle.update_machine.specs.Versions.{HasPlan, policy_at}
-use Rattle.update_machine.proofs.CallerLemmas.{touched_apart}
-use Rattle.packet_laws.specs.Rules.{IsRightEntry}
+use Rattle.update_machine.proofs.Exports.{touched_apart}
+use Rattle.packet_laws.specs.Exports.{IsRightEntry}
 use Rattle.packet_laws.proofs.VersionMatches.{first_match_by_scan, scan_of_version}
-use Rattle.policy_rules.specs.Scan.{scan}
-use Rattle.ternary.specs.Word.{WordValue}
+use Rattle.policy_rules.specs.Exports.{scan}
+use Rattle.ternary.specs.Exports.{WordValue}
 
 module _ (setting : Setting) (before : List Item) (version : ℕ) (cache : CacheValue)
     (is : IsSetting setting) (has : HasPlan setting before version)

@@ -1,26 +1,11 @@
 -- Causes of packets' items on journals of few items, which must fail: what no switch writes.
-use Rattle.std.proofs.Common.{◌≡◌, ◌⊎◌, false, true, Some, None, List, [], ◌∷◌, refl, sym, subst, arith, inl, inr}
-use Rattle.std.specs.Prelude.{IsTrue}
-use Rattle.failover.specs.Links.{has_link, no_links, with_link}
-use Rattle.base.specs.Masks.{has}
-use Rattle.policy_rules.specs.declared.packet.Cause.TheVariants.{NoAuthority, NoRoute}
-use Rattle.policy_rules.specs.declared.packet.How.TheVariants.{Cached}
-use Rattle.policy_rules.specs.declared.packet.Leg.TheVariants.{Seek, Exit}
-use Rattle.policy_rules.specs.declared.policy.Action.TheVariants.{Drop, Out}
-use Rattle.journal.specs.declared.item.Item.{Item}
+use Rattle.std.proofs.Common.{[], ◌∷◌, ◌≡◌, ◌⊎◌, IsTrue, List, None, Some, arith, false, inl, inr, refl, subst, sym, true}
+use Rattle.failover.specs.Exports.{has_link, no_links, with_link}
+use Rattle.base.specs.Exports.{has}
+use Rattle.update_machine.specs.Exports.{Cached, Crash, Drop, Exit, Item, NoAuthority, NoRoute, Out, Packet, Seek, boot_of, found_down, heard, is_up, leg_of, next_packet, serves, stamp_of, standing, travels}
 use Rattle.journal.specs.declared.item.Item.TheVariants as item
-use Rattle.steps.specs.declared.step.Step.TheVariants.{Packet, Crash}
-use Rattle.update_machine.specs.Boots.{boot_of, heard, is_up}
-use Rattle.update_machine.specs.Packets.{next_packet, standing}
-use Rattle.update_machine.specs.Versions.{stamp_of}
-use Rattle.update_machine.specs.Travels.{leg_of, travels}
-use Rattle.update_machine.specs.PacketRoutes.{found_down}
-use Rattle.update_machine.specs.Links.{serves}
-use Rattle.update_machine.proofs.ExampleNetworks.{one, open_net}
-use Rattle.packet_laws.specs.Rest.{AreResting}
-use Rattle.packet_laws.specs.Stages.{stage_of}
-use Rattle.packet_laws.specs.StrongCauses.{StrongCause}
-use Rattle.packet_laws.specs.PacketCauses.{IsBlockedOn, IsLookedUp, TakesLeg, PacketCause}
+use Rattle.update_machine.proofs.Exports.{one, open_net}
+use Rattle.packet_laws.specs.Exports.{AreResting, IsBlockedOn, IsLookedUp, PacketCause, StrongCause, TakesLeg, stage_of}
 
 -- a packet entered at switch 0
 abbrev in_at_0 : List Item

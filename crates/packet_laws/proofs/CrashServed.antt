@@ -1,25 +1,10 @@
 -- Behind a crash the packets that still travel stand at switches that serve.
-use Rattle.std.proofs.Common.{ℕ, ◌≡◌, ◌+◌, ◌<◌, ◌≤◌, ◌==◌, Bool, true, false, Some, List, [], ◌∷◌, ◌++◌, map, refl, sym, subst, ◌∙◌, append-nil, append_assoc, arith, inl}
-use Rattle.std.specs.Prelude.{IsTrue, IsFalse}
-use Rattle.std.specs.List.{list_any}
-use Rattle.std.proofs.lemmas.Bool.Decides.{nat_tests}
-use Rattle.ctrl_msg.specs.declared.message.Message.{Message}
-use Rattle.journal.specs.declared.item.Item.{Item}
+use Rattle.std.proofs.Common.{[], ◌++◌, ◌+◌, ◌<◌, ◌==◌, ◌∙◌, ◌∷◌, ◌≡◌, ◌≤◌, Bool, IsFalse, IsTrue, List, Some, append-nil, append_assoc, arith, false, inl, map, refl, subst, sym, true, ℕ}
+use Rattle.base.proofs.Exports.{list_any, nat_tests}
+use Rattle.update_machine.specs.Exports.{Item, Message, Setting, count_of, crash_items, is_packet, is_up, items_then, link_changes, next_message, next_packet, nothing, packets_at, sent_from, serves, standing, travels, travels_at}
 use Rattle.journal.specs.declared.item.Item.TheVariants as item
-use Rattle.update_machine.specs.Boots.{is_up}
-use Rattle.update_machine.specs.Deliveries.{link_changes}
-use Rattle.update_machine.specs.Folds.{count_of}
-use Rattle.update_machine.specs.Messages.{next_message, sent_from}
-use Rattle.update_machine.specs.Moves.{items_then}
-use Rattle.update_machine.specs.Packets.{is_packet, next_packet, standing}
-use Rattle.update_machine.specs.Pieces.{crash_items, nothing}
-use Rattle.update_machine.specs.Setting.{Setting}
-use Rattle.update_machine.specs.Travels.{packets_at, travels, travels_at}
-use Rattle.update_machine.specs.Links.{serves}
-use Rattle.control_laws.proofs.CrashedSwitches.{losts_keep}
-use Rattle.control_laws.proofs.FactsGrown.{serving_more}
-use Rattle.control_laws.proofs.PickedNumbers.{any_picked}
-use Rattle.packet_laws.specs.Rest.{AreServed, IsServed}
+use Rattle.control_laws.proofs.Exports.{any_picked, losts_keep, serving_more}
+use Rattle.packet_laws.specs.Exports.{AreServed, IsServed}
 use Rattle.packet_laws.proofs.PacketBlocks.{standing_more, travels_more}
 use Rattle.packet_laws.proofs.ServedPackets.{AreNumbered, stays_served, still_serves}
 

@@ -1,31 +1,14 @@
 -- A switch is done with a packet at the end of its blocks: the packet is on its way, or ended.
-use Rattle.std.proofs.Common.{ℕ, ◌≡◌, ◌==◌, Bool, true, false, Option, Some, None, List, [], ◌∷◌, ◌++◌, refl, sym, subst, ◌∙◌, append-nil, append_assoc, arith}
-use Rattle.std.specs.Prelude.{IsTrue, unwrap_or}
-use Rattle.control_laws.proofs.ItemFacts.{own}
-use Rattle.base.specs.Masks.{has}
-use Rattle.five_tuple.specs.declared.header.Header.{Header}
+use Rattle.std.proofs.Common.{[], ◌++◌, ◌==◌, ◌∙◌, ◌∷◌, ◌≡◌, Bool, IsTrue, List, None, Option, Some, append-nil, append_assoc, arith, false, refl, subst, sym, true, unwrap_or, ℕ}
+use Rattle.control_laws.proofs.Exports.{own}
+use Rattle.base.specs.Exports.{has}
+use Rattle.update_machine.specs.Exports.{Action, AuthorityRule, Exit, Found, Header, Item, Leg, Seek, Setting, arrive_items, authority_items, authority_rule, cache_items, end_items, found_items, gives_travelling, go_on, header_at, hop_items, in_turn, items_then, leaving_item, leg_items, leg_of, lookup_at, lookup_items, move_items, near, next_switch, nothing, owner, packet_items, reroute_by, reroute_items, route_for, serves, stamp_of, standing, stuck_on, takes_route, travels}
 use Rattle.policy_rules.specs.declared.packet.How.TheVariants as how
-use Rattle.policy_rules.specs.declared.packet.Leg.{Leg}
-use Rattle.policy_rules.specs.declared.packet.Leg.TheVariants.{Seek, Exit}
-use Rattle.policy_rules.specs.declared.policy.Action.{Action}
 use Rattle.policy_rules.specs.declared.policy.Action.TheVariants as action
-use Rattle.switch_table.specs.declared.search.Found.{Found}
 use Rattle.switch_table.specs.declared.search.Found.TheVariants as found
-use Rattle.journal.specs.declared.item.Item.{Item}
 use Rattle.journal.specs.declared.item.Item.TheVariants as item
-use Rattle.update_machine.specs.Links.{serves}
-use Rattle.update_machine.specs.Caches.{lookup_at}
-use Rattle.update_machine.specs.LinkMasks.{near}
-use Rattle.update_machine.specs.Moves.{AuthorityRule, arrive_items, authority_items, authority_rule, cache_items, end_items, found_items, go_on, header_at, in_turn, leaving_item, leg_items, lookup_items, move_items, items_then, reroute_by, reroute_items, route_for, stuck_on, takes_route}
-use Rattle.update_machine.specs.Packets.{standing}
-use Rattle.update_machine.specs.Pieces.{hop_items, nothing, packet_items}
-use Rattle.update_machine.specs.Setting.{Setting}
-use Rattle.update_machine.specs.Versions.{stamp_of}
-use Rattle.update_machine.specs.Travels.{leg_of, gives_travelling, travels}
-use Rattle.update_machine.specs.PacketRoutes.{next_switch, owner}
-use Rattle.update_machine.proofs.CallerLemmas.{folded_append}
-use Rattle.packet_laws.specs.Rest.{IsMoving}
-use Rattle.packet_laws.specs.Stages.{OnWay, gives_stage}
+use Rattle.update_machine.proofs.Exports.{folded_append}
+use Rattle.packet_laws.specs.Exports.{IsMoving, OnWay, gives_stage}
 use Rattle.packet_laws.proofs.PacketBlocks.{ended, stage_more, stage_stays, travels_more}
 
 -- ---- one item

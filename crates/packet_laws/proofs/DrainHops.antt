@@ -1,27 +1,11 @@
 -- Each hop of a drain leaves fewer to be taken, and so a drain ends.
-use Rattle.std.proofs.Common.{ℕ, ◌≡◌, ◌≢◌, ◌+◌, ◌-◌, ◌*◌, ◌<◌, ◌≤◌, Bool, true, false, if◌then◌else◌, Option, Some, None, List, [], ◌∷◌, ◌++◌, length, refl, ap, sym, subst, ◌∙◌, append_assoc, arith, inl, inr}
-use Rattle.std.specs.Prelude.{find, option_map, sum_by}
-use Rattle.std.specs.List.{range_with_len}
-use Rattle.std.proofs.lemmas.Bool.{cases_eq, eq-eqb, ne_eqb}
-use Rattle.std.proofs.lemmas.List.FromFn.{length-range_with_len}
-use Rattle.std.proofs.lemmas.List.Sums.{sum_by-cons}
-use Rattle.journal.specs.declared.item.Item.{Item}
+use Rattle.std.proofs.Common.{[], if◌then◌else◌, ◌*◌, ◌++◌, ◌+◌, ◌-◌, ◌<◌, ◌∙◌, ◌∷◌, ◌≡◌, ◌≢◌, ◌≤◌, Bool, List, None, Option, Some, ap, append_assoc, arith, eq-eqb, false, find, inl, inr, length, ne_eqb, option_map, refl, subst, sum_by, sym, true, ℕ}
+use Rattle.base.proofs.Exports.{cases_eq, length-range_with_len, range_with_len, sum_by-cons}
+use Rattle.update_machine.specs.Exports.{AreAll, AreSome, Hop, IsSetting, Item, Setting, Step, StepOfRow, concerns_steps, count_of, gives_step, is_packet, next_hop, next_packet, next_travelling, packets_in, piece, present_step, step_items, travels}
 use Rattle.journal.specs.declared.item.Item.TheVariants as item
-use Rattle.steps.specs.declared.step.Step.{Step}
-use Rattle.steps.specs.declared.step.Step.TheVariants.{Hop}
-use Rattle.update_machine.specs.Answers.{AreAll, AreSome, StepOfRow, next_hop}
-use Rattle.update_machine.specs.Concerns.{concerns_steps}
-use Rattle.update_machine.specs.Folds.{count_of}
-use Rattle.update_machine.specs.Packets.{is_packet, next_packet}
-use Rattle.update_machine.specs.Pieces.{piece, step_items}
-use Rattle.update_machine.specs.Setting.{Setting, IsSetting}
-use Rattle.update_machine.specs.Causes.{present_step, gives_step}
-use Rattle.update_machine.specs.Travels.{next_travelling, packets_in, travels}
-use Rattle.update_machine.proofs.CallerLemmas.{Nears, last_given_append, loop_ends, step_stays}
-use Rattle.control_laws.proofs.ItemFacts.{AreKept, Both, fact_on, have_both}
-use Rattle.packet_laws.specs.Drains.{drain_left, hops_left}
-use Rattle.packet_laws.specs.Hops.{changes_taken, hops_taken, most_hops}
-use Rattle.packet_laws.specs.PacketCauses.{PacketCause}
+use Rattle.update_machine.proofs.Exports.{Nears, last_given_append, loop_ends, step_stays}
+use Rattle.control_laws.proofs.Exports.{AreKept, Both, fact_on, have_both}
+use Rattle.packet_laws.specs.Exports.{PacketCause, changes_taken, drain_left, hops_left, hops_taken, most_hops}
 use Rattle.packet_laws.proofs.SparedPackets.{IsNoRow}
 use Rattle.packet_laws.proofs.PacketPieceCauses.{piece_ways}
 use Rattle.packet_laws.proofs.RestingPackets.{no_rows}

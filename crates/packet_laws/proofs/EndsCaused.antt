@@ -1,11 +1,8 @@
 -- In a journal whose items have their causes the ends of packets do, and what fails.
-use Rattle.std.proofs.Common.{List, []}
-use Rattle.journal.specs.declared.item.Item.{Item}
-use Rattle.update_machine.specs.Causes.{HasCause, HaveCauses}
-use Rattle.update_machine.specs.Setting.{Setting, IsSetting}
-use Rattle.control_laws.proofs.ItemFacts.{Behind, have_weaker}
-use Rattle.control_laws.proofs.SwitchOpenings.{caused_known}
-use Rattle.packet_laws.specs.KeptFacts.{AllKept}
+use Rattle.std.proofs.Common.{[], List}
+use Rattle.update_machine.specs.Exports.{HasCause, HaveCauses, IsSetting, Item, Setting}
+use Rattle.control_laws.proofs.Exports.{Behind, caused_known, have_weaker}
+use Rattle.packet_laws.specs.Exports.{AllKept}
 use Rattle.packet_laws.proofs.AllKept.{kept_before, known_before, knows}
 use Rattle.packet_laws.proofs.PacketEnds.{end_caused}
 use Rattle.packet_laws.proofs.RestingPackets.{IsWayItem, Past, switches_of_all}

@@ -1,11 +1,8 @@
 -- Journals that aren't those of a schedule's rows and packets.
-use Rattle.std.proofs.Common.{ℕ, ◌≡◌, true, false, [], ◌∷◌}
-use Rattle.five_tuple.specs.declared.header.Header.{Header}
+use Rattle.std.proofs.Common.{[], ◌∷◌, ◌≡◌, false, true, ℕ}
+use Rattle.update_machine.specs.Exports.{Crash, Header, Lose, One, Packet, serves}
 use Rattle.journal.specs.declared.item.Item.TheVariants as item
-use Rattle.steps.specs.declared.step.Event.TheVariants.{One}
-use Rattle.steps.specs.declared.step.Step.TheVariants.{Crash, Lose, Packet}
-use Rattle.update_machine.specs.Links.{serves}
-use Rattle.packet_laws.specs.Entries.{AreEntered, EachEnters, step_rows}
+use Rattle.packet_laws.specs.Exports.{AreEntered, EachEnters, step_rows}
 
 -- nothing, where a packet is asked for
 nothing_is_no_answer : (s : ℕ) (header : Header)

@@ -1,42 +1,20 @@
 -- Each item leaves the routes of each packet few: one induction by items.
-use Rattle.std.proofs.Common.{ℕ, ◌≡◌, ◌+◌, ◌<◌, ◌≤◌, Bool, true, false, if◌then◌else◌, Option, Some, None, List, [], ◌∷◌, ◌++◌, length, refl, ap, sym, subst, ◌∙◌, arith, inl, inr}
-use Rattle.std.specs.Prelude.{⊤}
-use Rattle.std.specs.Option.{option_or}
-use Rattle.std.proofs.lemmas.Bool.{eqb-true}
-use Rattle.base.proofs.OptionsMade.{some_same}
-use Rattle.failover.specs.DownSet.{IsLinkSet}
-use Rattle.failover.specs.Links.{no_links}
+use Rattle.std.proofs.Common.{[], if◌then◌else◌, ◌++◌, ◌+◌, ◌<◌, ◌∙◌, ◌∷◌, ◌≡◌, ◌≤◌, Bool, List, None, Option, Some, ap, arith, eqb-true, false, inl, inr, length, refl, subst, sym, true, ℕ}
+use Rattle.base.proofs.Exports.{option_or, some_same, ⊤}
+use Rattle.failover.specs.Exports.{IsLinkSet, no_links}
 use Rattle.failover.proofs.LinkSets.{none_is_link_set}
-use Rattle.policy_rules.specs.declared.packet.Leg.{Leg}
-use Rattle.policy_rules.specs.declared.packet.Leg.TheVariants.{Seek}
-use Rattle.journal.specs.declared.item.Item.{Item}
+use Rattle.update_machine.specs.Exports.{Decision, HaveCauses, IsSetting, Item, Leg, Seek, Setting, current_mark, decision_of, found_down, leg_of, most_versions, retired_mark}
 use Rattle.journal.specs.declared.item.Item.TheVariants as item
-use Rattle.update_machine.specs.Causes.{HaveCauses}
-use Rattle.update_machine.specs.Marks.{current_mark, most_versions, retired_mark}
-use Rattle.update_machine.specs.Packets.{Decision, decision_of}
-use Rattle.update_machine.specs.Setting.{Setting, IsSetting}
-use Rattle.update_machine.specs.Travels.{leg_of}
-use Rattle.update_machine.specs.PacketRoutes.{found_down}
-use Rattle.control_laws.specs.ItemCauses.{HasItemCause}
-use Rattle.control_laws.proofs.ItemFacts.{Behind, Both, fact_on, have_both}
-use Rattle.control_laws.proofs.MarkLaws.{bounded}
-use Rattle.control_laws.proofs.BoundedVersions.{current_rises}
-use Rattle.control_laws.proofs.PlannedTables.{versions_planned}
-use Rattle.packet_laws.specs.OnWay.{IsOnWay, IsOnLeg}
-use Rattle.packet_laws.specs.Facts.{PacketFacts, is_of_packet, facts_after, what_is_known}
+use Rattle.control_laws.specs.Exports.{HasItemCause}
+use Rattle.control_laws.proofs.Exports.{Behind, Both, bounded, current_rises, fact_on, have_both, versions_planned}
+use Rattle.packet_laws.specs.Exports.{AllKept, Blocked, FindsLinkDown, FurtherCause, IsLookedUp, IsOnLeg, IsOnWay, Judged, MeetsDown, PacketCause, PacketFacts, Stage, StrongCause, TakesRoute, detour_count, exit_count, facts_after, finding_count, gives_stage, is_detour, is_exit, is_finding, is_of_packet, is_search, most_routes, routes_taken, search_count, stage_of, what_is_known}
 use Rattle.packet_laws.proofs.PacketFacts.{facts_grow}
-use Rattle.packet_laws.specs.Hops.{detour_count, exit_count, is_detour, is_exit, is_search, routes_taken, search_count}
-use Rattle.packet_laws.specs.KeptFacts.{AllKept}
-use Rattle.packet_laws.specs.Stages.{Blocked, Judged, Stage, stage_of, gives_stage}
-use Rattle.packet_laws.specs.StrongCauses.{FindsLinkDown, FurtherCause, StrongCause}
-use Rattle.packet_laws.specs.PacketCauses.{IsLookedUp, MeetsDown, TakesRoute, PacketCause}
 use Rattle.packet_laws.proofs.AllKept.{Before, kept_before, known_before, knows}
 use Rattle.packet_laws.proofs.PacketsHere.{IsHere, decision_in, here_of, leg_in, next_in, seeking_of}
 use Rattle.packet_laws.proofs.KeptFacts.{Knows, seeking_after}
 use Rattle.packet_laws.proofs.RestingPackets.{IsWayItem, Past, switches_of_all}
 use Rattle.packet_laws.proofs.StronglyCaused.{strongly_caused}
 use Rattle.packet_laws.proofs.PacketBlocks.{stage_next}
-use Rattle.packet_laws.specs.Routes.{finding_count, is_finding, most_routes}
 use Rattle.packet_laws.proofs.UnfoundLinks.{FindsOne, few_unfound, finds_one, unfound}
 use Rattle.packet_laws.proofs.ItemCounts.{count_more, one_more}
 

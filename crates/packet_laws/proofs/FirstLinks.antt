@@ -1,18 +1,11 @@
 -- The first link of a route that a switch knows is one that it can use.
-use Rattle.std.proofs.Common.{ℕ, ◌≡◌, ◌<◌, true, false, Some, List, [], ◌∷◌, map, length, get_or, set, sym, subst, ◌∙◌, arith, inl, inr, get_or-set_same, length-set}
-use Rattle.std.specs.Prelude.{IsTrue, slice_get}
-use Rattle.std.proofs.lemmas.Bool.{cases_lt}
-use Rattle.std.proofs.lemmas.List.{get_or_past}
-use Rattle.failover.specs.Links.{is_link, neighbours_named, named_links, AreJoined, IsPath}
-use Rattle.base.specs.Masks.{has}
-use Rattle.failover.specs.Paths.{IsRoute}
-use Rattle.base.proofs.CallerLemmas.{has-zero}
-use Rattle.journal.specs.declared.item.Item.{Item}
-use Rattle.update_machine.specs.Adverts.{adverts_known, route_from}
-use Rattle.update_machine.specs.LinkMasks.{near, links_known}
-use Rattle.update_machine.specs.Setting.{Setting}
-use Rattle.update_machine.proofs.CallerLemmas.{has_known_link, known_link_laws}
-use Rattle.control_laws.proofs.NetLinks.{second}
+use Rattle.std.proofs.Common.{[], ◌<◌, ◌∙◌, ◌∷◌, ◌≡◌, IsTrue, List, Some, arith, false, get_or, get_or-set_same, inl, inr, length, length-set, map, set, slice_get, subst, sym, true, ℕ}
+use Rattle.base.proofs.Exports.{cases_lt, get_or_past, has-zero}
+use Rattle.failover.specs.Exports.{AreJoined, IsPath, IsRoute, is_link, named_links, neighbours_named}
+use Rattle.base.specs.Exports.{has}
+use Rattle.update_machine.specs.Exports.{Item, Setting, adverts_known, links_known, near, route_from}
+use Rattle.update_machine.proofs.Exports.{has_known_link, known_link_laws}
+use Rattle.control_laws.proofs.Exports.{second}
 
 -- of its own links a switch knows what it sees
 own_row : (rows : List ℕ) (at own other : ℕ) → IsTrue (has (get_or (set rows at own) at 0) other)

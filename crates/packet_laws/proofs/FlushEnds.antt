@@ -1,15 +1,8 @@
 -- In a play a flush comes to its end, or to a full journal.
-use Rattle.std.proofs.Common.{ℕ, zero, suc, ◌≡◌, ◌+◌, ◌<◌, ◌≤◌, inl, inr, Option, Some, None, List, [], ◌∷◌, ◌++◌, refl, ap, arith}
-use Rattle.std.specs.Prelude.{option_map}
-use Rattle.std.proofs.lemmas.Bool.{cases_lt}
-use Rattle.journal.specs.declared.item.Item.{Item}
-use Rattle.steps.specs.declared.step.Step.TheVariants.{Deliver}
-use Rattle.update_machine.specs.Answers.{StepOfRow, next_delivery}
-use Rattle.update_machine.specs.Full.{IsFull, full_at}
-use Rattle.update_machine.specs.Messages.{next_message, next_waiting}
-use Rattle.update_machine.specs.Pieces.{piece}
-use Rattle.update_machine.specs.Setting.{Setting}
-use Rattle.packet_laws.specs.Stops.{GoesOrStops}
+use Rattle.std.proofs.Common.{[], ◌++◌, ◌+◌, ◌<◌, ◌∷◌, ◌≡◌, ◌≤◌, List, None, Option, Some, ap, arith, inl, inr, option_map, refl, suc, zero, ℕ}
+use Rattle.base.proofs.Exports.{cases_lt}
+use Rattle.update_machine.specs.Exports.{Deliver, IsFull, Item, Setting, StepOfRow, full_at, next_delivery, next_message, next_waiting, piece}
+use Rattle.packet_laws.specs.Exports.{GoesOrStops}
 use Rattle.packet_laws.proofs.WaitingMessages.{IsNext, next_is, numbers_rise}
 
 -- the next message that waits is among the last of those that a journal with room may number

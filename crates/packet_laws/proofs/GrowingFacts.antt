@@ -1,30 +1,13 @@
 -- What is known of packets and of cache rules is known behind one more item, too.
-use Rattle.std.proofs.Common.{ℕ, ◌≡◌, ◌≤◌, Option, List, [], ◌∷◌, ◌++◌, ap, sym, subst, ◌∙◌, arith}
-use Rattle.five_tuple.specs.declared.header.Header.{Header}
-use Rattle.policy_rules.specs.Policy.{IsFirstMatch}
-use Rattle.policy_rules.specs.Scan.{scan}
-use Rattle.policy_rules.specs.declared.packet.Leg.{Leg}
-use Rattle.policy_rules.specs.declared.packet.Leg.TheVariants.{Seek, Exit}
-use Rattle.policy_rules.specs.declared.policy.Action.{Action}
-use Rattle.switch_table.specs.Tables.{Hosted}
-use Rattle.ternary.specs.Word.{WordValue}
-use Rattle.journal.specs.declared.item.Item.{Item}
-use Rattle.update_machine.specs.Causes.{HaveCauses}
-use Rattle.update_machine.specs.Marks.{current_mark, retired_mark}
-use Rattle.update_machine.specs.Numbers.{VersionsAreNumbered}
-use Rattle.update_machine.specs.Setting.{Setting}
-use Rattle.update_machine.specs.Versions.{policy_at, plan_at, version_count}
-use Rattle.update_machine.proofs.CallerLemmas.{plan_stays, policy_stays}
-use Rattle.control_laws.specs.ItemCauses.{HasItemCause}
-use Rattle.control_laws.proofs.MarkLaws.{bounded}
-use Rattle.control_laws.proofs.BoundedVersions.{current_rises}
-use Rattle.control_laws.proofs.RetiredVersions.{retired_rises}
-use Rattle.control_laws.proofs.VersionNumbers.{caused_numbered}
-use Rattle.packet_laws.specs.Rules.{IsRightRule}
-use Rattle.packet_laws.specs.OnWay.{IsOnLeg, IsOnWay, IsPartitionOf, IsSought, IsUnderWay}
-use Rattle.packet_laws.specs.Facts.{PacketFacts}
-use Rattle.packet_laws.specs.KeptFacts.{IsRightlyDecided, HasKeptFacts}
-use Rattle.packet_laws.specs.Stages.{Stage}
+use Rattle.std.proofs.Common.{[], ◌++◌, ◌∙◌, ◌∷◌, ◌≡◌, ◌≤◌, List, Option, ap, arith, subst, sym, ℕ}
+use Rattle.update_machine.specs.Exports.{Action, Exit, HaveCauses, Header, Item, Leg, Seek, Setting, VersionsAreNumbered, current_mark, plan_at, policy_at, retired_mark, version_count}
+use Rattle.policy_rules.specs.Exports.{IsFirstMatch, scan}
+use Rattle.switch_table.specs.Exports.{Hosted}
+use Rattle.ternary.specs.Exports.{WordValue}
+use Rattle.update_machine.proofs.Exports.{plan_stays, policy_stays}
+use Rattle.control_laws.specs.Exports.{HasItemCause}
+use Rattle.control_laws.proofs.Exports.{bounded, caused_numbered, current_rises, retired_rises}
+use Rattle.packet_laws.specs.Exports.{HasKeptFacts, IsOnLeg, IsOnWay, IsPartitionOf, IsRightRule, IsRightlyDecided, IsSought, IsUnderWay, PacketFacts, Stage}
 
 -- marks rise, and the versions that are current or were keep their policies and plans
 pub record Grows (setting : Setting) (before after : List Item) : Type 0 where

@@ -1,32 +1,14 @@
 -- What a serving switch says of a header, by the plan of the version of its stamp.
-use Rattle.std.proofs.Common.{ℕ, ◌≡◌, ◌<◌, ◌≤◌, Bool, true, false, Option, Some, None, List, [], length, refl, ap, sym, ◌∙◌, arith, if◌then◌else◌}
-use Rattle.std.specs.Prelude.{IsTrue, option_map, position, slice_get, unwrap_or}
-use Rattle.std.specs.Option.{option_map_or}
-use Rattle.five_tuple.specs.Header.{IsHeader, number_of}
-use Rattle.five_tuple.specs.declared.header.Header.{Header}
-use Rattle.policy_rules.specs.Rules.{is_held}
-use Rattle.policy_rules.specs.declared.policy.Row.{Row}
-use Rattle.policy_rules.specs.declared.rules.Rule.{Rule}
-use Rattle.switch_table.specs.Cache.{first_entry}
-use Rattle.switch_table.specs.Lookup.{authority_of, lookup_in, table_lookup}
-use Rattle.switch_table.specs.Tables.{Hosted, has_target, part_of}
-use Rattle.switch_table.specs.declared.cache.CacheEntry.{CacheEntry}
-use Rattle.switch_table.specs.declared.search.Found.{Found}
+use Rattle.std.proofs.Common.{[], if◌then◌else◌, ◌<◌, ◌∙◌, ◌≡◌, ◌≤◌, Bool, IsTrue, List, None, Option, Some, ap, arith, false, length, option_map, position, refl, slice_get, sym, true, unwrap_or, ℕ}
+use Rattle.base.proofs.Exports.{option_map_or}
+use Rattle.five_tuple.specs.Exports.{IsHeader, number_of}
+use Rattle.update_machine.specs.Exports.{AuthorityRule, CacheEntry, Found, HaveCauses, Header, IsSetting, Item, Row, Rule, Setting, authority_rule, cache_of, current_mark, lookup_at, plan_at, policy_at, retired_mark, serves, stamp_of, tables_at}
+use Rattle.policy_rules.specs.Exports.{is_held}
+use Rattle.switch_table.specs.Exports.{Hosted, authority_of, first_entry, has_target, lookup_in, part_of, table_lookup}
 use Rattle.switch_table.specs.declared.search.Found.TheVariants as found
-use Rattle.journal.specs.declared.item.Item.{Item}
-use Rattle.update_machine.specs.Links.{serves}
-use Rattle.update_machine.specs.Caches.{cache_of, lookup_at}
-use Rattle.update_machine.specs.Causes.{HaveCauses}
-use Rattle.update_machine.specs.Marks.{current_mark, retired_mark}
-use Rattle.update_machine.specs.Moves.{AuthorityRule, authority_rule}
-use Rattle.update_machine.specs.Setting.{Setting, IsSetting}
-use Rattle.update_machine.specs.Versions.{policy_at, stamp_of, tables_at, plan_at}
-use Rattle.update_machine.proofs.CallerLemmas.{begins_planned}
-use Rattle.control_laws.specs.ItemCauses.{HasItemCause}
-use Rattle.control_laws.proofs.MarkLaws.{bounded}
-use Rattle.control_laws.specs.Serving.{HoldsStamp}
-use Rattle.control_laws.proofs.PlannedTables.{versions_planned}
-use Rattle.control_laws.proofs.ServingSwitches.{serving_hold}
+use Rattle.update_machine.proofs.Exports.{begins_planned}
+use Rattle.control_laws.specs.Exports.{HasItemCause, HoldsStamp}
+use Rattle.control_laws.proofs.Exports.{bounded, serving_hold, versions_planned}
 use Rattle.packet_laws.proofs.PlanLookups.{Finds, IsPlanned, LooksUp, looks_up, version_planned}
 
 -- ---- versions

@@ -1,30 +1,13 @@
 -- A switch that is asked to move a travelling packet on writes an item of it.
-use Rattle.std.proofs.Common.{ℕ, ◌≡◌, Bool, true, false, Option, Some, None, List, [], refl, ap, sym, subst, ◌∙◌, arith, inl}
-use Rattle.std.specs.Prelude.{IsTrue, is_some, option_and_then, position, unwrap_or}
-use Rattle.five_tuple.specs.Header.{number_of}
-use Rattle.policy_rules.specs.Rules.{is_held}
-use Rattle.policy_rules.specs.declared.packet.Leg.{Leg}
-use Rattle.policy_rules.specs.declared.packet.Leg.TheVariants.{Seek, Exit}
-use Rattle.switch_table.specs.Tables.{Hosted}
+use Rattle.std.proofs.Common.{[], ◌∙◌, ◌≡◌, Bool, IsTrue, List, None, Option, Some, ap, arith, false, inl, is_some, option_and_then, position, refl, subst, sym, true, unwrap_or, ℕ}
+use Rattle.five_tuple.specs.Exports.{number_of}
+use Rattle.policy_rules.specs.Exports.{is_held}
+use Rattle.update_machine.specs.Exports.{AuthorityRule, Exit, HaveCauses, IsSetting, Item, Leg, Seek, Setting, arrive_by, arrive_items, authority_items, authority_rule, first_place, header_at, holds_version, hop_items, leg_items, leg_of, lookup_at, lookup_items, move_items, plan_at, policy_at, serves, stamp_of, standing, travels}
+use Rattle.switch_table.specs.Exports.{Hosted}
 use Rattle.switch_table.specs.declared.search.Found.TheVariants as found
-use Rattle.journal.specs.declared.item.Item.{Item}
-use Rattle.update_machine.specs.Links.{serves}
-use Rattle.update_machine.specs.Caches.{lookup_at}
-use Rattle.update_machine.specs.Causes.{HaveCauses}
-use Rattle.update_machine.specs.Moves.{AuthorityRule, arrive_by, arrive_items, authority_items, authority_rule, first_place, header_at, leg_items, lookup_items, move_items}
-use Rattle.update_machine.specs.Packets.{standing}
-use Rattle.update_machine.specs.Pieces.{hop_items}
-use Rattle.update_machine.specs.Setting.{Setting, IsSetting}
-use Rattle.update_machine.specs.Versions.{holds_version, policy_at, stamp_of, plan_at}
-use Rattle.update_machine.specs.Travels.{leg_of, travels}
-use Rattle.control_laws.specs.ItemCauses.{HasItemCause}
-use Rattle.control_laws.proofs.ItemFacts.{own}
-use Rattle.packet_laws.specs.OnWay.{IsOnWay, IsOnLeg}
-use Rattle.packet_laws.specs.Facts.{PacketFacts, what_is_known}
-use Rattle.packet_laws.specs.KeptFacts.{AllKept}
-use Rattle.packet_laws.specs.Rest.{AreResting}
-use Rattle.packet_laws.specs.Stages.{stage_of}
-use Rattle.packet_laws.specs.PacketCauses.{IsAt}
+use Rattle.control_laws.specs.Exports.{HasItemCause}
+use Rattle.control_laws.proofs.Exports.{own}
+use Rattle.packet_laws.specs.Exports.{AllKept, AreResting, IsAt, IsOnLeg, IsOnWay, PacketFacts, stage_of, what_is_known}
 use Rattle.packet_laws.proofs.AllKept.{all_kept}
 use Rattle.packet_laws.proofs.PacketsHere.{IsHere, here_of, leg_in, seeking_of}
 use Rattle.packet_laws.proofs.HeaderLookups.{FindsRule, authority_found, current_planned, rule_there}

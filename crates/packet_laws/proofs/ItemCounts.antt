@@ -1,8 +1,7 @@
 -- What one more item makes of a count.
-use Rattle.std.proofs.Common.{ℕ, ◌≡◌, ◌+◌, Bool, true, false, if◌then◌else◌, List, [], ◌∷◌, ◌++◌, refl, ◌∙◌, add-zero}
-use Rattle.journal.specs.declared.item.Item.{Item}
-use Rattle.update_machine.specs.Folds.{count_of}
-use Rattle.update_machine.proofs.CallerLemmas.{count_of_append}
+use Rattle.std.proofs.Common.{[], if◌then◌else◌, ◌++◌, ◌+◌, ◌∙◌, ◌∷◌, ◌≡◌, Bool, List, add-zero, false, refl, true, ℕ}
+use Rattle.update_machine.specs.Exports.{Item, count_of}
+use Rattle.update_machine.proofs.Exports.{count_of_append}
 
 -- one more, where it counts
 abbrev pub one_more : Bool → ℕ → ℕ

@@ -1,54 +1,20 @@
 -- Items that have their causes keep each packet on its way.
-use Rattle.std.proofs.Common.{rules, ℕ, ◌≡◌, ◌<◌, ◌≤◌, ◌==◌, ◌&&◌, true, false, Option, Some, None, List, [], ◌∷◌, length, refl, ap, sym, subst, ◌∙◌, arith, inl, inr, ◌⊎◌}
-use Rattle.std.specs.Prelude.{All, Contains, IsTrue, is_some, find, option_map, slice_get, unwrap_or}
-use Rattle.std.specs.Option.{option_map_or}
-use Rattle.std.proofs.lemmas.Bool.{and_parts, eqb-true}
-use Rattle.std.proofs.lemmas.List.Elements.{All-contains}
-use Rattle.five_tuple.specs.Header.{IsHeader, number_of}
-use Rattle.five_tuple.specs.declared.header.Header.{Header}
-use Rattle.net_file.specs.Net.{IsLink, IsNet}
-use Rattle.net_file.specs.Joins.{are_linked, joins, owner_of}
+use Rattle.std.proofs.Common.{[], ◌&&◌, ◌<◌, ◌==◌, ◌∙◌, ◌∷◌, ◌≡◌, ◌≤◌, ◌⊎◌, All, Any, Contains, IsTrue, List, None, Option, Some, ap, arith, eqb-true, false, find, inl, inr, is_some, length, option_map, refl, rules, slice_get, subst, sym, true, unwrap_or, ℕ}
+use Rattle.base.proofs.Exports.{All-contains, Any-from_list_any, and_parts, find-there, option_map_or, some_same}
+use Rattle.five_tuple.specs.Exports.{IsHeader, number_of}
+use Rattle.update_machine.specs.Exports.{Action, AuthorityRule, CacheEntry, Decision, Exit, HaveCauses, Header, How, IsSetting, Item, Leg, NamesOwnPort, Partition, Seek, Setting, Tables, cache_of, current_mark, found_down, header_at, lookup_at, no_switch, owner, plan_at, policy_at, retired_mark, route_from, stamp_of, tables_at, targets_of}
+use Rattle.net_file.specs.Exports.{IsLink, IsNet, are_linked, joins, owner_of}
 use Rattle.net_file.proofs.RowPlaces.{joined_below}
-use Rattle.std.specs.List.{Any}
-use Rattle.std.proofs.lemmas.List.Folds.{Any-from_list_any}
-use Rattle.base.proofs.ListsFound.{find-there}
-use Rattle.base.proofs.OptionsMade.{some_same}
-use Rattle.policy_rules.specs.Hosted.{is_in}
-use Rattle.policy_rules.specs.Scan.{scan}
-use Rattle.policy_rules.specs.declared.packet.How.{How}
+use Rattle.policy_rules.specs.Exports.{is_in, scan}
 use Rattle.policy_rules.specs.declared.packet.How.TheVariants as how
-use Rattle.policy_rules.specs.declared.packet.Leg.{Leg}
-use Rattle.policy_rules.specs.declared.packet.Leg.TheVariants.{Seek, Exit}
-use Rattle.policy_rules.specs.declared.policy.Action.{Action}
 use Rattle.policy_rules.specs.declared.policy.Action.TheVariants as action
-use Rattle.policy_rules.specs.declared.rules.Partition.{Partition}
-use Rattle.switch_table.specs.Cache.{first_entry}
-use Rattle.switch_table.specs.Lookup.{authority_of, redirect_of, table_lookup}
-use Rattle.switch_table.specs.Tables.{Hosted}
-use Rattle.switch_table.specs.declared.cache.CacheEntry.{CacheEntry}
+use Rattle.switch_table.specs.Exports.{Hosted, authority_of, first_entry, redirect_of, table_lookup}
 use Rattle.switch_table.specs.declared.search.Found.TheVariants as found
-use Rattle.switch_table.specs.declared.tables.Tables.{Tables}
-use Rattle.ternary.specs.Word.{holds}
-use Rattle.journal.specs.declared.item.Item.{Item}
+use Rattle.ternary.specs.Exports.{holds}
 use Rattle.journal.specs.declared.item.Item.TheVariants as item
-use Rattle.update_machine.specs.Caches.{cache_of, lookup_at}
-use Rattle.update_machine.specs.Causes.{HaveCauses}
-use Rattle.update_machine.specs.Marks.{current_mark, retired_mark}
-use Rattle.update_machine.specs.Moves.{AuthorityRule, header_at}
-use Rattle.update_machine.specs.Adverts.{route_from}
-use Rattle.update_machine.specs.Packets.{Decision}
-use Rattle.update_machine.specs.Setting.{Setting, IsSetting, NamesOwnPort}
-use Rattle.update_machine.specs.Versions.{policy_at, stamp_of, tables_at, plan_at}
-use Rattle.update_machine.specs.PacketRoutes.{found_down, no_switch, owner, targets_of}
-use Rattle.control_laws.specs.ItemCauses.{HasItemCause}
-use Rattle.control_laws.specs.Adverts.{LinksAreThere}
-use Rattle.control_laws.proofs.BothCauses.{HasBothCauses}
-use Rattle.packet_laws.specs.Rules.{IsRightEntry}
-use Rattle.packet_laws.specs.OnWay.{IsOnLeg, IsOnWay, IsPartitionOf, IsSought, IsUnderWay, LeadsTo}
-use Rattle.packet_laws.specs.Facts.{PacketFacts, facts_after, what_is_known}
-use Rattle.packet_laws.specs.KeptFacts.{Avoids, IsRightlyDecided, HasKeptFacts}
-use Rattle.packet_laws.specs.Stages.{Blocked, CameIn, Judged, OnWay, Stage, stage_of}
-use Rattle.packet_laws.specs.PacketCauses.{AuthorityDecides, CacheDecides, DecidesBy, IsAt, IsDecided, IsLookedUp, IsRedirected, MeetsDown, MovesOver, TakesDetour, TakesExit, TakesRoute}
+use Rattle.control_laws.specs.Exports.{HasItemCause, LinksAreThere}
+use Rattle.control_laws.proofs.Exports.{HasBothCauses}
+use Rattle.packet_laws.specs.Exports.{AuthorityDecides, Avoids, Blocked, CacheDecides, CameIn, DecidesBy, HasKeptFacts, IsAt, IsDecided, IsLookedUp, IsOnLeg, IsOnWay, IsPartitionOf, IsRedirected, IsRightEntry, IsRightlyDecided, IsSought, IsUnderWay, Judged, LeadsTo, MeetsDown, MovesOver, OnWay, PacketFacts, Stage, TakesDetour, TakesExit, TakesRoute, facts_after, stage_of, what_is_known}
 use Rattle.packet_laws.proofs.PacketsHere.{IsHere, Rules, found_in, here_of, leg_in, next_in, decision_in, rules_of, seeking_of}
 use Rattle.packet_laws.proofs.HeaderLookups.{FindsTargets, redirect_found}
 use Rattle.packet_laws.proofs.PacketBlocks.{WhenDecided}

@@ -1,24 +1,16 @@
 -- A route that a switch knows begins there, leads over links of the network to a target, and uses
 -- none of the links that the packet found down.
-use Rattle.std.proofs.Common.{ℕ, zero, suc, ◌≡◌, ◌+◌, ◌-◌, ◌<◌, ◌==◌, ◌&&◌, not, Bool, true, false, Some, List, [], ◌∷◌, length, refl, ap, sym, subst, ◌∙◌, arith, inl, inr}
-use Rattle.std.specs.Prelude.{IsTrue, IsFalse, nat_eq, slice_get, slice_index}
-use Rattle.std.specs.List.{list_any}
-use Rattle.std.proofs.lemmas.Bool.{eq-eqb, or_left, or_right}
-use Rattle.failover.specs.Links.{is_link, named_links, has_link, AreJoined, IsPath, LinksLead}
-use Rattle.base.specs.Masks.{has}
-use Rattle.failover.specs.Paths.{IsRoute}
+use Rattle.std.proofs.Common.{[], ◌&&◌, ◌+◌, ◌-◌, ◌<◌, ◌==◌, ◌∙◌, ◌∷◌, ◌≡◌, Bool, IsFalse, IsTrue, List, Some, ap, arith, eq-eqb, false, inl, inr, length, nat_eq, not, refl, slice_get, slice_index, subst, suc, sym, true, zero, ℕ}
+use Rattle.base.proofs.Exports.{list_any, or_left, or_right}
+use Rattle.failover.specs.Exports.{AreJoined, IsPath, IsRoute, LinksLead, has_link, is_link, named_links}
+use Rattle.base.specs.Exports.{has}
 use Rattle.failover.proofs.RouteSearch.{path_is_route_list}
-use Rattle.net_file.specs.Joins.{are_linked}
-use Rattle.net_file.specs.Owners.{links_of}
+use Rattle.net_file.specs.Exports.{are_linked, links_of}
 use Rattle.net_file.proofs.MaskBits.{in_mask_of}
-use Rattle.journal.specs.declared.item.Item.{Item}
-use Rattle.update_machine.specs.Adverts.{adverts_known, route_from}
-use Rattle.update_machine.specs.LinkMasks.{near, links_known}
-use Rattle.update_machine.specs.Setting.{Setting}
-use Rattle.update_machine.proofs.CallerLemmas.{has_known_link, known_link_laws}
-use Rattle.control_laws.specs.Adverts.{LinksAreThere}
-use Rattle.packet_laws.specs.OnWay.{StartsAt, LeadsTo}
-use Rattle.packet_laws.specs.KeptFacts.{Avoids}
+use Rattle.update_machine.specs.Exports.{Item, Setting, adverts_known, links_known, near, route_from}
+use Rattle.update_machine.proofs.Exports.{has_known_link, known_link_laws}
+use Rattle.control_laws.specs.Exports.{LinksAreThere}
+use Rattle.packet_laws.specs.Exports.{Avoids, LeadsTo, StartsAt}
 
 -- what a joined pair is: a link of the network, not found down
 record IsGoodLink (setting : Setting) (down : List ℕ) (one two : ℕ) : Type 0 where

@@ -1,19 +1,9 @@
 -- A packet at the end of its route is where its leg leads.
-use Rattle.std.proofs.Common.{ℕ, ◌≡◌, Some, List, [], ◌∷◌, ap, sym, subst, ◌∙◌, inl}
-use Rattle.std.specs.Prelude.{IsTrue, nat_eq}
-use Rattle.std.specs.List.{list_any}
-use Rattle.base.proofs.OptionsMade.{some_same}
-use Rattle.five_tuple.specs.declared.header.Header.{Header}
-use Rattle.policy_rules.specs.declared.packet.Leg.{Leg}
-use Rattle.policy_rules.specs.declared.packet.Leg.TheVariants.{Seek, Exit}
-use Rattle.journal.specs.declared.item.Item.{Item}
-use Rattle.update_machine.specs.Packets.{header_in, standing}
-use Rattle.update_machine.specs.Setting.{Setting}
-use Rattle.control_laws.specs.Authorities.{EndsAt}
-use Rattle.packet_laws.specs.OnWay.{EndsAtTarget, IsOnLeg, IsOnWay}
-use Rattle.packet_laws.specs.Facts.{PacketFacts, what_is_known}
-use Rattle.packet_laws.specs.Arriving.{IsAtEnd, PacketsArrive}
-use Rattle.packet_laws.specs.KeptFacts.{AllKept}
+use Rattle.std.proofs.Common.{[], ◌∙◌, ◌∷◌, ◌≡◌, IsTrue, List, Some, ap, inl, nat_eq, subst, sym, ℕ}
+use Rattle.base.proofs.Exports.{list_any, some_same}
+use Rattle.update_machine.specs.Exports.{Exit, Header, Item, Leg, Seek, Setting, header_in, standing}
+use Rattle.control_laws.specs.Exports.{EndsAt}
+use Rattle.packet_laws.specs.Exports.{AllKept, EndsAtTarget, IsAtEnd, IsOnLeg, IsOnWay, PacketFacts, PacketsArrive, what_is_known}
 use Rattle.packet_laws.proofs.PacketEnds.{last_here, one_target}
 use Rattle.packet_laws.proofs.PacketsHere.{header_in_facts, leg_in, next_in, stands_in, travels_in}
 

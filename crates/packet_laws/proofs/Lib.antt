@@ -54,3 +54,4 @@ mod EntryTrials
 mod StepEnds
 mod AlwaysReached
 mod OnTheWay
+pub mod Exports

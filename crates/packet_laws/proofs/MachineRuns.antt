@@ -1,39 +1,16 @@
 -- A journal whose items have their causes is a run of the machine.
-use Rattle.std.proofs.Common.{ℕ, ◌≡◌, ◌≢◌, ◌<◌, ◌≤◌, Bool, true, false, if◌then◌else◌, Option, Some, None, List, [], ◌∷◌, ◌++◌, refl, ap, sym, subst, ◌∙◌, arith, inl, inr}
-use Rattle.std.specs.Prelude.{⊤, IsTrue, option_map}
-use Rattle.std.proofs.lemmas.Bool.{cases_eq, eq-eqb, ne_eqb}
-use Rattle.base.proofs.OptionsMade.{some_same}
-use Rattle.five_tuple.specs.declared.header.Header.{Header}
-use Rattle.policy_rules.specs.Policy.{IsFirstMatch}
-use Rattle.policy_rules.specs.declared.packet.How.{How}
-use Rattle.policy_rules.specs.declared.packet.Leaving.{Leaving}
-use Rattle.policy_rules.specs.declared.policy.Action.{Action}
-use Rattle.policy_rules.specs.declared.policy.Hit.{Hit}
-use Rattle.policy_rules.specs.declared.policy.Row.{Row}
-use Rattle.policy_rules.specs.Scan.{scan}
+use Rattle.std.proofs.Common.{[], if◌then◌else◌, ◌++◌, ◌<◌, ◌∙◌, ◌∷◌, ◌≡◌, ◌≢◌, ◌≤◌, Bool, IsTrue, List, None, Option, Some, ap, arith, eq-eqb, false, inl, inr, ne_eqb, option_map, refl, subst, sym, true, ℕ}
+use Rattle.base.proofs.Exports.{cases_eq, some_same, ⊤}
+use Rattle.update_machine.specs.Exports.{Action, Decision, Dropped, End, Ends, HaveCauses, Header, Hit, How, IsRun, IsSetting, Item, Leaving, LeftBy, Lost, Machine, MayEnd, PoliciesKeep, Row, Runs, Setting, Stuck, Takes, first_machine, gives_retired, header_in, is_submission, next_packet, policy_at, retired_mark, travels, version_count, with_packet}
+use Rattle.policy_rules.specs.Exports.{IsFirstMatch, scan}
 use Rattle.policy_rules.proofs.CallerLemmas.{first_match-scan}
-use Rattle.journal.specs.declared.item.Item.{Item}
 use Rattle.journal.specs.declared.item.Item.TheVariants as item
-use Rattle.update_machine.specs.Causes.{HaveCauses}
-use Rattle.update_machine.specs.Machine.{Dropped, End, Ends, IsRun, LeftBy, Lost, Machine, MayEnd, Packet, Runs, Stuck, Takes, first_machine, with_packet}
-use Rattle.update_machine.specs.Marks.{retired_mark, gives_retired}
-use Rattle.update_machine.specs.Packets.{Decision, header_in, next_packet}
-use Rattle.update_machine.specs.Setting.{Setting, IsSetting}
-use Rattle.update_machine.specs.Laws.{PoliciesKeep}
-use Rattle.update_machine.specs.Versions.{is_submission, policy_at, version_count}
-use Rattle.update_machine.specs.Travels.{travels}
-use Rattle.update_machine.proofs.CallerLemmas.{ArePolicies, TakesVersion, have_append, policies_begin, policies_keep, policies_stay, policy_there, start_laws, takes_version}
-use Rattle.control_laws.specs.ItemCauses.{HasItemCause, RetiresRightly, SubmitsRightly}
-use Rattle.control_laws.proofs.ItemFacts.{Behind}
-use Rattle.control_laws.proofs.FactsGrown.{retired_more}
-use Rattle.control_laws.proofs.VersionNumbers.{caused_numbered}
-use Rattle.control_laws.proofs.MarkLaws.{bounded}
-use Rattle.packet_laws.specs.OnWay.{IsUnknown}
-use Rattle.packet_laws.specs.Facts.{PacketFacts, is_of_packet, facts_after, what_is_known}
+use Rattle.update_machine.specs.Machine.{Packet}
+use Rattle.update_machine.proofs.Exports.{ArePolicies, TakesVersion, have_append, policies_begin, policies_keep, policies_stay, policy_there, start_laws, takes_version}
+use Rattle.control_laws.specs.Exports.{HasItemCause, RetiresRightly, SubmitsRightly}
+use Rattle.control_laws.proofs.Exports.{Behind, bounded, caused_numbered, retired_more}
+use Rattle.packet_laws.specs.Exports.{AllKept, IsDecided, IsUnknown, PacketCause, PacketFacts, facts_after, is_of_packet, stage_of, what_is_known}
 use Rattle.packet_laws.proofs.PacketFacts.{other_number, facts_named, facts_other, facts_grow}
-use Rattle.packet_laws.specs.KeptFacts.{AllKept}
-use Rattle.packet_laws.specs.Stages.{stage_of}
-use Rattle.packet_laws.specs.PacketCauses.{IsDecided, PacketCause}
 use Rattle.packet_laws.proofs.AllKept.{Before, kept_before, known_before, knows}
 use Rattle.packet_laws.proofs.PacketsHere.{IsHere, decision_in, here_of, travels_in}
 use Rattle.packet_laws.proofs.PacketEnds.{leaves_rightly}

@@ -1,22 +1,8 @@
 -- What held on the way, by the laws that say it one by one.
-use Rattle.std.specs.Prelude.{length}
-use Rattle.std.proofs.Common.{ℕ, zero, suc, ◌≡◌, ◌≤◌, ◌∙◌, Option, Some, None, List, [], ◌∷◌, ap, arith, refl, sym, subst, take}
-use Rattle.journal.specs.declared.item.Item.{Item}
-use Rattle.steps.specs.declared.step.Event.{Event}
-use Rattle.update_machine.specs.Answers.{BeginsAnswer, StepOfRow, after_steps}
-use Rattle.update_machine.specs.Causes.{HasCause, HaveCauses}
-use Rattle.update_machine.specs.Full.{IsPlay}
-use Rattle.update_machine.specs.Machine.{IsRun}
-use Rattle.update_machine.specs.Marks.{AreSettled, most_versions}
-use Rattle.update_machine.specs.Setting.{IsSetting, Setting}
-use Rattle.control_laws.specs.Always.{AreEvents, HoldsAtEnds, HoldsReached}
-use Rattle.packet_laws.specs.Between.{HoldsBetween, steps_played}
-use Rattle.packet_laws.specs.Hops.{detour_count, exit_count, hops_taken, most_hops, most_switches, routes_taken, search_count}
-use Rattle.packet_laws.specs.OnTheWay.{EndsStep, HeldOnTheWay, HoldsSoFar, IsKeptBehind}
-use Rattle.packet_laws.specs.Routes.{hops_on_route, most_routes}
-use Rattle.packet_laws.specs.StrongCauses.{StrongCause}
-use Rattle.packet_laws.specs.Travelling.{PacketsTravel}
-use Rattle.packet_laws.specs.Whole.{KeepVersionsWhole}
+use Rattle.std.proofs.Common.{[], ◌∙◌, ◌∷◌, ◌≡◌, ◌≤◌, List, None, Option, Some, ap, arith, length, refl, subst, suc, sym, take, zero, ℕ}
+use Rattle.update_machine.specs.Exports.{AreSettled, BeginsAnswer, Event, HasCause, HaveCauses, IsPlay, IsRun, IsSetting, Item, Setting, StepOfRow, after_steps, most_versions}
+use Rattle.control_laws.specs.Exports.{AreEvents, HoldsAtEnds, HoldsReached}
+use Rattle.packet_laws.specs.Exports.{EndsStep, HeldOnTheWay, HoldsBetween, HoldsSoFar, IsKeptBehind, KeepVersionsWhole, PacketsTravel, StrongCause, detour_count, exit_count, hops_on_route, hops_taken, most_hops, most_routes, most_switches, routes_taken, search_count, steps_played}
 use Rattle.packet_laws.proofs.StepEnds.{ends_at}
 use Rattle.packet_laws.proofs.StepsOfPlays.{play_begins}
 use Rattle.packet_laws.proofs.AlwaysReached.{OfReached}

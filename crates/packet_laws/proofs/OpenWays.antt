@@ -1,27 +1,15 @@
 -- A way over links that a switch knows, and that the packet didn't find down, is one over the masks
 -- of these links.
-use Rattle.std.proofs.Common.{ℕ, ◌≡◌, ◌≢◌, ◌<◌, ◌==◌, ◌&&◌, not, Bool, true, false, Option, None, List, [], ◌∷◌, length, map, get_or, set, refl, sym, subst, ◌∙◌, arith, inl, inr, get_or-set_other, get_or-set_same}
-use Rattle.std.specs.Prelude.{IsTrue, slice_index}
-use Rattle.std.specs.List.{list_any}
-use Rattle.std.proofs.lemmas.Bool.{cases_eq}
-use Rattle.std.proofs.lemmas.List.{get_or-map, length-map}
-use Rattle.failover.specs.Adverts.{held_advert}
-use Rattle.failover.specs.Links.{is_link, neighbours_named, named_links, has_link, AreJoined, IsReachable, LinksLead}
-use Rattle.failover.specs.declared.advert.Advert.{Advert}
-use Rattle.failover.specs.Isolated.{names_neighbour}
+use Rattle.std.proofs.Common.{[], ◌&&◌, ◌<◌, ◌==◌, ◌∙◌, ◌∷◌, ◌≡◌, ◌≢◌, Bool, IsTrue, List, None, Option, arith, false, get_or, get_or-set_other, get_or-set_same, inl, inr, length, map, not, refl, set, slice_index, subst, sym, true, ℕ}
+use Rattle.base.proofs.Exports.{cases_eq, get_or-map, length-map, list_any}
+use Rattle.failover.specs.Exports.{AreJoined, IsReachable, LinksLead, has_link, held_advert, is_link, named_links, names_neighbour, neighbours_named}
+use Rattle.update_machine.specs.Exports.{Advert, HaveCauses, Item, Leads, Setting, adverts_of_others, finds_down, found_down, is_end, is_open, links_known, near, serves}
 use Rattle.failover.proofs.KnownLinkRows.{has_known}
 use Rattle.failover.proofs.RouteSearch.{straight_path}
-use Rattle.base.specs.Masks.{has}
-use Rattle.net_file.specs.Net.{IsNet}
-use Rattle.journal.specs.declared.item.Item.{Item}
-use Rattle.update_machine.specs.LinkMasks.{adverts_of_others, links_known, near}
-use Rattle.update_machine.specs.Causes.{HaveCauses, Leads, finds_down, is_open}
-use Rattle.update_machine.specs.Links.{is_end, serves}
-use Rattle.update_machine.specs.Setting.{Setting}
-use Rattle.update_machine.specs.PacketRoutes.{found_down}
-use Rattle.update_machine.proofs.CallerLemmas.{heard_by_origin, link_not_found}
-use Rattle.control_laws.proofs.BothCauses.{HasBothCauses}
-use Rattle.control_laws.proofs.LinkClaims.{IsNamed, names_end, own_end}
+use Rattle.base.specs.Exports.{has}
+use Rattle.net_file.specs.Exports.{IsNet}
+use Rattle.update_machine.proofs.Exports.{heard_by_origin, link_not_found}
+use Rattle.control_laws.proofs.Exports.{HasBothCauses, IsNamed, names_end, own_end}
 
 -- ---- ways
 

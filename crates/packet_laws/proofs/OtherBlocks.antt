@@ -1,33 +1,12 @@
 -- Steps that aren't of packets bring no packet on and tell no cache rule.
-use Rattle.std.proofs.Common.{ℕ, ◌≡◌, ◌⊎◌, Bool, true, false, Option, Some, List, [], ◌∷◌, map, min, max, inl, inr, arith}
-use Rattle.std.specs.Prelude.{⊤, filter}
-use Rattle.std.specs.List.{AllByRecursion}
-use Rattle.ctrl_msg.specs.declared.message.Body.{Body}
-use Rattle.ctrl_msg.specs.declared.message.Body.TheVariants.{CacheRule}
-use Rattle.ctrl_msg.specs.declared.message.Message.{Message}
-use Rattle.base.specs.Masks.{has}
-use Rattle.base.proofs.ListsOfEach.{each_always, each_flat_map, each_map}
-use Rattle.journal.specs.declared.item.Item.{Item}
+use Rattle.std.proofs.Common.{[], ◌∷◌, ◌≡◌, ◌⊎◌, Bool, List, Option, Some, arith, false, filter, inl, inr, map, max, min, true, ℕ}
+use Rattle.base.proofs.Exports.{AllByRecursion, each_always, each_flat_map, each_map, ⊤}
+use Rattle.update_machine.specs.Exports.{Body, CacheRule, HaveCauses, IsLinkStep, Item, LinkDown, LinkUp, Message, Restart, Setting, Step, Update, advert_to, deliver_items, expire_items, forget_items, has_changed, held_adverts, install_for, link_changes, link_items, messages_of, messages_over, near, own_advert, present_step, resend_items, restart_items, send_items, switch_items, switches_in, switches_of, unacked_installs, update_items, versions_from_current}
+use Rattle.base.specs.Exports.{has}
 use Rattle.journal.specs.declared.item.Item.TheVariants as item
-use Rattle.steps.specs.declared.step.Step.{Step}
-use Rattle.steps.specs.declared.step.Step.TheVariants.{LinkDown, LinkUp, Restart, Update}
-use Rattle.update_machine.specs.Adverts.{held_adverts, own_advert}
-use Rattle.update_machine.specs.Causes.{HaveCauses, IsLinkStep, present_step}
-use Rattle.update_machine.specs.Deliveries.{advert_to, has_changed, link_changes, switch_items, messages_of, messages_over, switches_in}
-use Rattle.update_machine.specs.LinkMasks.{near}
-use Rattle.update_machine.specs.Messages.{send_items}
-use Rattle.update_machine.specs.Pieces.{deliver_items, expire_items, forget_items, link_items, resend_items, restart_items, update_items}
-use Rattle.update_machine.specs.Setting.{Setting}
-use Rattle.update_machine.specs.SwitchNumbers.{switches_of}
-use Rattle.update_machine.specs.Settling.{install_for, unacked_installs, versions_from_current}
-use Rattle.update_machine.proofs.CallerLemmas.{have_first}
-use Rattle.control_laws.proofs.ControllerCommands.{Control, IsCommand, IsControl, controller_control, update_has}
-use Rattle.control_laws.proofs.DeliveryCauses.{deliver_has}
-use Rattle.control_laws.proofs.ItemFacts.{have_weaker}
-use Rattle.control_laws.proofs.ResentParts.{each_by_controller, each_to_member, later_versions, resent_has}
-use Rattle.control_laws.proofs.ResentBySwitches.{each_by_switch, sends_each}
-use Rattle.control_laws.proofs.SwitchCases.{switch_cases}
-use Rattle.packet_laws.specs.PacketCauses.{PacketCause}
+use Rattle.update_machine.proofs.Exports.{have_first}
+use Rattle.control_laws.proofs.Exports.{Control, IsCommand, IsControl, controller_control, deliver_has, each_by_controller, each_by_switch, each_to_member, have_weaker, later_versions, resent_has, sends_each, switch_cases, update_has}
+use Rattle.packet_laws.specs.Exports.{PacketCause}
 
 -- ---- items
 

@@ -1,41 +1,16 @@
 -- The blocks of a packet's items have their causes, whatever journal they stand behind.
-use Rattle.std.proofs.Common.{rules, ℕ, ◌≡◌, ◌==◌, Bool, true, false, Option, Some, None, List, [], ◌∷◌, ◌++◌, refl, ap, sym, subst, ◌∙◌, append-nil, inl, inr, ◌⊎◌}
-use Rattle.std.specs.Option.{option_or}
-use Rattle.std.specs.Prelude.{IsTrue, option_map, slice_get, unwrap_or}
-use Rattle.ctrl_msg.specs.declared.message.Message.{Message}
-use Rattle.base.specs.Masks.{has}
-use Rattle.five_tuple.specs.declared.header.Header.{Header}
-use Rattle.policy_rules.specs.declared.packet.How.{How}
+use Rattle.std.proofs.Common.{[], ◌++◌, ◌==◌, ◌∙◌, ◌∷◌, ◌≡◌, ◌⊎◌, Bool, IsTrue, List, None, Option, Some, ap, append-nil, false, inl, inr, option_map, refl, rules, slice_get, subst, sym, true, unwrap_or, ℕ}
+use Rattle.base.proofs.Exports.{option_or}
+use Rattle.update_machine.specs.Exports.{Action, AuthorityRule, Decision, Exit, Found, HaveCauses, Header, How, Item, Leg, Lose, Message, Rule, Seek, Setting, arrive_by, arrive_items, authority_items, authority_rule, cache_items, cache_rule, changes_hops, decision_of, end_items, first_place, found_down, found_items, gives_decision, gives_header, gives_route, gives_serving, gives_standing, gives_travelling, go_on, header_at, header_in, holds_version, hop_items, in_turn, ingress_of, is_at, items_then, leaving_item, leg_items, leg_of, lookup_at, lookup_items, lose_items, move_items, near, next_message, next_switch, nothing, owner, packet_items, plan_at, present_step, reroute_by, reroute_items, route_for, route_in, route_place, send_items, sent_from, serves, stamp_of, standing, stuck_on, takes_route, targets_of, travels}
+use Rattle.base.specs.Exports.{has}
 use Rattle.policy_rules.specs.declared.packet.How.TheVariants as how
-use Rattle.policy_rules.specs.declared.packet.Leg.{Leg}
-use Rattle.policy_rules.specs.declared.packet.Leg.TheVariants.{Seek, Exit}
-use Rattle.policy_rules.specs.declared.policy.Action.{Action}
 use Rattle.policy_rules.specs.declared.policy.Action.TheVariants as action
-use Rattle.switch_table.specs.declared.search.Found.{Found}
 use Rattle.switch_table.specs.declared.search.Found.TheVariants as found
-use Rattle.policy_rules.specs.declared.rules.Rule.{Rule}
-use Rattle.switch_table.specs.Tables.{Hosted, part_of}
-use Rattle.journal.specs.declared.item.Item.{Item}
+use Rattle.switch_table.specs.Exports.{Hosted, part_of}
 use Rattle.journal.specs.declared.item.Item.TheVariants as item
-use Rattle.steps.specs.declared.step.Step.TheVariants.{Lose}
-use Rattle.update_machine.specs.Links.{serves, gives_serving}
-use Rattle.update_machine.specs.Caches.{lookup_at}
-use Rattle.update_machine.specs.Causes.{HaveCauses, present_step}
-use Rattle.update_machine.specs.LinkMasks.{near}
-use Rattle.update_machine.specs.Messages.{next_message, send_items, sent_from}
-use Rattle.update_machine.specs.Moves.{AuthorityRule, arrive_by, arrive_items, authority_items, authority_rule, cache_items, cache_rule, end_items, first_place, found_items, go_on, header_at, in_turn, leaving_item, leg_items, lookup_items, move_items, items_then, reroute_by, reroute_items, route_for, stuck_on, takes_route}
-use Rattle.update_machine.specs.Packets.{Decision, decision_of, header_in, standing, gives_decision, gives_header, gives_standing}
-use Rattle.update_machine.specs.Pieces.{hop_items, lose_items, nothing, packet_items}
-use Rattle.update_machine.specs.Setting.{Setting}
-use Rattle.update_machine.specs.Versions.{holds_version, stamp_of, plan_at}
-use Rattle.update_machine.specs.Travels.{ingress_of, is_at, leg_of, gives_travelling, travels}
-use Rattle.update_machine.specs.PacketRoutes.{changes_hops, found_down, next_switch, owner, route_in, route_place, targets_of, gives_route}
-use Rattle.update_machine.proofs.CallerLemmas.{folded_append, have_append, have_first, last_given_append, lookup_stays, near_stays, policies_keep, switch_keeps}
-use Rattle.control_laws.proofs.FactsGrown.{last_more, serving_more}
-use Rattle.control_laws.proofs.ItemFacts.{own}
-use Rattle.packet_laws.specs.Stages.{Stage, Blocked, CameIn, Judged, OnWay, stage_of, gives_stage}
-use Rattle.packet_laws.specs.Rest.{AreResting, IsServed}
-use Rattle.packet_laws.specs.PacketCauses.{Arrives, AuthorityFinds, IsAt, IsLookedUp, IsLookedUpBy, IsOfRow, ReachesAuthority, TakesLeg, PacketCause}
+use Rattle.update_machine.proofs.Exports.{folded_append, have_append, have_first, last_given_append, lookup_stays, near_stays, policies_keep, switch_keeps}
+use Rattle.control_laws.proofs.Exports.{last_more, own, serving_more}
+use Rattle.packet_laws.specs.Exports.{AreResting, Arrives, AuthorityFinds, Blocked, CameIn, IsAt, IsLookedUp, IsLookedUpBy, IsOfRow, IsServed, Judged, OnWay, PacketCause, ReachesAuthority, Stage, TakesLeg, gives_stage, stage_of}
 use Rattle.packet_laws.proofs.FirstLinks.{first_usable}
 
 abbrev pub Ways : Setting → List Item → List Item → Type 0

@@ -1,46 +1,18 @@
 -- Items that end a packet, or say that it found a link down, have their causes.
-use Rattle.std.proofs.Common.{ℕ, ◌≡◌, Bool, true, false, ◌+◌, ◌-◌, ◌<◌, ◌≤◌, Option, Some, None, List, [], ◌∷◌, length, refl, ap, sym, subst, ◌∙◌, arith, inl, inr, ◌⊎◌, get_or}
-use Rattle.std.specs.Prelude.{All, Contains, IsFalse, IsTrue, nat_eq, option_map, option_to_list, slice_get, unwrap_or}
-use Rattle.std.specs.List.{list_any}
-use Rattle.std.proofs.lemmas.Bool.{cases_lt, eq-eqb, eqb-true}
-use Rattle.std.proofs.lemmas.Bool.Decides.{nat_tests}
-use Rattle.std.proofs.lemmas.List.Elements.{All-from_recursion, All-nil, All-weaker}
-use Rattle.std.proofs.lemmas.Option.{get_or_from_slice_get, slice_get_within, slice_get-get_or}
-use Rattle.failover.specs.Links.{IsReachable}
+use Rattle.std.proofs.Common.{[], ◌+◌, ◌-◌, ◌<◌, ◌∙◌, ◌∷◌, ◌≡◌, ◌≤◌, ◌⊎◌, All, Bool, Contains, IsFalse, IsTrue, List, None, Option, Some, ap, arith, eq-eqb, eqb-true, false, get_or, inl, inr, length, nat_eq, option_map, option_to_list, refl, slice_get, subst, sym, true, unwrap_or, ℕ}
+use Rattle.base.proofs.Exports.{All-from_recursion, All-nil, All-weaker, cases_lt, get_or_from_slice_get, list_any, nat_tests, slice_get-get_or, slice_get_within, some_same}
+use Rattle.failover.specs.Exports.{IsReachable}
 use Rattle.failover.proofs.RouteSearch.{length-known_links}
-use Rattle.base.specs.Masks.{has}
-use Rattle.base.proofs.OptionsMade.{some_same}
-use Rattle.net_file.specs.Joins.{are_linked, owner_of}
-use Rattle.policy_rules.specs.declared.packet.Cause.{Cause}
-use Rattle.policy_rules.specs.declared.packet.Leaving.{Leaving}
-use Rattle.policy_rules.specs.declared.packet.Leg.{Leg}
-use Rattle.policy_rules.specs.declared.packet.Leg.TheVariants.{Seek, Exit}
-use Rattle.policy_rules.specs.declared.policy.Action.{Action}
+use Rattle.base.specs.Exports.{has}
+use Rattle.net_file.specs.Exports.{are_linked, owner_of}
+use Rattle.update_machine.specs.Exports.{Action, AreTargets, Cause, Decision, Exit, FindsDown, FindsNoPath, HasCause, IsLostRightly, IsStuckRightly, Item, Leads, LeavesRightly, Leaving, Leg, Seek, SeeksOwn, Setting, adverts_of_others, can_use, decision_of, found_down, header_at, header_in, is_end, is_open, is_up, links_known, near, no_switch, owner, plan_at, serves, standing, targets_of}
 use Rattle.policy_rules.specs.declared.policy.Action.TheVariants as action
-use Rattle.switch_table.specs.Tables.{Hosted}
-use Rattle.journal.specs.declared.item.Item.{Item}
+use Rattle.switch_table.specs.Exports.{Hosted}
 use Rattle.journal.specs.declared.item.Item.TheVariants as item
-use Rattle.update_machine.specs.LinkMasks.{adverts_of_others, links_known, near}
-use Rattle.update_machine.specs.Causes.{AreTargets, FindsDown, HasCause, IsLostRightly, IsStuckRightly, Leads, LeavesRightly, is_open}
-use Rattle.update_machine.specs.Boots.{is_up}
-use Rattle.update_machine.specs.Links.{can_use, is_end, serves}
-use Rattle.update_machine.specs.Moves.{header_at}
-use Rattle.update_machine.specs.Packets.{Decision, decision_of, header_in, standing}
-use Rattle.update_machine.specs.Setting.{Setting}
-use Rattle.update_machine.specs.Versions.{plan_at}
-use Rattle.update_machine.specs.PacketRoutes.{found_down, no_switch, owner, targets_of}
-use Rattle.update_machine.specs.ExactCauses.{SeeksOwn, FindsNoPath}
-use Rattle.update_machine.proofs.CallerLemmas.{plan_is, unreached}
-use Rattle.control_laws.specs.ItemCauses.{HasItemCause}
-use Rattle.control_laws.proofs.SwitchOpenings.{IsKnown}
-use Rattle.control_laws.proofs.LinkClaims.{own_end}
-use Rattle.control_laws.proofs.NetLinks.{linked_by_mask}
-use Rattle.packet_laws.specs.OnWay.{FollowsLinks, IsOnLeg, IsOnWay, IsPartitionOf}
-use Rattle.packet_laws.specs.Facts.{PacketFacts, entry_mark, what_is_known}
-use Rattle.packet_laws.specs.KeptFacts.{IsRightlyDecided}
-use Rattle.packet_laws.specs.Stages.{stage_of}
-use Rattle.packet_laws.specs.StrongCauses.{SeeksRightly}
-use Rattle.packet_laws.specs.PacketCauses.{FindsNoRoute, IsAt, IsAtPort, IsBlockedOn, IsLostHere, LeavesHere, MeetsDown, TakesLeg, PacketCause}
+use Rattle.update_machine.proofs.Exports.{plan_is, unreached}
+use Rattle.control_laws.specs.Exports.{HasItemCause}
+use Rattle.control_laws.proofs.Exports.{IsKnown, linked_by_mask, own_end}
+use Rattle.packet_laws.specs.Exports.{FindsNoRoute, FollowsLinks, IsAt, IsAtPort, IsBlockedOn, IsLostHere, IsOnLeg, IsOnWay, IsPartitionOf, IsRightlyDecided, LeavesHere, MeetsDown, PacketCause, PacketFacts, SeeksRightly, TakesLeg, entry_mark, stage_of, what_is_known}
 use Rattle.packet_laws.proofs.PacketsHere.{IsHere, decision_in, exiting_of, header_in_facts, leg_in, next_in, stands_in, seeking_of}
 use Rattle.packet_laws.proofs.KeptFacts.{Knows, here_known, port_named, redirected_to, stage_looked, undecided_of}
 use Rattle.packet_laws.proofs.OpenWays.{Sees, none_leads, open_joined}

@@ -1,18 +1,11 @@
 -- What each item makes of the facts of a packet.
-use Rattle.std.proofs.Common.{ℕ, ◌≡◌, ◌≢◌, ◌==◌, Bool, true, false, if◌then◌else◌, None, List, [], ◌∷◌, ◌++◌, refl, ap, ◌∙◌, arith}
-use Rattle.std.specs.Prelude.{unwrap_or}
-use Rattle.std.specs.Option.{option_or}
-use Rattle.std.proofs.lemmas.Bool.Decides.{nat_tests}
-use Rattle.failover.specs.Links.{no_links}
-use Rattle.journal.specs.declared.item.Item.{Item}
+use Rattle.std.proofs.Common.{[], if◌then◌else◌, ◌++◌, ◌==◌, ◌∙◌, ◌∷◌, ◌≡◌, ◌≢◌, Bool, List, None, ap, arith, false, refl, true, unwrap_or, ℕ}
+use Rattle.base.proofs.Exports.{nat_tests, option_or}
+use Rattle.failover.specs.Exports.{no_links}
+use Rattle.update_machine.specs.Exports.{Item, changes_found, changes_hops, changes_leg, decision_of, found_down, gives_decision, gives_header, gives_ingress, gives_route, gives_standing, gives_travelling, header_in, ingress_of, last_given, leg_of, retired_mark, route_in, route_place, standing, travels}
 use Rattle.journal.specs.declared.item.Item.TheVariants as item
-use Rattle.update_machine.specs.Folds.{last_given}
-use Rattle.update_machine.specs.Marks.{retired_mark}
-use Rattle.update_machine.specs.Packets.{decision_of, header_in, standing, gives_decision, gives_header, gives_standing}
-use Rattle.update_machine.specs.Travels.{changes_leg, ingress_of, leg_of, gives_ingress, gives_travelling, travels}
-use Rattle.update_machine.specs.PacketRoutes.{changes_found, changes_hops, found_down, route_in, route_place, gives_route}
-use Rattle.update_machine.proofs.CallerLemmas.{folded_append, last_given_append}
-use Rattle.packet_laws.specs.Facts.{PacketFacts, changes_mark, entry_mark, is_of_packet, facts_after, what_is_known}
+use Rattle.update_machine.proofs.Exports.{folded_append, last_given_append}
+use Rattle.packet_laws.specs.Exports.{PacketFacts, changes_mark, entry_mark, facts_after, is_of_packet, what_is_known}
 
 -- the facts behind one more item, each by its own fold
 abbrev told_facts : List Item → ℕ → Item → PacketFacts

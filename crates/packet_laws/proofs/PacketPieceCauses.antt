@@ -1,28 +1,11 @@
 -- Each piece has the causes of packets' items, whatever its step, where all packets rest before it.
-use Rattle.std.proofs.Common.{ℕ, zero, suc, ◌≡◌, ◌+◌, ◌≤◌, Bool, true, false, Option, Some, None, List, [], ◌∷◌, ◌++◌, map, refl, ap, sym, ◌∙◌, arith, inr}
-use Rattle.std.specs.Prelude.{⊤, IsFalse, filter, if◌then◌else◌, unwrap_or}
-use Rattle.std.specs.List.{range_with_len}
-use Rattle.std.specs.Option.{option_or}
-use Rattle.std.proofs.lemmas.Bool.{and_parts, eq-eqb, eqb-true, ne_eqb}
-use Rattle.journal.specs.declared.item.Item.{Item}
+use Rattle.std.proofs.Common.{[], if◌then◌else◌, ◌++◌, ◌+◌, ◌∙◌, ◌∷◌, ◌≡◌, ◌≤◌, Bool, IsFalse, List, None, Option, Some, ap, arith, eq-eqb, eqb-true, false, filter, inr, map, ne_eqb, refl, suc, sym, true, unwrap_or, zero, ℕ}
+use Rattle.base.proofs.Exports.{and_parts, option_or, range_with_len, ⊤}
+use Rattle.update_machine.specs.Exports.{Confirm, Crash, Deliver, Expire, Forget, Hop, Item, LinkDown, LinkUp, Lose, Packet, PacketKeeps, Resend, Restart, Setting, Step, Update, count_of, crash_items, gives_step, is_at, is_packet, is_up, items_then, last_given, link_changes, next_packet, nothing, packets_at, piece, present_step, standing, step_items, travels, travels_at}
 use Rattle.journal.specs.declared.item.Item.TheVariants as item
-use Rattle.steps.specs.declared.step.Step.{Step}
-use Rattle.steps.specs.declared.step.Step.TheVariants.{Packet, Hop, Lose, Deliver, Forget, Expire, Update, LinkDown, LinkUp, Crash, Restart, Confirm, Resend}
-use Rattle.update_machine.specs.Boots.{is_up}
-use Rattle.update_machine.specs.Deliveries.{link_changes}
-use Rattle.update_machine.specs.Folds.{count_of, last_given}
-use Rattle.update_machine.specs.Laws.{PacketKeeps}
-use Rattle.update_machine.specs.Moves.{items_then}
-use Rattle.update_machine.specs.Packets.{is_packet, next_packet, standing}
-use Rattle.update_machine.specs.Pieces.{crash_items, nothing, piece, step_items}
-use Rattle.update_machine.specs.Setting.{Setting}
-use Rattle.update_machine.specs.Causes.{present_step, gives_step}
-use Rattle.update_machine.specs.Travels.{is_at, packets_at, travels, travels_at}
-use Rattle.update_machine.proofs.CallerLemmas.{have_first, have_put, last_given_append, packet_keeps, packets_keep, step_stays}
-use Rattle.control_laws.proofs.ControllerCommands.{confirm_control}
-use Rattle.control_laws.proofs.FactsGrown.{serving_more, up_more}
-use Rattle.packet_laws.specs.Rest.{AreResting, IsServed}
-use Rattle.packet_laws.specs.PacketCauses.{PacketCause, ends_with_row, fallen_switch, gives_fall, gives_row_test}
+use Rattle.update_machine.proofs.Exports.{have_first, have_put, last_given_append, packet_keeps, packets_keep, step_stays}
+use Rattle.control_laws.proofs.Exports.{confirm_control, serving_more, up_more}
+use Rattle.packet_laws.specs.Exports.{AreResting, IsServed, PacketCause, ends_with_row, fallen_switch, gives_fall, gives_row_test}
 use Rattle.packet_laws.proofs.OtherBlocks.{AreAside, aside_ways, changes_aside, control_aside, deliver_aside, expire_aside, forget_aside, link_aside, resend_aside, restart_aside, update_aside}
 use Rattle.packet_laws.proofs.PacketBlocks.{Ways, hop_ways, lose_ways, packet_ways, stage_stays}
 

@@ -1,16 +1,9 @@
 -- The packet rows of the steps of events are those of the events.
-use Rattle.std.specs.Prelude.{◌-◌, ◌≤◌, take}
-use Rattle.std.proofs.Common.{ℕ, suc, ◌≡◌, ◌+◌, ◌⊎◌, inl, inr, Option, List, [], ◌∷◌, ◌++◌, refl, ap, sym, subst, ◌∙◌, append_assoc, append-nil, arith}
+use Rattle.std.proofs.Common.{[], ◌++◌, ◌+◌, ◌-◌, ◌∙◌, ◌∷◌, ◌≡◌, ◌≤◌, ◌⊎◌, List, Option, ap, append-nil, append_assoc, arith, inl, inr, refl, subst, suc, sym, take, ℕ}
 use Rattle.policy_rules.proofs.CallerLemmas.{append_not_nil}
-use Rattle.journal.specs.declared.item.Item.{Item}
-use Rattle.steps.specs.declared.step.Event.{Event}
-use Rattle.steps.specs.declared.step.Event.TheVariants.{One, Flush, Drain}
-use Rattle.steps.specs.declared.step.Step.{Step}
-use Rattle.update_machine.specs.Answers.{AreFirstSteps, AreFirstStepsOf, AreSome, AreSteps, AreStepsOf, StepOfRow, after_steps, next_delivery, next_hop}
-use Rattle.update_machine.specs.Pieces.{piece}
-use Rattle.update_machine.specs.Setting.{Setting}
-use Rattle.update_machine.proofs.CallerLemmas.{AreOf, HasNexts, all_first, event_steps_are, firsts_are}
-use Rattle.packet_laws.specs.Entries.{StepRow, event_row, step_row, step_rows}
+use Rattle.update_machine.specs.Exports.{AreFirstSteps, AreFirstStepsOf, AreSome, AreSteps, AreStepsOf, Drain, Event, Flush, Item, One, Setting, Step, StepOfRow, after_steps, next_delivery, next_hop, piece}
+use Rattle.update_machine.proofs.Exports.{AreOf, HasNexts, all_first, event_steps_are, firsts_are}
+use Rattle.packet_laws.specs.Exports.{StepRow, event_row, step_row, step_rows}
 use Rattle.packet_laws.proofs.RowPieces.{rows_of}
 
 pub rows_append : (one two : List StepOfRow) → rows_of (one ++ two) ≡ rows_of one ++ rows_of two

@@ -1,29 +1,12 @@
 -- What is known of a packet at its switch, where something is kept of each packet.
-use Rattle.std.proofs.Common.{ℕ, ◌≡◌, ◌+◌, ◌<◌, ◌≤◌, Option, Some, List, [], length, refl, ap, sym, subst, ◌∙◌, arith, inl, inr}
-use Rattle.std.specs.Prelude.{IsTrue, option_and_then, position, slice_get, unwrap_or}
-use Rattle.base.proofs.OptionsMade.{some_same}
-use Rattle.five_tuple.specs.Header.{number_of}
-use Rattle.five_tuple.specs.declared.header.Header.{Header}
-use Rattle.policy_rules.specs.Rules.{is_held}
-use Rattle.policy_rules.specs.declared.packet.Leg.{Leg}
-use Rattle.policy_rules.specs.declared.packet.Leg.TheVariants.{Seek, Exit}
-use Rattle.switch_table.specs.Tables.{Hosted}
-use Rattle.journal.specs.declared.item.Item.{Item}
-use Rattle.update_machine.specs.Caches.{lookup_at}
-use Rattle.update_machine.specs.Causes.{HaveCauses}
-use Rattle.update_machine.specs.Marks.{current_mark}
-use Rattle.update_machine.specs.Moves.{AuthorityRule, authority_rule, first_place, header_at}
-use Rattle.update_machine.specs.Packets.{Decision, decision_of, header_in, standing}
-use Rattle.update_machine.specs.Setting.{Setting, IsSetting}
-use Rattle.update_machine.specs.Versions.{policy_at, stamp_of, plan_at}
-use Rattle.update_machine.specs.Travels.{leg_of, travels}
-use Rattle.update_machine.specs.PacketRoutes.{found_down, next_switch}
-use Rattle.control_laws.specs.ItemCauses.{HasItemCause}
-use Rattle.packet_laws.specs.OnWay.{IsOnLeg, IsOnWay, IsSought, IsUnderWay}
-use Rattle.packet_laws.specs.Facts.{PacketFacts, what_is_known}
-use Rattle.packet_laws.specs.KeptFacts.{HasKeptFacts}
-use Rattle.packet_laws.specs.Stages.{Stage}
-use Rattle.packet_laws.specs.PacketCauses.{AuthorityFinds, IsAt}
+use Rattle.std.proofs.Common.{[], ◌+◌, ◌<◌, ◌∙◌, ◌≡◌, ◌≤◌, IsTrue, List, Option, Some, ap, arith, inl, inr, length, option_and_then, position, refl, slice_get, subst, sym, unwrap_or, ℕ}
+use Rattle.base.proofs.Exports.{some_same}
+use Rattle.five_tuple.specs.Exports.{number_of}
+use Rattle.update_machine.specs.Exports.{AuthorityRule, Decision, Exit, HaveCauses, Header, IsSetting, Item, Leg, Seek, Setting, authority_rule, current_mark, decision_of, first_place, found_down, header_at, header_in, leg_of, lookup_at, next_switch, plan_at, policy_at, stamp_of, standing, travels}
+use Rattle.policy_rules.specs.Exports.{is_held}
+use Rattle.switch_table.specs.Exports.{Hosted}
+use Rattle.control_laws.specs.Exports.{HasItemCause}
+use Rattle.packet_laws.specs.Exports.{AuthorityFinds, HasKeptFacts, IsAt, IsOnLeg, IsOnWay, IsSought, IsUnderWay, PacketFacts, Stage, what_is_known}
 use Rattle.packet_laws.proofs.HeaderLookups.{FindsRule, IsStamped, authority_found, current_planned, deciding, rule_there, stamped}
 use Rattle.packet_laws.proofs.PlanLookups.{Finds, IsPlanned, in_plan}
 

@@ -1,30 +1,14 @@
 -- What the plan of a version says of a header: the partition whose region holds it, and the rule
 -- there that decides it as the version's policy does.
-use Rattle.std.proofs.Common.{ℕ, ◌≡◌, ◌<◌, true, Option, Some, None, List, length, map, get_or, refl, ap, sym, subst, ◌∙◌, arith}
-use Rattle.std.specs.Prelude.{All, Contains, IsTrue, filter, find, option_map, position, slice_get, unwrap_or}
-use Rattle.std.proofs.lemmas.List.Elements.{All-filter}
-use Rattle.std.proofs.lemmas.List.{get_or-map, length-map}
-use Rattle.std.proofs.lemmas.Option.{slice_get-get_or}
-use Rattle.base.proofs.ListsFound.{find-position, find-there}
-use Rattle.base.proofs.OptionsMade.{some_of_map, some_of_then}
-use Rattle.five_tuple.specs.Header.{IsHeader, fields_of, number_of}
-use Rattle.five_tuple.specs.declared.header.Header.{Header}
+use Rattle.std.proofs.Common.{◌<◌, ◌∙◌, ◌≡◌, All, Contains, IsTrue, List, None, Option, Some, ap, arith, filter, find, get_or, length, map, option_map, position, refl, slice_get, subst, sym, true, unwrap_or, ℕ}
+use Rattle.base.proofs.Exports.{All-filter, find-position, find-there, get_or-map, length-map, slice_get-get_or, some_of_map, some_of_then}
+use Rattle.five_tuple.specs.Exports.{IsHeader, fields_of, number_of}
+use Rattle.update_machine.specs.Exports.{HasPlan, Header, IsSetting, Item, NamesOwnPort, Partition, Row, Rule, Setting, plan_at, policy_at}
 use Rattle.partition.specs.Plan.{IsPlan}
-use Rattle.policy_rules.specs.Hosted.{is_in}
-use Rattle.policy_rules.specs.Policy.{row_matches}
-use Rattle.policy_rules.specs.RuleList.{hit_of_rule}
-use Rattle.policy_rules.specs.Rules.{first_rule, is_held}
-use Rattle.policy_rules.specs.declared.policy.Row.{Row}
-use Rattle.policy_rules.specs.declared.rules.Partition.{Partition}
-use Rattle.policy_rules.specs.declared.rules.Rule.{Rule}
-use Rattle.policy_rules.specs.Scan.{highest_row, hit_of, is_highest, scan}
-use Rattle.switch_table.specs.Lookup.{lookup_in, plan_lookup, table_lookup}
-use Rattle.switch_table.specs.Tables.{Hosted, part_of, tables_of}
+use Rattle.policy_rules.specs.Exports.{first_rule, highest_row, hit_of, hit_of_rule, is_held, is_highest, is_in, row_matches, scan}
+use Rattle.switch_table.specs.Exports.{Hosted, lookup_in, part_of, plan_lookup, table_lookup, tables_of}
 use Rattle.switch_table.proofs.TableLemmas.{tables_planned}
-use Rattle.journal.specs.declared.item.Item.{Item}
-use Rattle.update_machine.specs.Setting.{Setting, IsSetting, NamesOwnPort}
-use Rattle.update_machine.specs.Versions.{HasPlan, policy_at, plan_at}
-use Rattle.update_machine.proofs.CallerLemmas.{version_is_planned, versions_own}
+use Rattle.update_machine.proofs.Exports.{version_is_planned, versions_own}
 
 -- ---- policies and their plans
 

@@ -1,20 +1,11 @@
 -- Each list of events has a play: all their steps, or those before the first that would begin full.
-use Rattle.std.proofs.Common.{ℕ, suc, ◌+◌, ◌<◌, ◌≤◌, ◌⊎◌, inl, inr, Option, Some, None, List, [], ◌∷◌, ◌++◌, refl, sym, subst, append_assoc, arith}
-use Rattle.std.specs.Prelude.{All, get_or}
-use Rattle.std.proofs.lemmas.Bool.{cases_lt}
-use Rattle.journal.specs.declared.item.Item.{Item}
-use Rattle.steps.specs.declared.step.Event.{Event}
-use Rattle.steps.specs.declared.step.Event.TheVariants.{One, Flush, Drain}
-use Rattle.steps.specs.declared.step.Step.{Step}
-use Rattle.update_machine.specs.Answers.{AreAll, AreFirstSteps, AreFirstStepsOf, AreSome, AreSteps, AreStepsOf, StepOfRow, after_steps, next_delivery, next_hop}
-use Rattle.update_machine.specs.Full.{HasPlay, HaveRoom, IsFull, full_at}
-use Rattle.update_machine.specs.Messages.{next_message}
-use Rattle.update_machine.specs.Pieces.{piece}
-use Rattle.update_machine.specs.Setting.{Setting, IsSetting}
-use Rattle.update_machine.proofs.CallerLemmas.{IsEventOf, after_append, event_steps_are, rooms_append}
-use Rattle.control_laws.specs.Always.{AreEvents}
-use Rattle.control_laws.proofs.ReachedCauses.{NamesOwn, has_nexts, own_event}
-use Rattle.packet_laws.specs.Stops.{GoesOrStops}
+use Rattle.std.proofs.Common.{[], ◌++◌, ◌+◌, ◌<◌, ◌∷◌, ◌≤◌, ◌⊎◌, All, List, None, Option, Some, append_assoc, arith, get_or, inl, inr, refl, subst, suc, sym, ℕ}
+use Rattle.base.proofs.Exports.{cases_lt}
+use Rattle.update_machine.specs.Exports.{AreAll, AreFirstSteps, AreFirstStepsOf, AreSome, AreSteps, AreStepsOf, Drain, Event, Flush, HasPlay, HaveRoom, IsFull, IsSetting, Item, One, Setting, Step, StepOfRow, after_steps, full_at, next_delivery, next_hop, next_message, piece}
+use Rattle.update_machine.proofs.Exports.{IsEventOf, after_append, event_steps_are, rooms_append}
+use Rattle.control_laws.specs.Exports.{AreEvents}
+use Rattle.control_laws.proofs.Exports.{NamesOwn, has_nexts, own_event}
+use Rattle.packet_laws.specs.Exports.{GoesOrStops}
 use Rattle.packet_laws.proofs.DrainHops.{drain_ends}
 use Rattle.packet_laws.proofs.FlushEnds.{flush_goes}
 use Rattle.packet_laws.proofs.ReadySteps.{IsReady, ready_at_first, steps_ready}

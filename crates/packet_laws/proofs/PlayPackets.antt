@@ -1,12 +1,7 @@
 -- The packets of plays.
-use Rattle.std.specs.Prelude.{◌-◌, take}
-use Rattle.std.proofs.Common.{ℕ, ◌≡◌, Option, Some, None, List, [], ap, sym, subst, ◌∙◌}
-use Rattle.journal.specs.declared.item.Item.{Item}
-use Rattle.steps.specs.declared.step.Event.{Event}
-use Rattle.update_machine.specs.Answers.{Answers, StepOfRow, after_steps}
-use Rattle.update_machine.specs.Full.{IsPlay}
-use Rattle.update_machine.specs.Setting.{Setting}
-use Rattle.packet_laws.specs.Entries.{AreEntered, StepRow, step_rows, rows_played}
+use Rattle.std.proofs.Common.{[], ◌-◌, ◌∙◌, ◌≡◌, List, None, Option, Some, ap, subst, sym, take, ℕ}
+use Rattle.update_machine.specs.Exports.{Answers, Event, IsPlay, Item, Setting, StepOfRow, after_steps}
+use Rattle.packet_laws.specs.Exports.{AreEntered, StepRow, rows_played, step_rows}
 use Rattle.packet_laws.proofs.RowPieces.{rows_of, steps_enter, steps_rows}
 use Rattle.packet_laws.proofs.PacketRows.{all_steps_rows, steps_in_front}
 

@@ -1,14 +1,10 @@
 -- The causes of a reached journal's items, and what holds between its steps.
-use Rattle.std.proofs.Common.{List, [], take}
-use Rattle.journal.specs.declared.item.Item.{Item}
-use Rattle.update_machine.specs.Answers.{IsReached, after_steps}
-use Rattle.update_machine.specs.Causes.{HaveCauses}
-use Rattle.update_machine.specs.Travels.{travels}
-use Rattle.update_machine.specs.Setting.{Setting, IsSetting}
-use Rattle.update_machine.proofs.CallerLemmas.{answers_so_far}
-use Rattle.control_laws.specs.Always.{HoldsReached}
-use Rattle.control_laws.proofs.ReachedCauses.{IsCarried, OfSettings, reached_by, reached_carries, setting_carries, so_far_carries}
-use Rattle.packet_laws.specs.Between.{HoldsBetween, steps_played}
+use Rattle.std.proofs.Common.{[], List, take}
+use Rattle.update_machine.specs.Exports.{HaveCauses, IsReached, IsSetting, Item, Setting, after_steps, travels}
+use Rattle.update_machine.proofs.Exports.{answers_so_far}
+use Rattle.control_laws.specs.Exports.{HoldsReached}
+use Rattle.control_laws.proofs.Exports.{IsCarried, OfSettings, reached_by, reached_carries, setting_carries, so_far_carries}
+use Rattle.packet_laws.specs.Exports.{HoldsBetween, steps_played}
 use Rattle.packet_laws.proofs.StepsOfPlays.{played_carries}
 use Rattle.packet_laws.proofs.RestingPackets.{IsSettled, IsWayItem, piece_settled}
 

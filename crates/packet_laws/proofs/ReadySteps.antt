@@ -1,19 +1,11 @@
 -- Between steps no packet was asked to hop and didn't: so each step begins rested.
-use Rattle.std.proofs.Common.{ℕ, ◌≡◌, ◌==◌, ◌&&◌, Bool, true, false, List, [], ◌∷◌, ◌++◌, refl, sym, subst, ◌∙◌}
-use Rattle.std.proofs.lemmas.Bool.{and_parts, eqb-true}
-use Rattle.journal.specs.declared.item.Item.{Item}
+use Rattle.std.proofs.Common.{[], ◌&&◌, ◌++◌, ◌==◌, ◌∙◌, ◌∷◌, ◌≡◌, Bool, List, eqb-true, false, refl, subst, sym, true, ℕ}
+use Rattle.base.proofs.Exports.{and_parts}
+use Rattle.update_machine.specs.Exports.{HaveCauses, Hop, IsReached, IsSetting, Item, Setting, Step, StepOfRow, after_steps, hop_items, piece, step_items, travels}
 use Rattle.journal.specs.declared.item.Item.TheVariants as item
-use Rattle.steps.specs.declared.step.Step.{Step}
-use Rattle.steps.specs.declared.step.Step.TheVariants.{Hop}
-use Rattle.update_machine.specs.Answers.{IsReached, StepOfRow, after_steps}
-use Rattle.update_machine.specs.Causes.{HaveCauses}
-use Rattle.update_machine.specs.Travels.{travels}
-use Rattle.update_machine.specs.Pieces.{hop_items, piece, step_items}
-use Rattle.update_machine.specs.Setting.{Setting, IsSetting}
-use Rattle.update_machine.proofs.CallerLemmas.{AreOf, have_append, packet_keeps}
-use Rattle.control_laws.specs.Always.{HoldsReached}
-use Rattle.control_laws.proofs.ItemFacts.{have_both, have_weaker}
-use Rattle.control_laws.proofs.ReachedCauses.{IsCarried, NamesOwn, OfSettings, behind_piece, carried_on, reached_by, reached_carries, setting_carries}
+use Rattle.update_machine.proofs.Exports.{AreOf, have_append, packet_keeps}
+use Rattle.control_laws.specs.Exports.{HoldsReached}
+use Rattle.control_laws.proofs.Exports.{IsCarried, NamesOwn, OfSettings, behind_piece, carried_on, have_both, have_weaker, reached_by, reached_carries, setting_carries}
 use Rattle.packet_laws.proofs.SparedPackets.{IsNoRow}
 use Rattle.packet_laws.proofs.PacketPieceCauses.{row_rests}
 use Rattle.packet_laws.proofs.ReachedJournals.{settled_at_first}

@@ -1,37 +1,15 @@
 -- Between steps all packets rest: on their way, at switches that serve. So all items of packets
 -- have their causes.
-use Rattle.std.proofs.Common.{ℕ, ◌≡◌, ◌≢◌, ◌+◌, ◌<◌, ◌==◌, false, Option, Some, None, List, [], ◌∷◌, ◌++◌, length, refl, ap, sym, subst, ◌∙◌, arith, inl, inr, ◌⊎◌}
-use Rattle.std.specs.Prelude.{⊤, IsTrue, unwrap_or}
-use Rattle.std.proofs.lemmas.Bool.{cases_eq, eq-eqb, ne_eqb}
-use Rattle.five_tuple.specs.Header.{IsHeader}
-use Rattle.five_tuple.specs.declared.header.Header.{Header}
+use Rattle.std.proofs.Common.{[], ◌++◌, ◌+◌, ◌<◌, ◌==◌, ◌∙◌, ◌∷◌, ◌≡◌, ◌≢◌, ◌⊎◌, IsTrue, List, None, Option, Some, ap, arith, eq-eqb, false, inl, inr, length, ne_eqb, refl, subst, sym, unwrap_or, ℕ}
+use Rattle.base.proofs.Exports.{cases_eq, ⊤}
+use Rattle.five_tuple.specs.Exports.{IsHeader}
+use Rattle.update_machine.specs.Exports.{Crash, HaveCauses, Header, Hop, IsSetting, Item, Lose, Packet, Setting, Step, authority_rule, gives_header, header_at, header_in, lookup_at, next_packet, packet_items, piece, serves, stamp_of, step_items, travels}
 use Rattle.switch_table.specs.declared.search.Found.TheVariants as found
-use Rattle.journal.specs.declared.item.Item.{Item}
 use Rattle.journal.specs.declared.item.Item.TheVariants as item
-use Rattle.steps.specs.declared.step.Step.{Step}
-use Rattle.steps.specs.declared.step.Step.TheVariants.{Packet, Hop, Lose, Crash}
-use Rattle.update_machine.specs.Links.{serves}
-use Rattle.update_machine.specs.Caches.{lookup_at}
-use Rattle.update_machine.specs.Causes.{HaveCauses}
-use Rattle.update_machine.specs.Moves.{authority_rule, header_at}
-use Rattle.update_machine.specs.Packets.{header_in, next_packet, gives_header}
-use Rattle.update_machine.specs.Pieces.{packet_items, piece, step_items}
-use Rattle.update_machine.specs.Setting.{Setting, IsSetting}
-use Rattle.update_machine.specs.Versions.{stamp_of}
-use Rattle.update_machine.specs.Travels.{travels}
-use Rattle.update_machine.proofs.CallerLemmas.{have_append, last_given_append, packet_keeps}
-use Rattle.control_laws.specs.ItemCauses.{HasItemCause}
-use Rattle.control_laws.proofs.ItemFacts.{Both, fact_on, have_both, have_weaker}
-use Rattle.control_laws.proofs.FactsGrown.{serving_more}
-use Rattle.control_laws.proofs.PieceCauses.{pieces_have}
-use Rattle.control_laws.proofs.ReachedCauses.{NamesOwn, behind_piece}
-use Rattle.control_laws.proofs.SwitchOpenings.{caused_known, serving_known}
-use Rattle.control_laws.proofs.LinkCauses.{HasLinkCause}
-use Rattle.control_laws.proofs.AdvertStepCauses.{pieces_caused}
-use Rattle.control_laws.proofs.TrafficItems.{IsTraffic, Traffic, packet_has, step_traffic}
-use Rattle.packet_laws.specs.Rest.{AreResting, AreServed, IsMoving}
-use Rattle.packet_laws.specs.Stages.{stage_of}
-use Rattle.packet_laws.specs.PacketCauses.{PacketCause}
+use Rattle.update_machine.proofs.Exports.{have_append, last_given_append, packet_keeps}
+use Rattle.control_laws.specs.Exports.{HasItemCause}
+use Rattle.control_laws.proofs.Exports.{Both, HasLinkCause, IsTraffic, NamesOwn, Traffic, behind_piece, caused_known, fact_on, have_both, have_weaker, packet_has, pieces_caused, pieces_have, serving_known, serving_more, step_traffic}
+use Rattle.packet_laws.specs.Exports.{AreResting, AreServed, IsMoving, PacketCause, stage_of}
 use Rattle.packet_laws.proofs.CrashServed.{crash_served}
 use Rattle.packet_laws.proofs.DonePackets.{hop_done, packet_done}
 use Rattle.packet_laws.proofs.HeaderLookups.{FindsRule, authority_found, rule_there, stamped}

@@ -1,34 +1,16 @@
 -- Each item leaves the hops of each packet within its routes: one induction by items.
-use Rattle.std.proofs.Common.{ℕ, ◌≡◌, ◌+◌, ◌-◌, ◌*◌, ◌<◌, ◌≤◌, ◌==◌, ◌&&◌, Bool, true, false, if◌then◌else◌, Option, Some, List, [], ◌∷◌, ◌++◌, length, refl, subst, ◌∙◌, arith, inl}
-use Rattle.std.specs.Prelude.{⊤, IsTrue}
-use Rattle.std.specs.Option.{option_or}
-use Rattle.std.proofs.lemmas.Bool.{and_parts, eqb-true}
-use Rattle.std.proofs.lemmas.Option.{slice_get_within}
-use Rattle.control_laws.proofs.AdvertNumbers.{one_if}
-use Rattle.policy_rules.specs.declared.packet.Leg.{Leg}
-use Rattle.policy_rules.specs.declared.packet.Leg.TheVariants.{Seek, Exit}
-use Rattle.journal.specs.declared.item.Item.{Item}
+use Rattle.std.proofs.Common.{[], if◌then◌else◌, ◌&&◌, ◌*◌, ◌++◌, ◌+◌, ◌-◌, ◌<◌, ◌==◌, ◌∙◌, ◌∷◌, ◌≡◌, ◌≤◌, Bool, IsTrue, List, Option, Some, arith, eqb-true, false, inl, length, refl, subst, true, ℕ}
+use Rattle.base.proofs.Exports.{and_parts, option_or, slice_get_within, ⊤}
+use Rattle.control_laws.proofs.Exports.{Behind, Both, fact_on, have_both, have_weaker, one_if}
+use Rattle.update_machine.specs.Exports.{Exit, HaveCauses, Hop, IsSetting, Item, Leg, Seek, Setting, retired_mark, travels}
 use Rattle.journal.specs.declared.item.Item.TheVariants as item
-use Rattle.steps.specs.declared.step.Step.TheVariants.{Hop}
-use Rattle.update_machine.specs.Causes.{HaveCauses}
-use Rattle.update_machine.specs.Marks.{retired_mark}
-use Rattle.update_machine.specs.Travels.{travels}
-use Rattle.update_machine.specs.Setting.{Setting, IsSetting}
-use Rattle.update_machine.proofs.CallerLemmas.{folded_append}
-use Rattle.control_laws.proofs.ItemFacts.{Behind, Both, fact_on, have_both, have_weaker}
-use Rattle.packet_laws.specs.OnWay.{IsOnLeg, IsOnWay}
-use Rattle.packet_laws.specs.Facts.{PacketFacts, is_of_packet, facts_after, what_is_known}
+use Rattle.update_machine.proofs.Exports.{folded_append}
+use Rattle.packet_laws.specs.Exports.{AllKept, AreResting, HasKeptFacts, IsOnLeg, IsOnWay, OnWay, PacketCause, PacketFacts, Stage, changes_on_route, changes_taken, detour_count, exit_count, facts_after, gives_stage, hops_on_route, hops_taken, is_detour, is_exit, is_of_packet, is_search, most_hops, most_switches, routes_taken, search_count, stage_of, what_is_known}
 use Rattle.packet_laws.proofs.PacketFacts.{facts_grow}
-use Rattle.packet_laws.specs.Hops.{changes_taken, detour_count, exit_count, hops_taken, is_detour, is_exit, is_search, most_hops, most_switches, routes_taken, search_count}
-use Rattle.packet_laws.specs.KeptFacts.{AllKept, HasKeptFacts}
-use Rattle.packet_laws.specs.Rest.{AreResting}
-use Rattle.packet_laws.specs.Stages.{OnWay, Stage, stage_of, gives_stage}
-use Rattle.packet_laws.specs.PacketCauses.{PacketCause}
 use Rattle.packet_laws.proofs.AllKept.{Before, kept_before, known_before, knows}
 use Rattle.packet_laws.proofs.PacketsHere.{travels_in}
 use Rattle.packet_laws.proofs.KeptFacts.{exiting_after, rerouted_after, seeking_after}
 use Rattle.packet_laws.proofs.RestingPackets.{IsWayItem, Past}
-use Rattle.packet_laws.specs.Routes.{changes_on_route, hops_on_route}
 use Rattle.packet_laws.proofs.FewRoutes.{taken_few}
 use Rattle.packet_laws.proofs.PacketBlocks.{stage_next}
 use Rattle.packet_laws.proofs.ItemCounts.{count_more, one_more}

@@ -1,13 +1,9 @@
 -- Hops on one route, and links found down, on journals of few items.
-use Rattle.std.proofs.Common.{◌≡◌, ◌≤◌, List, [], ◌∷◌, ◌++◌, refl, arith}
-use Rattle.std.specs.Prelude.{replicate}
-use Rattle.journal.specs.declared.item.Item.{Item}
+use Rattle.std.proofs.Common.{[], ◌++◌, ◌∷◌, ◌≡◌, ◌≤◌, List, arith, refl, replicate}
+use Rattle.update_machine.specs.Exports.{Hop, Item, travels}
 use Rattle.journal.specs.declared.item.Item.TheVariants as item
-use Rattle.steps.specs.declared.step.Step.TheVariants.{Hop}
-use Rattle.update_machine.specs.Travels.{travels}
-use Rattle.update_machine.proofs.ExampleNetworks.{one}
-use Rattle.packet_laws.specs.Hops.{hops_taken, most_switches}
-use Rattle.packet_laws.specs.Routes.{finding_count, hops_on_route}
+use Rattle.update_machine.proofs.Exports.{one}
+use Rattle.packet_laws.specs.Exports.{finding_count, hops_on_route, hops_taken, most_switches}
 
 abbrev seeking : List Item
 seeking = item.Entered 1 0 one ∷ item.Seeking 1 1 0 (0 ∷ 1 ∷ []) ∷ []

@@ -1,21 +1,11 @@
 -- What the pieces of steps have of packet rows and their entries.
-use Rattle.std.proofs.Common.{ℕ, ◌≡◌, Bool, true, false, List, [], ◌∷◌, ◌++◌, refl, ap, sym, subst, ◌∙◌, append_assoc, append-nil}
-use Rattle.five_tuple.specs.declared.header.Header.{Header}
-use Rattle.journal.specs.declared.item.Item.{Item}
+use Rattle.std.proofs.Common.{[], ◌++◌, ◌∙◌, ◌∷◌, ◌≡◌, Bool, List, ap, append-nil, append_assoc, false, refl, subst, sym, true, ℕ}
+use Rattle.update_machine.specs.Exports.{HaveCauses, Header, Item, Packet, Setting, Step, StepOfRow, after_steps, items_then, lookup_items, next_packet, packet_items, piece, serves}
 use Rattle.journal.specs.declared.item.Item.TheVariants as item
-use Rattle.steps.specs.declared.step.Step.{Step}
-use Rattle.steps.specs.declared.step.Step.TheVariants.{Packet}
-use Rattle.update_machine.specs.Answers.{StepOfRow, after_steps}
-use Rattle.update_machine.specs.Links.{serves}
-use Rattle.update_machine.specs.Causes.{HaveCauses}
-use Rattle.update_machine.specs.Moves.{lookup_items, items_then}
-use Rattle.update_machine.specs.Packets.{next_packet}
-use Rattle.update_machine.specs.Pieces.{packet_items, piece}
-use Rattle.update_machine.specs.Setting.{Setting}
-use Rattle.update_machine.proofs.CallerLemmas.{all_given_append}
+use Rattle.update_machine.proofs.Exports.{all_given_append}
 use Rattle.packet_laws.proofs.SparedPackets.{IsInStep, IsNoRow, lookup_in_step}
 use Rattle.packet_laws.proofs.RestingPackets.{no_entries, no_rows}
-use Rattle.packet_laws.specs.Entries.{EachEnters, StepRow, gives_row, step_row, step_rows_in}
+use Rattle.packet_laws.specs.Exports.{EachEnters, StepRow, gives_row, step_row, step_rows_in}
 
 -- none of the items is a row
 abbrev NoRows : List Item → List Item → Type 0

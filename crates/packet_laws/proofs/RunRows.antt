@@ -1,14 +1,8 @@
 -- Moves that the abstract machine doesn't make: what a journal that is a run never says.
-use Rattle.std.proofs.Common.{ℕ, ◌≡◌, ◌<◌, Option, Some, None, List, length, ap, sym, subst, ◌∙◌, arith}
-use Rattle.std.specs.Prelude.{option_map}
-use Rattle.std.proofs.lemmas.Option.{slice_get_within}
-use Rattle.base.proofs.OptionsMade.{some_same}
-use Rattle.five_tuple.specs.declared.header.Header.{Header}
-use Rattle.policy_rules.specs.declared.policy.Action.{Action}
-use Rattle.policy_rules.specs.declared.policy.Action.TheVariants.{Drop, Out}
-use Rattle.policy_rules.specs.declared.policy.Hit.{Hit}
-use Rattle.policy_rules.specs.declared.policy.Row.{Row}
-use Rattle.update_machine.specs.Machine.{Decides, Dropped, End, Ends, Enters, LeftBy, Machine, Packet, Retires, Submits}
+use Rattle.std.proofs.Common.{◌<◌, ◌∙◌, ◌≡◌, List, None, Option, Some, ap, arith, length, option_map, subst, sym, ℕ}
+use Rattle.base.proofs.Exports.{slice_get_within, some_same}
+use Rattle.update_machine.specs.Exports.{Action, Decides, Drop, Dropped, End, Ends, Enters, Header, Hit, LeftBy, Machine, Out, Retires, Row, Submits}
+use Rattle.update_machine.specs.Machine.{Packet}
 
 -- ---- policies and the mark
 

@@ -1,29 +1,14 @@
 -- Travelling packets stand at switches that serve, behind each item but those of a crash; and what
 -- else each item keeps of packets' numbers and legs.
-use Rattle.std.proofs.Common.{ℕ, ◌≡◌, ◌+◌, ◌<◌, ◌≤◌, ◌==◌, if◌then◌else◌, Bool, true, false, Some, None, List, [], ◌∷◌, ◌++◌, refl, ap, sym, subst, ◌∙◌, arith, inl, inr, ◌⊎◌}
-use Rattle.std.specs.Prelude.{⊤, IsTrue, IsFalse}
-use Rattle.std.specs.Option.{option_or}
-use Rattle.std.proofs.lemmas.Bool.{eqb-true}
-use Rattle.base.specs.Masks.{has}
-use Rattle.policy_rules.specs.declared.packet.Leg.{Leg}
-use Rattle.policy_rules.specs.declared.packet.Leg.TheVariants.{Seek, Exit}
-use Rattle.journal.specs.declared.item.Item.{Item}
+use Rattle.std.proofs.Common.{[], if◌then◌else◌, ◌++◌, ◌+◌, ◌<◌, ◌==◌, ◌∙◌, ◌∷◌, ◌≡◌, ◌≤◌, ◌⊎◌, Bool, IsFalse, IsTrue, List, None, Some, ap, arith, eqb-true, false, inl, inr, refl, subst, sym, true, ℕ}
+use Rattle.base.proofs.Exports.{option_or, ⊤}
+use Rattle.base.specs.Exports.{has}
+use Rattle.update_machine.specs.Exports.{Exit, Item, Leg, Seek, Setting, changes_leg, count_of, exit_port, gives_serving, gives_standing, gives_travelling, is_packet, is_up, leg_of, next_packet, serves, travels}
 use Rattle.journal.specs.declared.item.Item.TheVariants as item
-use Rattle.update_machine.specs.Boots.{is_up}
-use Rattle.update_machine.specs.Folds.{count_of}
-use Rattle.update_machine.specs.Links.{serves, gives_serving}
-use Rattle.update_machine.specs.Packets.{is_packet, next_packet, gives_standing}
-use Rattle.update_machine.specs.Setting.{Setting}
-use Rattle.update_machine.specs.Travels.{changes_leg, exit_port, leg_of, gives_travelling, travels}
-use Rattle.update_machine.proofs.CallerLemmas.{count_of_append, folded_append}
-use Rattle.control_laws.specs.BootLaws.{ServingIsKnown}
-use Rattle.control_laws.specs.ItemCauses.{HasItemCause}
-use Rattle.control_laws.proofs.ItemFacts.{AreKept}
-use Rattle.control_laws.proofs.FactsGrown.{serving_more}
-use Rattle.control_laws.proofs.NetLinks.{ends_serve}
-use Rattle.packet_laws.specs.Rest.{AreServed, IsServed}
-use Rattle.packet_laws.specs.Stages.{Blocked, CameIn, Judged, OnWay, Stage, stage_of, gives_stage}
-use Rattle.packet_laws.specs.PacketCauses.{PacketCause}
+use Rattle.update_machine.proofs.Exports.{count_of_append, folded_append}
+use Rattle.control_laws.specs.Exports.{HasItemCause, ServingIsKnown}
+use Rattle.control_laws.proofs.Exports.{AreKept, ends_serve, serving_more}
+use Rattle.packet_laws.specs.Exports.{AreServed, Blocked, CameIn, IsServed, Judged, OnWay, PacketCause, Stage, gives_stage, stage_of}
 use Rattle.packet_laws.proofs.SparedPackets.{ends_or_not}
 use Rattle.packet_laws.proofs.PacketBlocks.{ended, stage_next, standing_more, travels_more}
 

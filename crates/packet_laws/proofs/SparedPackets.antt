@@ -1,27 +1,12 @@
 -- What a step leaves of packets that it isn't about: they are on their way as before.
-use Rattle.std.proofs.Common.{ℕ, ◌≡◌, ◌+◌, ◌==◌, Bool, true, false, Option, Some, None, List, [], ◌∷◌, ◌++◌, map, refl, ◌∙◌, arith, inl, inr, ◌⊎◌}
-use Rattle.std.specs.Prelude.{⊤, if◌then◌else◌}
-use Rattle.std.proofs.lemmas.Bool.{ne_eqb}
-use Rattle.five_tuple.specs.declared.header.Header.{Header}
-use Rattle.policy_rules.specs.declared.packet.Leg.{Leg}
-use Rattle.policy_rules.specs.declared.policy.Action.{Action}
+use Rattle.std.proofs.Common.{[], if◌then◌else◌, ◌++◌, ◌+◌, ◌==◌, ◌∙◌, ◌∷◌, ◌≡◌, ◌⊎◌, Bool, List, None, Option, Some, arith, false, inl, inr, map, ne_eqb, refl, true, ℕ}
+use Rattle.base.proofs.Exports.{⊤}
+use Rattle.update_machine.specs.Exports.{Action, AuthorityRule, Found, HaveCauses, Header, Item, Leg, Setting, arrive_items, authority_items, cache_items, crash_items, end_items, found_items, gives_travelling, header_at, hop_items, is_up, items_then, leg_items, link_changes, lookup_at, lookup_items, lose_items, move_items, nothing, packet_items, packets_at, reroute_items, sent_from, travels}
 use Rattle.policy_rules.specs.declared.policy.Action.TheVariants as action
-use Rattle.switch_table.specs.declared.search.Found.{Found}
-use Rattle.journal.specs.declared.item.Item.{Item}
 use Rattle.journal.specs.declared.item.Item.TheVariants as item
-use Rattle.update_machine.specs.Boots.{is_up}
-use Rattle.update_machine.specs.Caches.{lookup_at}
-use Rattle.update_machine.specs.Causes.{HaveCauses}
-use Rattle.update_machine.specs.Deliveries.{link_changes}
-use Rattle.update_machine.specs.Messages.{sent_from}
-use Rattle.update_machine.specs.Moves.{AuthorityRule, arrive_items, authority_items, cache_items, end_items, found_items, header_at, leg_items, lookup_items, move_items, items_then, reroute_items}
-use Rattle.update_machine.specs.Travels.{packets_at, gives_travelling, travels}
-use Rattle.update_machine.specs.Pieces.{crash_items, hop_items, lose_items, nothing, packet_items}
-use Rattle.update_machine.specs.Setting.{Setting}
-use Rattle.update_machine.proofs.CallerLemmas.{have_append, have_put}
-use Rattle.control_laws.proofs.ItemFacts.{AreKept, fact_on, have_weaker}
-use Rattle.packet_laws.specs.Rest.{IsMoving}
-use Rattle.packet_laws.specs.Stages.{CameIn, gives_stage}
+use Rattle.update_machine.proofs.Exports.{have_append, have_put}
+use Rattle.control_laws.proofs.Exports.{AreKept, fact_on, have_weaker}
+use Rattle.packet_laws.specs.Exports.{CameIn, IsMoving, gives_stage}
 use Rattle.packet_laws.proofs.OtherBlocks.{AreAside, IsAside, changes_aside}
 use Rattle.packet_laws.proofs.PacketBlocks.{ended, stage_stays, travels_more}
 

@@ -1,14 +1,9 @@
 -- Where a step begins behind some items of what steps wrote, or nothing is left, these items are
 -- what the first of the steps wrote.
-use Rattle.std.specs.Prelude.{drop}
-use Rattle.std.proofs.Common.{ℕ, zero, suc, ◌≡◌, ◌∙◌, List, [], ◌∷◌, ◌++◌, refl, ap, sym, subst, take, append_assoc, append-nil}
-use Rattle.journal.specs.declared.item.Item.{Item}
+use Rattle.std.proofs.Common.{[], ◌++◌, ◌∙◌, ◌∷◌, ◌≡◌, List, ap, append-nil, append_assoc, drop, refl, subst, suc, sym, take, zero, ℕ}
+use Rattle.update_machine.specs.Exports.{HaveCauses, Item, Setting, StepOfRow, after_steps, piece, step_items}
 use Rattle.journal.specs.declared.item.Item.TheVariants as item
-use Rattle.update_machine.specs.Answers.{StepOfRow, after_steps}
-use Rattle.update_machine.specs.Causes.{HaveCauses}
-use Rattle.update_machine.specs.Pieces.{piece, step_items}
-use Rattle.update_machine.specs.Setting.{Setting}
-use Rattle.packet_laws.specs.OnTheWay.{BeginStep, EndsStep}
+use Rattle.packet_laws.specs.Exports.{BeginStep, EndsStep}
 use Rattle.packet_laws.proofs.SparedPackets.{IsNoRow}
 use Rattle.packet_laws.proofs.RestingPackets.{no_rows}
 

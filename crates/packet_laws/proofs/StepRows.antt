@@ -1,16 +1,10 @@
 -- Packets enter by a row of their own, and are lost in a crash that happened: on journals of few
 -- items.
-use Rattle.std.proofs.Common.{◌≡◌, ◌⊎◌, false, true, Some, None, List, [], ◌∷◌, refl, inl, inr}
-use Rattle.journal.specs.declared.item.Item.{Item}
+use Rattle.std.proofs.Common.{[], ◌∷◌, ◌≡◌, ◌⊎◌, List, None, Some, false, inl, inr, refl, true}
+use Rattle.update_machine.specs.Exports.{Crash, Item, Lose, Packet, is_up, next_packet, present_step, serves, standing, travels}
 use Rattle.journal.specs.declared.item.Item.TheVariants as item
-use Rattle.steps.specs.declared.step.Step.TheVariants.{Packet, Lose, Crash}
-use Rattle.update_machine.specs.Boots.{is_up}
-use Rattle.update_machine.specs.Packets.{next_packet, standing}
-use Rattle.update_machine.specs.Causes.{present_step}
-use Rattle.update_machine.specs.Travels.{travels}
-use Rattle.update_machine.specs.Links.{serves}
-use Rattle.update_machine.proofs.ExampleNetworks.{one, open_net}
-use Rattle.packet_laws.specs.PacketCauses.{IsLostInCrash, PacketCause, ends_with_row, fallen_switch}
+use Rattle.update_machine.proofs.Exports.{one, open_net}
+use Rattle.packet_laws.specs.Exports.{IsLostInCrash, PacketCause, ends_with_row, fallen_switch}
 
 in_by_its_row : PacketCause open_net (item.Row 1 (Packet 0 one) ∷ []) (item.Entered 1 0 one)
 unfolding next_packet present_step ends_with_row serves

@@ -1,16 +1,10 @@
 -- What is carried from step to step holds behind each step of a play.
-use Rattle.std.specs.Prelude.{All, drop, get_or, take}
-use Rattle.std.proofs.Common.{ℕ, suc, ◌+◌, Option, Some, None, List, [], ◌∷◌, ◌++◌, sym, subst, take-append-drop, arith}
-use Rattle.journal.specs.declared.item.Item.{Item}
-use Rattle.steps.specs.declared.step.Event.{Event}
-use Rattle.steps.specs.declared.step.Step.{Step}
-use Rattle.update_machine.specs.Answers.{AreSteps, BeginsAnswer, StepOfRow, after_steps}
-use Rattle.update_machine.specs.Full.{IsPlay}
-use Rattle.update_machine.specs.Setting.{Setting}
-use Rattle.update_machine.proofs.CallerLemmas.{AreOf, HasNexts, IsEventOf, answers_so_far, begins_itself, event_steps_are, first_steps_are, stop_begins}
-use Rattle.control_laws.specs.Always.{AreEvents}
-use Rattle.control_laws.proofs.ReachedCauses.{IsCarried, NamesOwn, carried_on, has_nexts, own_event}
-use Rattle.packet_laws.specs.Between.{steps_played}
+use Rattle.std.proofs.Common.{[], ◌++◌, ◌+◌, ◌∷◌, All, List, None, Option, Some, arith, drop, get_or, subst, suc, sym, take, take-append-drop, ℕ}
+use Rattle.update_machine.specs.Exports.{AreSteps, BeginsAnswer, Event, IsPlay, Item, Setting, Step, StepOfRow, after_steps}
+use Rattle.update_machine.proofs.Exports.{AreOf, HasNexts, IsEventOf, answers_so_far, begins_itself, event_steps_are, first_steps_are, stop_begins}
+use Rattle.control_laws.specs.Exports.{AreEvents}
+use Rattle.control_laws.proofs.Exports.{IsCarried, NamesOwn, carried_on, has_nexts, own_event}
+use Rattle.packet_laws.specs.Exports.{steps_played}
 
 are_front : (Is : Step → Type 0) (xs ys : List StepOfRow) → AreOf Is (xs ++ ys) → AreOf Is xs
 are_front Is [] ys are = tt

@@ -1,33 +1,13 @@
 -- The strong causes follow from those that are read off the items, and from what is kept.
-use Rattle.std.proofs.Common.{ℕ, ◌≡◌, ◌<◌, Option, Some, None, List, [], length, sym, subst, ◌∙◌, arith, inl, inr, ◌⊎◌}
-use Rattle.std.specs.Prelude.{IsFalse, IsTrue}
-use Rattle.base.proofs.OptionsMade.{some_same}
-use Rattle.failover.specs.Paths.{IsRoute}
-use Rattle.policy_rules.specs.declared.packet.Cause.{Cause}
-use Rattle.policy_rules.specs.declared.packet.How.{How}
-use Rattle.policy_rules.specs.declared.packet.Leg.{Leg}
-use Rattle.policy_rules.specs.declared.packet.Leg.TheVariants.{Seek, Exit}
-use Rattle.policy_rules.specs.declared.policy.Action.{Action}
-use Rattle.journal.specs.declared.item.Item.{Item}
+use Rattle.std.proofs.Common.{[], ◌<◌, ◌∙◌, ◌≡◌, ◌⊎◌, IsFalse, IsTrue, List, None, Option, Some, arith, inl, inr, length, subst, sym, ℕ}
+use Rattle.base.proofs.Exports.{some_same}
+use Rattle.failover.specs.Exports.{IsRoute}
+use Rattle.update_machine.specs.Exports.{Action, Cause, Exit, HaveCauses, How, IsSetting, Item, Leg, Seek, Setting, found_down, holds_version, leg_of, links_known, route_for, stamp_of, standing, targets_of}
 use Rattle.journal.specs.declared.item.Item.TheVariants as item
-use Rattle.update_machine.specs.Causes.{HaveCauses}
-use Rattle.update_machine.specs.LinkMasks.{links_known}
-use Rattle.update_machine.specs.Moves.{route_for}
-use Rattle.update_machine.specs.PacketRoutes.{found_down, targets_of}
-use Rattle.update_machine.specs.Setting.{Setting, IsSetting}
-use Rattle.update_machine.specs.Versions.{holds_version, stamp_of}
-use Rattle.update_machine.specs.Packets.{standing}
-use Rattle.update_machine.specs.Travels.{leg_of}
-use Rattle.update_machine.proofs.CallerLemmas.{known_link_laws}
-use Rattle.control_laws.specs.ItemCauses.{HasItemCause}
-use Rattle.control_laws.proofs.ItemFacts.{Behind, have_weaker}
-use Rattle.control_laws.proofs.ServingSwitches.{serving_hold}
-use Rattle.packet_laws.specs.OnWay.{IsOnLeg}
-use Rattle.packet_laws.specs.Facts.{PacketFacts, what_is_known}
-use Rattle.packet_laws.specs.KeptFacts.{AllKept}
-use Rattle.packet_laws.specs.Stages.{stage_of}
-use Rattle.packet_laws.specs.StrongCauses.{FindsLinkDown, FurtherCause, IsLeastRoute, IsOnRightLeg, IsStuckOnLeg, RaisesOnLeg, RaisesUnheld, RaisesVersion, SeeksRightly, StrongCause}
-use Rattle.packet_laws.specs.PacketCauses.{FindsNoRoute, IsAt, IsBlockedOn, IsDecided, IsLookedUp, IsRedirected, MeetsDown, TakesLeg, PacketCause}
+use Rattle.update_machine.proofs.Exports.{known_link_laws}
+use Rattle.control_laws.specs.Exports.{HasItemCause}
+use Rattle.control_laws.proofs.Exports.{Behind, have_weaker, serving_hold}
+use Rattle.packet_laws.specs.Exports.{AllKept, FindsLinkDown, FindsNoRoute, FurtherCause, IsAt, IsBlockedOn, IsDecided, IsLeastRoute, IsLookedUp, IsOnLeg, IsOnRightLeg, IsRedirected, IsStuckOnLeg, MeetsDown, PacketCause, PacketFacts, RaisesOnLeg, RaisesUnheld, RaisesVersion, SeeksRightly, StrongCause, TakesLeg, stage_of, what_is_known}
 use Rattle.packet_laws.proofs.AllKept.{Before, kept_before, known_before, knows}
 use Rattle.packet_laws.proofs.PacketEnds.{decision_out, leaves_rightly, mark_in, meets_link, seeks_rightly, stands_known, stuck_rightly}
 use Rattle.packet_laws.proofs.PacketsHere.{IsHere, here_of, leg_in, seeking_of}

@@ -1,15 +1,8 @@
 -- Between steps packets travel as they should.
-use Rattle.std.proofs.Common.{ℕ, Some, List, [], inl}
-use Rattle.std.specs.Prelude.{IsTrue}
-use Rattle.policy_rules.specs.declared.packet.Leg.TheVariants.{Seek}
-use Rattle.journal.specs.declared.item.Item.{Item}
-use Rattle.update_machine.specs.PacketRoutes.{found_down, route_in}
-use Rattle.update_machine.specs.Setting.{Setting, IsSetting}
-use Rattle.control_laws.proofs.ServingSwitches.{serving_hold}
-use Rattle.packet_laws.specs.OnWay.{IsOnWay}
-use Rattle.packet_laws.specs.Facts.{what_is_known}
-use Rattle.packet_laws.specs.KeptFacts.{AllKept, Avoids}
-use Rattle.packet_laws.specs.Travelling.{PacketsTravel, RulesAreRight}
+use Rattle.std.proofs.Common.{[], IsTrue, List, Some, inl, ℕ}
+use Rattle.update_machine.specs.Exports.{IsSetting, Item, Seek, Setting, found_down, route_in}
+use Rattle.control_laws.proofs.Exports.{serving_hold}
+use Rattle.packet_laws.specs.Exports.{AllKept, Avoids, IsOnWay, PacketsTravel, RulesAreRight, what_is_known}
 use Rattle.packet_laws.proofs.AllKept.{all_kept}
 use Rattle.packet_laws.proofs.PacketsHere.{leg_in, seeking_of, travels_in}
 use Rattle.packet_laws.proofs.RestingPackets.{IsSettled, switches_of_all}

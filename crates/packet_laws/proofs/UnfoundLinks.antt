@@ -1,18 +1,10 @@
 -- The links of the network that a packet has not found down: each one that it finds is one less.
-use Rattle.std.proofs.Common.{ℕ, ◌≡◌, ◌≢◌, ◌+◌, ◌<◌, ◌≤◌, ◌==◌, ◌&&◌, ◌||◌, not, Bool, true, false, List, [], ◌∷◌, length, refl, ap, sym, subst, ◌∙◌, arith, cond}
-use Rattle.std.specs.Prelude.{Any, IsFalse, IsTrue, count_by}
-use Rattle.std.specs.List.{list_any}
-use Rattle.std.proofs.lemmas.Bool.{and_parts, eqb-true}
-use Rattle.std.proofs.lemmas.Bool.Decides.{nat_tests}
-use Rattle.std.proofs.lemmas.List.Folds.{Any-from_list_any}
-use Rattle.std.proofs.lemmas.List.Sums.{count_by-le-length, sum_by-cons}
-use Rattle.failover.specs.DownSet.{IsLinkSet, is_link_of}
-use Rattle.failover.specs.Links.{has_link, with_link}
+use Rattle.std.proofs.Common.{[], ◌&&◌, ◌+◌, ◌<◌, ◌==◌, ◌||◌, ◌∙◌, ◌∷◌, ◌≡◌, ◌≢◌, ◌≤◌, Any, Bool, IsFalse, IsTrue, List, ap, arith, cond, count_by, eqb-true, false, length, not, refl, subst, sym, true, ℕ}
+use Rattle.base.proofs.Exports.{Any-from_list_any, and_parts, count_by-le-length, list_any, nat_tests, sum_by-cons}
+use Rattle.failover.specs.Exports.{IsLinkSet, has_link, is_link_of, with_link}
 use Rattle.failover.proofs.LinkSets.{has_link-turned, has_link-with_link, with_link_is_link_set}
-use Rattle.net_file.specs.Net.{IsLink, IsNet}
-use Rattle.net_file.specs.declared.net.LinkRow.{LinkRow}
-use Rattle.net_file.specs.declared.net.Net.{Net}
-use Rattle.net_file.specs.Joins.{are_linked, joins}
+use Rattle.net_file.specs.Exports.{IsLink, IsNet, are_linked, joins}
+use Rattle.update_machine.specs.Exports.{LinkRow, Net}
 
 -- the link isn't in the set
 abbrev pub is_unfound : List ℕ → LinkRow → Bool

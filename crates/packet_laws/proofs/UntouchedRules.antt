@@ -1,25 +1,13 @@
 -- A rule that a change doesn't touch outlives it.
-use Rattle.std.proofs.Common.{ℕ, ◌≡◌, ◌<◌, ◌+◌, ◌∙◌, Bool, true, false, cond, leb, ◌||◌, if◌then◌else◌, nat_lt, Some, None, List, [], ◌∷◌, ◌++◌, All, Any, Contains, filter, filter_map, map, refl, ap, sym, subst, arith}
-use Rattle.std.specs.List.{cons_option}
-use Rattle.std.specs.Option.{option_map_or}
-use Rattle.std.specs.Prelude.{IsFalse}
-use Rattle.std.proofs.lemmas.Bool.Decides.{nat_tests}
-use Rattle.std.proofs.lemmas.List.Elements.{All-contains}
-use Rattle.switch_table.specs.Cache.{CacheValue}
-use Rattle.switch_table.specs.Carried.{after_carry, carried_entry, is_carried, meets_any, under}
-use Rattle.switch_table.specs.declared.cache.CacheEntry.{CacheEntry}
+use Rattle.std.proofs.Common.{[], if◌then◌else◌, ◌++◌, ◌+◌, ◌<◌, ◌||◌, ◌∙◌, ◌∷◌, ◌≡◌, All, Any, Bool, Contains, IsFalse, List, None, Some, ap, arith, cond, false, filter, filter_map, leb, map, nat_lt, refl, subst, sym, true, ℕ}
+use Rattle.base.proofs.Exports.{All-contains, cons_option, nat_tests, option_map_or}
+use Rattle.switch_table.specs.Exports.{CacheValue, after_carry, carried_entry, is_carried, meets_any, under}
+use Rattle.update_machine.specs.Exports.{CacheEntry, HaveCauses, IsSetting, Item, Setting, cache_after, cache_of, changes_cache, stamp_of, touched_by}
 use Rattle.switch_table.proofs.CarryLemmas.{untouched_stays}
-use Rattle.ternary.specs.Word.{WordValue}
-use Rattle.journal.specs.declared.item.Item.{Item}
+use Rattle.ternary.specs.Exports.{WordValue}
 use Rattle.journal.specs.declared.item.Item.TheVariants as item
-use Rattle.update_machine.specs.Caches.{cache_after, cache_of, changes_cache}
-use Rattle.update_machine.specs.Causes.{HaveCauses}
-use Rattle.update_machine.specs.Setting.{IsSetting, Setting}
-use Rattle.update_machine.specs.Touched.{touched_by}
-use Rattle.update_machine.specs.Versions.{stamp_of}
-use Rattle.update_machine.proofs.CallerLemmas.{folded_append}
-use Rattle.packet_laws.specs.Rules.{IsRightEntry}
-use Rattle.packet_laws.specs.Amended.{HasUnder, IsToldStamp, UntouchedStay, at_least, outlives}
+use Rattle.update_machine.proofs.Exports.{folded_append}
+use Rattle.packet_laws.specs.Exports.{HasUnder, IsRightEntry, IsToldStamp, UntouchedStay, at_least, outlives}
 use Rattle.packet_laws.proofs.AllKept.{Before, all_kept, cached_on}
 use Rattle.packet_laws.proofs.GrowingFacts.{grows}
 use Rattle.packet_laws.proofs.RestingPackets.{IsWayItem, switches_of_all}

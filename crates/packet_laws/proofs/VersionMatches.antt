@@ -1,15 +1,9 @@
 -- First matches, and what scans of policies find.
-use Rattle.std.proofs.Common.{ℕ, ◌≡◌, List, subst, sym}
-use Rattle.five_tuple.specs.declared.header.Header.{Header}
-use Rattle.policy_rules.specs.Policy.{IsFirstMatch}
-use Rattle.policy_rules.specs.Scan.{scan}
-use Rattle.policy_rules.specs.declared.policy.Hit.{Hit}
-use Rattle.policy_rules.specs.declared.policy.Row.{Row}
+use Rattle.std.proofs.Common.{◌≡◌, List, subst, sym, ℕ}
+use Rattle.update_machine.specs.Exports.{Header, Hit, IsSetting, Item, Row, Setting, policy_at}
+use Rattle.policy_rules.specs.Exports.{IsFirstMatch, scan}
 use Rattle.policy_rules.proofs.CallerLemmas.{first_match-only, first_match-scan}
-use Rattle.journal.specs.declared.item.Item.{Item}
-use Rattle.update_machine.specs.Setting.{IsSetting, Setting}
-use Rattle.update_machine.specs.Versions.{policy_at}
-use Rattle.update_machine.proofs.CallerLemmas.{versions_own}
+use Rattle.update_machine.proofs.Exports.{versions_own}
 
 -- what a scan finds is the first match
 pub first_match_by_scan : (rows : List Row) (header : Header) (hit : Hit) → scan rows header ≡ hit

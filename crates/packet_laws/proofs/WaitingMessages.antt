@@ -1,22 +1,10 @@
 -- A flush delivers messages of rising numbers.
-use Rattle.std.proofs.Common.{ℕ, zero, suc, ◌≡◌, ◌+◌, ◌<◌, ◌≤◌, ◌==◌, Bool, true, false, if◌then◌else◌, Some, List, [], ◌∷◌, ◌++◌, refl, ap, sym, subst, ◌∙◌, append_assoc, arith, inl, inr}
-use Rattle.std.specs.Prelude.{◌&&◌, find, nat_lt, not}
-use Rattle.std.specs.List.{range_with_len}
-use Rattle.std.proofs.lemmas.Bool.{and_parts, and_right, cases_eq, cases_lt, eq-eqb, eqb-true, lt-ltb}
-use Rattle.journal.specs.declared.item.Item.{Item}
+use Rattle.std.proofs.Common.{[], if◌then◌else◌, ◌&&◌, ◌++◌, ◌+◌, ◌<◌, ◌==◌, ◌∙◌, ◌∷◌, ◌≡◌, ◌≤◌, Bool, List, Some, ap, append_assoc, arith, eq-eqb, eqb-true, false, find, inl, inr, lt-ltb, nat_lt, not, refl, subst, suc, sym, true, zero, ℕ}
+use Rattle.base.proofs.Exports.{and_parts, and_right, cases_eq, cases_lt, range_with_len}
+use Rattle.update_machine.specs.Exports.{Deliver, HaveCauses, Item, MessageKeeps, Setting, TakesNext, concerns_message, count_of, deliver_items, delivery_items, is_deliverable, is_delivery, is_forgetting, is_forgotten, is_sending, is_waiting, next_message, next_waiting, piece, was_delivered}
 use Rattle.journal.specs.declared.item.Item.TheVariants as item
-use Rattle.steps.specs.declared.step.Step.TheVariants.{Deliver}
-use Rattle.update_machine.specs.Causes.{HaveCauses}
-use Rattle.update_machine.specs.Concerns.{concerns_message}
-use Rattle.update_machine.specs.Deliveries.{delivery_items}
-use Rattle.update_machine.specs.Folds.{count_of}
-use Rattle.update_machine.specs.Laws.{MessageKeeps}
-use Rattle.update_machine.specs.Messages.{is_deliverable, is_delivery, is_forgetting, is_forgotten, is_sending, is_waiting, next_message, next_waiting, was_delivered}
-use Rattle.update_machine.specs.Numbers.{TakesNext}
-use Rattle.update_machine.specs.Pieces.{deliver_items, piece}
-use Rattle.update_machine.specs.Setting.{Setting}
-use Rattle.update_machine.proofs.CallerLemmas.{message_keeps, piece_next, next_rises}
-use Rattle.control_laws.proofs.ItemFacts.{AreKept, fact_on}
+use Rattle.update_machine.proofs.Exports.{message_keeps, next_rises, piece_next}
+use Rattle.control_laws.proofs.Exports.{AreKept, fact_on}
 use Rattle.packet_laws.proofs.ItemCounts.{count_more}
 
 -- ---- the least number

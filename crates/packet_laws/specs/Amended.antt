@@ -2,27 +2,13 @@
 -- first match, and each packet with that header is decided by it, under the version before or the
 -- new one. When a `Stamp` raises a switch to the very next version, it removes from the cache no
 -- rule that it doesn't touch, unless that version has an entry of its word.
-use Rattle.std.specs.Prelude.{ℕ, ◌≡◌, ◌+◌, ◌⊎◌, Bool, ◌||◌, nat_le, if◌then◌else◌, Some, Ok, List, All, IsFalse, ◌<◌, [], ◌∷◌, ◌++◌, Any, Contains, filter, map}
-use Rattle.ctrl_msg.specs.declared.message.Body.TheVariants.{Stamp}
-use Rattle.five_tuple.specs.Header.{fields_of}
-use Rattle.five_tuple.specs.declared.header.Header.{Header}
-use Rattle.policy_rules.specs.Applied.{applied}
-use Rattle.policy_rules.specs.Policy.{IsFirstMatch, row_matches}
-use Rattle.policy_rules.specs.Touched.{touched_rows}
-use Rattle.policy_rules.specs.declared.amendment.Edit.{Edit}
-use Rattle.policy_rules.specs.declared.policy.Hit.{Hit}
-use Rattle.policy_rules.specs.declared.policy.Row.{Row}
-use Rattle.switch_table.specs.Carried.{is_carried, meets_any, under}
-use Rattle.switch_table.specs.declared.cache.CacheEntry.{CacheEntry}
-use Rattle.ternary.specs.Word.{WordValue}
-use Rattle.journal.specs.declared.item.Item.{Item}
+use Rattle.std.specs.Prelude.{[], if◌then◌else◌, ◌++◌, ◌+◌, ◌<◌, ◌||◌, ◌∷◌, ◌≡◌, ◌⊎◌, All, Any, Bool, Contains, IsFalse, List, Ok, Some, filter, map, nat_le, ℕ}
+use Rattle.update_machine.specs.Exports.{CacheEntry, Decision, Edit, Header, Hit, Item, Row, Setting, Stamp, body_to_switch, cache_of, decision_of, header_in, policy_in, stamp_of, touched_by}
+use Rattle.five_tuple.specs.Exports.{fields_of}
+use Rattle.policy_rules.specs.Exports.{IsFirstMatch, applied, row_matches, touched_rows}
+use Rattle.switch_table.specs.Exports.{is_carried, meets_any, under}
+use Rattle.ternary.specs.Exports.{WordValue}
 use Rattle.journal.specs.declared.item.Item.TheVariants as item
-use Rattle.update_machine.specs.Packets.{Decision, decision_of, header_in}
-use Rattle.update_machine.specs.Setting.{Setting, policy_in}
-use Rattle.update_machine.specs.Boots.{body_to_switch}
-use Rattle.update_machine.specs.Caches.{cache_of}
-use Rattle.update_machine.specs.Touched.{touched_by}
-use Rattle.update_machine.specs.Versions.{stamp_of}
 use Rattle.packet_laws.specs.Rules.{IsRightEntry}
 
 -- ---- headers

@@ -1,12 +1,7 @@
 -- Packets that are about to be received, at the end of their route.
-use Rattle.std.specs.Prelude.{ℕ, ◌≡◌, Some, List, IsTrue}
-use Rattle.five_tuple.specs.declared.header.Header.{Header}
-use Rattle.policy_rules.specs.declared.packet.Leg.{Leg}
-use Rattle.journal.specs.declared.item.Item.{Item}
-use Rattle.update_machine.specs.Packets.{header_in, standing}
-use Rattle.update_machine.specs.Setting.{Setting}
-use Rattle.update_machine.specs.Travels.{leg_of, travels}
-use Rattle.control_laws.specs.Authorities.{EndsAt}
+use Rattle.std.specs.Prelude.{◌≡◌, IsTrue, List, Some, ℕ}
+use Rattle.update_machine.specs.Exports.{Header, Item, Leg, Setting, header_in, leg_of, standing, travels}
+use Rattle.control_laws.specs.Exports.{EndsAt}
 use Rattle.packet_laws.specs.PacketCauses.{Arrives}
 
 -- the packet with this header is on its way by this leg, and its route ends at the switch, also if

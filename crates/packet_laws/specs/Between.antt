@@ -1,11 +1,7 @@
 -- When a fact is true between steps of a network that takes only steps that it may take.
-use Rattle.std.specs.Prelude.{ℕ, Option, Some, None, List, [], take}
-use Rattle.journal.specs.declared.item.Item.{Item}
-use Rattle.steps.specs.declared.step.Event.{Event}
-use Rattle.update_machine.specs.Answers.{Answers, AnswersSoFar, IsReached, StepOfRow, after_steps}
-use Rattle.update_machine.specs.Full.{IsPlay}
-use Rattle.update_machine.specs.Setting.{Setting}
-use Rattle.control_laws.specs.Always.{AreEvents}
+use Rattle.std.specs.Prelude.{[], List, None, Option, Some, take, ℕ}
+use Rattle.update_machine.specs.Exports.{Answers, AnswersSoFar, Event, IsPlay, IsReached, Item, Setting, StepOfRow, after_steps}
+use Rattle.control_laws.specs.Exports.{AreEvents}
 
 -- the steps of a play, in order
 abbrev pub steps_played : (setting : Setting) (events : List Event) (journal : List Item)

@@ -1,7 +1,6 @@
 -- What a drain has yet to do.
-use Rattle.std.specs.Prelude.{ℕ, ◌-◌, List, sum_by}
-use Rattle.journal.specs.declared.item.Item.{Item}
-use Rattle.update_machine.specs.Travels.{packets_in}
+use Rattle.std.specs.Prelude.{◌-◌, List, sum_by, ℕ}
+use Rattle.update_machine.specs.Exports.{Item, packets_in}
 use Rattle.packet_laws.specs.Hops.{hops_taken, most_hops}
 
 -- the most hops that the packet may still take

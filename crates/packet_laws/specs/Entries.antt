@@ -2,17 +2,9 @@
 -- except for the hops and deliveries that rows of a drain or a flush cause too. Each packet that
 -- entered or was refused is that of a packet row: a journal without packets is that of a play
 -- without packet rows. The notion is our own.
-use Rattle.std.specs.Prelude.{⊤, ℕ, Bool, IsTrue, IsFalse, ◌≡◌, ◌+◌, ◌-◌, Option, Some, None, List, [], ◌∷◌, ◌++◌, take}
-use Rattle.five_tuple.specs.declared.header.Header.{Header}
-use Rattle.journal.specs.declared.item.Item.{Item}
+use Rattle.std.specs.Prelude.{[], ◌++◌, ◌+◌, ◌-◌, ◌∷◌, ◌≡◌, Bool, IsFalse, IsTrue, List, None, Option, Some, take, ℕ, ⊤}
+use Rattle.update_machine.specs.Exports.{Deliver, Event, Header, Hop, Item, One, Packet, Step, all_given, next_packet, serves}
 use Rattle.journal.specs.declared.item.Item.TheVariants as item
-use Rattle.steps.specs.declared.step.Event.{Event}
-use Rattle.steps.specs.declared.step.Event.TheVariants.{One}
-use Rattle.steps.specs.declared.step.Step.{Step}
-use Rattle.steps.specs.declared.step.Step.TheVariants.{Packet, Hop, Deliver}
-use Rattle.update_machine.specs.Folds.{all_given}
-use Rattle.update_machine.specs.Links.{serves}
-use Rattle.update_machine.specs.Packets.{next_packet}
 
 -- a row of a schedule that asks for one step by itself
 pub record StepRow : Type 0 where

@@ -1,16 +1,8 @@
 -- All that a journal says of one packet, as one value, and how each item changes it.
-use Rattle.std.specs.Prelude.{ℕ, ◌+◌, Bool, true, false, ◌==◌, if◌then◌else◌, Option, Some, option_and_then, unwrap_or, List}
-use Rattle.failover.specs.Links.{with_link}
-use Rattle.five_tuple.specs.declared.header.Header.{Header}
-use Rattle.policy_rules.specs.declared.packet.Leg.{Leg}
-use Rattle.policy_rules.specs.declared.packet.Leg.TheVariants.{Seek, Exit}
-use Rattle.journal.specs.declared.item.Item.{Item}
+use Rattle.std.specs.Prelude.{if◌then◌else◌, ◌+◌, ◌==◌, Bool, List, Option, Some, false, option_and_then, true, unwrap_or, ℕ}
+use Rattle.failover.specs.Exports.{with_link}
+use Rattle.update_machine.specs.Exports.{Decision, Exit, Header, Item, Leg, Seek, decision_of, folded_value, found_down, header_in, ingress_of, leg_of, port_in, retired_mark, route_in, route_place, standing, travels}
 use Rattle.journal.specs.declared.item.Item.TheVariants as item
-use Rattle.update_machine.specs.Folds.{folded_value}
-use Rattle.update_machine.specs.Marks.{retired_mark}
-use Rattle.update_machine.specs.Packets.{Decision, decision_of, header_in, standing}
-use Rattle.update_machine.specs.Travels.{ingress_of, leg_of, port_in, travels}
-use Rattle.update_machine.specs.PacketRoutes.{found_down, route_in, route_place}
 
 -- ---- the mark of a packet
 

@@ -1,10 +1,7 @@
 -- How many routes a packet takes, and how many hops while it travels.
-use Rattle.std.specs.Prelude.{ℕ, ◌+◌, Bool, false, ◌&&◌, ◌==◌, if◌then◌else◌, List}
-use Rattle.journal.specs.declared.item.Item.{Item}
+use Rattle.std.specs.Prelude.{if◌then◌else◌, ◌&&◌, ◌+◌, ◌==◌, Bool, List, false, ℕ}
+use Rattle.update_machine.specs.Exports.{Hop, Item, count_of, folded_value, travels}
 use Rattle.journal.specs.declared.item.Item.TheVariants as item
-use Rattle.steps.specs.declared.step.Step.TheVariants.{Hop}
-use Rattle.update_machine.specs.Folds.{count_of, folded_value}
-use Rattle.update_machine.specs.Travels.{travels}
 
 -- ---- hops
 

@@ -1,19 +1,8 @@
 -- What each item keeps of each packet and of each cache rule, whatever stage the packet is in.
-use Rattle.std.specs.Prelude.{⊤, ℕ, ◌≡◌, ◌+◌, ◌<◌, ◌≤◌, ◌⊎◌, Option, Some, None, List, All, IsTrue, IsFalse, slice_get}
-use Rattle.ctrl_msg.specs.declared.message.Body.{Body}
-use Rattle.ctrl_msg.specs.declared.message.Body.TheVariants.{CacheRule}
-use Rattle.ctrl_msg.specs.declared.message.Message.{Message}
-use Rattle.failover.specs.Links.{has_link}
-use Rattle.five_tuple.specs.declared.header.Header.{Header}
-use Rattle.policy_rules.specs.Scan.{scan}
-use Rattle.policy_rules.specs.declared.packet.Leg.TheVariants.{Seek}
-use Rattle.journal.specs.declared.item.Item.{Item}
-use Rattle.update_machine.specs.Caches.{cache_of}
-use Rattle.update_machine.specs.Marks.{current_mark}
-use Rattle.update_machine.specs.Links.{message_of}
-use Rattle.update_machine.specs.Packets.{Decision, next_packet}
-use Rattle.update_machine.specs.Setting.{Setting, NamesOwnPort}
-use Rattle.update_machine.specs.Versions.{policy_at}
+use Rattle.std.specs.Prelude.{◌+◌, ◌<◌, ◌≡◌, ◌≤◌, ◌⊎◌, All, IsFalse, IsTrue, List, None, Option, Some, slice_get, ℕ, ⊤}
+use Rattle.update_machine.specs.Exports.{Body, CacheRule, Decision, Header, Item, Message, NamesOwnPort, Seek, Setting, cache_of, current_mark, message_of, next_packet, policy_at}
+use Rattle.failover.specs.Exports.{has_link}
+use Rattle.policy_rules.specs.Exports.{scan}
 use Rattle.packet_laws.specs.Rules.{IsRightEntry, IsRightRule}
 use Rattle.packet_laws.specs.OnWay.{IsOnWay, IsSought, IsUnderWay, IsUnknown}
 use Rattle.packet_laws.specs.Facts.{PacketFacts, what_is_known}

@@ -1,11 +1,7 @@
 -- What is true on the way: at each moment, within a step too; and after each step.
-use Rattle.std.specs.Prelude.{⊤, ℕ, ◌≤◌, List, [], ◌∷◌, drop, take}
-use Rattle.journal.specs.declared.item.Item.{Item}
+use Rattle.std.specs.Prelude.{[], ◌∷◌, ◌≤◌, List, drop, take, ℕ, ⊤}
+use Rattle.update_machine.specs.Exports.{AreSettled, HasCause, HaveCauses, IsRun, Item, Setting}
 use Rattle.journal.specs.declared.item.Item.TheVariants as item
-use Rattle.update_machine.specs.Causes.{HasCause, HaveCauses}
-use Rattle.update_machine.specs.Machine.{IsRun}
-use Rattle.update_machine.specs.Marks.{AreSettled}
-use Rattle.update_machine.specs.Setting.{Setting}
 use Rattle.packet_laws.specs.Hops.{detour_count, exit_count, hops_taken, most_hops, most_switches, routes_taken, search_count}
 use Rattle.packet_laws.specs.Routes.{hops_on_route, most_routes}
 use Rattle.packet_laws.specs.StrongCauses.{StrongCause}

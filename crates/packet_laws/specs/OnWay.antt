@@ -1,23 +1,12 @@
 -- A packet on its way: it is at a place of a route that ends at a target of its leg.
-use Rattle.std.specs.Prelude.{ℕ, ◌≡◌, ◌+◌, ◌-◌, ◌<◌, ◌≤◌, false, nat_eq, Option, Some, None, find, List, [], ◌∷◌, length, slice_get, IsTrue}
-use Rattle.std.specs.List.{list_any}
-use Rattle.failover.specs.Links.{no_links}
-use Rattle.base.specs.Masks.{has}
-use Rattle.failover.specs.RouteList.{IsRouteList}
-use Rattle.five_tuple.specs.Header.{IsHeader}
-use Rattle.five_tuple.specs.declared.header.Header.{Header}
-use Rattle.net_file.specs.Joins.{owner_of}
-use Rattle.net_file.specs.Owners.{links_of}
-use Rattle.policy_rules.specs.Hosted.{is_in}
-use Rattle.policy_rules.specs.declared.packet.Leg.{Leg}
-use Rattle.policy_rules.specs.declared.packet.Leg.TheVariants.{Seek, Exit}
-use Rattle.policy_rules.specs.declared.policy.Action.TheVariants.{Out}
-use Rattle.switch_table.specs.Tables.{Hosted, part_of}
-use Rattle.journal.specs.declared.item.Item.{Item}
-use Rattle.update_machine.specs.Marks.{current_mark, retired_mark}
-use Rattle.update_machine.specs.Packets.{Decision}
-use Rattle.update_machine.specs.Setting.{Setting}
-use Rattle.update_machine.specs.Versions.{plan_at}
+use Rattle.std.specs.Prelude.{[], ◌+◌, ◌-◌, ◌<◌, ◌∷◌, ◌≡◌, ◌≤◌, IsTrue, List, None, Option, Some, false, find, length, nat_eq, slice_get, ℕ}
+use Rattle.base.specs.Exports.{has, list_any}
+use Rattle.failover.specs.Exports.{IsRouteList, no_links}
+use Rattle.five_tuple.specs.Exports.{IsHeader}
+use Rattle.update_machine.specs.Exports.{Decision, Exit, Header, Item, Leg, Out, Seek, Setting, current_mark, plan_at, retired_mark}
+use Rattle.net_file.specs.Exports.{links_of, owner_of}
+use Rattle.policy_rules.specs.Exports.{is_in}
+use Rattle.switch_table.specs.Exports.{Hosted, part_of}
 use Rattle.packet_laws.specs.Facts.{PacketFacts}
 
 -- ---- routes

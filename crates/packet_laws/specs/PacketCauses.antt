@@ -1,37 +1,13 @@
 -- The causes of packets' items: what the journal says just before each, as the switch that writes
 -- it finds it. The causes are read off only the items, for steps of all kinds; packets are those
 -- of Yu, Rexford, Freedman and Wang, "Scalable Flow-Based Networking with DIFANE".
-use Rattle.std.specs.Prelude.{⊤, ℕ, Bool, ◌≡◌, ◌==◌, ◌⊎◌, true, false, Option, Some, None, unwrap_or, List, IsTrue, IsFalse}
-use Rattle.ctrl_msg.specs.declared.message.Body.{Body}
-use Rattle.ctrl_msg.specs.declared.message.Body.TheVariants.{CacheRule}
-use Rattle.ctrl_msg.specs.declared.message.Message.{Message}
-use Rattle.base.specs.Masks.{has}
-use Rattle.five_tuple.specs.declared.header.Header.{Header}
-use Rattle.policy_rules.specs.declared.packet.Cause.{Cause}
-use Rattle.policy_rules.specs.declared.packet.How.{How}
+use Rattle.std.specs.Prelude.{◌==◌, ◌≡◌, ◌⊎◌, Bool, IsFalse, IsTrue, List, None, Option, Some, false, true, unwrap_or, ℕ, ⊤}
+use Rattle.update_machine.specs.Exports.{Action, AuthorityRule, Body, CacheEntry, CacheRule, Cause, Crash, Decision, Exit, Header, How, IsLinkStep, Item, Leaving, Leg, Lose, Message, Packet, Restart, Seek, Setting, Update, authority_rule, cache_rule, cause_at, decision_of, first_place, found_down, header_at, holds_version, ingress_of, is_at, is_up, last_given, leaving_item, leg_of, lookup_at, near, next_packet, next_switch, owner, present_step, route_for, serves, stamp_of, standing, travels}
+use Rattle.base.specs.Exports.{has}
 use Rattle.policy_rules.specs.declared.packet.How.TheVariants as how
-use Rattle.policy_rules.specs.declared.packet.Leaving.{Leaving}
-use Rattle.policy_rules.specs.declared.packet.Leg.{Leg}
-use Rattle.policy_rules.specs.declared.packet.Leg.TheVariants.{Seek, Exit}
-use Rattle.policy_rules.specs.declared.policy.Action.{Action}
 use Rattle.policy_rules.specs.declared.policy.Action.TheVariants as action
-use Rattle.switch_table.specs.declared.cache.CacheEntry.{CacheEntry}
 use Rattle.switch_table.specs.declared.search.Found.TheVariants as found
-use Rattle.journal.specs.declared.item.Item.{Item}
 use Rattle.journal.specs.declared.item.Item.TheVariants as item
-use Rattle.steps.specs.declared.step.Step.TheVariants.{Packet, Lose, Crash, Restart, Update}
-use Rattle.update_machine.specs.Boots.{is_up}
-use Rattle.update_machine.specs.Caches.{lookup_at}
-use Rattle.update_machine.specs.Folds.{last_given}
-use Rattle.update_machine.specs.LinkMasks.{near}
-use Rattle.update_machine.specs.Moves.{AuthorityRule, authority_rule, cache_rule, cause_at, first_place, header_at, leaving_item, route_for}
-use Rattle.update_machine.specs.Packets.{Decision, decision_of, next_packet, standing}
-use Rattle.update_machine.specs.Setting.{Setting}
-use Rattle.update_machine.specs.Causes.{IsLinkStep, present_step}
-use Rattle.update_machine.specs.Versions.{holds_version, stamp_of}
-use Rattle.update_machine.specs.Travels.{ingress_of, is_at, leg_of, travels}
-use Rattle.update_machine.specs.PacketRoutes.{found_down, next_switch, owner}
-use Rattle.update_machine.specs.Links.{serves}
 use Rattle.packet_laws.specs.Stages.{Blocked, CameIn, Judged, OnWay, stage_of}
 
 -- ---- where it is

@@ -1,9 +1,6 @@
 -- A network between steps: each travelling packet is on its way, at a switch that serves.
-use Rattle.std.specs.Prelude.{ℕ, ◌≡◌, Some, List, IsTrue}
-use Rattle.journal.specs.declared.item.Item.{Item}
-use Rattle.update_machine.specs.Links.{serves}
-use Rattle.update_machine.specs.Packets.{standing}
-use Rattle.update_machine.specs.Travels.{travels}
+use Rattle.std.specs.Prelude.{◌≡◌, IsTrue, List, Some, ℕ}
+use Rattle.update_machine.specs.Exports.{Item, serves, standing, travels}
 use Rattle.packet_laws.specs.Stages.{OnWay, stage_of}
 
 -- the packet is at a switch that serves

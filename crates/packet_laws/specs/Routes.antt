@@ -1,11 +1,8 @@
 -- How many routes a packet takes at most, how many hops on its last one, and how often it finds a
 -- link down. The bounds are our own.
-use Rattle.std.specs.Prelude.{ℕ, ◌+◌, Bool, false, ◌&&◌, ◌==◌, if◌then◌else◌, List}
-use Rattle.journal.specs.declared.item.Item.{Item}
+use Rattle.std.specs.Prelude.{if◌then◌else◌, ◌&&◌, ◌+◌, ◌==◌, Bool, List, false, ℕ}
+use Rattle.update_machine.specs.Exports.{Hop, Item, count_of, folded_value, travels}
 use Rattle.journal.specs.declared.item.Item.TheVariants as item
-use Rattle.steps.specs.declared.step.Step.TheVariants.{Hop}
-use Rattle.update_machine.specs.Folds.{count_of, folded_value}
-use Rattle.update_machine.specs.Travels.{travels}
 
 -- one for each of 64 versions, one to its port, and one around each of 256 links
 abbrev pub most_routes : ℕ

@@ -1,15 +1,9 @@
 -- Cache rules that decide as the policy of their version does.
-use Rattle.std.specs.Prelude.{ℕ, ◌≤◌, Option, List, IsTrue}
-use Rattle.five_tuple.specs.Header.{IsHeader, number_of}
-use Rattle.five_tuple.specs.declared.header.Header.{Header}
-use Rattle.policy_rules.specs.Policy.{IsFirstMatch}
-use Rattle.policy_rules.specs.declared.policy.Action.{Action}
-use Rattle.switch_table.specs.declared.cache.CacheEntry.{CacheEntry}
-use Rattle.ternary.specs.Word.{WordValue, holds}
-use Rattle.journal.specs.declared.item.Item.{Item}
-use Rattle.update_machine.specs.Marks.{current_mark}
-use Rattle.update_machine.specs.Setting.{Setting}
-use Rattle.update_machine.specs.Versions.{policy_at}
+use Rattle.std.specs.Prelude.{◌≤◌, IsTrue, List, Option, ℕ}
+use Rattle.five_tuple.specs.Exports.{IsHeader, number_of}
+use Rattle.update_machine.specs.Exports.{Action, CacheEntry, Header, Item, Setting, current_mark, policy_at}
+use Rattle.policy_rules.specs.Exports.{IsFirstMatch}
+use Rattle.ternary.specs.Exports.{WordValue, holds}
 
 -- the version is at most the current one, and the rule is the first match in its policy of each
 -- header of the word

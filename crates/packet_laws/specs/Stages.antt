@@ -1,8 +1,7 @@
 -- What a switch is doing with a packet, in the middle of a step: our own notion.
-use Rattle.std.specs.Prelude.{ℕ, ◌==◌, if◌then◌else◌, Option, Some, None, List}
-use Rattle.journal.specs.declared.item.Item.{Item}
+use Rattle.std.specs.Prelude.{if◌then◌else◌, ◌==◌, List, None, Option, Some, ℕ}
+use Rattle.update_machine.specs.Exports.{Item, last_given}
 use Rattle.journal.specs.declared.item.Item.TheVariants as item
-use Rattle.update_machine.specs.Folds.{last_given}
 
 -- a packet entered, was decided, or found a link down, and what its switch does with it follows in
 -- the next items; or it is on its way on a route

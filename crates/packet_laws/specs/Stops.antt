@@ -1,11 +1,7 @@
 -- A loop of steps in a play runs to its end, or stops before a step that would begin with a full
 -- journal. The notion is our own.
-use Rattle.std.specs.Prelude.{ℕ, ◌⊎◌, Option, List, [], ◌∷◌, ◌++◌}
-use Rattle.journal.specs.declared.item.Item.{Item}
-use Rattle.steps.specs.declared.step.Step.{Step}
-use Rattle.update_machine.specs.Answers.{AreAll, AreSome, StepOfRow, after_steps}
-use Rattle.update_machine.specs.Full.{HaveRoom, IsFull}
-use Rattle.update_machine.specs.Setting.{Setting}
+use Rattle.std.specs.Prelude.{[], ◌++◌, ◌∷◌, ◌⊎◌, List, Option, ℕ}
+use Rattle.update_machine.specs.Exports.{AreAll, AreSome, HaveRoom, IsFull, Item, Setting, Step, StepOfRow, after_steps}
 
 -- after these steps the journal is full, and there is a next one
 pub record StopsAt (setting : Setting) (next : List Item → Option Step) (row : ℕ)

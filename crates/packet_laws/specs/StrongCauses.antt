@@ -1,26 +1,12 @@
 -- Causes as strong as a reader may require. With them a run whose rows are the schedule's keeps
 -- the promise: each packet is decided by one whole version that wasn't retired when it entered, or
 -- was lost by a row, or was stuck because no route was known.
-use Rattle.std.specs.Prelude.{⊤, ℕ, ◌≡◌, ◌≢◌, ◌<◌, ◌≤◌, Some, None, List, IsFalse}
-use Rattle.failover.specs.Paths.{IsRoute}
-use Rattle.policy_rules.specs.declared.packet.Cause.{Cause}
-use Rattle.policy_rules.specs.declared.packet.Leg.{Leg}
-use Rattle.policy_rules.specs.declared.packet.Leg.TheVariants.{Seek, Exit}
-use Rattle.journal.specs.declared.item.Item.{Item}
+use Rattle.std.specs.Prelude.{◌<◌, ◌≡◌, ◌≢◌, ◌≤◌, IsFalse, List, None, Some, ℕ, ⊤}
+use Rattle.failover.specs.Exports.{IsRoute}
+use Rattle.update_machine.specs.Exports.{Cause, Exit, FindsNextDown, FindsNoPath, Item, LeavesRightly, Leg, Seek, SeeksOwn, Setting, cause_at, current_mark, decision_of, found_down, holds_version, leg_of, links_known, route_from, standing, targets_of}
 use Rattle.journal.specs.declared.item.Item.TheVariants as item
-use Rattle.steps.specs.Steps.{HasLink}
-use Rattle.update_machine.specs.Adverts.{route_from}
-use Rattle.update_machine.specs.Causes.{LeavesRightly}
-use Rattle.update_machine.specs.LinkMasks.{links_known}
-use Rattle.update_machine.specs.Marks.{current_mark}
-use Rattle.update_machine.specs.Moves.{cause_at}
-use Rattle.update_machine.specs.Packets.{decision_of, standing}
-use Rattle.update_machine.specs.Setting.{Setting}
-use Rattle.update_machine.specs.Travels.{leg_of}
-use Rattle.update_machine.specs.Versions.{holds_version}
-use Rattle.update_machine.specs.PacketRoutes.{found_down, targets_of}
-use Rattle.update_machine.specs.ExactCauses.{FindsNextDown, FindsNoPath, SeeksOwn}
-use Rattle.control_laws.specs.ItemCauses.{RetiresRightly, SubmitsRightly}
+use Rattle.steps.specs.Exports.{HasLink}
+use Rattle.control_laws.specs.Exports.{RetiresRightly, SubmitsRightly}
 use Rattle.packet_laws.specs.Facts.{entry_mark}
 use Rattle.packet_laws.specs.KeptFacts.{Avoids}
 use Rattle.packet_laws.specs.Stages.{Blocked, stage_of}

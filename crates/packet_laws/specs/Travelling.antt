@@ -1,14 +1,6 @@
 -- What is true of a travelling packet between steps, and of cache rules at any time.
-use Rattle.std.specs.Prelude.{ℕ, ◌≡◌, ◌<◌, ◌⊎◌, Some, List, All, IsTrue, length}
-use Rattle.ctrl_msg.specs.declared.message.Message.{Message}
-use Rattle.policy_rules.specs.declared.packet.Leg.TheVariants.{Seek}
-use Rattle.journal.specs.declared.item.Item.{Item}
-use Rattle.update_machine.specs.Caches.{cache_of}
-use Rattle.update_machine.specs.PacketRoutes.{found_down, route_in}
-use Rattle.update_machine.specs.Setting.{Setting}
-use Rattle.update_machine.specs.Versions.{holds_version, stamp_of}
-use Rattle.update_machine.specs.Travels.{leg_of, travels}
-use Rattle.update_machine.specs.Links.{serves, message_of}
+use Rattle.std.specs.Prelude.{◌<◌, ◌≡◌, ◌⊎◌, All, IsTrue, List, Some, length, ℕ}
+use Rattle.update_machine.specs.Exports.{Item, Message, Seek, Setting, cache_of, found_down, holds_version, leg_of, message_of, route_in, serves, stamp_of, travels}
 use Rattle.packet_laws.specs.Rules.{IsRightEntry}
 use Rattle.packet_laws.specs.OnWay.{IsOnWay}
 use Rattle.packet_laws.specs.Facts.{what_is_known}

@@ -1,17 +1,8 @@
 -- What is true at each moment, within a step too, so that no packet is decided by half of an old
 -- version and half of a new one.
-use Rattle.std.specs.Prelude.{ℕ, List, []}
-use Rattle.journal.specs.declared.item.Item.{Item}
-use Rattle.update_machine.specs.Causes.{HaveCauses}
-use Rattle.update_machine.specs.Setting.{Setting}
-use Rattle.control_laws.specs.BootLaws.{BootsAreKnown, OpensAtOneVersion, ServingIsKnown}
-use Rattle.control_laws.specs.ItemCauses.{HasItemCause}
-use Rattle.control_laws.specs.Acknowledged.{IsAckedFirst, MembersAcknowledged}
-use Rattle.control_laws.specs.Bounds.{MarksAreBounded}
-use Rattle.control_laws.specs.Heard.{AcksHold}
-use Rattle.control_laws.specs.Serving.{ServingHold}
-use Rattle.control_laws.specs.Planned.{TablesArePlanned}
-use Rattle.control_laws.specs.Touched.{StampsSayTouched}
+use Rattle.std.specs.Prelude.{[], List, ℕ}
+use Rattle.update_machine.specs.Exports.{HaveCauses, Item, Setting}
+use Rattle.control_laws.specs.Exports.{AcksHold, BootsAreKnown, HasItemCause, IsAckedFirst, MarksAreBounded, MembersAcknowledged, OpensAtOneVersion, ServingHold, ServingIsKnown, StampsSayTouched, TablesArePlanned}
 use Rattle.packet_laws.specs.Amended.{ChangesLeaveOthers, UntouchedStay}
 use Rattle.packet_laws.specs.Travelling.{RulesAreRight}
 

@@ -1,23 +1,15 @@
 -- The last rule of each partition of a policy covers its region: narrowing keeps the default last,
 -- or ends with an earlier rule that covers the region.
-use Rattle.std.proofs.Common.{◌∙◌, ℕ, ◌<◌, true, false, ap, inl, inr, List, [], ◌∷◌, ◌++◌}
-use Rattle.std.specs.Bool.{IsTrue}
-use Rattle.std.specs.List.{All}
+use Rattle.std.proofs.Common.{[], ◌++◌, ◌<◌, ◌∙◌, ◌∷◌, All, IsTrue, List, ap, false, inl, inr, true, ℕ}
 use Rattle.std.proofs.lemmas.Bool.{cases_Bool, and_from}
 use Rattle.std.proofs.lemmas.List.Elements.{All-nil, All-cons, All-append}
-use Rattle.ternary.specs.Word.{WordValue}
-use Rattle.ternary.specs.Meets.{any_word, covers_of, fix_of, meets}
+use Rattle.ternary.specs.Exports.{WordValue, any_word, covers_of, fix_of, meets}
 use Rattle.ternary.proofs.CallerLemmas.{covers_reflexive, covers_transitive, fix_within, meet_greatest, meets_comm, meets_cover, met_joined}
-use Rattle.policy_rules.specs.Partitions.{EndInCover, LastCovers}
-use Rattle.policy_rules.specs.Policy.{IsPolicy}
-use Rattle.policy_rules.specs.RuleList.{default_rule, rules_of}
+use Rattle.policy_rules.specs.Exports.{EndInCover, IsPolicy, LastCovers, default_rule, rules_of}
 use Rattle.policy_rules.specs.declared.policy.Row.{Row}
 use Rattle.policy_rules.specs.declared.rules.Rule.{Rule}
 use Rattle.policy_rules.proofs.CallerLemmas.{IsRuleList-rules_of}
-use Rattle.cut_tree.specs.Cuts.{side_of}
-use Rattle.cut_tree.specs.DefinedTree.{IsDefinedTree, IsTreeOf, tree_of}
-use Rattle.cut_tree.specs.Narrow.{narrow, narrowed_rule}
-use Rattle.cut_tree.specs.Shape.{Shape, End, Node, leaves_of}
+use Rattle.cut_tree.specs.Exports.{End, IsDefinedTree, IsTreeOf, Node, Shape, leaves_of, narrow, narrowed_rule, side_of, tree_of}
 use Rattle.cut_tree.proofs.CallerLemmas.{tree_defined}
 use Rattle.cut_tree.proofs.NarrowLemmas.{narrow_apart, narrow_covered, narrow_more}
 use Rattle.partition.specs.Parts.{parts_of, partitions_of}

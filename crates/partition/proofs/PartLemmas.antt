@@ -1,8 +1,7 @@
 -- The leaves of a tree, as partitions.
-use Rattle.std.proofs.Common.{length-append, append_assoc, add-zero, ◌≡◌, ℕ, zero, suc, ◌+◌, ◌<◌, ◌≤◌, Bool, true, false, cond, ◌&&◌, Option, Some, None, List, [], ◌∷◌, ◌++◌, length, drop, get_or, find, option_map, refl, sym, ◌∙◌, ap, inl, inr, arith}
-use Rattle.std.specs.Bool.{IsTrue, IsFalse, ◌==◌}
+use Rattle.std.proofs.Common.{[], ◌&&◌, ◌++◌, ◌+◌, ◌<◌, ◌==◌, ◌∙◌, ◌∷◌, ◌≡◌, ◌≤◌, All, Bool, IsFalse, IsTrue, List, None, Option, Some, add-zero, ap, append_assoc, arith, cond, count_by, drop, false, find, get_or, inl, inr, length, length-append, option_map, refl, suc, sym, true, zero, ℕ}
 use Rattle.std.specs.Int.{bit_at, from_bool}
-use Rattle.std.specs.List.{All, count_by, enumerate_from}
+use Rattle.std.specs.List.{enumerate_from}
 use Rattle.std.proofs.lemmas.Bool.{cases_Bool, both_ways, cond-true, cond-false}
 use Rattle.std.proofs.lemmas.List.Elements.{All-nil, All-cons, All-head, All-tail, All-append, All-weaker, All-same}
 use Rattle.std.proofs.lemmas.List.{length-map}
@@ -10,28 +9,18 @@ use Rattle.std.proofs.lemmas.List.FromFn.{length-enumerate_from}
 use Rattle.std.proofs.lemmas.List.Sums.{sum_by-append, sum_by-cons}
 use Rattle.std.proofs.lemmas.Nat.Bits.{bit_at-lt}
 use Rattle.std.proofs.lemmas.Option.{same_Some}
-use Rattle.five_tuple.specs.Header.{number_of}
+use Rattle.five_tuple.specs.Exports.{number_of}
 use Rattle.five_tuple.specs.declared.header.Header.{Header}
-use Rattle.ternary.specs.Word.{WordValue, holds}
-use Rattle.ternary.specs.Meets.{covers_of, any_word, is_fixed_of, fix_of}
+use Rattle.ternary.specs.Exports.{WordValue, any_word, covers_of, fix_of, holds, is_fixed_of}
 use Rattle.ternary.proofs.CallerLemmas.{any_holds, covers_held, covers_reflexive, covers_transitive, fix_holds, fix_within}
-use Rattle.policy_rules.specs.Policy.{IsPolicy}
-use Rattle.policy_rules.specs.RuleList.{hit_of_rule, rules_of}
-use Rattle.policy_rules.specs.Rules.{first_rule, is_held}
+use Rattle.policy_rules.specs.Exports.{ArePartsNumbered, AreSoundPartitions, IsPolicy, first_rule, hit_of_rule, is_held, is_in, rules_of, scan}
 use Rattle.policy_rules.specs.declared.policy.Row.{Row}
 use Rattle.policy_rules.specs.declared.policy.Hit.{Hit}
 use Rattle.policy_rules.specs.declared.rules.Partition.{Partition}
 use Rattle.policy_rules.specs.declared.rules.Rule.{Rule}
 use Rattle.policy_rules.proofs.CallerLemmas.{IsRuleList-rules_of, first_rule-rules_of, at_item}
-use Rattle.cut_tree.specs.Cuts.{side_of}
-use Rattle.cut_tree.specs.DefinedTree.{IsTreeOf, IsDefinedTree, tree_of}
-use Rattle.cut_tree.specs.Narrow.{narrow, narrowed_rule}
-use Rattle.cut_tree.specs.Nodes.{AreWords}
-use Rattle.cut_tree.specs.Shape.{Shape, End, Node, leaf_count, leaves_of}
+use Rattle.cut_tree.specs.Exports.{AreWords, End, IsDefinedTree, IsTreeOf, Node, Shape, leaf_count, leaves_of, narrow, narrowed_rule, side_of, tree_of}
 use Rattle.cut_tree.proofs.CallerLemmas.{narrow_few, narrow_first, tree_defined}
-use Rattle.policy_rules.specs.Partitions.{ArePartsNumbered, AreSoundPartitions}
-use Rattle.policy_rules.specs.Scan.{scan}
-use Rattle.policy_rules.specs.Hosted.{is_in}
 use Rattle.partition.specs.Parts.{DecideAs, DecidesAs, partition_numbered, numbered_from, parts_of, partitions_of}
 
 -- what becomes of a header by the first rule that holds it

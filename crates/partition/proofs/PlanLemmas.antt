@@ -1,27 +1,21 @@
 -- What holds of each plan.
-use Rattle.std.proofs.Common.{◌≡◌, ℕ, suc, ◌+◌, ◌<◌, ◌≤◌, Bool, true, false, cond, ltb, Result, Ok, Err, List, [], ◌∷◌, length, map, get_or, refl, sym, ◌∙◌, ap, subst, arith, All}
-use Rattle.std.specs.List.{zip}
+use Rattle.std.proofs.Common.{[], ◌+◌, ◌<◌, ◌∙◌, ◌∷◌, ◌≡◌, ◌≤◌, All, Bool, Err, List, Ok, Result, ap, arith, cond, false, get_or, length, ltb, map, refl, subst, suc, sym, true, zip, ℕ}
 use Rattle.std.specs.Result.{result_map_both}
 use Rattle.std.proofs.lemmas.Bool.Decides.{nat_tests}
 use Rattle.std.proofs.lemmas.List.{length-map}
 use Rattle.std.proofs.lemmas.List.Elements.{All-nil, All-cons, All-append, All-same, All-weaker, All-from_get_or}
 use Rattle.std.proofs.lemmas.Slice.Zip.{length-zip, firsts-zip, get_or-zip, seconds-zip}
-use Rattle.cut_tree.specs.Cuts.{side_of}
-use Rattle.cut_tree.specs.DefinedTree.{IsDefinedTree, IsTreeOf, tree_of}
-use Rattle.cut_tree.specs.Shape.{Shape, End, Node, leaf_count, leaves_of}
+use Rattle.cut_tree.specs.Exports.{End, IsDefinedTree, IsTreeOf, Node, Shape, leaf_count, leaves_of, side_of, tree_of}
 use Rattle.cut_tree.proofs.CallerLemmas.{tree_defined}
-use Rattle.net_file.specs.Net.{IsNet}
+use Rattle.net_file.specs.Exports.{IsNet}
 use Rattle.net_file.specs.declared.net.Net.{Net}
 use Rattle.placement.specs.Placement.{IsPlacement, MeetsPlacement, placement_of}
 use Rattle.placement.proofs.CallerLemmas.{first_there, placement_meets}
-use Rattle.ternary.specs.Word.{WordValue}
-use Rattle.ternary.specs.Meets.{any_word, fix_of}
-use Rattle.policy_rules.specs.Policy.{IsPolicy}
-use Rattle.policy_rules.specs.RuleList.{rules_of, word_total}
+use Rattle.ternary.specs.Exports.{WordValue, any_word, fix_of}
+use Rattle.policy_rules.specs.Exports.{IsPolicy, NoRoom, TooManyLeaves, TooManyWords, rules_of, word_total}
 use Rattle.policy_rules.specs.declared.policy.Row.{Row}
 use Rattle.policy_rules.specs.declared.rules.Partition.{Partition}
 use Rattle.policy_rules.specs.declared.rules.Rule.{Rule}
-use Rattle.policy_rules.specs.Hosted.{TooManyWords, TooManyLeaves, NoRoom}
 use Rattle.policy_rules.proofs.CallerLemmas.{IsRuleList-rules_of, cond_if_above, cond_if_below}
 use Rattle.partition.specs.Parts.{numbered_from, parts_of}
 use Rattle.partition.specs.Plan.{IsPlan, Hosted, hosted_on, plan_of, plan_of_tree, rooms_of, sizes_of}

@@ -1,11 +1,9 @@
 -- The laws of partitions: `partition_laws` of the crate ensures the record.
-use Rattle.std.specs.Prelude.{ℕ, ◌<◌, List, All}
-use Rattle.policy_rules.specs.Partitions.{AreSoundPartitions, LastCovers}
-use Rattle.policy_rules.specs.Policy.{IsPolicy}
-use Rattle.policy_rules.specs.RuleList.{rules_of}
+use Rattle.std.specs.Prelude.{◌<◌, All, List, ℕ}
+use Rattle.policy_rules.specs.Exports.{AreSoundPartitions, IsPolicy, LastCovers, rules_of}
 use Rattle.policy_rules.specs.declared.policy.Row.{Row}
 use Rattle.policy_rules.specs.declared.rules.Rule.{Rule}
-use Rattle.cut_tree.specs.Nodes.{AreWords}
+use Rattle.cut_tree.specs.Exports.{AreWords}
 use Rattle.partition.specs.Parts.{DecideAs, partitions_of}
 
 pub record PartitionLaws : Type 0 where

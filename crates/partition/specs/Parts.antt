@@ -1,16 +1,13 @@
 -- The partitions of a list of rules, as in Yu, Rexford, Freedman and Wang, "Scalable Flow-Based
 -- Networking with DIFANE", SIGCOMM 2010.
-use Rattle.std.specs.Prelude.{ℕ, ◌≡◌, ◌≤◌, IsTrue, List, length, map, All, count_by, option_map}
+use Rattle.std.specs.Prelude.{◌≡◌, ◌≤◌, All, IsTrue, List, count_by, length, map, option_map, ℕ}
 use Rattle.std.specs.List.{enumerate_from}
 use Rattle.five_tuple.specs.declared.header.Header.{Header}
-use Rattle.ternary.specs.Word.{WordValue}
-use Rattle.policy_rules.specs.Hosted.{is_in}
-use Rattle.policy_rules.specs.RuleList.{hit_of_rule}
-use Rattle.policy_rules.specs.Rules.{first_rule}
+use Rattle.ternary.specs.Exports.{WordValue}
+use Rattle.policy_rules.specs.Exports.{first_rule, hit_of_rule, is_in}
 use Rattle.policy_rules.specs.declared.rules.Partition.{Partition}
 use Rattle.policy_rules.specs.declared.rules.Rule.{Rule}
-use Rattle.cut_tree.specs.DefinedTree.{tree_of}
-use Rattle.cut_tree.specs.Shape.{Shape, leaves_of}
+use Rattle.cut_tree.specs.Exports.{Shape, leaves_of, tree_of}
 
 abbrev pub partition_numbered : ℕ × (WordValue × List Rule) → Partition
 partition_numbered (number, leaf) = record { number = number; region = leaf.0; rules = leaf.1 }

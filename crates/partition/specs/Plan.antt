@@ -1,22 +1,17 @@
 -- The plan of a policy on a network: its partitions, each with the switches that decide its headers
 -- (the authority switches of Yu, Rexford, Freedman and Wang, "Scalable Flow-Based Networking with
 -- DIFANE", SIGCOMM 2010).
-use Rattle.std.specs.Prelude.{ℕ, ◌≡◌, ◌<◌, ◌≤◌, nat_lt, if◌then◌else◌, Result, Ok, Err, List, length, map, All}
-use Rattle.std.specs.List.{zip}
+use Rattle.std.specs.Prelude.{if◌then◌else◌, ◌<◌, ◌≡◌, ◌≤◌, All, Err, List, Ok, Result, length, map, nat_lt, zip, ℕ}
 use Rattle.std.specs.Result.{result_map_both}
-use Rattle.cut_tree.specs.DefinedTree.{IsDefinedTree, tree_of}
-use Rattle.cut_tree.specs.Shape.{Shape, leaf_count}
-use Rattle.net_file.specs.Net.{IsNet}
+use Rattle.cut_tree.specs.Exports.{IsDefinedTree, Shape, leaf_count, tree_of}
+use Rattle.net_file.specs.Exports.{IsNet}
 use Rattle.net_file.specs.declared.net.Net.{Net}
 use Rattle.placement.specs.Placement.{IsPlacement, placement_of}
 pub use Rattle.policy_rules.specs.Hosted.{Hosted}
-use Rattle.policy_rules.specs.Partitions.{AreSoundPartitions, LastCovers}
-use Rattle.policy_rules.specs.Policy.{IsPolicy}
-use Rattle.policy_rules.specs.RuleList.{rules_of, word_total}
+use Rattle.policy_rules.specs.Exports.{AreSoundPartitions, IsPolicy, LastCovers, NoPlan, NoRoom, TooManyLeaves, TooManyWords, rules_of, word_total}
 use Rattle.policy_rules.specs.declared.policy.Row.{Row}
 use Rattle.policy_rules.specs.declared.rules.Partition.{Partition}
 use Rattle.policy_rules.specs.declared.rules.Rule.{Rule}
-use Rattle.policy_rules.specs.Hosted.{NoPlan, TooManyWords, TooManyLeaves, NoRoom}
 use Rattle.partition.specs.Parts.{parts_of}
 
 -- how many rules each partition has, and how many each switch has room for

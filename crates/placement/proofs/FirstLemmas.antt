@@ -1,12 +1,7 @@
 -- The first of the switches that have room: what a rising list gives, and that one list alone is
 -- the first.
-use Rattle.std.specs.Prelude.{min}
-use Rattle.std.proofs.Common.{ℕ, zero, suc, ◌≡◌, ◌≢◌, ◌∙◌, ◌+◌, ◌-◌, ◌^◌, ◌<◌, ◌≤◌, Bool, true, false, cond, eqb, ltb, leb, not, ◌&&◌, Option, Some, None, MatchOption, List, [], ◌∷◌, length, filter, take, get_or, refl, ap, sym, subst, inl, inr, arith, All, AllPairs, length-take}
-use Rattle.std.specs.List.{AllByRecursion, list_any, range_with_len}
-use Rattle.std.proofs.lemmas.Bool.{cases_Bool, cases_eq, cases_lt, eq-eqb, ne_eqb, leb-true, false≢true, true≢false, or_parts, not-true, not_from_false, and_from, and_parts}
-use Rattle.std.proofs.lemmas.Bool.Decides.{nat_tests}
-use Rattle.std.proofs.lemmas.List.Elements.{All-from_recursion, recursion_from_All}
-use Rattle.std.proofs.lemmas.List.Sums.{sum_by-cons}
+use Rattle.std.proofs.Common.{[], ◌&&◌, ◌+◌, ◌-◌, ◌<◌, ◌^◌, ◌∙◌, ◌∷◌, ◌≡◌, ◌≢◌, ◌≤◌, All, AllPairs, Bool, List, MatchOption, None, Option, Some, ap, arith, cond, eq-eqb, eqb, false, filter, get_or, inl, inr, leb, leb-true, length, length-take, ltb, min, ne_eqb, not, refl, subst, suc, sym, take, true, true≢false, zero, ℕ}
+use Rattle.base.proofs.Exports.{All-from_recursion, AllByRecursion, and_from, and_parts, cases_Bool, cases_eq, cases_lt, false≢true, list_any, nat_tests, not-true, not_from_false, or_parts, range_with_len, recursion_from_All, sum_by-cons}
 use Rattle.placement.specs.Order.{in_order}
 use Rattle.placement.specs.Placement.{is_earlier, is_lighter, has_room, with_room, AreFirst}
 use Rattle.placement.proofs.OrderLemmas.{IsOrder, Rises, one_of, one_of-same, one_of-other, count, count-filter, count-range-le, count-range_within, length-in_order, sum-in_order, rises-in_order, each_from_count, each_by_count, pairs_from_rises, rises_from_pairs}

@@ -1,10 +1,6 @@
 -- The placement as partitions in turn, where the load is what a switch holds.
-use Rattle.std.proofs.Common.{ℕ, ◌≡◌, ◌+◌, ◌<◌, ◌≤◌, ◌^◌, Bool, true, false, cond, ltb, Result, Ok, Err, List, [], ◌∷◌, ◌++◌, length, take, replicate, refl, get_or, set, ap, arith}
-use Rattle.std.proofs.lemmas.Bool.{ltb-true, ltb-false}
-use Rattle.std.specs.List.{sum}
-use Rattle.std.proofs.lemmas.List.{length-replicate}
-use Rattle.std.proofs.lemmas.List.Elements.{All-from_get_or}
-use Rattle.std.proofs.lemmas.List.Sums.{sum_by-le}
+use Rattle.std.proofs.Common.{[], ◌++◌, ◌+◌, ◌<◌, ◌^◌, ◌∷◌, ◌≡◌, ◌≤◌, Bool, Err, List, Ok, Result, ap, arith, cond, false, get_or, length, ltb, ltb-false, ltb-true, refl, replicate, set, sum, take, true, ℕ}
+use Rattle.base.proofs.Exports.{All-from_get_or, length-replicate, sum_by-le}
 use Rattle.placement.specs.Order.{in_order}
 use Rattle.placement.specs.Placement.{is_lighter, load_before, with_room, IsPlacement, LacksRoom, placement_from, placement_of, placing, MeetsPlacement}
 use Rattle.placement.proofs.OrderLemmas.{length-in_order}

@@ -1,15 +1,7 @@
 -- Partitions in turn, whatever loads they weigh: what a turn keeps, that turns end in a placement
 -- or in a refusal, that there is one of these, and that no switch is given more than its room.
-use Rattle.std.proofs.Common.{ℕ, ◌≡◌, ◌≢◌, ◌∙◌, ◌+◌, ◌<◌, ◌≤◌, Bool, true, false, cond, eqb, ◌&&◌, List, [], ◌∷◌, ◌++◌, length, filter, take, drop, replicate, get_or, set, refl, ap, sym, subst, inl, inr, arith, length-set, append_assoc}
-use Rattle.std.specs.List.{AllByRecursion, list_any, range_with_len, sum, sum_by}
-use Rattle.std.proofs.Math.Path.{fun_ext}
-use Rattle.std.proofs.lemmas.Bool.{cases_Bool, cases_eq, cases_lt, false≢true, false_from_ne_true}
-use Rattle.std.proofs.lemmas.Bool.Decides.{nat_tests}
-use Rattle.std.proofs.lemmas.Grind.{common_steps}
-use Rattle.std.proofs.lemmas.List.{append-nil, drop_all, get_or_past, get_or-set_other, get_or-set_same, same_lists, get_or_default, take_all}
-use Rattle.std.proofs.lemmas.List.Elements.{filter_agree, recursion_from_All}
-use Rattle.std.proofs.lemmas.List.FromFn.{fill_by_all}
-use Rattle.std.proofs.lemmas.List.Sums.{sum-map, sum_by-cons, sum_by-append, sum_by-le-sum_by, sum_by_push}
+use Rattle.std.proofs.Common.{[], ◌&&◌, ◌++◌, ◌+◌, ◌<◌, ◌∙◌, ◌∷◌, ◌≡◌, ◌≢◌, ◌≤◌, Bool, List, ap, append-nil, append_assoc, arith, cond, drop, eqb, false, filter, get_or, get_or-set_other, get_or-set_same, inl, inr, length, length-set, refl, replicate, set, subst, sum, sum_by, sym, take, take_all, true, ℕ}
+use Rattle.base.proofs.Exports.{AllByRecursion, cases_Bool, cases_eq, cases_lt, common_steps, drop_all, false_from_ne_true, false≢true, fill_by_all, filter_agree, fun_ext, get_or_default, get_or_past, list_any, nat_tests, range_with_len, recursion_from_All, same_lists, sum-map, sum_by-append, sum_by-cons, sum_by-le-sum_by, sum_by_push}
 use Rattle.policy_rules.proofs.CallerLemmas.{each_weaker}
 use Rattle.placement.specs.Order.{in_order}
 use Rattle.placement.specs.Placement.{is_earlier, sum_before, targets_at, with_room, AreFirst, AreHosted, HasDueTargets, IsRefused, TurnRule}

@@ -1,5 +1,5 @@
 -- Numbers in a given order: by a test that says which of two comes first.
-use Rattle.std.specs.Prelude.{ℕ, Bool, if◌then◌else◌, List, [], ◌∷◌}
+use Rattle.std.specs.Prelude.{[], if◌then◌else◌, ◌∷◌, Bool, List, ℕ}
 
 -- the number at its place among numbers in order
 abbrev pub with_inserted : (ℕ → ℕ → Bool) → ℕ → List ℕ → List ℕ

@@ -2,8 +2,8 @@
 -- partition's rules: Yu, Rexford, Freedman and Wang, "Scalable Flow-Based Networking with DIFANE",
 -- SIGCOMM 2010; the rule of least load is this project's own). A placement gives each partition, by
 -- its number, the list of its targets.
-use Rattle.std.specs.Prelude.{ℕ, ◌≡◌, ◌+◌, ◌<◌, ◌≤◌, ◌^◌, Bool, ◌&&◌, ◌||◌, ◌==◌, nat_lt, nat_le, nat_eq, if◌then◌else◌, Result, Ok, Err, MatchResult, List, [], ◌∷◌, length, take, filter, sum, sum_by, slice_index, slice_index_or, slice_set, replicate, All, AllPairs, IsTrue, IsFalse}
-use Rattle.std.specs.List.{list_any, range_with_len}
+use Rattle.std.specs.Prelude.{[], if◌then◌else◌, ◌&&◌, ◌+◌, ◌<◌, ◌==◌, ◌^◌, ◌||◌, ◌∷◌, ◌≡◌, ◌≤◌, All, AllPairs, Bool, Err, IsFalse, IsTrue, List, MatchResult, Ok, Result, filter, length, nat_eq, nat_le, nat_lt, replicate, slice_index, slice_index_or, slice_set, sum, sum_by, take, ℕ}
+use Rattle.base.specs.Exports.{list_any, range_with_len}
 use Rattle.placement.specs.Order.{in_order}
 use Rattle.placement.specs.declared.NoRoom.{NoRoom}
 use Rattle.placement.specs.declared.turns.Load.{Load}

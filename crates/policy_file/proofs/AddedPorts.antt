@@ -1,11 +1,11 @@
 -- What a change adds, by a test of its edits.
-use Rattle.std.proofs.Common.{ℕ, IsTrue, All, List}
-use Rattle.std.proofs.lemmas.List.Elements.{All-weaker}
-use Rattle.policy_rules.specs.PolicyFiles.{AddsOnly}
+use Rattle.std.proofs.Common.{All, IsTrue, List, ℕ}
+use Rattle.base.proofs.Exports.{All-weaker}
+use Rattle.policy_rules.specs.Exports.{AddsOnly}
 use Rattle.policy_rules.specs.declared.amendment.Edit.{Edit}
 use Rattle.policy_rules.specs.declared.amendment.Edit.TheVariants.{Remove, Add}
 use Rattle.policy_rules.specs.declared.policy.Row.{Row}
-use Rattle.policy_file.specs.Ports.{adds_port_of, names_port_of}
+use Rattle.policy_file.specs.Exports.{adds_port_of, names_port_of}
 
 pub only_ports : (ports : ℕ) (edits : List Edit)
     → All (λ edit. IsTrue (adds_port_of ports edit)) edits

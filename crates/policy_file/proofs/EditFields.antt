@@ -1,11 +1,10 @@
 -- The fields of an edit, one by one.
-use Rattle.std.proofs.Common.{ℕ, ◌≡◌, ◌≢◌, ◌&&◌, cond, bytes_eq, codes, Ok, Err, List, [], ◌∷◌, length, drop, refl, arith}
+use Rattle.std.proofs.Common.{[], ◌&&◌, ◌∷◌, ◌≡◌, ◌≢◌, Err, List, Ok, arith, bytes_eq, codes, cond, drop, length, refl, ℕ}
 use Rattle.csv.specs.Records.{field_at}
 use Rattle.csv_records.specs.Texts.{field_or_empty, is_heading}
-use Rattle.five_tuple.specs.Texts.{number_up_to}
+use Rattle.five_tuple.specs.Exports.{number_up_to}
 use Rattle.policy_rules.specs.declared.amendment.Edit.TheVariants.{Remove, Add}
-use Rattle.policy_file.specs.Changes.{change_heading, edit_read, on_ok, removal_read}
-use Rattle.policy_file.specs.Reading.{policy_heading, row_read, with_field}
+use Rattle.policy_file.specs.Exports.{change_heading, edit_read, on_ok, policy_heading, removal_read, row_read, with_field}
 use Rattle.policy_file.specs.declared.error.PolicyRefusal.TheVariants as why
 
 pub is_heading-change : (fields : List (List ℕ)) → is_heading change_heading fields

@@ -1,22 +1,15 @@
 -- The printed forms of fields need no quotes.
-use Rattle.std.proofs.Common.{ℕ, ◌≡◌, true, false, List, [], ◌∷◌, get_or, refl, arith}
-use Rattle.std.specs.Prelude.{⊤, decimal}
-use Rattle.std.specs.List.{AllPass, list_any}
-use Rattle.std.proofs.lemmas.Bool.Decides.{nat_tests}
-use Rattle.std.proofs.lemmas.List.Folds.{list_any-append, list_any_none}
+use Rattle.std.proofs.Common.{[], ◌∷◌, ◌≡◌, List, arith, decimal, false, get_or, refl, true, ℕ}
+use Rattle.base.proofs.Exports.{AllPass, list_any, list_any-append, list_any_none, nat_tests, ⊤}
 use Rattle.csv.specs.Writing.{default_writer, needs_byte}
-use Rattle.five_tuple.specs.Laws.{PlainTextLaws}
-use Rattle.five_tuple.specs.RowPrinting.{is_plain_char}
-use Rattle.policy_rules.specs.Policy.{IsSoundRow, action_text}
-use Rattle.policy_rules.specs.Read.{HasSmallPort}
+use Rattle.five_tuple.specs.Exports.{PlainTextLaws, is_plain_char}
+use Rattle.policy_rules.specs.Exports.{AddsOnly, HasSmallPort, IsSoundEdit, IsSoundRow, action_text}
 use Rattle.policy_rules.specs.declared.policy.Action.{Action}
 use Rattle.policy_rules.specs.declared.policy.Action.TheVariants.{Drop, Out}
 use Rattle.policy_rules.specs.declared.policy.Row.{Row}
-use Rattle.policy_rules.specs.Applied.{IsSoundEdit}
-use Rattle.policy_rules.specs.PolicyFiles.{AddsOnly}
 use Rattle.policy_rules.specs.declared.amendment.Edit.{Edit}
 use Rattle.policy_rules.specs.declared.amendment.Edit.TheVariants.{Remove, Add}
-use Rattle.policy_file.specs.Printing.{edit_fields, row_fields}
+use Rattle.policy_file.specs.Exports.{edit_fields, row_fields}
 
 abbrev pub IsPlain : List ℕ → Type 0
 IsPlain text = list_any (needs_byte default_writer) text ≡ false

@@ -1,10 +1,9 @@
 -- The seven fields of a row, one by one.
-use Rattle.std.proofs.Common.{ℕ, zero, suc, ◌≡◌, ◌∙◌, ◌+◌, Bool, true, false, bytes_eq, List, [], ◌∷◌, length, length-drop, drop, refl, ap, arith}
-use Rattle.std.specs.Prelude.{◌≢◌, Err}
+use Rattle.std.proofs.Common.{[], ◌+◌, ◌∙◌, ◌∷◌, ◌≡◌, ◌≢◌, Bool, Err, List, ap, arith, bytes_eq, drop, false, length, length-drop, refl, suc, true, zero, ℕ}
 use lib.Pointwise.{pointwise_long}
 use Rattle.csv.specs.Records.{field_at}
 use Rattle.csv_records.specs.Texts.{field_or_empty, is_heading}
-use Rattle.policy_file.specs.Reading.{policy_heading, row_read}
+use Rattle.policy_file.specs.Exports.{policy_heading, row_read}
 use Rattle.policy_file.specs.declared.error.PolicyRefusal.TheVariants as why
 
 abbrev pub seven_of : List (List ℕ) → List (List ℕ)

@@ -1,30 +1,19 @@
 -- The lines of a text are its records, and state what was printed.
-use Rattle.std.proofs.Common.{ℕ, zero, suc, ◌≡◌, ◌+◌, ◌<◌, ◌≤◌, ◌^◌, true, false, cond, All, Some, None, Ok, List, [], ◌∷◌, ◌++◌, length, map, take, get_or, refl, ap, sym, ◌∙◌, subst, add-one, length-append, arith}
-use Rattle.std.specs.Prelude.{decimal}
-use Rattle.std.specs.List.{AllByRecursion, join_with_byte}
-use Rattle.std.proofs.lemmas.Grind.{flat_map-append}
-use Rattle.std.proofs.lemmas.List.Elements.{recursion_from_All}
-use Rattle.std.proofs.lemmas.List.{append-nil, length-map, take_all, take_more}
+use Rattle.std.proofs.Common.{[], ◌++◌, ◌+◌, ◌<◌, ◌^◌, ◌∙◌, ◌∷◌, ◌≡◌, ◌≤◌, All, List, None, Ok, Some, add-one, ap, append-nil, arith, cond, decimal, false, get_or, length, length-append, map, refl, subst, suc, sym, take, take_all, true, zero, ℕ}
+use Rattle.base.proofs.Exports.{AllByRecursion, flat_map-append, join_with_byte, length-map, recursion_from_All, take_more}
 use Rattle.csv.specs.Machine.{next_record}
 use Rattle.csv.specs.Reading.{default_config, records, records_from, records_next, strip_bom}
 use Rattle.csv.specs.Writing.{default_writer, field_text, fields_text, is_blank, row_text}
 use Rattle.csv.specs.declared.parser.State.TheVariants as st
 use Rattle.csv.proofs.RoundTrip.{read-write-many}
 use Rattle.csv_records.specs.Texts.{is_heading}
-use Rattle.five_tuple.specs.Laws.{PlainTextLaws}
-use Rattle.five_tuple.specs.RowPrinting.{prefix_text, range_text, proto_text}
-use Rattle.five_tuple.specs.Texts.{number_up_to, prefix_of, range_of, proto_of}
-use Rattle.policy_rules.specs.Applied.{IsAmendment, IsSoundEdit}
-use Rattle.policy_rules.specs.PolicyFiles.{AddsOnly}
-use Rattle.policy_rules.specs.Policy.{IsPolicy, IsSoundRow, action_text}
-use Rattle.policy_rules.specs.Read.{HasSmallPort, action_of}
+use Rattle.five_tuple.specs.Exports.{PlainTextLaws, number_up_to, prefix_of, prefix_text, proto_of, proto_text, range_of, range_text}
+use Rattle.policy_rules.specs.Exports.{AddsOnly, HasSmallPort, IsAmendment, IsPolicy, IsSoundEdit, IsSoundRow, action_of, action_text}
 use Rattle.policy_rules.specs.declared.amendment.Edit.{Edit}
 use Rattle.policy_rules.specs.declared.amendment.Edit.TheVariants.{Remove, Add}
 use Rattle.policy_rules.specs.declared.file.PolicyFile.TheVariants.{Whole, Change}
 use Rattle.policy_rules.specs.declared.policy.Row.{Row}
-use Rattle.policy_file.specs.Changes.{change_heading, change_of, change_rows, edit_read, is_change_text, on_ok, policy_file_of}
-use Rattle.policy_file.specs.Printing.{change_text, edit_fields, fields_line, policy_text, row_fields, rows_text}
-use Rattle.policy_file.specs.Reading.{IsReadUpTo, RowFormat, StateEach, policy_heading, policy_of, policy_rows, row_read, rows_under_heading}
+use Rattle.policy_file.specs.Exports.{IsReadUpTo, RowFormat, StateEach, change_heading, change_of, change_rows, change_text, edit_fields, edit_read, fields_line, is_change_text, on_ok, policy_file_of, policy_heading, policy_of, policy_rows, policy_text, row_fields, row_read, rows_text, rows_under_heading}
 use Rattle.policy_file.proofs.PlainFields.{ArePlain, IsPlain, IsPlainRecord, plain_edit, plain_row}
 use Rattle.policy_file.proofs.StatedRows.{NoneRepeats, all_fresh_edits, all_fresh_rows, all_read}
 use Rattle.csv_records.proofs.CallerLemmas.{over}

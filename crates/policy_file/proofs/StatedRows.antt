@@ -1,23 +1,15 @@
 -- What records state, from the rows that were read of the first of them.
-use Rattle.std.proofs.Common.{ℕ, zero, suc, ◌≡◌, ◌∙◌, ◌+◌, ◌<◌, ◌≤◌, inl, inr, Bool, true, false, cond, eqb, Option, Some, None, option_map, Result, Ok, Err, List, [], ◌∷◌, ◌++◌, length, map, take, drop, get_or, refl, ap, sym, subst, arith}
-use Rattle.std.specs.Prelude.{filter_map}
-use Rattle.std.specs.List.{cons_option}
-use Rattle.std.specs.Option.{option_map_or, option_or}
-use Rattle.std.specs.Result.{result_ok}
-use Rattle.std.proofs.lemmas.Bool.{cases_lt, eq-eqb, ne_eqb}
-use Rattle.std.proofs.lemmas.List.{drop_all, drop_more, get_or-map, get_or-take, get_or_default, length-map, length-take, map-append, take-map, take-take, take_all, take_more}
-use Rattle.std.proofs.lemmas.List.Folds.{list_any_none}
+use Rattle.std.proofs.Common.{[], ◌++◌, ◌+◌, ◌<◌, ◌∙◌, ◌∷◌, ◌≡◌, ◌≤◌, Bool, Err, List, None, Ok, Option, Result, Some, ap, arith, cond, drop, eq-eqb, eqb, false, filter_map, get_or, get_or-take, inl, inr, length, length-take, map, ne_eqb, option_map, refl, subst, suc, sym, take, take-take, take_all, true, zero, ℕ}
+use Rattle.base.proofs.Exports.{cases_lt, cons_option, drop_all, drop_more, get_or-map, get_or_default, length-map, list_any_none, map-append, option_map_or, option_or, result_ok, take-map, take_more}
 use Rattle.csv_records.specs.Texts.{TakesRecord, is_heading}
-use Rattle.policy_rules.specs.Policy.{HaveDistinctPriorities}
+use Rattle.policy_rules.specs.Exports.{AreDistinctEdits, HaveDistinctPriorities}
 use Rattle.policy_rules.specs.declared.policy.Row.{Row}
-use Rattle.policy_rules.specs.Applied.{AreDistinctEdits}
 use Rattle.policy_rules.specs.declared.amendment.Edit.{Edit}
 use Rattle.policy_rules.proofs.CallerLemmas.{fresh_edits}
 use Rattle.policy_file.specs.declared.error.PolicyRefusal.{PolicyRefusal}
 use Rattle.policy_file.specs.declared.error.PolicyRefusal.TheVariants as why
 use Rattle.base.specs.declared.row.InRow.{InRow}
-use Rattle.policy_file.specs.Changes.{change_heading, change_rows, has_change_heading}
-use Rattle.policy_file.specs.Reading.{IsReadUpTo, RowFormat, StateEach, first_some, policy_rows, refusal_after, refusal_at, rows_of, rows_stated, rows_under_heading}
+use Rattle.policy_file.specs.Exports.{IsReadUpTo, RowFormat, StateEach, change_heading, change_rows, first_some, has_change_heading, policy_rows, refusal_after, refusal_at, rows_of, rows_stated, rows_under_heading}
 
 -- ---- the first number that has something
 

@@ -1,10 +1,10 @@
 -- The change of a policy that a text states, as CSV records, and what a policy file states: a
 -- policy or a change of one.
-use Rattle.std.specs.Prelude.{ℕ, Bool, false, if◌then◌else◌, Result, Ok, Err, List, [], ◌∷◌, length, codes, bytes_eq}
-use Rattle.std.specs.Result.{result_map_both}
+use Rattle.std.specs.Prelude.{[], if◌then◌else◌, ◌∷◌, Bool, Err, List, Ok, Result, bytes_eq, codes, false, length, ℕ}
+use Rattle.base.specs.Exports.{result_map_both}
 use Rattle.csv_records.specs.Texts.{is_heading, records_of}
-use Rattle.five_tuple.specs.Texts.{number_up_to}
-use Rattle.policy_rules.specs.Edits.{repeats}
+use Rattle.five_tuple.specs.Exports.{number_up_to}
+use Rattle.policy_rules.specs.Exports.{repeats}
 use Rattle.policy_rules.specs.declared.amendment.Edit.{Edit}
 use Rattle.policy_rules.specs.declared.amendment.Edit.TheVariants.{Remove, Add}
 use Rattle.policy_rules.specs.declared.file.PolicyFile.{PolicyFile}

@@ -1,6 +1,6 @@
 -- Policies against the ports of a network: bit p of a mask is for the port p.
-use Rattle.std.specs.Prelude.{ℕ, ◌+◌, ◌==◌, Bool, true, not, Option, option_map, List, position}
-use Rattle.std.specs.Int.{bit_at}
+use Rattle.std.specs.Prelude.{◌+◌, ◌==◌, Bool, List, Option, not, option_map, position, true, ℕ}
+use Rattle.base.specs.Exports.{bit_at}
 use Rattle.policy_rules.specs.declared.policy.Action.{Action}
 use Rattle.policy_rules.specs.declared.policy.Action.TheVariants.{Drop, Out}
 use Rattle.policy_rules.specs.declared.amendment.Edit.{Edit}

@@ -1,8 +1,8 @@
 -- The text of a policy, and of a change, as it is printed.
-use Rattle.std.specs.Prelude.{ℕ, List, [], ◌∷◌, ◌++◌, codes, decimal, flat_map}
-use Rattle.std.specs.List.{join_with_byte}
-use Rattle.five_tuple.specs.RowPrinting.{prefix_text, range_text, proto_text}
-use Rattle.policy_rules.specs.Policy.{action_text}
+use Rattle.std.specs.Prelude.{[], ◌++◌, ◌∷◌, List, codes, decimal, flat_map, ℕ}
+use Rattle.base.specs.Exports.{join_with_byte}
+use Rattle.five_tuple.specs.Exports.{prefix_text, proto_text, range_text}
+use Rattle.policy_rules.specs.Exports.{action_text}
 use Rattle.policy_rules.specs.declared.amendment.Edit.{Edit}
 use Rattle.policy_rules.specs.declared.amendment.Edit.TheVariants.{Remove, Add}
 use Rattle.policy_rules.specs.declared.policy.Row.{Row}

@@ -1,11 +1,9 @@
 -- The policy that a text states, as CSV records: a heading, and a record for each row.
-use Rattle.std.specs.Prelude.{ℕ, zero, suc, ◌≡◌, ◌+◌, ◌<◌, ◌≤◌, ◌==◌, Bool, if◌then◌else◌, MatchOption, Option, Some, None, option_map, Result, Ok, Err, List, [], ◌∷◌, length, map, take, filter_map, slice_index_or, codes}
-use Rattle.std.specs.Option.{option_map_or, option_or}
-use Rattle.std.specs.Result.{result_ok}
+use Rattle.std.specs.Prelude.{[], if◌then◌else◌, ◌+◌, ◌<◌, ◌==◌, ◌∷◌, ◌≡◌, ◌≤◌, Bool, Err, List, MatchOption, None, Ok, Option, Result, Some, codes, filter_map, length, map, option_map, slice_index_or, suc, take, zero, ℕ}
+use Rattle.base.specs.Exports.{option_map_or, option_or, result_ok}
 use Rattle.csv_records.specs.Texts.{is_heading, records_of}
-use Rattle.five_tuple.specs.Texts.{number_up_to, prefix_of, range_of, proto_of}
-use Rattle.policy_rules.specs.Read.{action_of}
-use Rattle.policy_rules.specs.Applied.{has_priority}
+use Rattle.five_tuple.specs.Exports.{number_up_to, prefix_of, proto_of, range_of}
+use Rattle.policy_rules.specs.Exports.{action_of, has_priority}
 use Rattle.policy_rules.specs.declared.policy.Row.{Row}
 use Rattle.base.specs.declared.row.InRow.{InRow}
 use Rattle.policy_file.specs.declared.error.PolicyRefusal.{PolicyRefusal}

@@ -1,29 +1,13 @@
 -- What a change makes of a policy, by cases.
-use Rattle.std.proofs.Common.{ℕ, suc, ◌≡◌, ◌∙◌, ◌+◌, ◌<◌, ◌≤◌, ◌≢◌, ◌⊎◌, inl, inr, Bool, true, false, cond, not, ◌&&◌, ◌||◌, eqb, ltb, All, AllPairs, Contains, Result, Ok, Err, List, [], ◌∷◌, length, map, filter, get_or, refl, sym, ap, subst, arith}
-use Rattle.std.specs.List.{IsDistinct, count_by, list_all, list_any}
-use Rattle.std.specs.Set.{IsIntersection, is_member}
-use Rattle.std.proofs.lemmas.Cmp.{nat_eq_equiv}
-use Rattle.std.proofs.lemmas.Bool.Decides.{Decides-eqb, nat_tests}
-use Rattle.std.proofs.lemmas.List.{length-map}
-use Rattle.std.proofs.lemmas.List.Filters.{length-filter_both}
-use Rattle.std.proofs.lemmas.List.Sums.{count_by-le-length, sum_by-cons}
-use Rattle.std.proofs.lemmas.Map.Made.{IsDistinct-from_AllPairs, length-IsIntersection}
-use Rattle.std.proofs.lemmas.Bool.{eq-eqb, ltb-false, lt-ltb, le-ltb}
-use Rattle.std.proofs.lemmas.List.Elements.{All-append, All-cons, All-contains_itself, All-filter, All-nil, All-weaker}
-use Rattle.std.proofs.lemmas.List.Folds.{list_any_at}
-use Rattle.std.proofs.lemmas.Map.Views.{any-filter_same, exact_unsigned_eq}
-use Rattle.std.proofs.lemmas.List.Kept.{AllPairs-filter}
-use Rattle.base.proofs.ListsOfAll.{AllPairs-append, AllPairs-map}
-use Rattle.base.proofs.ListsOfAny.{any_key}
+use Rattle.std.proofs.Common.{[], ◌&&◌, ◌+◌, ◌<◌, ◌||◌, ◌∙◌, ◌∷◌, ◌≡◌, ◌≢◌, ◌≤◌, ◌⊎◌, All, AllPairs, Bool, Contains, Err, List, Ok, Result, ap, arith, cond, count_by, eq-eqb, eqb, false, filter, get_or, inl, inr, le-ltb, length, lt-ltb, ltb, ltb-false, map, not, refl, subst, suc, sym, true, ℕ}
+use Rattle.base.proofs.Exports.{All-append, All-cons, All-contains_itself, All-filter, All-nil, All-weaker, AllPairs-append, AllPairs-filter, AllPairs-map, Decides-eqb, IsDistinct, IsDistinct-from_AllPairs, IsIntersection, any-filter_same, any_key, count_by-le-length, exact_unsigned_eq, is_member, length-IsIntersection, length-filter_both, length-map, list_all, list_any, list_any_at, nat_eq_equiv, nat_tests, sum_by-cons}
 use Rattle.policy_rules.specs.declared.policy.Row.{Row}
-use Rattle.policy_rules.specs.Policy.{HaveDistinctPriorities, IsPolicy, IsSoundRow}
+use Rattle.policy_rules.specs.Exports.{AddsOnly, HaveDistinctPriorities, IsAmendment, IsPolicy, IsSoundEdit, IsSoundRow, additions, adds_taken, amended_rows, applied, has_priority, removals, removes, removes_absent, staying_rows}
 use Rattle.policy_rules.proofs.RowWords.{eqb_sym}
 use Rattle.policy_rules.specs.declared.amendment.Edit.{Edit}
 use Rattle.policy_rules.specs.declared.amendment.Edit.TheVariants.{Remove, Add}
-use Rattle.policy_rules.specs.PolicyFiles.{AddsOnly}
 use Rattle.policy_rules.specs.declared.applying.Inapplicable.{Inapplicable}
 use Rattle.policy_rules.specs.declared.applying.Inapplicable.TheVariants.{Absent, Taken, TooManyRows}
-use Rattle.policy_rules.specs.Applied.{IsAmendment, IsSoundEdit, additions, adds_taken, amended_rows, applied, has_priority, removals, removes, removes_absent, staying_rows}
 
 -- ---- the cases
 

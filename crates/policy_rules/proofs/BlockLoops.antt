@@ -1,16 +1,12 @@
 -- Loops over the blocks of a range.
-use Rattle.std.proofs.Common.{◌≡◌, ◌∙◌, List, length, map, Option, Some, None, ap, sym, subst, map-id}
-use Rattle.std.specs.Iterator.{YieldsFirst, Yields}
-use Rattle.std.proofs.lemmas.Iterator.{YieldsList}
-use Rattle.std.proofs.lemmas.Iterator.Consumers.{YieldsList-from_first, YieldsList-end, YieldsList-turn}
+use Rattle.std.proofs.Common.{◌∙◌, ◌≡◌, List, None, Option, Some, ap, length, map, map-id, subst, sym}
+use Rattle.base.proofs.Exports.{Yields, YieldsFirst, YieldsList, YieldsList-end, YieldsList-from_first, YieldsList-turn}
 use Rattle.five_tuple.proofs.CallerLemmas.{is_cover_of}
 use Rattle.five_tuple.specs.Blocks.{blocks_left}
-use Rattle.five_tuple.specs.Cover.{Block, IsPortBlock, cover_of}
-use Rattle.five_tuple.specs.Header.{PortRangeValue}
-use Rattle.five_tuple.specs.SoundFields.{IsPortRange}
+use Rattle.five_tuple.specs.Exports.{Block, IsPortBlock, IsPortRange, PortRangeValue, cover_of}
 use Rattle.five_tuple.specs.declared.port_blocks.Blocks.{Blocks}
-use Rattle.ternary.specs.Word.{WordValue}
-use Rattle.policy_rules.specs.Words.{word_of_row}
+use Rattle.ternary.specs.Exports.{WordValue}
+use Rattle.policy_rules.specs.Exports.{word_of_row}
 use Rattle.policy_rules.specs.declared.policy.Row.{Row}
 
 -- the words of a row for one block of its source ports

@@ -1,13 +1,8 @@
 -- Rows that are sound and of distinct priorities, one row further.
-use Rattle.std.proofs.Common.{ℕ, ◌≡◌, ◌∙◌, ◌+◌, ◌<◌, ◌≤◌, ◌^◌, ◌≢◌, Bool, true, false, cond, ◌||◌, eqb, All, List, [], ◌∷◌, ◌++◌, length, take, get_or, refl, sym, ap, subst}
-use Rattle.std.proofs.lemmas.Bool.{eq-eqb}
-use Rattle.std.proofs.lemmas.List.{get_or_default, take_all, take_more}
-use Rattle.std.proofs.lemmas.List.Elements.{All-more}
-use Rattle.std.proofs.lemmas.List.Folds.{list_any-from_Any, list_any_more}
-use Rattle.std.proofs.lemmas.List.Quantifiers.{all_pairs_push}
+use Rattle.std.proofs.Common.{[], ◌++◌, ◌+◌, ◌<◌, ◌^◌, ◌||◌, ◌∙◌, ◌∷◌, ◌≡◌, ◌≢◌, ◌≤◌, All, Bool, List, ap, cond, eq-eqb, eqb, false, get_or, length, refl, subst, sym, take, take_all, true, ℕ}
+use Rattle.base.proofs.Exports.{All-more, all_pairs_push, get_or_default, list_any-from_Any, list_any_more, take_more}
 use Rattle.policy_rules.specs.declared.policy.Row.{Row}
-use Rattle.policy_rules.specs.Policy.{HaveDistinctPriorities, IsPolicy, IsSoundRow}
-use Rattle.policy_rules.specs.Applied.{has_priority}
+use Rattle.policy_rules.specs.Exports.{HaveDistinctPriorities, IsPolicy, IsSoundRow, has_priority}
 
 or_from_cond : (a b : Bool) → cond a true b ≡ (b || a)
 or_from_cond true true = refl

@@ -1,19 +1,11 @@
 -- Edits, one edit further.
-use Rattle.std.proofs.Common.{ℕ, ◌≡◌, ◌∙◌, ◌+◌, ◌<◌, ◌≢◌, Bool, true, false, cond, ◌||◌, eqb, AllPairs, List, [], ◌∷◌, ◌++◌, append-nil, length, map, length-take, take, drop, get_or, refl, sym, ap, subst, arith}
-use Rattle.std.specs.List.{list_any}
-use Rattle.std.proofs.lemmas.Bool.{eq-eqb, ne_eqb}
-use Rattle.std.proofs.lemmas.List.{drop_more, get_or-take, take-append-drop, take-take}
-use Rattle.std.proofs.lemmas.List.Elements.{filter_map-append}
-use Rattle.std.proofs.lemmas.List.Folds.{list_any-append, list_any_at, list_any_none}
-use Rattle.std.proofs.lemmas.List.Quantifiers.{all_pairs_push}
-use Rattle.base.proofs.ListsOfAll.{pairs_before}
+use Rattle.std.proofs.Common.{[], ◌++◌, ◌+◌, ◌<◌, ◌||◌, ◌∙◌, ◌∷◌, ◌≡◌, ◌≢◌, AllPairs, Bool, List, ap, append-nil, arith, cond, drop, eq-eqb, eqb, false, get_or, get_or-take, length, length-take, map, ne_eqb, refl, subst, sym, take, take-append-drop, take-take, true, ℕ}
+use Rattle.base.proofs.Exports.{all_pairs_push, drop_more, filter_map-append, list_any, list_any-append, list_any_at, list_any_none, pairs_before}
 use Rattle.policy_rules.specs.declared.policy.Row.{Row}
-use Rattle.policy_rules.specs.Policy.{HaveDistinctPriorities}
+use Rattle.policy_rules.specs.Exports.{AreDistinctEdits, AreSeen, HaveDistinctPriorities, addition, additions, edits_of, has_priority, removal, removals, removes, repeats}
 use Rattle.policy_rules.proofs.DistinctRows.{distinct_push}
 use Rattle.policy_rules.specs.declared.amendment.Edit.{Edit}
 use Rattle.policy_rules.specs.declared.amendment.Edit.TheVariants.{Remove, Add}
-use Rattle.policy_rules.specs.Applied.{AreDistinctEdits, addition, additions, has_priority, removal, removals, removes}
-use Rattle.policy_rules.specs.Edits.{AreSeen, edits_of, repeats}
 
 -- ---- what edits remove and add
 

@@ -1,21 +1,8 @@
 -- Rows by falling priority: one list of them has this order, where no two have one priority.
-use Rattle.std.proofs.Common.{ℕ, zero, suc, ◌≡◌, ◌≢◌, ◌∙◌, ◌+◌, ◌<◌, ◌≤◌, ◌^◌, Bool, true, false, cond, not, ◌&&◌, eqb, ltb, Option, Some, None, MatchOption, List, [], ◌∷◌, ◌++◌, get_or, filter, find, All, Contains, refl, ap, sym, subst, arith}
-use Rattle.std.specs.List.{sum_by}
-use Rattle.std.specs.List.Sorted.{IsSortedBy, IsPermutation}
-use Rattle.std.specs.Ordering.{is_lt, nat_cmp}
-use Rattle.std.proofs.lemmas.Bool.{eqb-true, eq-eqb, ltb-true, lt-ltb, le-ltb}
-use Rattle.std.proofs.lemmas.Bool.Decides.{nat_tests}
-use Rattle.std.proofs.lemmas.List.Elements.{All-nil, All-cons, All-append, All-contains, All-contains_itself, All-filter, All-head, All-tail, Contains-append_right, filter_passes}
-use Rattle.std.proofs.lemmas.List.Kept.{AllPairs-cons, AllPairs-filter}
-use Rattle.std.proofs.lemmas.List.Sorted.{All-permutation, Contains-permutation, IsPermutation-append_right, IsPermutation-filter_both, IsPermutation-refl, IsPermutation-sym, IsPermutation-trans, sum_by-IsPermutation}
-use Rattle.std.proofs.lemmas.List.Sums.{sum_by-cons}
-use Rattle.std.proofs.lemmas.Map.Keys.{ge_from_not_lt}
-use Rattle.base.proofs.ListsFiltered.{filter_all, filter_filter}
+use Rattle.std.proofs.Common.{[], ◌&&◌, ◌++◌, ◌+◌, ◌<◌, ◌^◌, ◌∙◌, ◌∷◌, ◌≡◌, ◌≢◌, ◌≤◌, All, Bool, Contains, IsPermutation, IsSortedBy, List, MatchOption, None, Option, Some, ap, arith, cond, eq-eqb, eqb, eqb-true, false, filter, find, get_or, is_lt, le-ltb, lt-ltb, ltb, ltb-true, nat_cmp, not, refl, subst, suc, sum_by, sym, true, zero, ℕ}
+use Rattle.base.proofs.Exports.{All-append, All-cons, All-contains, All-contains_itself, All-filter, All-head, All-nil, All-permutation, All-tail, AllPairs-cons, AllPairs-filter, Contains-append_right, Contains-permutation, IsPermutation-append_right, IsPermutation-filter_both, IsPermutation-refl, IsPermutation-sym, IsPermutation-trans, filter_all, filter_filter, filter_passes, ge_from_not_lt, nat_tests, sum_by-IsPermutation, sum_by-cons}
 use Rattle.policy_rules.specs.declared.policy.Row.{Row}
-use Rattle.policy_rules.specs.Policy.{HaveDistinctPriorities, IsHighestIn, IsSoundRow}
-use Rattle.policy_rules.specs.RuleList.{by_falling_priority, falling_below}
-use Rattle.policy_rules.specs.Scan.{highest_row}
-use Rattle.policy_rules.specs.Repeats.{IsFalling}
+use Rattle.policy_rules.specs.Exports.{HaveDistinctPriorities, IsFalling, IsHighestIn, IsSoundRow, by_falling_priority, falling_below, highest_row}
 use Rattle.policy_rules.proofs.FirstMatch.{highest_is, one_of_priority}
 
 -- ---- the rows below a priority are a permutation of them

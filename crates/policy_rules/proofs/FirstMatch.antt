@@ -1,21 +1,12 @@
 -- The first match: of the rows that match, the one that none exceeds in priority.
-use Rattle.std.proofs.Common.{ℕ, ◌≡◌, ◌∙◌, ◌≤◌, ◌≢◌, Bool, true, false, cond, leb, ltb, Option, Some, None, MatchOption, List, [], ◌∷◌, ◌++◌, append-nil, get_or, filter, find, All, Contains, refl, sym, ap, subst, inl, inr, arith}
-use Rattle.std.specs.Borrow.{Bor}
-use Rattle.std.specs.Option.{option_map_or}
-use Rattle.std.proofs.lemmas.Bool.{cases_lt, leb-true, le-leb, ltb-true, ltb-false}
-use Rattle.std.proofs.lemmas.List.{get_or_default}
-use Rattle.std.proofs.lemmas.List.Kept.{AllPairs-filter}
-use Rattle.std.proofs.lemmas.List.Elements.{All-nil, All-cons, All-push, All-weaker, All-contains, Contains-append_left, Contains-push}
-use Rattle.std.proofs.lemmas.List.Sums.{AllPass-from_list_all, list_all-from_AllPass}
-use Rattle.base.proofs.ListsFound.{find_found}
-use Rattle.base.proofs.ListsOfAll.{contains_later}
-use Rattle.five_tuple.specs.Header.{fields_of}
+use Rattle.std.proofs.Common.{[], ◌++◌, ◌∙◌, ◌∷◌, ◌≡◌, ◌≢◌, ◌≤◌, All, Bool, Bor, Contains, List, MatchOption, None, Option, Some, ap, append-nil, arith, cond, false, filter, find, get_or, inl, inr, le-leb, leb, leb-true, ltb, ltb-false, ltb-true, refl, subst, sym, true, ℕ}
+use Rattle.base.proofs.Exports.{All-cons, All-contains, All-nil, All-push, All-weaker, AllPairs-filter, AllPass-from_list_all, Contains-append_left, Contains-push, cases_lt, contains_later, find_found, get_or_default, list_all-from_AllPass, option_map_or}
+use Rattle.five_tuple.specs.Exports.{fields_of}
 use Rattle.five_tuple.specs.declared.header.Header.{Header}
 use Rattle.policy_rules.specs.declared.policy.Action.{Action}
 use Rattle.policy_rules.specs.declared.policy.Hit.{Hit}
 use Rattle.policy_rules.specs.declared.policy.Row.{Row}
-use Rattle.policy_rules.specs.Policy.{HaveDistinctPriorities, IsFirstMatch, IsHighestIn, row_matches}
-use Rattle.policy_rules.specs.Scan.{highest_row, hit_of, is_highest, scan}
+use Rattle.policy_rules.specs.Exports.{HaveDistinctPriorities, IsFirstMatch, IsHighestIn, highest_row, hit_of, is_highest, row_matches, scan}
 
 -- ---- the highest of some rows
 

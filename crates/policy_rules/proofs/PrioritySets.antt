@@ -1,8 +1,6 @@
 -- Sets of priorities, which are ordered by number.
-use Rattle.std.proofs.Common.{ℕ, ◌≡◌, ◌∙◌, true, cond, eqb, ap, arith}
-use Rattle.std.specs.BTreeSet.{BTreeSet, Updates, contains}
-use Rattle.std.specs.Ordering.{is_eq, nat_cmp}
-use Rattle.std.proofs.lemmas.Bool.Decides.{nat_tests}
+use Rattle.std.proofs.Common.{◌∙◌, ◌≡◌, BTreeSet, ap, arith, cond, eqb, is_eq, nat_cmp, true, ℕ}
+use Rattle.base.proofs.Exports.{Updates, contains, nat_tests}
 
 -- equal in the order is equal
 pub is_eq-nat_cmp : (a b : ℕ) → is_eq (nat_cmp a b) ≡ eqb a b

@@ -1,22 +1,14 @@
 -- The word of a row and of two blocks: it is a word, and it holds what the row matches on the ports
 -- of the blocks.
-use Rattle.std.proofs.Common.{ℕ, ◌≡◌, ◌∙◌, ◌-◌, ◌*◌, ◌/◌, ◌^◌, ◌<◌, ◌&&◌, eqb, bit_and, refl, ap, sym, arith}
-use Rattle.std.proofs.Math.Nat.{mul-div_cancel}
-use Rattle.std.proofs.lemmas.Bool.Decides.{Decides-eqb, Decides-like, same_from_decides, nat_tests}
-use Rattle.std.proofs.lemmas.Nat.{shr_split, pow_pos}
-use Rattle.std.specs.Int.Bits.{and_zero_r}
-use Rattle.std.proofs.lemmas.Nat.Bits.{and_high_mask}
-use Rattle.five_tuple.specs.Header.{IsHeader, fields_of, number_of, AddressBlock, prefix_matches, proto_matches}
-use Rattle.five_tuple.specs.SoundFields.{IsAddressBlock, IsProtocol}
-use Rattle.five_tuple.specs.Cover.{Block, IsPortBlock, block_holds}
+use Rattle.std.proofs.Common.{◌&&◌, ◌*◌, ◌-◌, ◌/◌, ◌<◌, ◌^◌, ◌∙◌, ◌≡◌, ap, arith, bit_and, eqb, mul-div_cancel, pow_pos, refl, sym, ℕ}
+use Rattle.base.proofs.Exports.{Decides-eqb, Decides-like, and_high_mask, and_zero_r, nat_tests, same_from_decides, shr_split}
+use Rattle.five_tuple.specs.Exports.{AddressBlock, Block, IsAddressBlock, IsHeader, IsPortBlock, IsProtocol, block_holds, fields_of, number_of, prefix_matches, proto_matches}
 use Rattle.five_tuple.specs.declared.header.Header.{Header}
 use Rattle.five_tuple.specs.declared.matching.Proto.{Proto}
 use Rattle.five_tuple.specs.declared.matching.Proto.TheVariants.{Any, Is}
-use Rattle.ternary.specs.Word.{holds}
-use Rattle.ternary.specs.WordBits.{IsWord}
+use Rattle.ternary.specs.Exports.{IsWord, holds}
 use Rattle.policy_rules.specs.declared.policy.Row.{Row}
-use Rattle.policy_rules.specs.Policy.{IsSoundRow}
-use Rattle.policy_rules.specs.Words.{prefix_mask, proto_mask, proto_value, word_of_row}
+use Rattle.policy_rules.specs.Exports.{IsSoundRow, prefix_mask, proto_mask, proto_value, word_of_row}
 use Rattle.five_tuple.proofs.CallerLemmas.{HasBits, and_packed, masked_packed}
 
 -- the address of a block has no bit past those that the block fixes

@@ -1,26 +1,13 @@
 -- The first rule that holds a header has the rule and the action of the policy's first match.
-use Rattle.std.proofs.Common.{bit_and, ℕ, ◌≡◌, ◌∙◌, ◌+◌, Bool, true, false, cond, ◌&&◌, ◌||◌, Option, Some, None, option_map, List, [], ◌∷◌, ◌++◌, append_assoc, find, get_or, map, refl, ap, arith}
-use Rattle.std.specs.Option.{option_or}
-use Rattle.std.specs.Int.Bits.{and_zero_r}
-use Rattle.std.proofs.lemmas.Bool.{eq-eqb}
-use Rattle.std.specs.List.{All, list_any, flat_map}
-use Rattle.std.proofs.lemmas.List.Elements.{All-tail}
-use Rattle.std.proofs.lemmas.List.Folds.{find-append}
-use Rattle.std.proofs.lemmas.List.Sorted.{All-permutation}
-use Rattle.base.proofs.ListsOfAny.{any_within, list_any_flat_map, list_any_map}
-use Rattle.five_tuple.specs.Header.{IsHeader, fields_of, number_of, prefix_matches, proto_matches}
-use Rattle.five_tuple.specs.Cover.{Block, IsPortBlock, block_holds, cover_of}
+use Rattle.std.proofs.Common.{[], ◌&&◌, ◌++◌, ◌+◌, ◌||◌, ◌∙◌, ◌∷◌, ◌≡◌, All, Bool, List, None, Option, Some, ap, append_assoc, arith, bit_and, cond, eq-eqb, false, find, flat_map, get_or, map, option_map, refl, true, ℕ}
+use Rattle.base.proofs.Exports.{All-permutation, All-tail, and_zero_r, any_within, find-append, list_any, list_any_flat_map, list_any_map, option_or}
+use Rattle.five_tuple.specs.Exports.{Block, IsHeader, IsPortBlock, block_holds, cover_of, fields_of, number_of, prefix_matches, proto_matches}
 use Rattle.five_tuple.proofs.CallerLemmas.{is_cover_of}
 use Rattle.five_tuple.specs.declared.header.Header.{Header}
-use Rattle.ternary.specs.Word.{WordValue, holds}
-use Rattle.ternary.specs.Meets.{any_word}
+use Rattle.ternary.specs.Exports.{WordValue, any_word, holds}
 use Rattle.policy_rules.specs.declared.policy.Row.{Row}
 use Rattle.policy_rules.specs.declared.policy.Hit.{Hit}
-use Rattle.policy_rules.specs.Policy.{IsPolicy, IsSoundRow, row_matches}
-use Rattle.policy_rules.specs.Rules.{is_held, first_rule}
-use Rattle.policy_rules.specs.Words.{word_of_row, words_of_row}
-use Rattle.policy_rules.specs.RuleList.{entries_of, with_hit, ranked_rule, ranked_from, with_default, by_falling_priority, rules_of, hit_of_rule}
-use Rattle.policy_rules.specs.Scan.{hit_of, scan}
+use Rattle.policy_rules.specs.Exports.{IsPolicy, IsSoundRow, by_falling_priority, entries_of, first_rule, hit_of, hit_of_rule, is_held, ranked_from, ranked_rule, row_matches, rules_of, scan, with_default, with_hit, word_of_row, words_of_row}
 use Rattle.policy_rules.proofs.RowWords.{holds-word_of_row}
 use Rattle.policy_rules.proofs.FallingRows.{IsPermutation-by_falling_priority, find-by_falling_priority}
 

@@ -1,17 +1,12 @@
 -- Ranks by place, as a list of rules grows.
-use Rattle.std.proofs.Common.{ℕ, ◌≡◌, ◌∙◌, ◌+◌, ◌*◌, ◌≤◌, List, [], ◌∷◌, ◌++◌, append_assoc, length, map, refl, ap, sym, arith, length-append}
-use Rattle.std.specs.List.{flat_map}
-use Rattle.std.proofs.lemmas.List.{length-map}
-use Rattle.std.proofs.lemmas.List.FromFn.{length-enumerate_from}
-use Rattle.ternary.specs.Word.{WordValue}
+use Rattle.std.proofs.Common.{[], ◌*◌, ◌++◌, ◌+◌, ◌∙◌, ◌∷◌, ◌≡◌, ◌≤◌, List, ap, append_assoc, arith, flat_map, length, length-append, map, mul-le-mul_left, refl, sym, ℕ}
+use Rattle.base.proofs.Exports.{length-enumerate_from, length-map, sum_by-cons}
+use Rattle.ternary.specs.Exports.{WordValue}
 use Rattle.policy_rules.specs.declared.policy.Hit.{Hit}
 use Rattle.policy_rules.specs.declared.policy.Row.{Row}
-use Rattle.std.proofs.Math.Nat.{mul-le-mul_left}
 use Rattle.policy_rules.specs.declared.rules.Rule.{Rule}
-use Rattle.policy_rules.specs.RuleList.{ranked_rule, ranked_from, entries_of, with_hit, word_count, word_total}
-use Rattle.five_tuple.specs.Cover.{Block, cover_of}
-use Rattle.policy_rules.specs.Words.{word_of_row, words_of_row}
-use Rattle.std.proofs.lemmas.List.Sums.{sum_by-cons}
+use Rattle.policy_rules.specs.Exports.{entries_of, ranked_from, ranked_rule, with_hit, word_count, word_of_row, word_total, words_of_row}
+use Rattle.five_tuple.specs.Exports.{Block, cover_of}
 
 pub length-ranked_from : (n : ℕ) (xs : List (WordValue × Hit)) → length (ranked_from n xs) ≡ length
     xs

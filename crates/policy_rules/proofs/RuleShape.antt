@@ -1,23 +1,13 @@
 -- The shape of a list of rules: ranks by place, words, and the default at the end.
-use Rattle.std.proofs.Common.{ℕ, ◌≡◌, ◌∙◌, ◌+◌, ◌<◌, List, [], ◌∷◌, ◌++◌, length, length-append, map, get_or, Some, None, ap, arith}
-use Rattle.std.specs.List.{All, flat_map, enumerate_from}
-use Rattle.std.specs.Int.Bits.{and_zero_r}
-use Rattle.std.proofs.lemmas.List.Elements.{All-nil, All-tail, All-cons, All-append, All-map}
-use Rattle.std.proofs.lemmas.List.{get_or-map}
-use Rattle.std.proofs.lemmas.List.FromFn.{get_or-enumerate_from, length-enumerate_from}
-use Rattle.std.proofs.lemmas.List.Sorted.{All-permutation, sum_by-IsPermutation}
-use Rattle.five_tuple.specs.Cover.{Block, IsPortBlock, cover_of}
+use Rattle.std.proofs.Common.{[], ◌++◌, ◌+◌, ◌<◌, ◌∙◌, ◌∷◌, ◌≡◌, All, List, None, Some, ap, arith, flat_map, get_or, length, length-append, map, ℕ}
+use Rattle.base.proofs.Exports.{All-append, All-cons, All-map, All-nil, All-permutation, All-tail, and_zero_r, enumerate_from, get_or-enumerate_from, get_or-map, length-enumerate_from, sum_by-IsPermutation}
+use Rattle.five_tuple.specs.Exports.{Block, IsPortBlock, cover_of}
 use Rattle.five_tuple.proofs.CallerLemmas.{is_cover_of}
-use Rattle.ternary.specs.Word.{WordValue}
-use Rattle.ternary.specs.WordBits.{IsWord}
-use Rattle.ternary.specs.Meets.{any_word}
+use Rattle.ternary.specs.Exports.{IsWord, WordValue, any_word}
 use Rattle.policy_rules.specs.declared.policy.Row.{Row}
 use Rattle.policy_rules.specs.declared.policy.Hit.{Hit}
 use Rattle.policy_rules.specs.declared.rules.Rule.{Rule}
-use Rattle.policy_rules.specs.Policy.{IsPolicy, IsSoundRow}
-use Rattle.policy_rules.specs.Words.{word_of_row, words_of_row}
-use Rattle.policy_rules.specs.RuleList.{entries_of, ranked_rule, ranked_from, with_default, by_falling_priority, rules_of, word_count, word_total, default_rule, IsRuleList}
-use Rattle.policy_rules.specs.Scan.{hit_of}
+use Rattle.policy_rules.specs.Exports.{IsPolicy, IsRuleList, IsSoundRow, by_falling_priority, default_rule, entries_of, hit_of, ranked_from, ranked_rule, rules_of, with_default, word_count, word_of_row, word_total, words_of_row}
 use Rattle.policy_rules.proofs.RowWords.{IsWord-word_of_row}
 use Rattle.policy_rules.proofs.RuleRanks.{length-ranked_from, ranked_from-append, length-entries}
 use Rattle.policy_rules.proofs.FallingRows.{IsPermutation-by_falling_priority}

@@ -1,24 +1,11 @@
 -- A header that no row which a change touches matches is decided as before.
-use Rattle.std.proofs.Common.{ℕ, ◌≡◌, ◌∙◌, ◌||◌, Bool, true, false, not, eqb, Option, Some, None, MatchOption, All, Contains, Ok, List, [], ◌∷◌, ◌++◌, append-nil, filter, find, refl, sym, ap, subst, arith}
-use Rattle.std.specs.Prelude.{IsTrue, IsFalse, filter_map}
-use Rattle.std.specs.List.{cons_option, list_any}
-use Rattle.std.proofs.lemmas.Bool.{eq-eqb, eqb-true}
-use Rattle.std.proofs.lemmas.List.Elements.{All-contains, All-contains_itself, All-cons, All-nil, All-weaker, All-append, Contains-append_left, Contains-append_right, filter-append}
-use Rattle.std.proofs.lemmas.List.Folds.{list_any_none}
-use Rattle.five_tuple.specs.Header.{IsHeader, fields_of, number_of}
+use Rattle.std.proofs.Common.{[], ◌++◌, ◌||◌, ◌∙◌, ◌∷◌, ◌≡◌, All, Bool, Contains, IsFalse, IsTrue, List, MatchOption, None, Ok, Option, Some, ap, append-nil, arith, eq-eqb, eqb, eqb-true, false, filter, filter_map, find, not, refl, subst, sym, true, ℕ}
+use Rattle.base.proofs.Exports.{All-append, All-cons, All-contains, All-contains_itself, All-flat_map_parts, All-nil, All-weaker, Contains-append_left, Contains-append_right, cons_option, filter-append, filter_implied, find_found, in_cons_option, list_any, list_any_none}
+use Rattle.five_tuple.specs.Exports.{IsHeader, fields_of, number_of}
 use Rattle.five_tuple.specs.declared.header.Header.{Header}
-use Rattle.base.proofs.ListLemmas.{in_cons_option}
-use Rattle.base.proofs.ListsFiltered.{filter_implied}
-use Rattle.base.proofs.ListsFound.{find_found}
-use Rattle.base.proofs.ListsOfAll.{All-flat_map_parts}
-use Rattle.ternary.specs.Meets.{meets}
-use Rattle.ternary.specs.Word.{WordValue, holds}
+use Rattle.ternary.specs.Exports.{WordValue, holds, meets}
 use Rattle.ternary.proofs.CallerLemmas.{held_meets}
-use Rattle.policy_rules.specs.Applied.{IsAmendment, additions, amended_rows, applied, removals, removes, staying_rows}
-use Rattle.policy_rules.specs.Policy.{HaveDistinctPriorities, IsFirstMatch, IsPolicy, IsSoundRow, row_matches}
-use Rattle.policy_rules.specs.Scan.{highest_row, hit_of, scan}
-use Rattle.policy_rules.specs.Touched.{removed_rows, touched_rows, touched_words}
-use Rattle.policy_rules.specs.Words.{words_of_row}
+use Rattle.policy_rules.specs.Exports.{HaveDistinctPriorities, IsAmendment, IsFirstMatch, IsPolicy, IsSoundRow, additions, amended_rows, applied, highest_row, hit_of, removals, removed_rows, removes, row_matches, scan, staying_rows, touched_rows, touched_words, words_of_row}
 use Rattle.policy_rules.specs.declared.amendment.Edit.{Edit}
 use Rattle.policy_rules.specs.declared.policy.Row.{Row}
 use Rattle.policy_rules.proofs.AmendmentCases.{additions_sound, can_apply}

@@ -1,7 +1,7 @@
 -- Changes of policies, as operators give them: edits, each of which removes a row or adds one; and
 -- what they make of a policy.
-use Rattle.std.specs.Prelude.{ℕ, ◌≢◌, ◌^◌, ◌<◌, Bool, not, ◌==◌, nat_lt, if◌then◌else◌, Option, Some, None, Result, Ok, Err, List, ◌++◌, length, filter, filter_map, All, AllPairs}
-use Rattle.std.specs.List.{list_all, list_any}
+use Rattle.std.specs.Prelude.{if◌then◌else◌, ◌++◌, ◌<◌, ◌==◌, ◌^◌, ◌≢◌, All, AllPairs, Bool, Err, List, None, Ok, Option, Result, Some, filter, filter_map, length, nat_lt, not, ℕ}
+use Rattle.base.specs.Exports.{list_all, list_any}
 use Rattle.policy_rules.specs.SoundPolicies.{HaveDistinctPriorities, IsSoundRow}
 use Rattle.policy_rules.specs.declared.policy.Row.{Row}
 use Rattle.policy_rules.specs.declared.amendment.Edit.{Edit}

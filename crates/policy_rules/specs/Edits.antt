@@ -1,5 +1,5 @@
 -- How changes of policies are put together, and why edits are no amendment.
-use Rattle.std.specs.Prelude.{ℕ, ◌≡◌, ◌+◌, ◌<◌, Bool, IsTrue, List, ◌++◌, length, map, take, slice_index_or}
+use Rattle.std.specs.Prelude.{◌++◌, ◌+◌, ◌<◌, ◌≡◌, Bool, IsTrue, List, length, map, slice_index_or, take, ℕ}
 use Rattle.policy_rules.specs.Applied.{AreDistinctEdits, IsAmendment, additions, has_priority, removals, removes}
 use Rattle.policy_rules.specs.declared.policy.Row.{Row}
 use Rattle.policy_rules.specs.declared.amendment.Edit.{Edit}

@@ -1,9 +1,9 @@
 -- First tier. A plan has partitions with their targets, as in Yu, Rexford, Freedman and Wang,
 -- "Scalable Flow-Based Networking with DIFANE", SIGCOMM 2010.
-use Rattle.std.specs.Prelude.{ℕ, Bool, List}
-use Rattle.five_tuple.specs.Header.{number_of}
+use Rattle.std.specs.Prelude.{Bool, List, ℕ}
+use Rattle.five_tuple.specs.Exports.{number_of}
 use Rattle.five_tuple.specs.declared.header.Header.{Header}
-use Rattle.ternary.specs.Word.{holds}
+use Rattle.ternary.specs.Exports.{holds}
 use Rattle.policy_rules.specs.declared.rules.Partition.{Partition}
 
 -- the region of the partition holds this header

@@ -1,13 +1,10 @@
 -- The laws of policies, of their rule lists and of changes: a function of the crate ensures the
 -- record of each.
-use Rattle.std.specs.Prelude.{◌≡◌, ◌≤◌, ◌+◌, ◌⊎◌, IsTrue, IsFalse, Some, Ok, List, ◌++◌, length, All, Contains, option_map}
-use Rattle.std.specs.List.{list_any}
-use Rattle.std.specs.List.Sorted.{IsPermutation}
-use Rattle.five_tuple.specs.Header.{IsHeader, fields_of, number_of}
+use Rattle.std.specs.Prelude.{◌++◌, ◌+◌, ◌≡◌, ◌≤◌, ◌⊎◌, All, Contains, IsFalse, IsPermutation, IsTrue, List, Ok, Some, length, option_map}
+use Rattle.base.specs.Exports.{list_any}
+use Rattle.five_tuple.specs.Exports.{IsHeader, fields_of, number_of}
 use Rattle.five_tuple.specs.declared.header.Header.{Header}
-use Rattle.ternary.specs.Meets.{meets}
-use Rattle.ternary.specs.Word.{WordValue, holds}
-use Rattle.ternary.specs.WordBits.{IsWord}
+use Rattle.ternary.specs.Exports.{IsWord, WordValue, holds, meets}
 use Rattle.policy_rules.specs.Policy.{IsFirstMatch, row_matches}
 use Rattle.policy_rules.specs.SoundPolicies.{IsPolicy, IsSoundRow}
 use Rattle.policy_rules.specs.Rules.{first_rule}

@@ -1,10 +1,9 @@
 -- Partitions of a policy: parts of the header space, each with the rules that decide its headers,
 -- as in Yu, Rexford, Freedman and Wang, "Scalable Flow-Based Networking with DIFANE", SIGCOMM 2010.
-use Rattle.std.specs.Prelude.{ℕ, ◌≡◌, ◌<◌, IsTrue, Some, List, [], ◌∷◌, ◌++◌, length, All, count_by, option_map, slice_index_or}
-use Rattle.five_tuple.specs.Header.{IsHeader}
+use Rattle.std.specs.Prelude.{[], ◌++◌, ◌<◌, ◌∷◌, ◌≡◌, All, IsTrue, List, Some, count_by, length, option_map, slice_index_or, ℕ}
+use Rattle.five_tuple.specs.Exports.{IsHeader}
 use Rattle.five_tuple.specs.declared.header.Header.{Header}
-use Rattle.ternary.specs.Word.{WordValue}
-use Rattle.ternary.specs.Meets.{covers_of}
+use Rattle.ternary.specs.Exports.{WordValue, covers_of}
 use Rattle.policy_rules.specs.Scan.{scan}
 use Rattle.policy_rules.specs.RuleList.{hit_of_rule}
 use Rattle.policy_rules.specs.Rules.{first_rule}

@@ -1,6 +1,6 @@
 -- First tier. Policies: when a row matches, the first match of a header, and how rules are printed.
-use Rattle.std.specs.Prelude.{◌≡◌, ◌≤◌, Bool, ◌&&◌, MatchOption, List, [], filter, All, Contains, ℕ, Option, Some, None, ◌++◌, codes, decimal}
-use Rattle.five_tuple.specs.Header.{fields_of, prefix_matches, range_matches, proto_matches}
+use Rattle.std.specs.Prelude.{[], ◌&&◌, ◌++◌, ◌≡◌, ◌≤◌, All, Bool, Contains, List, MatchOption, None, Option, Some, codes, decimal, filter, ℕ}
+use Rattle.five_tuple.specs.Exports.{fields_of, prefix_matches, proto_matches, range_matches}
 use Rattle.five_tuple.specs.declared.header.Fields.{Fields}
 use Rattle.five_tuple.specs.declared.header.Header.{Header}
 use Rattle.policy_rules.specs.declared.policy.Row.{Row}

@@ -1,5 +1,5 @@
 -- The files of policies, each of which has a policy, or a change of one.
-use Rattle.std.specs.Prelude.{⊤, All}
+use Rattle.std.specs.Prelude.{All, ⊤}
 use Rattle.policy_rules.specs.Applied.{IsAmendment}
 use Rattle.policy_rules.specs.SoundPolicies.{IsPolicy}
 use Rattle.policy_rules.specs.declared.policy.Row.{Row}

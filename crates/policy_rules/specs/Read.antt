@@ -1,6 +1,6 @@
 -- The text of an action, as it is read.
-use Rattle.std.specs.Prelude.{⊤, ℕ, ◌<◌, if◌then◌else◌, List, take, drop, Option, Some, None, option_map, codes, bytes_eq}
-use Rattle.five_tuple.specs.Texts.{number_up_to}
+use Rattle.std.specs.Prelude.{if◌then◌else◌, ◌<◌, List, None, Option, Some, bytes_eq, codes, drop, option_map, take, ℕ, ⊤}
+use Rattle.five_tuple.specs.Exports.{number_up_to}
 use Rattle.policy_rules.specs.declared.policy.Action.{Action}
 use Rattle.policy_rules.specs.declared.policy.Action.TheVariants.{Drop, Out}
 

@@ -1,5 +1,5 @@
 -- Rows in the order of their priorities, and why rows are no policy.
-use Rattle.std.specs.Prelude.{ℕ, ◌≡◌, ◌+◌, ◌<◌, ◌≤◌, IsTrue, List, length, take, AllPairs, slice_index_or}
+use Rattle.std.specs.Prelude.{◌+◌, ◌<◌, ◌≡◌, ◌≤◌, AllPairs, IsTrue, List, length, slice_index_or, take, ℕ}
 use Rattle.policy_rules.specs.Applied.{has_priority}
 use Rattle.policy_rules.specs.declared.policy.Row.{Row}
 use Rattle.policy_rules.specs.declared.policy.SamePriority.{SamePriority}

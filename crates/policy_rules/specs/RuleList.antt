@@ -1,10 +1,8 @@
 -- The list of a policy's rules: its rows by falling priority, each as words of a ternary memory.
-use Rattle.std.specs.Prelude.{ℕ, zero, suc, ◌≡◌, ◌*◌, ◌^◌, ◌<◌, ◌==◌, Some, None, List, [], ◌∷◌, ◌++◌, length, map, filter, All, sum_by, slice_index_or}
-use Rattle.std.specs.List.{flat_map, enumerate_from}
-use Rattle.five_tuple.specs.Cover.{cover_of}
-use Rattle.ternary.specs.Word.{WordValue}
-use Rattle.ternary.specs.WordBits.{IsWord}
-use Rattle.ternary.specs.Meets.{any_word}
+use Rattle.std.specs.Prelude.{[], ◌*◌, ◌++◌, ◌<◌, ◌==◌, ◌^◌, ◌∷◌, ◌≡◌, All, List, None, Some, filter, flat_map, length, map, slice_index_or, suc, sum_by, zero, ℕ}
+use Rattle.base.specs.Exports.{enumerate_from}
+use Rattle.five_tuple.specs.Exports.{cover_of}
+use Rattle.ternary.specs.Exports.{IsWord, WordValue, any_word}
 use Rattle.policy_rules.specs.Scan.{hit_of}
 use Rattle.policy_rules.specs.Words.{words_of_row}
 use Rattle.policy_rules.specs.declared.policy.Row.{Row}

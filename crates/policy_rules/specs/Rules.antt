@@ -1,9 +1,9 @@
 -- The rules of a policy: its rows as words of a ternary memory, in the order in which they are
 -- tried.
-use Rattle.std.specs.Prelude.{ℕ, Bool, Option, List, find}
-use Rattle.five_tuple.specs.Header.{number_of}
+use Rattle.std.specs.Prelude.{Bool, List, Option, find, ℕ}
+use Rattle.five_tuple.specs.Exports.{number_of}
 use Rattle.five_tuple.specs.declared.header.Header.{Header}
-use Rattle.ternary.specs.Word.{holds}
+use Rattle.ternary.specs.Exports.{holds}
 use Rattle.policy_rules.specs.declared.rules.Rule.{Rule}
 
 -- the rule's word holds this header number

@@ -1,8 +1,7 @@
 -- The first match of a header as a function.
-use Rattle.std.specs.Prelude.{◌≡◌, Bool, nat_le, Option, Some, None, MatchOption, List, [], filter, find}
-use Rattle.std.specs.List.{list_all}
-use Rattle.std.specs.Borrow.{Bor}
-use Rattle.five_tuple.specs.Header.{fields_of}
+use Rattle.std.specs.Prelude.{[], ◌≡◌, Bool, List, MatchOption, None, Option, Some, filter, find, nat_le}
+use Rattle.base.specs.Exports.{Bor, list_all}
+use Rattle.five_tuple.specs.Exports.{fields_of}
 use Rattle.five_tuple.specs.declared.header.Fields.{Fields}
 use Rattle.five_tuple.specs.declared.header.Header.{Header}
 use Rattle.policy_rules.specs.declared.policy.Row.{Row}

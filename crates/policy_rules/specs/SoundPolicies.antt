@@ -1,6 +1,6 @@
 -- What is true of the rows of each policy.
-use Rattle.std.specs.Prelude.{◌≢◌, ◌^◌, ◌<◌, List, length, All, AllPairs}
-use Rattle.five_tuple.specs.SoundFields.{IsAddressBlock, IsPortRange, IsProtocol}
+use Rattle.std.specs.Prelude.{◌<◌, ◌^◌, ◌≢◌, All, AllPairs, List, length}
+use Rattle.five_tuple.specs.Exports.{IsAddressBlock, IsPortRange, IsProtocol}
 use Rattle.policy_rules.specs.declared.policy.Row.{Row}
 
 -- no two rows have one priority

@@ -1,6 +1,6 @@
 -- One to four switches, in four places.
-use Rattle.std.specs.Prelude.{ℕ, ◌≡◌, ◌-◌, ◌<◌, ◌≤◌, List, length, take, drop, replicate}
-use Rattle.base.specs.Filled.{filled_places, filled-take}
+use Rattle.std.specs.Prelude.{◌-◌, ◌<◌, ◌≡◌, ◌≤◌, List, drop, length, replicate, take, ℕ}
+use Rattle.base.specs.Exports.{filled-take, filled_places}
 use Rattle.policy_rules.specs.declared.targets.Targets.TheInside.{Inside}
 
 -- of the four places, one or more are in the list; those beyond it are 0

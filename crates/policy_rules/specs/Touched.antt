@@ -1,6 +1,6 @@
 -- What a change touches of a policy: the rows that it removes, those that it adds, and their words.
-use Rattle.std.specs.Prelude.{◌==◌, List, ◌++◌, filter_map, find, flat_map}
-use Rattle.ternary.specs.Word.{WordValue}
+use Rattle.std.specs.Prelude.{◌++◌, ◌==◌, List, filter_map, find, flat_map}
+use Rattle.ternary.specs.Exports.{WordValue}
 use Rattle.policy_rules.specs.Applied.{additions, removals}
 use Rattle.policy_rules.specs.Words.{words_of_row}
 use Rattle.policy_rules.specs.declared.amendment.Edit.{Edit}

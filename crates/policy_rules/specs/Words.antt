@@ -1,12 +1,9 @@
 -- The words of a row.
-use Rattle.std.specs.Prelude.{ℕ, ◌-◌, ◌^◌, List, map}
-use Rattle.std.specs.List.{flat_map}
-use Rattle.five_tuple.specs.HeaderNumbers.{packed_number}
-use Rattle.five_tuple.specs.Header.{AddressBlock}
-use Rattle.five_tuple.specs.Cover.{Block, cover_of}
+use Rattle.std.specs.Prelude.{◌-◌, ◌^◌, List, flat_map, map, ℕ}
+use Rattle.five_tuple.specs.Exports.{AddressBlock, Block, cover_of, packed_number}
 use Rattle.five_tuple.specs.declared.matching.Proto.{Proto}
 use Rattle.five_tuple.specs.declared.matching.Proto.TheVariants.{Any, Is}
-use Rattle.ternary.specs.Word.{WordValue}
+use Rattle.ternary.specs.Exports.{WordValue}
 use Rattle.policy_rules.specs.declared.policy.Row.{Row}
 
 -- the first len of 32 bits

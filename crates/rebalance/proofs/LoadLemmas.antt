@@ -1,16 +1,7 @@
 -- What switches carry under a placement: the bound holds of each placement that fits, and running
 -- sums come to the traffic.
-use Rattle.std.proofs.Common.{ℕ, zero, suc, ◌≡◌, ◌≢◌, ◌∙◌, ◌+◌, ◌*◌, ◌<◌, ◌≤◌, ◌||◌, Bool, true, false, cond, eqb, not, List, [], ◌∷◌, length, map, take, get_or, set, refl, ap, sym, inl, inr, arith, zero-add, All}
-use Rattle.std.specs.Prelude.{max}
-use Rattle.std.specs.Int.{div_ceil}
-use Rattle.std.specs.List.{AllByRecursion, fold, list_any, range_with_len, sum, sum_by}
-use Rattle.std.proofs.Math.Path.{fun_ext}
-use Rattle.std.proofs.lemmas.Bool.{cases_eq, eq-eqb, ne_eqb, or_left, true≢false}
-use Rattle.std.proofs.lemmas.Grind.{div_ceil_times}
-use Rattle.std.proofs.lemmas.List.{get_or-set_other, get_or-set_same, get_or_default, same_lists}
-use Rattle.std.proofs.lemmas.List.FromFn.{get_or-map-range_with_len, length-map-range_with_len}
-use Rattle.std.proofs.lemmas.List.Sums.{sum_by-le-sum_by, sum_by_push}
-use Rattle.base.proofs.ListsOfRanges.{range_more}
+use Rattle.std.proofs.Common.{[], ◌*◌, ◌+◌, ◌<◌, ◌||◌, ◌∙◌, ◌∷◌, ◌≡◌, ◌≢◌, ◌≤◌, All, Bool, List, ap, arith, cond, eq-eqb, eqb, false, fold, get_or, get_or-set_other, get_or-set_same, inl, inr, length, map, max, ne_eqb, not, refl, set, suc, sum, sum_by, sym, take, true, true≢false, zero, zero-add, ℕ}
+use Rattle.base.proofs.Exports.{AllByRecursion, cases_eq, div_ceil, div_ceil_times, fun_ext, get_or-map-range_with_len, get_or_default, length-map-range_with_len, list_any, or_left, range_more, range_with_len, same_lists, sum_by-le-sum_by, sum_by_push}
 use Rattle.placement.specs.Placement.{is_target, targets_at}
 use Rattle.placement.proofs.CallerLemmas.{each_by_count, range-within, sum-filter, sum_none}
 use Rattle.rebalance.specs.Loads.{Fits, bound, greatest, greatest_traffic, is_primary, traffic, usable_rooms}

@@ -1,12 +1,6 @@
 -- Sums over the numbers of partitions and of switches, and the greatest of numbers.
-use Rattle.std.proofs.Common.{ℕ, zero, suc, ◌≡◌, ◌∙◌, ◌+◌, ◌*◌, ◌<◌, ◌≤◌, Bool, true, false, cond, List, [], ◌∷◌, length, filter, get_or, refl, ap, inl, inr, arith, add-one, zero-add}
-use Rattle.std.specs.Prelude.{max}
-use Rattle.std.specs.List.{AllByRecursion, fold, range_with_len, sum, sum_by}
-use Rattle.std.proofs.Math.Nat.{mul-le-mul_left}
-use Rattle.std.proofs.Math.Path.{fun_ext}
-use Rattle.std.proofs.lemmas.Bool.{cases_lt}
-use Rattle.std.proofs.lemmas.List.FromFn.{get_or-range_with_len, length-range_with_len}
-use Rattle.std.proofs.lemmas.List.Sums.{get_or-le-sum_by, sum_by-cons}
+use Rattle.std.proofs.Common.{[], ◌*◌, ◌+◌, ◌<◌, ◌∙◌, ◌∷◌, ◌≡◌, ◌≤◌, Bool, List, add-one, ap, arith, cond, false, filter, fold, get_or, inl, inr, length, max, mul-le-mul_left, refl, suc, sum, sum_by, true, zero, zero-add, ℕ}
+use Rattle.base.proofs.Exports.{AllByRecursion, cases_lt, fun_ext, get_or-le-sum_by, get_or-range_with_len, length-range_with_len, range_with_len, sum_by-cons}
 use Rattle.placement.proofs.CallerLemmas.{each_by_count, sum-filter, sum_none}
 
 -- ---- over lists

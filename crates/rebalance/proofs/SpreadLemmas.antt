@@ -1,6 +1,6 @@
 -- The spread as partitions in turn, where the load is the traffic.
-use Rattle.std.proofs.Common.{ℕ, ◌≡◌, ◌∙◌, ◌+◌, ◌<◌, ◌≤◌, cond, eqb, List, length, get_or, refl, ap, sym, subst, inl, inr, arith}
-use Rattle.std.specs.List.{list_any, range_with_len, sum_by}
+use Rattle.std.proofs.Common.{◌+◌, ◌<◌, ◌∙◌, ◌≡◌, ◌≤◌, List, ap, arith, cond, eqb, get_or, inl, inr, length, refl, subst, sum_by, sym, ℕ}
+use Rattle.base.proofs.Exports.{list_any, range_with_len}
 use Rattle.placement.specs.Placement.{AreHosted, TurnRule, is_target, placing, targets_at}
 use Rattle.placement.proofs.CallerLemmas.{first_distinct, first_there, hosted_fits, hosted_or_refused, same_hosted, same_refused, sum-filter}
 use Rattle.rebalance.specs.Loads.{Fits, peak}

@@ -1,17 +1,8 @@
 -- What one more item of a journal adds to the weights.
-use Rattle.std.specs.Prelude.{option_to_list, unwrap_or, count_by, filter_map}
-use Rattle.std.specs.Option.{option_or}
-use Rattle.std.proofs.Common.{ℕ, zero, suc, inl, inr, ◌≡◌, ◌∙◌, ◌+◌, ◌<◌, ◌≤◌, cond, eqb, Option, Some, None, List, [], ◌∷◌, ◌++◌, length, map, get_or, refl, ap, sym, take, arith, zero-add}
-use Rattle.std.specs.List.{range_with_len, sum, sum_by}
-use Rattle.std.proofs.lemmas.Bool.{cases_eq, eq-eqb, ne_eqb}
-use Rattle.std.proofs.lemmas.List.{get_or_default, same_lists, take_more}
-use Rattle.std.proofs.lemmas.List.Elements.{filter_map-append}
-use Rattle.std.proofs.lemmas.List.FromFn.{get_or-map-range_with_len, length-map-range_with_len}
-use Rattle.std.proofs.lemmas.List.Sums.{count_by-le-length, sum_by-append, sum-map, sum_by-cons}
-use Rattle.journal.specs.declared.item.Item.{Item}
-use Rattle.update_machine.specs.Folds.{last_given}
-use Rattle.update_machine.specs.Marks.{current_mark, gives_current}
-use Rattle.update_machine.proofs.CallerLemmas.{last_given_append}
+use Rattle.std.proofs.Common.{[], ◌++◌, ◌+◌, ◌<◌, ◌∙◌, ◌∷◌, ◌≡◌, ◌≤◌, List, None, Option, Some, ap, arith, cond, count_by, eq-eqb, eqb, filter_map, get_or, inl, inr, length, map, ne_eqb, option_to_list, refl, suc, sum, sum_by, sym, take, unwrap_or, zero, zero-add, ℕ}
+use Rattle.base.proofs.Exports.{cases_eq, count_by-le-length, filter_map-append, get_or-map-range_with_len, get_or_default, length-map-range_with_len, option_or, range_with_len, same_lists, sum-map, sum_by-append, sum_by-cons, take_more}
+use Rattle.update_machine.specs.Exports.{Item, current_mark, gives_current, last_given}
+use Rattle.update_machine.proofs.Exports.{last_given_append}
 use Rattle.rebalance.specs.Loads.{all_asked, asked_in, weight, weights_of}
 
 -- ---- the current version

@@ -1,15 +1,12 @@
 -- How many packets asked each partition in a play, and the load of a placement: of the targets of
 -- a partition the first one is asked, and each has its rules. A placement gives each partition, by
 -- its number, the list of its targets.
-use Rattle.std.specs.Prelude.{ℕ, ◌≡◌, ◌+◌, ◌<◌, ◌≤◌, Bool, not, ◌==◌, nat_eq, max, if◌then◌else◌, Option, Some, None, List, length, map, fold, filter, filter_map, take, sum, sum_by, count_by, slice_index, All, AllPairs}
-use Rattle.std.specs.Int.{div_ceil}
-use Rattle.std.specs.List.{list_any, range_with_len}
-use Rattle.journal.specs.declared.item.Item.{Item}
+use Rattle.std.specs.Prelude.{if◌then◌else◌, ◌+◌, ◌<◌, ◌==◌, ◌≡◌, ◌≤◌, All, AllPairs, Bool, List, None, Option, Some, count_by, filter, filter_map, fold, length, map, max, nat_eq, not, slice_index, sum, sum_by, take, ℕ}
+use Rattle.base.specs.Exports.{div_ceil, list_any, range_with_len}
+use Rattle.update_machine.specs.Exports.{How, Item, current_mark}
 use Rattle.journal.specs.declared.item.Item.TheVariants as item
 use Rattle.placement.specs.Placement.{is_target, targets_at}
-use Rattle.policy_rules.specs.declared.packet.How.{How}
 use Rattle.policy_rules.specs.declared.packet.How.TheVariants as how
-use Rattle.update_machine.specs.Marks.{current_mark}
 
 -- ---- how often a partition was asked
 

@@ -1,6 +1,6 @@
 -- The spread of partitions over switches by how often each was asked, and the placement that is
 -- proposed. Partitions take their turns by falling weight, and then by number.
-use Rattle.std.specs.Prelude.{ℕ, ◌≡◌, ◌<◌, ◌≤◌, ◌⊎◌, List, length, All}
+use Rattle.std.specs.Prelude.{◌<◌, ◌≡◌, ◌≤◌, ◌⊎◌, All, List, length, ℕ}
 use Rattle.placement.specs.Placement.{AreHosted, IsPlacement, IsRefused, TurnRule, turn_rule}
 use Rattle.placement.specs.declared.turns.Load.TheVariants as load
 use Rattle.rebalance.specs.Loads.{Fits, bound, peak}

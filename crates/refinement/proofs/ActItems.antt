@@ -1,22 +1,16 @@
 -- What acts write: what these items concern, and what they send.
-use Rattle.std.proofs.Common.{ℕ, ◌≡◌, ◌+◌, cond, Bool, List, [], ◌∷◌, ◌++◌, refl, ap, ◌∙◌, length, arith}
-use Rattle.std.specs.Prelude.{IsFalse}
-use Rattle.std.proofs.lemmas.List.Sums.{sum_by-cons}
-use Rattle.message_bag.specs.Posts.{new_post}
+use Rattle.std.proofs.Common.{[], ◌++◌, ◌+◌, ◌∙◌, ◌∷◌, ◌≡◌, Bool, IsFalse, List, ap, arith, cond, length, refl, ℕ}
+use Rattle.base.proofs.Exports.{sum_by-cons}
+use Rattle.message_bag.specs.Exports.{new_post}
 use Rattle.controller.specs.declared.sends.Act.{Act}
 use Rattle.controller.specs.declared.sends.Act.TheVariants as act
-use Rattle.refinement.specs.Written.{written_items}
-use Rattle.ctrl_msg.specs.declared.message.Message.{Message}
-use Rattle.journal.specs.declared.item.Item.{Item}
+use Rattle.refinement.specs.Exports.{written_items}
+use Rattle.update_machine.specs.Exports.{Item, Message, NoneConcern, count_of, is_packet, is_sending, next_message}
 use Rattle.journal.specs.declared.item.Item.TheVariants as item
-use Rattle.update_machine.specs.Concerns.{NoneConcern}
-use Rattle.update_machine.specs.Folds.{count_of}
-use Rattle.update_machine.specs.Messages.{is_sending, next_message}
-use Rattle.update_machine.proofs.CallerLemmas.{messages_keep, next_sent}
-use Rattle.world_log.specs.Sending.{act_items, act_posts, act_item, number_after}
+use Rattle.update_machine.proofs.Exports.{messages_keep, next_sent}
+use Rattle.world_log.specs.Exports.{act_item, act_items, act_posts, number_after}
 use Rattle.refinement.proofs.OtherPackets.{NoneName}
 use Rattle.refinement.proofs.PostedFrames.{SendFrom, posts_in}
-use Rattle.update_machine.specs.Packets.{is_packet}
 
 -- what marks and messages concern not
 pub record SparesActs (concerns : List Item → Item → Bool) : Type 0 where

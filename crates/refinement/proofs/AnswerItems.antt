@@ -1,35 +1,21 @@
 -- The items that a switch's answer to a packet writes: they begin no step and bring no other packet
 -- in, and what they send.
-use Rattle.std.proofs.Common.{ℕ, ◌≡◌, ◌+◌, false, Option, Some, None, cond, List, [], ◌∷◌, ◌++◌, refl, ap, map, arith}
-use Rattle.std.proofs.lemmas.List.Sums.{sum_by-cons}
-use Rattle.message_bag.specs.Posts.{Post, new_post}
-use Rattle.ctrl_msg.specs.declared.message.Message.{Message}
-use Rattle.net_file.specs.declared.ports.Ports.{Ports}
-use Rattle.policy_rules.specs.declared.packet.Leg.{Leg}
-use Rattle.policy_rules.specs.declared.packet.Leg.TheVariants.{Seek, Exit}
-use Rattle.journal.specs.declared.item.Item.{Item}
+use Rattle.std.proofs.Common.{[], ◌++◌, ◌+◌, ◌∷◌, ◌≡◌, List, None, Option, Some, ap, arith, cond, false, map, refl, ℕ}
+use Rattle.base.proofs.Exports.{sum_by-cons}
+use Rattle.message_bag.specs.Exports.{Post, new_post}
+use Rattle.update_machine.specs.Exports.{Exit, Item, Leg, Message, Ports, Seek, count_of, is_packet, sent_from, stays_on_way, takes_route}
 use Rattle.journal.specs.declared.item.Item.TheVariants as item
-use Rattle.switch_core.specs.Answering.{received}
-use Rattle.switch_core.specs.Ends.{around}
-use Rattle.switch_core.specs.Moving.{link_found_down, hop_answer}
-use Rattle.switch_core.specs.State.{SwitchValue, call_counted}
-use Rattle.switch_core.specs.Answers.{Answer, Arrival}
+use Rattle.switch_core.specs.Exports.{Answer, Arrival, SwitchValue, around, call_counted, hop_answer, link_found_down, received}
 use Rattle.switch_core.specs.Answers as answer
 use Rattle.switch_core.specs.declared.deciding.Decision.{Decision}
 use Rattle.switch_core.specs.declared.tunnel_calls.HopEnd.{HopEnd}
 use Rattle.switch_core.specs.declared.tunnel_calls.HopEnd.TheVariants as hop
 use Rattle.switch_core.specs.declared.tunnel_calls.Next.{Next}
 use Rattle.switch_core.specs.declared.tunnel_calls.Next.TheVariants as next
-use Rattle.tunnel.specs.Moves.{next as next_switch}
-use Rattle.update_machine.specs.Folds.{count_of}
-use Rattle.update_machine.specs.Handled.{stays_on_way}
-use Rattle.update_machine.specs.Messages.{sent_from}
-use Rattle.update_machine.specs.Moves.{takes_route}
-use Rattle.update_machine.specs.Packets.{is_packet}
-use Rattle.refinement.specs.Calls.{AreInStep, IsInStep}
-use Rattle.world_log.specs.Packets.{arrival_items, arrival_posts, ended_items, ended_posts, hop_written, hop_posts, hopped_flight, turned_items}
+use Rattle.tunnel.specs.Exports.{next as next_switch}
+use Rattle.refinement.specs.Exports.{AreInStep, IsInStep}
+use Rattle.world_log.specs.Exports.{answer_items, answer_posts, arrival_items, arrival_posts, arrived_items, arrived_posts, cache_message, decided_items, end_item, ended_items, ended_posts, entered_items, entered_posts, hop_posts, hop_written, hopped_flight, message_list, turned_items}
 use Rattle.travelling.specs.Travelling.{Flight, standing_at, Standing}
-use Rattle.world_log.specs.Writing.{answer_items, answer_posts, arrived_items, arrived_posts, cache_message, decided_items, end_item, entered_items, entered_posts, message_list}
 use Rattle.refinement.proofs.PostedFrames.{SendFrom, posts_in}
 
 -- they bring no packet in

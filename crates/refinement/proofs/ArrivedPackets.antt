@@ -1,41 +1,20 @@
 -- A packet at the end of its route: its switch answers as the journal's definitions say, and its
 -- answer is what becomes of the packet.
-use Rattle.std.proofs.Common.{ℕ, ◌≡◌, ◌+◌, ◌==◌, Bool, true, false, if◌then◌else◌, Option, Some, None, List, [], ◌∷◌, ◌++◌, refl, ap, sym, subst, ◌∙◌, position, eq-eqb, arith}
-use Rattle.std.specs.Prelude.{⊤, IsTrue, nat_eq, unwrap_or, option_map, option_and_then, slice_get}
-use Rattle.std.specs.List.{list_any}
-use Rattle.std.specs.Option.{option_map_or}
-use Rattle.five_tuple.specs.Header.{IsHeader, number_of}
-use Rattle.five_tuple.specs.declared.header.Header.{Header}
-use Rattle.net_file.specs.Joins.{owner_of}
-use Rattle.net_file.specs.declared.ports.Ports.{Ports}
-use Rattle.policy_rules.specs.Rules.{is_held}
-use Rattle.policy_rules.specs.declared.packet.Leg.{Leg}
-use Rattle.policy_rules.specs.declared.packet.Leg.TheVariants.{Seek, Exit}
-use Rattle.journal.specs.declared.item.Item.{Item}
+use Rattle.std.proofs.Common.{[], if◌then◌else◌, ◌++◌, ◌+◌, ◌==◌, ◌∙◌, ◌∷◌, ◌≡◌, Bool, IsTrue, List, None, Option, Some, ap, arith, eq-eqb, false, nat_eq, option_and_then, position, refl, slice_get, subst, sym, true, ℕ}
+use Rattle.base.proofs.Exports.{list_any, option_map, option_map_or, unwrap_or, ⊤}
+use Rattle.five_tuple.specs.Exports.{IsHeader, number_of}
+use Rattle.update_machine.specs.Exports.{Exit, Header, Item, Leg, NoneConcern, Ports, Seek, Setting, Tables, arrive_by, arrive_items, authority_items, authority_rule, concerns_policies, decision_of, first_place as first_place_in, header_at, holds_version, lookup_items, next_message, plan_at, policy_at, tables_at, targets_of}
+use Rattle.net_file.specs.Exports.{owner_of}
+use Rattle.policy_rules.specs.Exports.{is_held}
 use Rattle.journal.specs.declared.item.Item.TheVariants as item
-use Rattle.switch_core.specs.Answering.{arrived_on, decided_at, decided_in, looked_up}
-use Rattle.switch_core.specs.Deciding.{place_of_first, part_numbered}
-use Rattle.switch_core.specs.Ends.{around}
-use Rattle.switch_core.specs.State.{SwitchValue, held_tables}
-use Rattle.switch_core.specs.Answers.{Arrival}
+use Rattle.switch_core.specs.Exports.{Arrival, SwitchValue, around, arrived_on, decided_at, decided_in, held_tables, looked_up, part_numbered, place_of_first}
 use Rattle.switch_core.specs.Answers as arrived
 use Rattle.switch_core.specs.declared.tunnel_calls.Packet.{Packet}
-use Rattle.switch_table.specs.Tables.{Hosted}
-use Rattle.switch_table.specs.declared.tables.Tables.{Tables}
-use Rattle.update_machine.specs.Concerns.{NoneConcern, concerns_policies}
-use Rattle.update_machine.specs.Messages.{next_message}
-use Rattle.update_machine.specs.Moves.{arrive_by, arrive_items, authority_items, authority_rule, header_at, lookup_items, first_place as first_place_in}
-use Rattle.update_machine.specs.Packets.{decision_of}
-use Rattle.update_machine.specs.Setting.{Setting}
-use Rattle.update_machine.specs.Versions.{holds_version, policy_at, tables_at, plan_at}
-use Rattle.update_machine.specs.PacketRoutes.{targets_of}
-use Rattle.update_machine.proofs.CallerLemmas.{policies_keep}
-use Rattle.packet_laws.specs.OnWay.{IsOnLeg}
-use Rattle.packet_laws.specs.Facts.{PacketFacts, what_is_known}
-use Rattle.packet_laws.proofs.PacketEnds.{last_here, one_target}
-use Rattle.packet_laws.proofs.HeaderLookups.{current_planned}
-use Rattle.packet_laws.proofs.PlanLookups.{Finds, IsPlanned, in_plan}
-use Rattle.world_log.specs.Writing.{arrived_items, arrived_flight}
+use Rattle.switch_table.specs.Exports.{Hosted}
+use Rattle.update_machine.proofs.Exports.{policies_keep}
+use Rattle.packet_laws.specs.Exports.{IsOnLeg, PacketFacts, what_is_known}
+use Rattle.packet_laws.proofs.Exports.{Finds, IsPlanned, current_planned, in_plan, last_here, one_target}
+use Rattle.world_log.specs.Exports.{arrived_flight, arrived_items}
 use Rattle.travelling.specs.Travelling.{Flight, Standing}
 use Rattle.refinement.proofs.AuthorityDecisions.{header_is}
 use Rattle.refinement.proofs.OnwardPackets.{AreOfFacts, IsComing, answer_goes, looked_goes, ruled_goes}

@@ -1,41 +1,14 @@
 -- What the calls of a switch ask of it holds, by the laws of versions, tables, boots and adverts.
-use Rattle.std.proofs.Common.{ℕ, ◌≡◌, ◌-◌, ◌^◌, ◌<◌, ◌==◌, Bool, true, false, ◌&&◌, ◌||◌, if◌then◌else◌, Option, Some, None, List, [], ◌∷◌, length, map, get_or, refl, ap, sym, subst, ◌∙◌, arith, All}
-use Rattle.std.specs.Prelude.{IsTrue, filter, find, slice_get}
-use Rattle.std.specs.List.{AllByRecursion, list_any}
-use Rattle.std.specs.Option.{IfSome, IsSomeAnd}
-use Rattle.std.proofs.lemmas.Bool.{and_parts, eq-eqb, eqb-true}
-use Rattle.std.proofs.lemmas.List.{get_or-map, length-map}
-use Rattle.std.proofs.lemmas.List.Elements.{recursion_from_All}
-use Rattle.std.proofs.lemmas.Option.{slice_get-get_or}
-use Rattle.std.proofs.lemmas.Map.Keys.{any_passes_from_place}
-use Rattle.ctrl_msg.specs.declared.message.Body.{Body}
-use Rattle.ctrl_msg.specs.declared.message.Body.TheVariants.{Install}
-use Rattle.five_tuple.specs.declared.header.Header.{Header}
+use Rattle.std.proofs.Common.{[], if◌then◌else◌, ◌&&◌, ◌-◌, ◌<◌, ◌==◌, ◌^◌, ◌||◌, ◌∙◌, ◌∷◌, ◌≡◌, All, Bool, IfSome, IsSomeAnd, IsTrue, List, None, Option, Some, ap, arith, eq-eqb, eqb-true, false, filter, find, get_or, length, map, refl, slice_get, subst, sym, true, ℕ}
+use Rattle.base.proofs.Exports.{AllByRecursion, and_parts, any_passes_from_place, get_or-map, length-map, list_any, recursion_from_All, slice_get-get_or}
+use Rattle.update_machine.specs.Exports.{Body, Exit, Header, Install, Item, Leg, Partition, Row, Seek, Setting, Tables, is_up, message_of, plan_at, serves as serves_in, stamp_of, to_switch}
 use Rattle.partition.specs.Plan.{IsPlan}
-use Rattle.policy_rules.specs.Partitions.{ArePartsNumbered}
-use Rattle.policy_rules.specs.declared.packet.Leg.{Leg}
-use Rattle.policy_rules.specs.declared.packet.Leg.TheVariants.{Seek, Exit}
-use Rattle.policy_rules.specs.declared.policy.Row.{Row}
-use Rattle.policy_rules.specs.declared.rules.Partition.{Partition}
-use Rattle.policy_rules.specs.Hosted.{is_in}
-use Rattle.journal.specs.declared.item.Item.{Item}
-use Rattle.switch_core.specs.Answering.{CanLookUp, IsAtAuthority}
-use Rattle.switch_core.specs.Deciding.{own_part}
-use Rattle.switch_core.specs.Hearing.{IsSoundBody}
-use Rattle.switch_core.specs.State.{SwitchValue, held_tables, holds_version, serves}
+use Rattle.policy_rules.specs.Exports.{ArePartsNumbered, is_in}
+use Rattle.switch_core.specs.Exports.{CanLookUp, IsAtAuthority, IsSoundBody, SwitchValue, held_tables, holds_version, own_part, serves}
 use Rattle.switch_core.proofs.SwitchLaws.{heard_keeps}
-use Rattle.switch_table.specs.Tables.{AreSoundTables, Hosted, has_target, part_of, tables_of}
-use Rattle.switch_table.specs.declared.tables.Tables.{Tables}
-use Rattle.update_machine.specs.Boots.{is_up}
-use Rattle.update_machine.specs.Setting.{Setting}
-use Rattle.update_machine.specs.Settling.{to_switch}
-use Rattle.update_machine.specs.Versions.{stamp_of, plan_at}
-use Rattle.update_machine.specs.Links.{serves as serves_in, message_of}
-use Rattle.control_laws.specs.Authorities.{EndsAt}
-use Rattle.control_laws.specs.Serving.{ServingHold}
-use Rattle.refinement.specs.Asked.{RequirementsHold}
-use Rattle.refinement.specs.Knowing.{TablesAreKnown}
-use Rattle.refinement.specs.SwitchOf.{switch_of}
+use Rattle.switch_table.specs.Exports.{AreSoundTables, Hosted, has_target, part_of, tables_of}
+use Rattle.control_laws.specs.Exports.{EndsAt, ServingHold}
+use Rattle.refinement.specs.Exports.{RequirementsHold, TablesAreKnown, switch_of}
 use Rattle.refinement.proofs.SwitchKnowledge.{held_shown, planned, planned_tables, tables_sound}
 use Rattle.refinement.proofs.SwitchFacts.{stamp_shown}
 

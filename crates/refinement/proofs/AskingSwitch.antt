@@ -1,21 +1,16 @@
 -- The switch where a packet enters, or stands on its way, as it is asked what becomes of it.
-use Rattle.std.proofs.Common.{ℕ, ◌≡◌, ◌<◌, Some, List, sym, ◌∙◌, length, get_or, arith}
-use Rattle.std.specs.Prelude.{slice_index}
-use Rattle.journal.specs.declared.item.Item.{Item}
-use Rattle.net_file.specs.Owners.{AreOwners}
-use Rattle.net_file.specs.declared.ports.Ports.{Ports}
-use Rattle.switch_core.specs.Answering.{CanLookUp}
-use Rattle.switch_core.specs.State.{SwitchValue}
-use Rattle.tunnel.specs.Moves.{here}
-use Rattle.update_machine.specs.LinkMasks.{near}
-use Rattle.update_machine.specs.Setting.{Setting}
+use Rattle.std.proofs.Common.{◌<◌, ◌∙◌, ◌≡◌, List, Some, arith, get_or, length, slice_index, sym, ℕ}
+use Rattle.update_machine.specs.Exports.{Item, Ports, Setting, near}
+use Rattle.net_file.specs.Exports.{AreOwners}
+use Rattle.switch_core.specs.Exports.{CanLookUp, SwitchValue}
+use Rattle.tunnel.specs.Exports.{here}
 use Rattle.refinement.proofs.CanAsk.{CanAsk, can_be_asked, looks_up_as, sees_as, stands_at}
 use Rattle.refinement.proofs.JournalLaws.{Known, reached_known}
 use Rattle.refinement.proofs.OnWay.{IsStanding, standing_by}
 use Rattle.refinement.proofs.SeenWithinStep.{Sees}
 use Rattle.refinement.proofs.FactsAlong.{flight_now}
 use Rattle.travelling.specs.Travelling.{Flight, flight}
-use Rattle.refinement.specs.Refinement.{RefineJournal, NetworkState}
+use Rattle.refinement.specs.Exports.{NetworkState, RefineJournal}
 use Rattle.refinement.proofs.NetworkSwitches.{switch_is}
 
 module _ {setting : Setting} {journal : List Item} {state : NetworkState}

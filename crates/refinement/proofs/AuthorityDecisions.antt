@@ -1,28 +1,17 @@
 -- An authority rule decides a packet at a switch as the journal's definitions say.
-use Rattle.std.proofs.Common.{ℕ, ◌≡◌, ◌<◌, ◌==◌, Bool, true, false, Option, Some, None, List, [], ◌∷◌, ◌++◌, refl, ap, sym, subst, ◌∙◌, append-nil, arith, eq-eqb}
-use Rattle.std.specs.Prelude.{slice_get, unwrap_or}
-use Rattle.std.proofs.lemmas.Option.{get_or_from_slice_get}
-use Rattle.ctrl_msg.specs.declared.message.Message.{Message}
-use Rattle.five_tuple.specs.HeaderNumbers.{header_of}
-use Rattle.five_tuple.specs.declared.header.Header.{Header}
-use Rattle.net_file.specs.Owners.{AreOwners}
-use Rattle.net_file.specs.declared.ports.Ports.{Ports}
-use Rattle.journal.specs.declared.item.Item.{Item}
+use Rattle.std.proofs.Common.{[], ◌++◌, ◌<◌, ◌==◌, ◌∙◌, ◌∷◌, ◌≡◌, Bool, List, None, Option, Some, ap, append-nil, arith, eq-eqb, false, refl, slice_get, subst, sym, true, unwrap_or, ℕ}
+use Rattle.base.proofs.Exports.{get_or_from_slice_get}
+use Rattle.update_machine.specs.Exports.{AuthorityRule, Header, Item, Message, Ports, Setting, authority_items, cache_items, cache_rule as rule_message, end_items, found_down, header_at, in_turn, is_at, is_sending, next_message, send_items, sent_from}
+use Rattle.five_tuple.specs.Exports.{header_of}
+use Rattle.net_file.specs.Exports.{AreOwners}
 use Rattle.journal.specs.declared.item.Item.TheVariants as item
-use Rattle.switch_core.specs.Deciding.{by_rule, rule_for_cache, no_rule, rule_in}
-use Rattle.switch_core.specs.Ends.{around, next_of}
-use Rattle.switch_core.specs.State.{SwitchValue}
+use Rattle.switch_core.specs.Exports.{SwitchValue, around, by_rule, next_of, no_rule, rule_for_cache, rule_in}
 use Rattle.switch_core.specs.declared.deciding.Decision.{Decision}
 use Rattle.switch_core.specs.declared.tunnel_calls.Packet.{Packet}
-use Rattle.update_machine.specs.Messages.{is_sending, next_message, send_items, sent_from}
-use Rattle.update_machine.specs.Moves.{AuthorityRule, authority_items, cache_items, end_items, header_at, in_turn, cache_rule as rule_message}
-use Rattle.update_machine.specs.PacketRoutes.{found_down}
-use Rattle.update_machine.specs.Setting.{Setting}
-use Rattle.update_machine.specs.Travels.{is_at}
-use Rattle.update_machine.proofs.CallerLemmas.{count_of_append}
-use Rattle.packet_laws.specs.Facts.{what_is_known}
-use Rattle.packet_laws.proofs.PacketFacts.{facts_grow}
-use Rattle.world_log.specs.Writing.{cache_message, decided_items, message_list}
+use Rattle.update_machine.proofs.Exports.{count_of_append}
+use Rattle.packet_laws.specs.Exports.{what_is_known}
+use Rattle.packet_laws.proofs.Exports.{facts_grow}
+use Rattle.world_log.specs.Exports.{cache_message, decided_items, message_list}
 use Rattle.refinement.proofs.DecidedEnds.{IsDecided, end_law}
 use Rattle.refinement.proofs.TakenLegs.{at_switch}
 use Rattle.refinement.proofs.OtherPackets.{sends_unnamed, unnamed}

@@ -1,23 +1,12 @@
 -- What the bag says of a message, and a message that is forgotten.
-use Rattle.std.proofs.Common.{ℕ, ◌≡◌, Bool, true, false, if◌then◌else◌, Option, Some, None, List, [], ◌∷◌, ◌++◌, refl, ap, sym, subst, ◌∙◌, append_assoc, length, rules}
-use Rattle.std.specs.Prelude.{IfSome, IsFalse, not, ◌&&◌, is_some, option_map}
-use Rattle.std.specs.Option.{option_and_then}
-use Rattle.message_bag.specs.Posts.{IsMessageOf, Post, posted_frames, is_post_deliverable, remembered_frames, with_forgotten}
+use Rattle.std.proofs.Common.{[], if◌then◌else◌, ◌&&◌, ◌++◌, ◌∙◌, ◌∷◌, ◌≡◌, Bool, IfSome, IsFalse, List, None, Option, Some, ap, append_assoc, false, is_some, length, not, option_and_then, option_map, refl, rules, subst, sym, true, ℕ}
+use Rattle.message_bag.specs.Exports.{IsMessageOf, Post, is_post_deliverable, posted_frames, remembered_frames, with_forgotten}
 use Rattle.message_bag.proofs.FramedMessages.{known_by_frames}
-use Rattle.ctrl_msg.specs.declared.message.Message.{Message}
-use Rattle.journal.specs.declared.item.Item.{Item}
+use Rattle.update_machine.specs.Exports.{Forget, Item, Message, Setting, Step, concerns_calls, forget_items, is_deliverable, is_forgotten, message_of, nothing, piece, was_delivered}
 use Rattle.journal.specs.declared.item.Item.TheVariants as item
-use Rattle.steps.specs.declared.step.Step.{Step}
-use Rattle.steps.specs.declared.step.Step.TheVariants.{Forget}
-use Rattle.update_machine.specs.Concerns.{concerns_calls}
-use Rattle.update_machine.specs.Messages.{is_deliverable, is_forgotten, was_delivered}
-use Rattle.update_machine.specs.Pieces.{forget_items, nothing, piece}
-use Rattle.steps.specs.Steps.{IsStep}
-use Rattle.update_machine.specs.Setting.{Setting}
-use Rattle.update_machine.specs.Links.{message_of}
-use Rattle.update_machine.proofs.CallerLemmas.{message_keeps}
-use Rattle.refinement.specs.Refinement.{RefineJournal, NetworkState}
-use Rattle.refinement.specs.Bags.{IsBagOf, post_in}
+use Rattle.steps.specs.Exports.{IsStep}
+use Rattle.update_machine.proofs.Exports.{message_keeps}
+use Rattle.refinement.specs.Exports.{IsBagOf, NetworkState, RefineJournal, post_in}
 use Rattle.refinement.proofs.OneItem.{WroteOne, refines_one}
 use Rattle.refinement.proofs.PostedFrames.{bag_forgotten, bag_on, some_within}
 use Rattle.refinement.proofs.StepRefines.{switches_stay}

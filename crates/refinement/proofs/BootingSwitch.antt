@@ -1,46 +1,24 @@
 -- A switch that was down begins its next boot: what is written then, and what the parts are behind
 -- it.
-use Rattle.std.proofs.Common.{ℕ, ◌≡◌, ◌+◌, ◌<◌, ◌==◌, Bool, true, false, cond, List, [], ◌∷◌, ◌++◌, refl, ap, sym, subst, ◌∙◌, length, filter, get_or, set, append_assoc, arith, eq-eqb, eqb-true}
-use Rattle.std.specs.Prelude.{◌&&◌, not, Some, None, if◌then◌else◌, unwrap_or}
-use Rattle.std.specs.Option.{option_or}
-use Rattle.update_machine.specs.Folds.{last_given}
-use Rattle.std.proofs.lemmas.List.{length-set}
-use Rattle.message_bag.specs.Posts.{new_post}
-use Rattle.control_laws.proofs.SwitchOpenings.{caused_known, serving_known}
+use Rattle.std.proofs.Common.{[], if◌then◌else◌, ◌&&◌, ◌++◌, ◌+◌, ◌<◌, ◌==◌, ◌∙◌, ◌∷◌, ◌≡◌, Bool, List, ap, append_assoc, arith, cond, eq-eqb, eqb-true, false, filter, get_or, length, not, refl, set, subst, sym, true, ℕ}
+use Rattle.base.proofs.Exports.{None, Some, length-set, option_or, unwrap_or}
+use Rattle.update_machine.specs.Exports.{HasRoom, HaveCauses, Hello, Item, LinkRow, Message, Restart, Setting, boot_of, gives_boot, gives_serving, has_changed, hello_of, is_link_up, is_up, is_usable, items_then, last_given, near, next_message, nothing, piece, restart_items, send_items, sent_from, serves}
+use Rattle.message_bag.specs.Exports.{new_post}
+use Rattle.control_laws.proofs.Exports.{caused_known, fit_in_room, serving_known}
 use Rattle.refinement.proofs.ControllerUntouched.{steps_leave}
 use Rattle.controller.specs.declared.sends.Act.TheVariants.{Post as PostAct}
-use Rattle.ctrl_msg.specs.declared.message.Message.{Message}
-use Rattle.ctrl_msg.specs.declared.message.Body.TheVariants.{Hello}
-use Rattle.ctrl_msg.specs.Kinds.{to_controller}
-use Rattle.journal.specs.declared.item.Item.{Item}
+use Rattle.ctrl_msg.specs.Exports.{to_controller}
 use Rattle.journal.specs.declared.item.Item.TheVariants as item
-use Rattle.net_file.specs.Owners.{links_of}
-use Rattle.net_file.specs.declared.net.LinkRow.{LinkRow}
-use Rattle.control_laws.specs.Sends.{NumbersFit}
-use Rattle.control_laws.proofs.NumbersFit.{fit_in_room}
-use Rattle.steps.specs.declared.step.Step.TheVariants.{Restart}
-use Rattle.switch_core.specs.Life.{near_changed, restarted_switch}
-use Rattle.switch_core.specs.State.{SwitchValue}
-use Rattle.refinement.specs.Asked.{CanRestart}
-use Rattle.refinement.specs.SwitchOf.{switch_of}
+use Rattle.net_file.specs.Exports.{links_of}
+use Rattle.control_laws.specs.Exports.{HasItemCause, NumbersFit}
+use Rattle.switch_core.specs.Exports.{SwitchValue, near_changed, restarted_switch}
+use Rattle.refinement.specs.Exports.{CanRestart, NetworkState, RefineJournal, is_up_link, switch_of}
 use Rattle.refinement.proofs.AskedRequirements.{requirements_hold}
 use Rattle.refinement.proofs.ForgottenState.{lives_refine}
 use Rattle.refinement.proofs.SwitchLinkChanges.{kept_is, links_refine}
-use Rattle.update_machine.specs.Boots.{boot_of, is_up, gives_boot}
-use Rattle.control_laws.specs.ItemCauses.{HasItemCause}
-use Rattle.update_machine.specs.Causes.{HaveCauses}
-use Rattle.update_machine.specs.Deliveries.{has_changed}
-use Rattle.update_machine.specs.Full.{HasRoom}
-use Rattle.update_machine.specs.Links.{is_link_up, is_usable, serves, gives_serving}
-use Rattle.update_machine.specs.Messages.{next_message, send_items, sent_from}
-use Rattle.update_machine.specs.Moves.{items_then}
-use Rattle.update_machine.specs.Pieces.{hello_of, nothing, piece, restart_items}
-use Rattle.steps.specs.Steps.{IsStep}
-use Rattle.update_machine.specs.Setting.{Setting}
-use Rattle.update_machine.specs.LinkMasks.{near}
-use Rattle.update_machine.proofs.CallerLemmas.{last_given_append, messages_keep, switch_keeps}
-use Rattle.world_log.specs.Sending.{act_items, act_posts}
-use Rattle.refinement.specs.Refinement.{RefineJournal, NetworkState, is_up_link}
+use Rattle.steps.specs.Exports.{IsStep}
+use Rattle.update_machine.proofs.Exports.{last_given_append, messages_keep, switch_keeps}
+use Rattle.world_log.specs.Exports.{act_items, act_posts}
 use Rattle.refinement.proofs.BagDeliveries.{nothing_happens}
 use Rattle.refinement.proofs.GoneSwitches.{up_as}
 use Rattle.refinement.proofs.JournalLaws.{reached_known}

@@ -1,24 +1,14 @@
 -- A packet on its way, and its switch, as that is asked what becomes of it.
-use Rattle.std.proofs.Common.{ℕ, ◌≡◌, ◌<◌, Some, List, ap, sym, subst, ◌∙◌, length, arith}
-use Rattle.std.specs.Prelude.{slice_get, IsTrue}
-use Rattle.five_tuple.specs.declared.header.Header.{Header}
-use Rattle.policy_rules.specs.declared.packet.Leg.{Leg}
-use Rattle.policy_rules.specs.declared.packet.Leg.TheVariants.{Seek, Exit}
-use Rattle.journal.specs.declared.item.Item.{Item}
-use Rattle.net_file.specs.Owners.{AreOwners}
-use Rattle.net_file.specs.declared.ports.Ports.{Ports}
-use Rattle.switch_core.specs.Answering.{CanLookUp, IsAtAuthority}
-use Rattle.switch_core.specs.State.{SwitchValue, serves}
-use Rattle.switch_core.specs.Moving.{StandsAt, hop_answer}
+use Rattle.std.proofs.Common.{◌<◌, ◌∙◌, ◌≡◌, IsTrue, List, Some, ap, arith, length, slice_get, subst, sym, ℕ}
+use Rattle.update_machine.specs.Exports.{Exit, Header, Item, Leg, Ports, Seek, Setting, near, plan_at}
+use Rattle.net_file.specs.Exports.{AreOwners}
+use Rattle.switch_core.specs.Exports.{CanLookUp, IsAtAuthority, StandsAt, SwitchValue, hop_answer, serves}
 use Rattle.switch_core.specs.declared.tunnel_calls.HopEnd.TheVariants as hop
-use Rattle.refinement.specs.SwitchOf.{switch_of}
+use Rattle.refinement.specs.Exports.{switch_of}
 use Rattle.refinement.proofs.AskedRequirements.{requirements_hold}
-use Rattle.tunnel.specs.Moves.{here}
-use Rattle.update_machine.specs.LinkMasks.{near}
-use Rattle.update_machine.specs.Setting.{Setting}
-use Rattle.update_machine.specs.Versions.{plan_at}
-use Rattle.control_laws.specs.Authorities.{EndsAt}
-use Rattle.packet_laws.specs.Facts.{what_is_known}
+use Rattle.tunnel.specs.Exports.{here}
+use Rattle.control_laws.specs.Exports.{EndsAt}
+use Rattle.packet_laws.specs.Exports.{what_is_known}
 use Rattle.travelling.specs.Travelling.{Flight}
 use Rattle.refinement.proofs.ArrivedPackets.{IsAtEnd}
 use Rattle.refinement.proofs.JournalLaws.{Known}

@@ -1,27 +1,14 @@
 -- A packet that enters: the calls that its step counts, and where each packet is then.
-use Rattle.std.proofs.Common.{ℕ, ◌≡◌, ◌==◌, Bool, true, false, if◌then◌else◌, cond, Option, List, [], ◌∷◌, ◌++◌, refl, ap, sym, ◌∙◌, eqb-true, arith, Some, None}
-use Rattle.std.proofs.lemmas.Bool.Decides.{nat_tests}
-use Rattle.std.proofs.lemmas.List.Sums.{sum_by-cons}
-use Rattle.policy_rules.specs.declared.packet.Leg.{Leg}
-use Rattle.journal.specs.declared.item.Item.{Item}
+use Rattle.std.proofs.Common.{[], if◌then◌else◌, ◌++◌, ◌==◌, ◌∙◌, ◌∷◌, ◌≡◌, Bool, List, None, Option, Some, ap, arith, cond, eqb-true, false, refl, sym, true, ℕ}
+use Rattle.base.proofs.Exports.{nat_tests, sum_by-cons}
+use Rattle.update_machine.specs.Exports.{Item, Leg, NoneConcern, Packet as PacketStep, Setting, Step, concerns_policies, count_of, is_packet, targets_of}
 use Rattle.journal.specs.declared.item.Item.TheVariants as item
-use Rattle.steps.specs.declared.step.Step.{Step}
-use Rattle.steps.specs.declared.step.Step.TheVariants.{Packet as PacketStep}
-use Rattle.switch_core.specs.State.{call_counted}
-use Rattle.switch_core.specs.Answers.{Answer}
-use Rattle.refinement.specs.Calls.{AreInStep}
-use Rattle.refinement.specs.SwitchOf.{switch_of}
+use Rattle.switch_core.specs.Exports.{Answer, call_counted}
+use Rattle.refinement.specs.Exports.{AreInStep, flight_in, switch_of}
 use Rattle.refinement.proofs.SwitchSteps.{calls_refine}
-use Rattle.update_machine.specs.Concerns.{NoneConcern, concerns_policies}
-use Rattle.update_machine.specs.Folds.{count_of}
-use Rattle.update_machine.specs.Packets.{is_packet}
-use Rattle.update_machine.specs.Setting.{Setting}
-use Rattle.update_machine.specs.PacketRoutes.{targets_of}
-use Rattle.packet_laws.specs.OnWay.{IsUnknown}
-use Rattle.packet_laws.specs.Facts.{what_is_known}
-use Rattle.world_log.specs.Writing.{answer_items, entered_items, entered_flight}
+use Rattle.packet_laws.specs.Exports.{IsUnknown, what_is_known}
+use Rattle.world_log.specs.Exports.{answer_items, entered_flight, entered_items}
 use Rattle.travelling.specs.Travelling.{Flight, Standing}
-use Rattle.refinement.specs.Flights.{flight_in}
 use Rattle.refinement.proofs.OnwardPackets.{GoesIn, entered_goes}
 use Rattle.refinement.proofs.JournalLaws.{Known, flight_stays}
 use Rattle.refinement.proofs.AnswerItems.{answer_later, later_packets}

@@ -1,52 +1,28 @@
 -- What the calls by which the controller begins, hears something and confirms write.
-use Rattle.std.proofs.Common.{ℕ, ◌≡◌, ◌+◌, ◌-◌, ◌<◌, Bool, true, false, if◌then◌else◌, Some, None, List, [], ◌∷◌, ◌++◌, length, map, refl, ap, sym, subst, ◌∙◌, append-nil, append_assoc, arith}
-use Rattle.std.specs.Prelude.{IsTrue, IsFalse, nat_lt}
-use Rattle.std.proofs.lemmas.List.{get_or-set_same, length-map, length-set}
-use Rattle.std.specs.List.{range_with_len}
-use Rattle.base.proofs.ListsFiltered.{map_twice}
-use Rattle.ctrl_msg.specs.declared.message.Body.{Body}
-use Rattle.ctrl_msg.specs.declared.message.Body.TheVariants.{Hello}
-use Rattle.ctrl_msg.specs.Kinds.{to_controller}
-use Rattle.journal.specs.declared.item.Item.{Item}
+use Rattle.std.proofs.Common.{[], if◌then◌else◌, ◌++◌, ◌+◌, ◌-◌, ◌<◌, ◌∙◌, ◌∷◌, ◌≡◌, Bool, IsFalse, IsTrue, List, None, Some, ap, append-nil, append_assoc, arith, false, get_or-set_same, length, length-set, map, nat_lt, refl, subst, sym, true, ℕ}
+use Rattle.base.proofs.Exports.{length-map, map_twice, range_with_len}
+use Rattle.update_machine.specs.Exports.{Body, Confirm, Deliver, Hello, Item, Setting, Step, after_hello, body_to_controller, confirm_items, controller_items, current_mark, deliver_items, delivery_items, install_for, installs_to, is_deliverable, is_new_boot, is_to_controller, is_up, items_then, known_boot, message_of, nothing, piece, received_items, settling, version_count, versions_from_current}
+use Rattle.ctrl_msg.specs.Exports.{to_controller}
 use Rattle.journal.specs.declared.item.Item.TheVariants as item
-use Rattle.steps.specs.declared.step.Step.{Step}
-use Rattle.steps.specs.declared.step.Step.TheVariants.{Confirm, Deliver}
-use Rattle.update_machine.specs.Boots.{is_up}
-use Rattle.update_machine.specs.Deliveries.{after_hello, controller_items, delivery_items, is_new_boot, received_items}
-use Rattle.update_machine.specs.Marks.{current_mark, known_boot, body_to_controller}
-use Rattle.update_machine.specs.Messages.{is_deliverable, is_to_controller}
-use Rattle.update_machine.specs.Moves.{items_then}
-use Rattle.update_machine.specs.Pieces.{confirm_items, deliver_items, nothing, piece}
-use Rattle.update_machine.specs.Setting.{Setting}
-use Rattle.update_machine.specs.Settling.{install_for, installs_to, settling, versions_from_current}
-use Rattle.update_machine.specs.Versions.{version_count}
-use Rattle.update_machine.specs.Links.{message_of}
-use Rattle.update_machine.proofs.CallerLemmas.{controller_keeps, have_append, start_laws, first_touched}
-use Rattle.control_laws.specs.ItemCauses.{HasItemCause}
-use Rattle.control_laws.proofs.FactsGrown.{count_more, current_more, message_more, up_more}
-use Rattle.control_laws.proofs.OtherSteps.{installs_reopen, sends_leave}
-use Rattle.control_laws.proofs.ControllerLeft.{leaves_keep}
-use Rattle.control_laws.proofs.MarksSettle.{in_two}
-use Rattle.version_update.specs.Marks.{MarksValue, at_switch, record_of}
-use Rattle.version_update.specs.Record.{after_over, unknown_switch, takes_hello}
+use Rattle.update_machine.proofs.Exports.{controller_keeps, first_touched, have_append, start_laws}
+use Rattle.control_laws.specs.Exports.{HasItemCause}
+use Rattle.control_laws.proofs.Exports.{count_more, current_more, in_two, installs_reopen, leaves_keep, message_more, sends_leave, up_more}
+use Rattle.version_update.specs.Exports.{MarksValue, after_over, at_switch, record_of, takes_hello, unknown_switch}
 use Rattle.version_update.specs.Record as known
 use Rattle.version_update.specs.declared.record.Phase.TheVariants.{Joining}
 use Rattle.version_update.specs.declared.record.SwitchRecord.{SwitchRecord}
-use Rattle.controller.specs.Controller.{ControllerValue, KeptPlan, SettlesWith, first_controller, plans_from, current_touched}
-use Rattle.controller.specs.Plan.{PlanValue}
+use Rattle.controller.specs.Exports.{ControllerValue, KeptPlan, NamesThere, PlanValue, SettlesWith, current_touched, first_controller, hear_acts, install_act, installs_after, marks_after, plans_from}
 use Rattle.controller.specs.Sends as acts
-use Rattle.controller.specs.Sends.{NamesThere, marks_after, hear_acts, install_act, installs_after}
 use Rattle.controller.specs.declared.sends.Act.{Act}
 use Rattle.controller.specs.declared.sends.Act.TheVariants.{Post}
-use Rattle.refinement.specs.Controller.{IsControllerOf, plan_to_keep}
-use Rattle.refinement.specs.Written.{AreWritten, written_items}
+use Rattle.refinement.specs.Exports.{AreWritten, IsControllerOf, plan_to_keep, written_items}
 use Rattle.refinement.proofs.ControllerHears.{marks_over, marks_told}
 use Rattle.refinement.proofs.KeptController.{marks_begun}
 use Rattle.refinement.proofs.ControllerPlans.{controller_on, plans_on, plans_stay, settles_with}
 use Rattle.refinement.proofs.SettledMarks.{AreCaused, settled_boot, settling_caused}
 use Rattle.refinement.proofs.WrittenActs.{posted, written_in_two}
-use Rattle.ternary.specs.Word.{WordValue}
-use Rattle.switch_table.specs.Carried.{all_touched}
+use Rattle.ternary.specs.Exports.{WordValue}
+use Rattle.switch_table.specs.Exports.{all_touched}
 
 -- ---- the start
 

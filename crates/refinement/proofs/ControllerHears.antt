@@ -1,39 +1,19 @@
 -- What the controller hears changes what is known of the switch that speaks, and of no other one.
-use Rattle.std.proofs.Common.{ℕ, ◌≡◌, ◌≢◌, ◌-◌, ◌^◌, ◌<◌, ◌≤◌, ◌==◌, ◌&&◌, max, Bool, true, false, not, if◌then◌else◌, Option, Some, None, List, [], ◌∷◌, ◌++◌, length, refl, ap, sym, subst, ◌∙◌, arith}
-use Rattle.std.specs.Prelude.{◌||◌, IsTrue, IsFalse, bit_or, fold, nat_eq, nat_lt, option_and_then, option_to_list, unwrap_or}
-use Rattle.std.specs.List.{list_any}
-use Rattle.std.specs.Option.{option_map_or, option_or}
-use Rattle.std.proofs.lemmas.Bool.{eq-eqb, ne_eqb}
-use Rattle.std.proofs.lemmas.Bool.Decides.{nat_tests}
-use Rattle.std.proofs.Math.Bool.{and-true, or-false}
-use Rattle.std.proofs.lemmas.Nat.Bits.{bit_at-zero}
-use Rattle.std.proofs.lemmas.List.Sums.{fold-append}
-use Rattle.packet_laws.proofs.PacketFacts.{other_number}
+use Rattle.std.proofs.Common.{[], if◌then◌else◌, ◌&&◌, ◌++◌, ◌-◌, ◌<◌, ◌==◌, ◌^◌, ◌||◌, ◌∙◌, ◌∷◌, ◌≡◌, ◌≢◌, ◌≤◌, Bool, IsFalse, IsTrue, List, None, Option, Some, ap, arith, bit_or, eq-eqb, false, fold, length, max, nat_eq, nat_lt, ne_eqb, not, option_and_then, option_to_list, refl, subst, sym, true, unwrap_or, ℕ}
+use Rattle.base.proofs.Exports.{and-true, bit_at-zero, fold-append, list_any, nat_tests, option_map_or, option_or, or-false}
+use Rattle.packet_laws.proofs.Exports.{other_number}
 use Rattle.failover.proofs.KnownLinkRows.{turned_number}
-use Rattle.ctrl_msg.specs.declared.message.Body.{Body}
-use Rattle.ctrl_msg.specs.declared.message.Body.TheVariants.{Hello, Installed, Stamped}
-use Rattle.journal.specs.declared.item.Item.{Item}
+use Rattle.update_machine.specs.Exports.{Body, HaveCauses, Hello, Installed, Item, Setting, Stamped, acked_stamp, body_to_controller, hello_boot, installed_in, known_boot, open_version, opened_at, stamped_in}
 use Rattle.journal.specs.declared.item.Item.TheVariants as item
-use Rattle.update_machine.specs.Causes.{HaveCauses}
 use Rattle.update_machine.specs.Marks as machine
-use Rattle.update_machine.specs.Marks.{acked_stamp, hello_boot, installed_in, known_boot, open_version, opened_at, body_to_controller, stamped_in}
-use Rattle.update_machine.specs.Setting.{Setting}
-use Rattle.control_laws.specs.ItemCauses.{HasItemCause}
-use Rattle.control_laws.proofs.ItemFacts.{fact_on}
-use Rattle.control_laws.proofs.FactsGrown.{count_more, current_more, known_more, opened_in, opened_is, opened_more, over_more, raised, retired_more, told_more}
-use Rattle.control_laws.proofs.AcknowledgedSinceOpening.{acked_more}
-use Rattle.control_laws.proofs.CurrentVersions.{StampsAreCurrent, current_at_first, current_kept}
-use Rattle.control_laws.proofs.GreatestNumbers.{known_first}
-use Rattle.control_laws.proofs.MemberFacts.{opened_same}
-use Rattle.control_laws.proofs.ToldToController.{tells, told_by, told_by_more}
-use Rattle.control_laws.proofs.ControllerLeft.{member_same}
-use Rattle.version_update.specs.Marks.{MarksValue, at_switch, record_of}
-use Rattle.version_update.specs.Record.{hello_recorded, after_installed, after_over, after_stamped, has_acked, is_member, is_over, takes_hello, takes_installed, takes_stamped}
+use Rattle.control_laws.specs.Exports.{HasItemCause}
+use Rattle.control_laws.proofs.Exports.{StampsAreCurrent, acked_more, count_more, current_at_first, current_kept, current_more, fact_on, known_first, known_more, member_same, opened_in, opened_is, opened_more, opened_same, over_more, raised, retired_more, tells, told_by, told_by_more, told_more}
+use Rattle.version_update.specs.Exports.{MarksValue, after_installed, after_over, after_stamped, at_switch, has_acked, hello_recorded, is_member, is_over, record_of, takes_hello, takes_installed, takes_stamped}
 use Rattle.version_update.specs.declared.record.Phase.TheVariants.{Joining}
 use Rattle.version_update.specs.declared.record.SwitchRecord.{SwitchRecord}
 use Rattle.version_update.proofs.AcknowledgedVersions.{installed_acked}
-use Rattle.controller.specs.Sends.{NamesThere, marks_after}
-use Rattle.refinement.specs.Marks.{AreMarksOf, IsKnown}
+use Rattle.controller.specs.Exports.{NamesThere, marks_after}
+use Rattle.refinement.specs.Exports.{AreMarksOf, IsKnown}
 use Rattle.refinement.proofs.KeptController.{StaysKnown, known_on, quiet_stays, stay_on, switch_on}
 use Rattle.refinement.proofs.PastAcknowledgements.{acks_past}
 

@@ -1,33 +1,18 @@
 -- The plans that a controller keeps are those of the versions from the current one to the last.
-use Rattle.std.proofs.Common.{ℕ, ◌≡◌, ◌+◌, ◌-◌, ◌<◌, ◌≤◌, max, List, [], ◌∷◌, ◌++◌, map, refl, ap, sym, ◌∙◌, append-nil, arith}
-use Rattle.std.specs.Prelude.{nat_le, find}
-use Rattle.std.specs.List.{range_with_len}
-use Rattle.std.proofs.lemmas.List.FromFn.{map-range_with_len_more}
-use Rattle.std.specs.Option.{option_map_or}
-use Rattle.base.proofs.ListsFiltered.{filter_made}
-use Rattle.base.proofs.ListsOfRanges.{later_same, map-range_same}
-use Rattle.journal.specs.declared.item.Item.{Item}
-use Rattle.update_machine.specs.Laws.{ControllerKeeps}
-use Rattle.update_machine.specs.Marks.{current_mark}
-use Rattle.update_machine.specs.Numbers.{VersionsAreNumbered}
-use Rattle.update_machine.specs.Setting.{Setting}
-use Rattle.update_machine.specs.Settling.{settling, versions_from_current}
-use Rattle.update_machine.specs.Versions.{version_count}
-use Rattle.update_machine.proofs.CallerLemmas.{plan_stays, policy_stays, touched_stays}
-use Rattle.update_machine.specs.Touched.{touched_by}
-use Rattle.control_laws.proofs.VersionNumbers.{caused_numbered}
-use Rattle.control_laws.proofs.MarkLaws.{bounded}
-use Rattle.version_update.specs.Marks.{MarksValue}
-use Rattle.controller.specs.Controller.{ControllerValue, KeptPlan, SettlesWith, plans_from, current_touched}
+use Rattle.std.proofs.Common.{[], ◌++◌, ◌+◌, ◌-◌, ◌<◌, ◌∙◌, ◌∷◌, ◌≡◌, ◌≤◌, List, ap, append-nil, arith, find, map, max, nat_le, refl, sym, ℕ}
+use Rattle.base.proofs.Exports.{filter_made, later_same, map-range_same, map-range_with_len_more, option_map_or, range_with_len}
+use Rattle.update_machine.specs.Exports.{ControllerKeeps, Item, Setting, VersionsAreNumbered, current_mark, settling, touched_by, version_count, versions_from_current}
+use Rattle.update_machine.proofs.Exports.{plan_stays, policy_stays, touched_stays}
+use Rattle.control_laws.proofs.Exports.{bounded, caused_numbered}
+use Rattle.version_update.specs.Exports.{MarksValue}
+use Rattle.controller.specs.Exports.{ControllerValue, KeptPlan, SettlesWith, current_touched, plans_from}
 use Rattle.controller.specs.Sends as acts
 use Rattle.controller.proofs.NewestPolicy.{still_found}
-use Rattle.refinement.specs.Controller.{IsControllerOf, plan_to_keep}
-use Rattle.refinement.specs.Marks.{AreMarksOf}
-use Rattle.refinement.specs.Written.{written_items}
+use Rattle.refinement.specs.Exports.{AreMarksOf, IsControllerOf, plan_to_keep, written_items}
 use Rattle.refinement.proofs.KeptController.{marks_on}
 use Rattle.refinement.proofs.SettledMarks.{AreCaused, settles_so}
 use Rattle.refinement.proofs.NewestKeptPolicy.{find_kept, is_of}
-use Rattle.switch_table.specs.Carried.{all_touched}
+use Rattle.switch_table.specs.Exports.{all_touched}
 
 -- ---- plans
 

@@ -1,42 +1,24 @@
 -- What the controller sends again, and what it is told of is there.
-use Rattle.std.proofs.Common.{ℕ, suc, ◌≡◌, ◌+◌, ◌-◌, ◌<◌, ◌≤◌, ◌==◌, ◌&&◌, Bool, true, false, not, if◌then◌else◌, List, [], ◌∷◌, ◌++◌, length, map, refl, ap, sym, ◌∙◌, arith}
-use Rattle.std.specs.Prelude.{Some, IsTrue, IsFalse, filter, nat_le, nat_lt, find}
-use Rattle.std.specs.List.{range_with_len}
-use Rattle.std.proofs.lemmas.Bool.Decides.{nat_tests}
-use Rattle.std.proofs.lemmas.List.{map-append}
-use Rattle.std.specs.Option.{option_map_or}
-use Rattle.base.proofs.ListsFiltered.{filter_made, map_twice}
-use Rattle.base.proofs.ListsOfRanges.{picked_same}
-use Rattle.ctrl_msg.specs.declared.message.Body.{Body}
-use Rattle.ctrl_msg.specs.declared.message.Body.TheVariants.{Collect, Hello, Installed, OpenAt, Stamp, Stamped}
-use Rattle.ctrl_msg.specs.declared.message.Message.{Message}
-use Rattle.ctrl_msg.specs.Kinds.{to_controller}
-use Rattle.journal.specs.declared.item.Item.{Item}
+use Rattle.std.proofs.Common.{[], if◌then◌else◌, ◌&&◌, ◌++◌, ◌+◌, ◌-◌, ◌<◌, ◌==◌, ◌∙◌, ◌∷◌, ◌≡◌, ◌≤◌, Bool, IsFalse, IsTrue, List, Some, ap, arith, false, filter, find, length, map, nat_le, nat_lt, not, refl, suc, sym, true, ℕ}
+use Rattle.base.proofs.Exports.{filter_made, map-append, map_twice, nat_tests, option_map_or, picked_same, range_with_len}
+use Rattle.update_machine.specs.Exports.{Body, Collect, Hello, Installed, Item, Message, OpenAt, Setting, Stamp, Stamped, acked_stamp, collect_for, current_mark, install_for, message_of, open_for, open_version, resent_by_controller, resent_to_member, retired_mark, stamp_for, to_switch, touched_by, unacked_installs, version_count, versions_from_current}
+use Rattle.ctrl_msg.specs.Exports.{to_controller}
 use Rattle.update_machine.specs.Marks as machine
-use Rattle.update_machine.specs.Marks.{acked_stamp, current_mark, open_version, retired_mark}
-use Rattle.update_machine.specs.Links.{message_of}
-use Rattle.update_machine.specs.Setting.{Setting}
-use Rattle.update_machine.specs.Settling.{collect_for, install_for, open_for, resent_by_controller, resent_to_member, stamp_for, to_switch, unacked_installs, versions_from_current}
-use Rattle.update_machine.specs.Versions.{version_count}
-use Rattle.update_machine.specs.Touched.{touched_by}
-use Rattle.control_laws.proofs.MarkLaws.{bounded}
-use Rattle.control_laws.specs.Named.{BodiesNameThere}
-use Rattle.version_update.specs.Marks.{MarksValue, record_of}
-use Rattle.version_update.specs.Record.{has_acked, is_member, is_over}
+use Rattle.control_laws.proofs.Exports.{bounded}
+use Rattle.control_laws.specs.Exports.{BodiesNameThere}
+use Rattle.version_update.specs.Exports.{MarksValue, has_acked, is_member, is_over, record_of}
 use Rattle.version_update.specs.declared.record.Phase.{Phase}
 use Rattle.version_update.specs.declared.record.Phase.TheVariants.{Joining, Member, Over}
 use Rattle.version_update.specs.declared.record.SwitchRecord.{SwitchRecord}
-use Rattle.controller.specs.Controller.{ControllerValue, current_touched, KeptPlan}
+use Rattle.controller.specs.Exports.{ControllerValue, KeptPlan, NamesBoth, NamesThere, current_touched, install_act, is_missing, missing_installs, resend_acts, resend_acts_to}
 use Rattle.controller.specs.Sends as acts
-use Rattle.controller.specs.Sends.{NamesBoth, NamesThere, install_act, is_missing, missing_installs, resend_acts, resend_acts_to}
 use Rattle.controller.specs.declared.sends.Act.{Act}
 use Rattle.controller.specs.declared.sends.Act.TheVariants.{Post}
-use Rattle.refinement.specs.Controller.{IsControllerOf, plan_to_keep}
-use Rattle.refinement.specs.Marks.{AreMarksOf, IsKnown}
+use Rattle.refinement.specs.Exports.{AreMarksOf, IsControllerOf, IsKnown, plan_to_keep}
 use Rattle.refinement.proofs.SettledMarks.{AreCaused}
 use Rattle.refinement.proofs.NewestKeptPolicy.{find_kept, is_of}
-use Rattle.switch_table.specs.Carried.{all_touched}
-use Rattle.ternary.specs.Word.{WordValue}
+use Rattle.switch_table.specs.Exports.{all_touched}
+use Rattle.ternary.specs.Exports.{WordValue}
 
 -- ---- what is told to the controller names what it knows
 

@@ -1,41 +1,19 @@
 -- The definitions, computed on two switches: what acts write, what a controller is, and what it is
 -- not.
-use Rattle.std.proofs.Common.{ℕ, ◌≡◌, Bool, true, false, Some, None, List, [], ◌∷◌, ◌++◌, map, refl, ap, sym, ◌∙◌}
-use Rattle.std.specs.Option.{option_map_or}
-use Rattle.std.specs.Prelude.{Result}
-use Rattle.std.specs.Result.{result_ok}
-use Rattle.ctrl_msg.specs.declared.message.Body.TheVariants.{Hello, Install, Stamp}
-use Rattle.ctrl_msg.specs.Kinds.{to_controller}
+use Rattle.std.proofs.Common.{[], ◌++◌, ◌∙◌, ◌∷◌, ◌≡◌, Bool, List, None, Result, Some, ap, false, map, refl, sym, true, ℕ}
+use Rattle.base.proofs.Exports.{option_map_or, result_ok}
+use Rattle.update_machine.specs.Exports.{Drop, Hello, Inapplicable, Install, Item, Out, Row, Stamp, after_hello, controller_heard, current_mark, file_of, installs_to_all, known_boot, message_of, next_message, next_policy, policy_at, retired_mark, sent_from, touched_by, update_code, version_count, versions_from_current}
+use Rattle.ctrl_msg.specs.Exports.{to_controller}
 use Rattle.partition.specs.Plan.{Hosted}
-use Rattle.switch_table.specs.Carried.{all_touched}
-use Rattle.switch_table.specs.Tables.{tables_of}
-use Rattle.journal.specs.declared.item.Item.{Item}
+use Rattle.switch_table.specs.Exports.{all_touched, tables_of}
 use Rattle.journal.specs.declared.item.Item.TheVariants as item
-use Rattle.policy_rules.specs.declared.policy.Row.{Row}
-use Rattle.policy_rules.specs.declared.applying.Inapplicable.{Inapplicable}
-use Rattle.policy_rules.specs.declared.policy.Action.TheVariants.{Drop, Out}
-use Rattle.update_machine.specs.Deliveries.{after_hello}
 use Rattle.update_machine.specs.Marks as machine
-use Rattle.update_machine.specs.Marks.{controller_heard, current_mark, known_boot, retired_mark}
-use Rattle.update_machine.specs.Messages.{next_message, sent_from}
-use Rattle.update_machine.specs.Pieces.{update_code}
-use Rattle.update_machine.specs.Settling.{installs_to_all, versions_from_current}
-use Rattle.update_machine.specs.Setting.{file_of}
-use Rattle.update_machine.specs.Touched.{touched_by}
-use Rattle.update_machine.specs.Versions.{next_policy, policy_at, version_count}
-use Rattle.update_machine.specs.Links.{message_of}
-use Rattle.update_machine.proofs.CallerLemmas.{first_touched}
-use Rattle.update_machine.proofs.ExampleVersions.{first_plan, first_policy, second_plan, second_policy}
-use Rattle.update_machine.proofs.ExampleNetworks.{all_to, open_net, plan_p, plan_q, to, versions}
-use Rattle.version_update.specs.Record.{first_record}
-use Rattle.controller.specs.Controller.{KeptPlan, first_controller}
-use Rattle.controller.specs.Plan.{PlanValue}
-use Rattle.controller.specs.Sends.{install_act}
+use Rattle.update_machine.proofs.Exports.{all_to, first_plan, first_policy, first_touched, open_net, plan_p, plan_q, second_plan, second_policy, to, versions}
+use Rattle.version_update.specs.Exports.{first_record}
+use Rattle.controller.specs.Exports.{KeptPlan, PlanValue, first_controller, install_act}
 use Rattle.controller.specs.declared.sends.Act.TheVariants.{Current, Post, Retired}
-use Rattle.ternary.specs.Word.{WordValue}
-use Rattle.refinement.specs.Controller.{IsControllerOf, IsPlanOfNext, plan_to_keep}
-use Rattle.refinement.specs.Marks.{IsKnown}
-use Rattle.refinement.specs.Written.{written_items}
+use Rattle.ternary.specs.Exports.{WordValue}
+use Rattle.refinement.specs.Exports.{IsControllerOf, IsKnown, IsPlanOfNext, plan_to_keep, written_items}
 use Rattle.refinement.proofs.ControllerCalls.{begins}
 
 -- ---- acts

@@ -1,23 +1,14 @@
 -- What a resend writes, and the steps that leave the controller as it was.
-use Rattle.std.proofs.Common.{ℕ, ◌≡◌, ◌≢◌, ◌<◌, List, [], ◌∷◌, ◌++◌, length, map, refl, ap, sym, ◌∙◌}
-use Rattle.std.specs.Prelude.{IsFalse}
-use Rattle.std.proofs.lemmas.List.{map-append}
-use Rattle.ctrl_msg.specs.declared.message.Message.{Message}
-use Rattle.journal.specs.declared.item.Item.{Item}
+use Rattle.std.proofs.Common.{[], ◌++◌, ◌<◌, ◌∙◌, ◌∷◌, ◌≡◌, ◌≢◌, IsFalse, List, ap, length, map, refl, sym, ℕ}
+use Rattle.base.proofs.Exports.{map-append}
+use Rattle.update_machine.specs.Exports.{Item, Message, NoneConcern, Resend, Setting, Step, concerns_controller, piece, resend_items, resent_by_controller, resent_by_switch, sends_or_nothing}
 use Rattle.journal.specs.declared.item.Item.TheVariants as item
-use Rattle.steps.specs.declared.step.Step.{Step}
-use Rattle.steps.specs.declared.step.Step.TheVariants.{Resend}
-use Rattle.update_machine.specs.Concerns.{NoneConcern, concerns_controller}
-use Rattle.update_machine.specs.Pieces.{piece, resend_items, resent_by_switch, sends_or_nothing}
-use Rattle.update_machine.specs.Setting.{Setting}
-use Rattle.update_machine.specs.Settling.{resent_by_controller}
-use Rattle.update_machine.proofs.CallerLemmas.{controller_keeps}
-use Rattle.control_laws.specs.Steps.{asks_controller}
-use Rattle.control_laws.proofs.OtherSteps.{others_keep}
-use Rattle.controller.specs.Controller.{ControllerValue}
+use Rattle.update_machine.proofs.Exports.{controller_keeps}
+use Rattle.control_laws.specs.Exports.{asks_controller}
+use Rattle.control_laws.proofs.Exports.{others_keep}
+use Rattle.controller.specs.Exports.{ControllerValue}
 use Rattle.controller.specs.declared.sends.Act.TheVariants.{Post}
-use Rattle.refinement.specs.Controller.{IsControllerOf}
-use Rattle.refinement.specs.Written.{AreWritten, acts_of_resend, written_items}
+use Rattle.refinement.specs.Exports.{AreWritten, IsControllerOf, acts_of_resend, written_items}
 use Rattle.refinement.proofs.ControllerCalls.{behind_row, row_on}
 use Rattle.refinement.proofs.ControllerPlans.{controller_on}
 use Rattle.refinement.proofs.ControllerResends.{resends}

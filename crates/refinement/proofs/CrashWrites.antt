@@ -1,42 +1,19 @@
 -- A switch goes down: which packets are lost, which links change, what is told of that, and what
 -- the parts are behind it.
-use Rattle.std.proofs.Common.{ℕ, ◌≡◌, ◌+◌, ◌-◌, ◌^◌, ◌<◌, ◌==◌, true, false, if◌then◌else◌, None, List, [], ◌∷◌, ◌++◌, refl, ap, sym, subst, ◌∙◌, length, get_or, map, set, append_assoc, arith}
-use Rattle.std.specs.Prelude.{◌&&◌, not, All}
-use Rattle.std.proofs.lemmas.List.{get_or_default, length-set}
-use Rattle.std.proofs.lemmas.List.Sums.{sum_by-cons}
+use Rattle.std.proofs.Common.{[], if◌then◌else◌, ◌&&◌, ◌++◌, ◌+◌, ◌-◌, ◌<◌, ◌==◌, ◌^◌, ◌∙◌, ◌∷◌, ◌≡◌, All, List, None, ap, append_assoc, arith, false, get_or, length, length-set, map, refl, set, subst, sym, true, ℕ}
+use Rattle.base.proofs.Exports.{get_or_default, not, sum_by-cons}
 use Rattle.controller.specs.declared.sends.Act.{Act}
 use Rattle.controller.specs.declared.sends.Act.TheVariants.{Post as PostAct}
-use Rattle.ctrl_msg.specs.declared.message.Message.{Message}
-use Rattle.journal.specs.declared.item.Item.{Item}
+use Rattle.update_machine.specs.Exports.{Crash, Item, LinkRow, Message, Setting, concerns_calls, concerns_known, concerns_links, concerns_messages, concerns_policies, concerns_switch, count_of, crash_items, has_changed, is_link_up, is_packet, is_up, items_then, link_changes, near, nothing, packets_at, piece, sent_from, targets_of}
 use Rattle.journal.specs.declared.item.Item.TheVariants as item
-use Rattle.net_file.specs.Owners.{links_of}
-use Rattle.net_file.specs.declared.net.LinkRow.{LinkRow}
-use Rattle.steps.specs.declared.step.Step.TheVariants.{Crash}
-use Rattle.switch_core.specs.Life.{crashed_switch, near_changed}
-use Rattle.switch_core.specs.State.{SwitchValue}
-use Rattle.refinement.specs.Links.{LeavesSwitch}
-use Rattle.refinement.specs.SwitchOf.{switch_of}
+use Rattle.net_file.specs.Exports.{links_of}
+use Rattle.switch_core.specs.Exports.{SwitchValue, crashed_switch, near_changed}
+use Rattle.refinement.specs.Exports.{LeavesSwitch, NetworkState, RefineJournal, flight_in, is_up_link, switch_of, up_links}
 use Rattle.refinement.proofs.ForgottenState.{crash_is}
 use Rattle.refinement.proofs.SwitchLinkChanges.{kept_is}
-use Rattle.update_machine.specs.Boots.{is_up}
-use Rattle.update_machine.specs.Concerns.{concerns_calls, concerns_known, concerns_links, concerns_messages, concerns_policies, concerns_switch}
-use Rattle.update_machine.specs.Deliveries.{has_changed, link_changes}
-use Rattle.update_machine.specs.Folds.{count_of}
-use Rattle.update_machine.specs.Links.{is_link_up}
-use Rattle.update_machine.specs.Messages.{sent_from}
-use Rattle.update_machine.specs.Moves.{items_then}
-use Rattle.update_machine.specs.Packets.{is_packet}
-use Rattle.update_machine.specs.Pieces.{crash_items, nothing, piece}
-use Rattle.update_machine.specs.Setting.{Setting}
-use Rattle.update_machine.specs.Travels.{packets_at}
-use Rattle.update_machine.specs.PacketRoutes.{targets_of}
-use Rattle.update_machine.specs.LinkMasks.{near}
-use Rattle.update_machine.proofs.CallerLemmas.{have_append, last_given_append, links_keep}
-use Rattle.world_log.specs.Linking.{AreRelinked, all_adverts_sent, near_all}
-use Rattle.steps.specs.Steps.{IsStep}
-use Rattle.world_log.specs.Sending.{MaySend, act_items}
-use Rattle.refinement.specs.Refinement.{RefineJournal, NetworkState, is_up_link, up_links}
-use Rattle.refinement.specs.Flights.{flight_in}
+use Rattle.update_machine.proofs.Exports.{have_append, last_given_append, links_keep}
+use Rattle.world_log.specs.Exports.{AreRelinked, MaySend, act_items, all_adverts_sent, near_all}
+use Rattle.steps.specs.Exports.{IsStep}
 use Rattle.travelling.specs.Travelling.{Flights, WithoutAt, numbers_at, flight}
 use Rattle.refinement.proofs.ActItems.{SparesActs, acts_apart, acts_unnamed}
 use Rattle.refinement.proofs.BagDeliveries.{nothing_happens}

@@ -1,28 +1,16 @@
 -- A decided packet ends at a switch, or sets out for its port, as the journal's definitions say.
-use Rattle.std.proofs.Common.{ℕ, ◌≡◌, ◌<◌, ◌==◌, Bool, true, false, if◌then◌else◌, Option, Some, None, List, [], ◌∷◌, refl, ap, sym, ◌∙◌}
-use Rattle.std.specs.Prelude.{Result, Ok, Err, unwrap_or}
-use Rattle.net_file.specs.Joins.{owner_of}
-use Rattle.net_file.specs.Owners.{AreOwners, port_owner}
-use Rattle.net_file.specs.declared.ports.Ports.{Ports}
-use Rattle.policy_rules.specs.declared.packet.Cause.{Cause}
-use Rattle.policy_rules.specs.declared.packet.Cause.TheVariants.{NoRoute}
-use Rattle.policy_rules.specs.declared.packet.Leg.TheVariants.{Exit}
-use Rattle.policy_rules.specs.declared.policy.Action.{Action}
+use Rattle.std.proofs.Common.{[], if◌then◌else◌, ◌<◌, ◌==◌, ◌∙◌, ◌∷◌, ◌≡◌, Bool, Err, List, None, Ok, Option, Result, Some, ap, false, refl, sym, true, unwrap_or, ℕ}
+use Rattle.net_file.specs.Exports.{AreOwners, owner_of, port_owner}
+use Rattle.update_machine.specs.Exports.{Action, Cause, Exit, Item, NoRoute, Ports, Setting, decision_of, end_items, found_down, header_in, leaving_item as left, leg_items, no_switch, owner}
 use Rattle.policy_rules.specs.declared.policy.Action.TheVariants as action
-use Rattle.journal.specs.declared.item.Item.{Item}
 use Rattle.journal.specs.declared.item.Item.TheVariants as item
-use Rattle.switch_core.specs.Ends.{around, exit_by, leave_by, next_of, set_out}
-use Rattle.switch_core.specs.State.{SwitchValue}
+use Rattle.switch_core.specs.Exports.{SwitchValue, around, exit_by, leave_by, next_of, set_out}
 use Rattle.switch_core.specs.declared.deciding.Decision.{Decision as Decided}
 use Rattle.switch_core.specs.declared.tunnel_calls.Next.TheVariants as next
 use Rattle.switch_core.specs.declared.tunnel_calls.Packet.{Packet}
-use Rattle.tunnel.specs.Tunnel.{TunnelValue}
-use Rattle.update_machine.specs.Moves.{end_items, leaving_item as left, leg_items}
-use Rattle.update_machine.specs.Packets.{decision_of, header_in}
-use Rattle.update_machine.specs.Setting.{Setting}
-use Rattle.update_machine.specs.PacketRoutes.{found_down, no_switch, owner}
-use Rattle.update_machine.proofs.CallerLemmas.{known_link_laws}
-use Rattle.world_log.specs.Writing.{end_item, left_item, set_item}
+use Rattle.tunnel.specs.Exports.{TunnelValue}
+use Rattle.update_machine.proofs.Exports.{known_link_laws}
+use Rattle.world_log.specs.Exports.{end_item, left_item, set_item}
 use Rattle.travelling.specs.Travelling.{Standing}
 use Rattle.refinement.proofs.TakenLegs.{at_switch, leg_law}
 use Rattle.refinement.proofs.SeenWithinStep.{Sees}

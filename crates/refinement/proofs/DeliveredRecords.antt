@@ -1,49 +1,17 @@
 -- A message is delivered: the record of its switch, whether it opens, and what it sends.
-use Rattle.std.proofs.Common.{ℕ, zero, suc, ◌≡◌, ◌+◌, ◌-◌, ◌<◌, ◌≤◌, ◌==◌, ◌⊎◌, Bool, true, false, ◌&&◌, ◌||◌, cond, max, if◌then◌else◌, Option, Some, None, unwrap_or, List, [], ◌∷◌, ◌++◌, length, map, refl, ap, sym, subst, ◌∙◌, arith, inl, inr, append_assoc, append-nil}
-use Rattle.std.specs.Prelude.{IsTrue, filter}
-use Rattle.std.specs.List.{AllByRecursion, range_with_len}
-use Rattle.std.proofs.Math.Bool.{or-false}
-use Rattle.std.proofs.lemmas.Bool.{and_parts, eqb-true}
-use Rattle.std.proofs.lemmas.List.Elements.{recursion_from_All}
-use Rattle.ctrl_msg.specs.declared.message.Body.{Body}
-use Rattle.ctrl_msg.specs.declared.message.Body.TheVariants.{Install, OpenAt, Stamp, Advertise, Installed, Stamped}
-use Rattle.ctrl_msg.specs.declared.message.Message.{Message}
-use Rattle.ctrl_msg.specs.Kinds.{to_controller}
-use Rattle.base.specs.Masks.{has, switches}
-use Rattle.base.proofs.ListsOfRanges.{filter_more}
-use Rattle.failover.specs.declared.advert.Advert.{Advert}
-use Rattle.net_file.specs.Net.{IsLink, IsNet}
-use Rattle.net_file.specs.declared.net.LinkRow.{LinkRow}
-use Rattle.net_file.specs.Joins.{are_linked}
-use Rattle.journal.specs.declared.item.Item.{Item}
+use Rattle.std.proofs.Common.{[], if◌then◌else◌, ◌&&◌, ◌++◌, ◌+◌, ◌-◌, ◌<◌, ◌==◌, ◌||◌, ◌∙◌, ◌∷◌, ◌≡◌, ◌≤◌, ◌⊎◌, Bool, IsTrue, List, None, Option, Some, ap, append-nil, append_assoc, arith, cond, eqb-true, false, filter, inl, inr, length, map, max, refl, subst, suc, sym, true, unwrap_or, zero, ℕ}
+use Rattle.base.proofs.Exports.{AllByRecursion, and_parts, filter_more, or-false, range_with_len, recursion_from_All}
+use Rattle.update_machine.specs.Exports.{Advert, Advertise, Body, Deliver, Install, Installed, Item, LinkRow, LinksKeep, Message, OpenAt, Setting, Stamp, Stamped, advert_to, boot_of, delivery_items, gives_boot, gives_up, has_changed, heard, is_for_boot, is_message_to, is_news_to, is_up, items_then, link_changes, message_of, near, own_advert, own_seq, passed_on, received_items, send_items, sent_from, serves, stamp_of, switch_items, switches_of, to_switch, touched_by}
+use Rattle.ctrl_msg.specs.Exports.{to_controller}
+use Rattle.base.specs.Exports.{has, switches}
+use Rattle.net_file.specs.Exports.{IsLink, IsNet, are_linked}
 use Rattle.journal.specs.declared.item.Item.TheVariants as item
-use Rattle.steps.specs.declared.step.Step.TheVariants.{Deliver}
-use Rattle.switch_core.specs.Hearing.{flood, with_message, is_news_here as is_news_at, opening_stamp, opened_by, replies, replies_to}
-use Rattle.switch_core.specs.Life.{next_advert}
-use Rattle.switch_core.specs.State.{SwitchValue}
+use Rattle.switch_core.specs.Exports.{SwitchValue, flood, is_news_here as is_news_at, next_advert, opened_by, opening_stamp, replies, replies_to, with_message}
 use Rattle.switch_core.proofs.SwitchLaws.{heard_keeps}
-use Rattle.update_machine.specs.Adverts.{own_advert, own_seq}
-use Rattle.update_machine.specs.Boots.{boot_of, heard, is_for_boot, is_up, gives_boot, gives_up}
-use Rattle.update_machine.specs.Concerns.{is_message_to}
-use Rattle.update_machine.specs.Deliveries.{advert_to, delivery_items, has_changed, is_news_to, link_changes, passed_on, received_items, switch_items}
-use Rattle.update_machine.specs.Laws.{LinksKeep}
-use Rattle.update_machine.specs.LinkMasks.{near}
-use Rattle.update_machine.specs.Messages.{send_items, sent_from}
-use Rattle.update_machine.specs.Moves.{items_then}
-use Rattle.update_machine.specs.Setting.{Setting}
-use Rattle.update_machine.specs.SwitchNumbers.{switches_of}
-use Rattle.update_machine.specs.Settling.{to_switch}
-use Rattle.update_machine.specs.Versions.{stamp_of}
-use Rattle.update_machine.specs.Links.{serves, message_of}
-use Rattle.update_machine.proofs.CallerLemmas.{last_given_append, links_keep, policies_keep}
-use Rattle.update_machine.specs.Touched.{touched_by}
-use Rattle.control_laws.proofs.FactsGrown.{heard_more, message_more}
-use Rattle.control_laws.proofs.ToldToController.{each_weaker}
-use Rattle.control_laws.specs.Named.{BodiesNameThere, NamesOnlyThere}
-use Rattle.control_laws.proofs.NetLinks.{near_linked}
-use Rattle.refinement.specs.Hearing.{HearingRefines, IsSentTo, within_delivery}
-use Rattle.refinement.specs.Links.{relinked_switch}
-use Rattle.refinement.specs.SwitchOf.{switch_of}
+use Rattle.update_machine.proofs.Exports.{last_given_append, links_keep, policies_keep}
+use Rattle.control_laws.proofs.Exports.{each_weaker, heard_more, message_more, near_linked}
+use Rattle.control_laws.specs.Exports.{BodiesNameThere, NamesOnlyThere}
+use Rattle.refinement.specs.Exports.{HearingRefines, IsSentTo, relinked_switch, switch_of, within_delivery}
 use Rattle.refinement.proofs.HeardMessages.{by_obeying, controller_shut, controller_silent, heard_is, is_meant, open_kept, opens_as, said_is}
 use Rattle.refinement.proofs.SwitchFactItems.{facts_opened}
 use Rattle.refinement.proofs.SwitchLinkChanges.{kept_is, one_if, relinks, seq_more, unchanged}

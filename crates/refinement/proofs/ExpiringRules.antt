@@ -1,24 +1,14 @@
 -- A cached rule times out.
-use Rattle.std.proofs.Common.{ℕ, ◌≡◌, ◌<◌, ◌==◌, false, Option, Some, None, List, [], ◌∷◌, ◌++◌, refl, ap, sym, ◌∙◌, length, get_or, set, append_assoc, rules}
-use Rattle.std.specs.Prelude.{◌||◌, option_map, slice_get}
-use Rattle.std.proofs.lemmas.List.{length-set}
-use Rattle.base.proofs.ListsByPlace.{none_removed}
-use Rattle.journal.specs.declared.item.Item.{Item}
+use Rattle.std.proofs.Common.{[], ◌++◌, ◌<◌, ◌==◌, ◌||◌, ◌∙◌, ◌∷◌, ◌≡◌, List, None, Option, Some, ap, append_assoc, false, get_or, length, length-set, option_map, refl, rules, set, slice_get, sym, ℕ}
+use Rattle.base.proofs.Exports.{none_removed}
+use Rattle.update_machine.specs.Exports.{CacheEntry, Expire, Item, Setting, piece}
 use Rattle.journal.specs.declared.item.Item.TheVariants as item
-use Rattle.steps.specs.declared.step.Step.TheVariants.{Expire}
-use Rattle.switch_core.specs.Life.{entry_expired}
-use Rattle.switch_core.specs.State.{SwitchValue}
-use Rattle.switch_table.specs.Cache.{CacheValue, after_expire}
-use Rattle.switch_table.specs.declared.cache.CacheEntry.{CacheEntry}
-use Rattle.refinement.specs.Life.{expired_by, message_at}
-use Rattle.refinement.specs.SwitchOf.{switch_of}
+use Rattle.switch_core.specs.Exports.{SwitchValue, entry_expired}
+use Rattle.switch_table.specs.Exports.{CacheValue, after_expire}
+use Rattle.refinement.specs.Exports.{IsBagOf, NetworkState, RefineJournal, expired_by, message_at, switch_of}
 use Rattle.refinement.proofs.ForgottenState.{expiry_is, lives_refine}
 use Rattle.refinement.proofs.SwitchLinkChanges.{kept_is}
-use Rattle.update_machine.specs.Pieces.{piece}
-use Rattle.steps.specs.Steps.{IsStep}
-use Rattle.update_machine.specs.Setting.{Setting}
-use Rattle.refinement.specs.Refinement.{RefineJournal, NetworkState}
-use Rattle.refinement.specs.Bags.{IsBagOf}
+use Rattle.steps.specs.Exports.{IsStep}
 use Rattle.refinement.proofs.OneItem.{WritesOne, WroteOne, grown, refines_one}
 use Rattle.refinement.proofs.PostedFrames.{bag_on}
 use Rattle.refinement.proofs.NetworkSwitches.{switch_is, switch_there}

@@ -1,18 +1,11 @@
 -- What the facts of a packet are behind some items, and what is known of it as it travels.
-use Rattle.std.proofs.Common.{ℕ, ◌≡◌, if◌then◌else◌, Option, Some, None, List, [], ◌∷◌, ◌++◌, refl, ap, sym, ◌∙◌, append_assoc, append-nil}
-use Rattle.std.specs.Prelude.{unwrap_or, option_map}
-use Rattle.policy_rules.specs.declared.packet.Leg.{Leg}
-use Rattle.policy_rules.specs.declared.packet.Leg.TheVariants.{Seek, Exit}
-use Rattle.five_tuple.specs.HeaderNumbers.{header_of}
-use Rattle.journal.specs.declared.item.Item.{Item}
-use Rattle.update_machine.specs.Concerns.{NoneConcern, concerns_policies}
-use Rattle.update_machine.specs.Marks.{retired_mark}
-use Rattle.update_machine.specs.PacketRoutes.{targets_in, targets_of}
-use Rattle.update_machine.specs.Setting.{Setting}
-use Rattle.update_machine.proofs.CallerLemmas.{policies_keep}
-use Rattle.packet_laws.specs.Facts.{PacketFacts, is_of_packet, facts_after, what_is_known}
-use Rattle.packet_laws.proofs.PacketFacts.{facts_grow}
-use Rattle.refinement.specs.Flights.{flight_in, flight_of}
+use Rattle.std.proofs.Common.{[], if◌then◌else◌, ◌++◌, ◌∙◌, ◌∷◌, ◌≡◌, List, None, Option, Some, ap, append-nil, append_assoc, option_map, refl, sym, unwrap_or, ℕ}
+use Rattle.update_machine.specs.Exports.{Exit, Item, Leg, NoneConcern, Seek, Setting, concerns_policies, retired_mark, targets_in, targets_of}
+use Rattle.five_tuple.specs.Exports.{header_of}
+use Rattle.update_machine.proofs.Exports.{policies_keep}
+use Rattle.packet_laws.specs.Exports.{PacketFacts, facts_after, is_of_packet, what_is_known}
+use Rattle.packet_laws.proofs.Exports.{facts_grow}
+use Rattle.refinement.specs.Exports.{flight_in, flight_of}
 use Rattle.travelling.specs.Travelling.{Flight}
 
 -- the facts of a packet behind these items

@@ -1,19 +1,13 @@
 -- Switches as they begin.
-use Rattle.std.proofs.Common.{ℕ, ◌≡◌, ◌<◌, Bool, true, false, Some, None, List, refl, ap, sym, ◌∙◌, length, map, get_or, arith, nat_lt}
-use Rattle.std.specs.List.{range_with_len}
-use Rattle.std.proofs.lemmas.Bool.{ltb-true}
-use Rattle.std.proofs.lemmas.List.{ext_get_or}
-use Rattle.std.proofs.lemmas.List.FromFn.{get_or-map-range_with_len}
-use Rattle.controller.specs.Controller.{ControllerValue, first_controller, kept_tables}
-use Rattle.controller.specs.Plan.{PlanValue}
-use Rattle.switch_table.specs.Tables.{tables_of}
-use Rattle.switch_table.specs.declared.tables.Tables.{Tables}
+use Rattle.std.proofs.Common.{◌<◌, ◌∙◌, ◌≡◌, Bool, List, None, Some, ap, arith, ext_get_or, false, get_or, length, ltb-true, map, nat_lt, refl, sym, true, ℕ}
+use Rattle.base.proofs.Exports.{get_or-map-range_with_len, range_with_len}
+use Rattle.controller.specs.Exports.{ControllerValue, PlanValue, first_controller, kept_tables}
+use Rattle.switch_table.specs.Exports.{tables_of}
+use Rattle.update_machine.specs.Exports.{Net, Tables}
 use Rattle.failover.proofs.HeldAdverts.{by_origin-first, held-first}
-use Rattle.failover.specs.Adverts.{first_advert, first_adverts, first_of}
-use Rattle.net_file.specs.Net.{IsNet}
-use Rattle.net_file.specs.declared.net.Net.{Net}
-use Rattle.net_file.specs.Owners.{links_of}
-use Rattle.world_log.specs.Linking.{AreNear}
+use Rattle.failover.specs.Exports.{first_advert, first_adverts, first_of}
+use Rattle.net_file.specs.Exports.{IsNet, links_of}
+use Rattle.world_log.specs.Exports.{AreNear}
 
 -- of the neighbours, those of the switches alone are told
 first_same : (near other : List ℕ) (count s : ℕ) (b : Bool) → nat_lt s count ≡ b

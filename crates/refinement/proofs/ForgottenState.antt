@@ -1,32 +1,15 @@
 -- A switch that goes down and one that boots have forgotten what they learnt.
-use Rattle.std.proofs.Common.{ℕ, ◌≡◌, ◌+◌, ◌<◌, ◌≤◌, ◌==◌, Bool, true, false, if◌then◌else◌, Option, Some, None, List, [], ◌∷◌, ◌++◌, set, refl, ap, sym, ◌∙◌, arith}
-use Rattle.std.specs.Prelude.{count_by, option_map, slice_get}
-use Rattle.std.proofs.lemmas.Bool.{eq-eqb, ne_eqb}
-use Rattle.base.proofs.ListsByPlace.{set-replicate}
-use Rattle.failover.specs.Adverts.{no_adverts}
-use Rattle.journal.specs.declared.item.Item.{Item}
+use Rattle.std.proofs.Common.{[], if◌then◌else◌, ◌++◌, ◌+◌, ◌<◌, ◌==◌, ◌∙◌, ◌∷◌, ◌≡◌, ◌≤◌, Bool, List, None, Option, Some, ap, arith, count_by, eq-eqb, false, ne_eqb, option_map, refl, set, slice_get, sym, true, ℕ}
+use Rattle.base.proofs.Exports.{set-replicate}
+use Rattle.failover.specs.Exports.{no_adverts}
+use Rattle.update_machine.specs.Exports.{CacheEntry, HaveCauses, Item, Setting, boot_of, cache_of, expire_items, has_change, is_up, near, nothing, own_seq, steps_in}
 use Rattle.journal.specs.declared.item.Item.TheVariants as item
-use Rattle.switch_core.specs.Life.{crashed_switch, entry_expired, restarted_switch}
-use Rattle.switch_core.specs.State.{SwitchValue}
-use Rattle.switch_table.specs.Cache.{after_clear}
-use Rattle.switch_table.specs.declared.cache.CacheEntry.{CacheEntry}
-use Rattle.update_machine.specs.Adverts.{has_change, own_seq}
-use Rattle.update_machine.specs.Boots.{boot_of, is_up}
-use Rattle.update_machine.specs.Caches.{cache_of}
-use Rattle.update_machine.specs.Causes.{HaveCauses}
-use Rattle.update_machine.specs.LinkMasks.{near}
-use Rattle.update_machine.specs.Pieces.{expire_items, nothing}
-use Rattle.update_machine.specs.Setting.{Setting}
-use Rattle.update_machine.specs.Steps.{steps_in}
-use Rattle.update_machine.proofs.CallerLemmas.{calls_stay, start_laws}
-use Rattle.control_laws.specs.ItemCauses.{HasItemCause}
-use Rattle.control_laws.proofs.BootsKnown.{boot_rises}
-use Rattle.control_laws.proofs.ItemFacts.{fact_on}
-use Rattle.control_laws.proofs.FactsGrown.{boot_more, up_more}
-use Rattle.control_laws.proofs.OwnAdverts.{seq_is}
-use Rattle.control_laws.proofs.AdvertNumbers.{began_on, down_none, none_counted, steps_past}
-use Rattle.refinement.specs.Life.{LivesRefine, expired_by, message_at}
-use Rattle.refinement.specs.SwitchOf.{switch_of}
+use Rattle.switch_core.specs.Exports.{SwitchValue, crashed_switch, entry_expired, restarted_switch}
+use Rattle.switch_table.specs.Exports.{after_clear}
+use Rattle.update_machine.proofs.Exports.{calls_stay, start_laws}
+use Rattle.control_laws.specs.Exports.{HasItemCause}
+use Rattle.control_laws.proofs.Exports.{began_on, boot_more, boot_rises, down_none, fact_on, none_counted, seq_is, steps_past, up_more}
+use Rattle.refinement.specs.Exports.{LivesRefine, expired_by, message_at, switch_of}
 use Rattle.refinement.proofs.SwitchFactItems.{facts_expired, facts_more}
 use Rattle.refinement.proofs.SwitchFacts.{SwitchFacts, by_facts, switch_by, switch_in, switch_is, facts_of}
 

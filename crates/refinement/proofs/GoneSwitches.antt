@@ -1,28 +1,18 @@
 -- A switch that is down is confirmed to be gone: what is written then, and what the parts are
 -- behind it.
-use Rattle.std.proofs.Common.{ℕ, ◌≡◌, ◌+◌, ◌<◌, true, false, List, [], ◌∷◌, ◌++◌, refl, ap, sym, ◌∙◌, length, get_or, rules}
-use Rattle.refinement.specs.Written.{AreWritten}
+use Rattle.std.proofs.Common.{[], ◌++◌, ◌+◌, ◌<◌, ◌∙◌, ◌∷◌, ◌≡◌, List, ap, false, get_or, length, refl, rules, sym, true, ℕ}
+use Rattle.refinement.specs.Exports.{AreWritten, IsBagOf, NetworkState, RefineJournal, switch_of}
 use Rattle.refinement.proofs.ControllerCalls.{confirms}
-use Rattle.controller.specs.Controller.{ControllerValue, SettlesWith, current_touched}
-use Rattle.controller.specs.Sends.{settling_acts}
+use Rattle.controller.specs.Exports.{ControllerValue, SettlesWith, current_touched, settling_acts}
 use Rattle.controller.specs.declared.sends.Act.{Act}
-use Rattle.journal.specs.declared.item.Item.{Item}
+use Rattle.update_machine.specs.Exports.{Confirm, Item, Setting, confirm_items, is_up, items_then, nothing, piece}
 use Rattle.journal.specs.declared.item.Item.TheVariants as item
-use Rattle.steps.specs.declared.step.Step.TheVariants.{Confirm}
-use Rattle.switch_core.specs.State.{SwitchValue}
-use Rattle.refinement.specs.SwitchOf.{switch_of}
-use Rattle.update_machine.specs.Boots.{is_up}
-use Rattle.update_machine.specs.Moves.{items_then}
-use Rattle.update_machine.specs.Pieces.{confirm_items, nothing, piece}
-use Rattle.steps.specs.Steps.{IsStep}
-use Rattle.update_machine.specs.Setting.{Setting}
+use Rattle.switch_core.specs.Exports.{SwitchValue}
+use Rattle.steps.specs.Exports.{IsStep}
 use Rattle.update_machine.specs.Settling as machine
-use Rattle.update_machine.proofs.CallerLemmas.{switch_keeps}
-use Rattle.version_update.specs.Marks.{at_switch}
-use Rattle.version_update.specs.Record.{after_over}
-use Rattle.world_log.specs.Sending.{MayNote, act_items, act_posts}
-use Rattle.refinement.specs.Refinement.{RefineJournal, NetworkState}
-use Rattle.refinement.specs.Bags.{IsBagOf}
+use Rattle.update_machine.proofs.Exports.{switch_keeps}
+use Rattle.version_update.specs.Exports.{after_over, at_switch}
+use Rattle.world_log.specs.Exports.{MayNote, act_items, act_posts}
 use Rattle.refinement.proofs.ActItems.{written_is}
 use Rattle.refinement.proofs.BagDeliveries.{nothing_happens}
 use Rattle.refinement.proofs.JournalLaws.{reached_known}

@@ -1,20 +1,13 @@
 -- What a delivered message finds: few messages are sent upon it, and its switch can hear it.
-use Rattle.std.proofs.Common.{ℕ, ◌≡◌, ◌<◌, Some, List, ap, ◌∙◌, get_or, length, arith}
-use Rattle.message_bag.specs.Posts.{IsMessageOf}
-use Rattle.ctrl_msg.specs.declared.message.Message.{Message}
+use Rattle.std.proofs.Common.{◌<◌, ◌∙◌, ◌≡◌, List, Some, ap, arith, get_or, length, ℕ}
+use Rattle.message_bag.specs.Exports.{IsMessageOf}
+use Rattle.update_machine.specs.Exports.{Item, Message, Setting, message_of, near, to_switch}
 use Rattle.ctrl_msg.specs.declared.message.Place.TheVariants as receiver
-use Rattle.journal.specs.declared.item.Item.{Item}
-use Rattle.control_laws.specs.Sends.{StepsSendFew}
-use Rattle.control_laws.proofs.NumbersFit.{versions_few}
-use Rattle.control_laws.proofs.PieceKinds.{piece_few}
-use Rattle.switch_core.specs.Hearing.{IsSoundBody}
-use Rattle.refinement.specs.Knowing.{TablesAreKnown}
+use Rattle.control_laws.specs.Exports.{StepsSendFew}
+use Rattle.control_laws.proofs.Exports.{piece_few, versions_few}
+use Rattle.switch_core.specs.Exports.{IsSoundBody}
+use Rattle.refinement.specs.Exports.{NetworkState, RefineJournal, TablesAreKnown}
 use Rattle.refinement.proofs.AskedRequirements.{requirements_hold}
-use Rattle.update_machine.specs.LinkMasks.{near}
-use Rattle.update_machine.specs.Links.{message_of}
-use Rattle.update_machine.specs.Setting.{Setting}
-use Rattle.update_machine.specs.Settling.{to_switch}
-use Rattle.refinement.specs.Refinement.{RefineJournal, NetworkState}
 use Rattle.refinement.proofs.BagDeliveries.{sent_as}
 use Rattle.refinement.proofs.JournalLaws.{Known, reached_known}
 

@@ -1,45 +1,25 @@
 -- A message that is delivered is heard: what is written then, and what the parts are behind it.
-use Rattle.std.proofs.Common.{ℕ, ◌≡◌, ◌+◌, ◌<◌, ◌==◌, Bool, true, false, Some, None, List, [], ◌∷◌, ◌++◌, refl, ap, sym, subst, ◌∙◌, length, get_or, map, set, append_assoc, rules}
-use Rattle.std.specs.Prelude.{is_some, ◌||◌}
-use Rattle.std.specs.Option.{option_map_or}
-use Rattle.std.proofs.lemmas.List.{length-set}
-use Rattle.message_bag.specs.Posts.{IsMessageOf, Post, is_post_deliverable, new_post, with_delivered, with_status}
-use Rattle.message_bag.specs.Deliveries.{delivered_status}
+use Rattle.std.proofs.Common.{[], ◌++◌, ◌+◌, ◌<◌, ◌==◌, ◌||◌, ◌∙◌, ◌∷◌, ◌≡◌, Bool, List, None, Some, ap, append_assoc, false, get_or, is_some, length, length-set, map, refl, rules, set, subst, sym, true, ℕ}
+use Rattle.base.proofs.Exports.{option_map_or}
+use Rattle.message_bag.specs.Exports.{IsMessageOf, Post, delivered_status, is_post_deliverable, new_post, with_delivered, with_status}
 use Rattle.message_bag.proofs.NumberedPosts.{length_changed}
-use Rattle.refinement.specs.Written.{AreWritten}
+use Rattle.refinement.specs.Exports.{AreWritten, HearsShut, IsBagOf, NetworkState, RefineJournal, switch_of}
 use Rattle.refinement.proofs.ControllerCalls.{hears}
 use Rattle.refinement.proofs.ControllerResends.{names_there}
 use Rattle.refinement.proofs.ControllerUntouched.{steps_leave}
-use Rattle.controller.specs.Controller.{ControllerValue, SettlesWith}
-use Rattle.controller.specs.Sends.{NamesThere, marks_after, hear_acts}
+use Rattle.controller.specs.Exports.{ControllerValue, NamesThere, SettlesWith, hear_acts, marks_after}
 use Rattle.controller.specs.declared.sends.Act.{Act}
 use Rattle.controller.specs.declared.sends.Act.TheVariants.{Post as PostAct}
-use Rattle.ctrl_msg.specs.declared.message.Message.{Message}
-use Rattle.ctrl_msg.specs.Kinds.{to_controller}
+use Rattle.update_machine.specs.Exports.{Deliver, Item, Message, Setting, deliver_items, delivery_items, is_deliverable, is_message_to, is_message_to_controller, is_to_controller, is_to_switch, message_of, near, next_message, nothing, piece, sent_from, to_switch}
+use Rattle.ctrl_msg.specs.Exports.{to_controller}
 use Rattle.ctrl_msg.specs.declared.message.Place.TheVariants as receiver
-use Rattle.journal.specs.declared.item.Item.{Item}
 use Rattle.journal.specs.declared.item.Item.TheVariants as item
-use Rattle.steps.specs.declared.step.Step.TheVariants.{Deliver}
-use Rattle.switch_core.specs.Hearing.{with_message, opening_stamp, replies}
-use Rattle.switch_core.specs.State.{SwitchValue}
-use Rattle.refinement.specs.Hearing.{HearsShut}
-use Rattle.refinement.specs.SwitchOf.{switch_of}
+use Rattle.switch_core.specs.Exports.{SwitchValue, opening_stamp, replies, with_message}
 use Rattle.refinement.proofs.DeliveredRecords.{hearing_refines}
 use Rattle.refinement.proofs.SwitchLinkChanges.{kept_is}
-use Rattle.update_machine.specs.Concerns.{is_message_to, is_message_to_controller}
-use Rattle.update_machine.specs.Deliveries.{delivery_items}
-use Rattle.update_machine.specs.LinkMasks.{near}
-use Rattle.update_machine.specs.Messages.{is_deliverable, is_to_controller, next_message, sent_from}
-use Rattle.update_machine.specs.Pieces.{deliver_items, nothing, piece}
-use Rattle.steps.specs.Steps.{IsStep}
-use Rattle.update_machine.specs.Setting.{Setting}
-use Rattle.update_machine.specs.Settling.{to_switch}
-use Rattle.update_machine.specs.Boots.{is_to_switch}
-use Rattle.update_machine.specs.Links.{message_of}
-use Rattle.update_machine.proofs.CallerLemmas.{message_keeps}
-use Rattle.world_log.specs.Sending.{MayNote, MaySend, act_items, act_posts}
-use Rattle.refinement.specs.Refinement.{RefineJournal, NetworkState}
-use Rattle.refinement.specs.Bags.{IsBagOf}
+use Rattle.steps.specs.Exports.{IsStep}
+use Rattle.update_machine.proofs.Exports.{message_keeps}
+use Rattle.world_log.specs.Exports.{MayNote, MaySend, act_items, act_posts}
 use Rattle.world_log.proofs.MessageLogs.{posts_as_acts, sent_as_acts}
 use Rattle.refinement.proofs.ActItems.{written_is}
 use Rattle.refinement.proofs.BagDeliveries.{deliverable_as, nothing_happens, sent_as}

@@ -1,27 +1,13 @@
 -- What a delivered message makes of the record of its switch.
-use Rattle.std.proofs.Common.{ℕ, ◌≡◌, ◌==◌, Bool, true, false, ◌&&◌, ◌||◌, not, max, if◌then◌else◌, Some, None, List, [], ◌∷◌, ◌++◌, refl, ap, sym, ◌∙◌, arith}
-use Rattle.std.specs.Prelude.{nat_le, nat_lt}
-use Rattle.std.specs.Option.{option_map_or}
-use Rattle.std.proofs.lemmas.Bool.{eq-eqb}
-use Rattle.std.proofs.lemmas.Bool.Decides.{nat_tests}
-use Rattle.ctrl_msg.specs.Bodies.{body_boot}
-use Rattle.ctrl_msg.specs.declared.message.Body.{Body}
-use Rattle.ctrl_msg.specs.declared.message.Body.TheVariants.{Install, OpenAt, Stamp, Advertise, Hello, Installed, Stamped}
-use Rattle.ctrl_msg.specs.Kinds.{is_for_controller}
-use Rattle.failover.specs.Adverts.{after_hearing}
-use Rattle.journal.specs.declared.item.Item.{Item}
+use Rattle.std.proofs.Common.{[], if◌then◌else◌, ◌&&◌, ◌++◌, ◌==◌, ◌||◌, ◌∙◌, ◌∷◌, ◌≡◌, Bool, List, None, Some, ap, arith, eq-eqb, false, max, nat_le, nat_lt, not, refl, sym, true, ℕ}
+use Rattle.base.proofs.Exports.{nat_tests, option_map_or}
+use Rattle.ctrl_msg.specs.Exports.{body_boot, is_for_controller}
+use Rattle.update_machine.specs.Exports.{Advertise, Body, Hello, Install, Installed, Item, OpenAt, Setting, Stamp, Stamped, Tables, body_to_switch, boot_of, heard, is_for_boot, is_up, message_of, to_switch, touched_by}
+use Rattle.failover.specs.Exports.{after_hearing}
 use Rattle.journal.specs.declared.item.Item.TheVariants as item
-use Rattle.switch_core.specs.Hearing.{after_body, collected_to, with_message, with_heard, with_installed, is_news_here, obeys, opening_stamp, opened_by, raised_to, replies_to, stamped_with}
-use Rattle.switch_core.specs.State.{SwitchValue, holds_version}
-use Rattle.switch_table.specs.Cache.{after_raise}
-use Rattle.switch_table.specs.declared.tables.Tables.{Tables}
-use Rattle.switch_table.specs.Carried.{after_carry}
-use Rattle.update_machine.specs.Boots.{boot_of, heard, is_for_boot, is_up, body_to_switch}
-use Rattle.update_machine.specs.Setting.{Setting}
-use Rattle.update_machine.specs.Settling.{to_switch}
-use Rattle.update_machine.specs.Links.{message_of}
-use Rattle.update_machine.specs.Touched.{touched_by}
-use Rattle.refinement.specs.SwitchOf.{switch_of}
+use Rattle.switch_core.specs.Exports.{SwitchValue, after_body, collected_to, holds_version, is_news_here, obeys, opened_by, opening_stamp, raised_to, replies_to, stamped_with, with_heard, with_installed, with_message}
+use Rattle.switch_table.specs.Exports.{after_carry, after_raise}
+use Rattle.refinement.specs.Exports.{switch_of}
 use Rattle.refinement.proofs.SwitchHears.{SaysTouched, hears_facts}
 use Rattle.refinement.proofs.SwitchFactItems.{facts_delivered}
 use Rattle.refinement.proofs.HeldTables.{AreVersioned, IsVersioned}

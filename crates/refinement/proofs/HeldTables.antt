@@ -1,17 +1,8 @@
 -- The tables that a switch holds are those that came and are above its collect mark.
-use Rattle.std.proofs.Common.{ℕ, ◌≡◌, ◌≤◌, ◌==◌, Bool, true, false, ◌&&◌, ◌||◌, not, max, if◌then◌else◌, List, [], ◌∷◌, ◌++◌, refl, ap, sym, subst, ◌∙◌, arith}
-use Rattle.std.specs.Prelude.{⊤, filter, filter_map, find, fold, is_some, nat_le, nat_lt}
-use Rattle.std.specs.List.{AllByRecursion, list_any}
-use Rattle.std.proofs.lemmas.Bool.{eq-eqb, eqb-true, or_left, or_right}
-use Rattle.std.proofs.lemmas.Bool.Decides.{nat_tests}
-use Rattle.std.proofs.Math.Bool.{or-false, or_assoc}
-use Rattle.base.proofs.ListsFiltered.{filter_same_on}
-use Rattle.base.proofs.ListsOfEach.{each_append}
-use Rattle.ctrl_msg.specs.declared.message.Body.{Body}
-use Rattle.ctrl_msg.specs.declared.message.Body.TheVariants.{Install, Collect}
-use Rattle.switch_table.specs.declared.tables.Tables.{Tables}
-use Rattle.update_machine.specs.Versions.{collects_version, installs_version}
-use Rattle.refinement.specs.SwitchOf.{collect_in, tables_in, with_tables}
+use Rattle.std.proofs.Common.{[], if◌then◌else◌, ◌&&◌, ◌++◌, ◌==◌, ◌||◌, ◌∙◌, ◌∷◌, ◌≡◌, ◌≤◌, Bool, List, ap, arith, eq-eqb, eqb-true, false, filter, filter_map, find, fold, is_some, max, nat_le, nat_lt, not, refl, subst, sym, true, ℕ}
+use Rattle.base.proofs.Exports.{AllByRecursion, each_append, filter_same_on, list_any, nat_tests, or-false, or_assoc, or_left, or_right, ⊤}
+use Rattle.update_machine.specs.Exports.{Body, Collect, Install, Tables, collects_version, installs_version}
+use Rattle.refinement.specs.Exports.{collect_in, tables_in, with_tables}
 use Rattle.refinement.proofs.SwitchFacts.{all_by, came_by, collected_by, tables_by}
 
 -- tables that a body brings have a version from 1 on

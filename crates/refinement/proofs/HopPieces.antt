@@ -1,37 +1,19 @@
 -- What a hop of a packet on its way writes, the calls that it counts, and where packets are then.
-use Rattle.std.proofs.Common.{ℕ, ◌≡◌, ◌==◌, Bool, true, false, ◌&&◌, if◌then◌else◌, Option, Some, None, List, [], ◌∷◌, ◌++◌, refl, ap, sym, subst, ◌∙◌, cond, arith}
-use Rattle.std.specs.Prelude.{unwrap_or}
-use Rattle.std.proofs.lemmas.List.Sums.{sum_by-cons}
-use Rattle.journal.specs.declared.item.Item.{Item}
+use Rattle.std.proofs.Common.{[], if◌then◌else◌, ◌&&◌, ◌++◌, ◌==◌, ◌∙◌, ◌∷◌, ◌≡◌, Bool, List, None, Option, Some, ap, arith, cond, false, refl, subst, sym, true, unwrap_or, ℕ}
+use Rattle.base.proofs.Exports.{sum_by-cons}
+use Rattle.update_machine.specs.Exports.{Hop, Item, NoneConcern, Ports, Setting, concerns_known, count_of, hop_items as hop_items_of, is_at, is_packet, move_items, next_message, nothing, piece, standing, stays_on_way, targets_of, travels, travels_at}
 use Rattle.journal.specs.declared.item.Item.TheVariants as item
-use Rattle.net_file.specs.declared.ports.Ports.{Ports}
-use Rattle.steps.specs.declared.step.Step.TheVariants.{Hop}
-use Rattle.switch_core.specs.Ends.{around}
-use Rattle.switch_core.specs.Answering.{received}
-use Rattle.switch_core.specs.Moving.{link_found_down, hop_answer}
-use Rattle.switch_core.specs.State.{SwitchValue, call_counted}
+use Rattle.switch_core.specs.Exports.{SwitchValue, around, call_counted, hop_answer, link_found_down, received}
 use Rattle.switch_core.specs.declared.tunnel_calls.HopEnd.{HopEnd}
 use Rattle.switch_core.specs.declared.tunnel_calls.HopEnd.TheVariants as hop
-use Rattle.tunnel.specs.Moves.{next}
-use Rattle.refinement.specs.Calls.{AreInStep}
-use Rattle.refinement.specs.SwitchOf.{switch_of}
+use Rattle.tunnel.specs.Exports.{next}
+use Rattle.refinement.specs.Exports.{AreInStep, flight_in, switch_of}
 use Rattle.refinement.proofs.SwitchSteps.{calls_refine}
-use Rattle.update_machine.specs.Concerns.{NoneConcern, concerns_known}
-use Rattle.update_machine.specs.Folds.{count_of}
-use Rattle.update_machine.specs.Handled.{stays_on_way}
-use Rattle.update_machine.specs.Messages.{next_message}
-use Rattle.update_machine.specs.Moves.{move_items}
-use Rattle.update_machine.specs.Packets.{is_packet, standing}
-use Rattle.update_machine.specs.Pieces.{nothing, piece, hop_items as hop_items_of}
-use Rattle.update_machine.specs.Setting.{Setting}
-use Rattle.update_machine.specs.Travels.{is_at, travels, travels_at}
-use Rattle.update_machine.specs.PacketRoutes.{targets_of}
-use Rattle.packet_laws.specs.Facts.{PacketFacts, what_is_known}
-use Rattle.packet_laws.proofs.PacketFacts.{facts_grow}
-use Rattle.world_log.specs.Packets.{arrival_items, ended_items, ended_switch, hop_written, hop_flight, hopped_flight, turned_items}
+use Rattle.packet_laws.specs.Exports.{PacketFacts, what_is_known}
+use Rattle.packet_laws.proofs.Exports.{facts_grow}
+use Rattle.world_log.specs.Exports.{arrival_items, ended_items, ended_switch, hop_flight, hop_written, hopped_flight, turned_items}
 use Rattle.travelling.specs.Travelling.{Flight, standing_at}
 use Rattle.world_log.proofs.HoppedPacket.{hopped_same}
-use Rattle.refinement.specs.Flights.{flight_in}
 use Rattle.refinement.proofs.CanAsk.{CanAsk}
 use Rattle.refinement.proofs.JournalLaws.{Known, flight_stays}
 use Rattle.refinement.proofs.AnswerItems.{arrived_later, hop_sends, later_packets}

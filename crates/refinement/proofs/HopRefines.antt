@@ -1,25 +1,13 @@
 -- A hop of a packet on its way keeps the tie of a world to its journal.
-use Rattle.std.proofs.Common.{ℕ, ◌≡◌, ◌+◌, ◌<◌, ◌==◌, Bool, true, false, ◌&&◌, if◌then◌else◌, List, ◌∷◌, ◌++◌, refl, ap, sym, subst, ◌∙◌, length, get_or, set, arith, eq-eqb, eqb-true}
-use Rattle.std.specs.Prelude.{is_some}
-use Rattle.std.proofs.lemmas.Bool.Decides.{nat_tests}
-use Rattle.std.proofs.lemmas.List.{length-set}
-use Rattle.message_bag.specs.Posts.{Post}
-use Rattle.journal.specs.declared.item.Item.{Item}
+use Rattle.std.proofs.Common.{if◌then◌else◌, ◌&&◌, ◌++◌, ◌+◌, ◌<◌, ◌==◌, ◌∙◌, ◌∷◌, ◌≡◌, Bool, List, ap, arith, eq-eqb, eqb-true, false, get_or, is_some, length, length-set, refl, set, subst, sym, true, ℕ}
+use Rattle.base.proofs.Exports.{nat_tests}
+use Rattle.message_bag.specs.Exports.{Post}
+use Rattle.update_machine.specs.Exports.{Hop, Item, Ports, Setting, is_at, next_message, piece, standing, travels}
 use Rattle.journal.specs.declared.item.Item.TheVariants as item
-use Rattle.net_file.specs.declared.ports.Ports.{Ports}
-use Rattle.steps.specs.declared.step.Step.TheVariants.{Hop}
-use Rattle.switch_core.specs.Moving.{hop_answer}
-use Rattle.switch_core.specs.State.{SwitchValue, call_counted}
-use Rattle.refinement.specs.SwitchOf.{switch_of}
-use Rattle.update_machine.specs.Messages.{next_message}
-use Rattle.update_machine.specs.Packets.{standing}
-use Rattle.update_machine.specs.Pieces.{piece}
-use Rattle.steps.specs.Steps.{IsStep}
-use Rattle.update_machine.specs.Setting.{Setting}
-use Rattle.update_machine.specs.Travels.{is_at, travels}
-use Rattle.world_log.specs.Packets.{ended_switch, hop_written, hop_posts, hop_flight, hopped_switch}
-use Rattle.refinement.specs.Refinement.{RefineJournal, NetworkState}
-use Rattle.refinement.specs.Flights.{flight_in}
+use Rattle.switch_core.specs.Exports.{SwitchValue, call_counted, hop_answer}
+use Rattle.refinement.specs.Exports.{NetworkState, RefineJournal, flight_in, switch_of}
+use Rattle.steps.specs.Exports.{IsStep}
+use Rattle.world_log.specs.Exports.{ended_switch, hop_flight, hop_posts, hop_written, hopped_switch}
 use Rattle.travelling.specs.Travelling.{Flight, Flights, WithOne, flight}
 use Rattle.refinement.proofs.CanAsk.{CanAsk}
 use Rattle.refinement.proofs.HopPieces.{hop_called, hop_later, hop_others, hop_own, hop_packets, hop_piece, left_piece}

@@ -1,32 +1,16 @@
 -- A packet that enters: its whole step keeps the tie.
-use Rattle.std.proofs.Common.{ℕ, ◌≡◌, ◌+◌, ◌<◌, ◌≤◌, ◌==◌, true, false, cond, List, [], ◌∷◌, ◌++◌, refl, ap, sym, subst, ◌∙◌, length, get_or, set, eq-eqb, arith, Option}
-use Rattle.std.specs.Prelude.{slice_index}
-use Rattle.std.proofs.lemmas.List.{length-set}
-use Rattle.std.proofs.lemmas.List.Sums.{sum_by-cons}
-use Rattle.five_tuple.specs.declared.header.Header.{Header}
-use Rattle.net_file.specs.Owners.{AreOwners}
-use Rattle.net_file.specs.declared.ports.Ports.{Ports}
-use Rattle.message_bag.specs.Posts.{Post}
-use Rattle.journal.specs.declared.item.Item.{Item}
+use Rattle.std.proofs.Common.{[], ◌++◌, ◌+◌, ◌<◌, ◌==◌, ◌∙◌, ◌∷◌, ◌≡◌, ◌≤◌, List, Option, ap, arith, cond, eq-eqb, false, get_or, length, length-set, refl, set, slice_index, subst, sym, true, ℕ}
+use Rattle.base.proofs.Exports.{sum_by-cons}
+use Rattle.update_machine.specs.Exports.{Header, Item, Packet as PacketStep, Ports, Setting, Step, count_of, is_packet, next_message, next_packet, packet_items, piece, targets_of}
+use Rattle.net_file.specs.Exports.{AreOwners}
+use Rattle.message_bag.specs.Exports.{Post}
 use Rattle.journal.specs.declared.item.Item.TheVariants as item
-use Rattle.steps.specs.declared.step.Step.{Step}
-use Rattle.steps.specs.declared.step.Step.TheVariants.{Packet as PacketStep}
-use Rattle.switch_core.specs.State.{SwitchValue, call_counted}
-use Rattle.switch_core.specs.Answers.{Answer}
-use Rattle.refinement.specs.SwitchOf.{switch_of}
-use Rattle.update_machine.specs.Folds.{count_of}
-use Rattle.update_machine.specs.Messages.{next_message}
-use Rattle.update_machine.specs.Packets.{is_packet, next_packet}
-use Rattle.update_machine.specs.Pieces.{packet_items, piece}
-use Rattle.steps.specs.Steps.{IsStep}
-use Rattle.update_machine.specs.Setting.{Setting}
-use Rattle.update_machine.specs.PacketRoutes.{targets_of}
-use Rattle.packet_laws.specs.OnWay.{IsUnknown}
-use Rattle.packet_laws.specs.Facts.{what_is_known}
-use Rattle.world_log.specs.Packets.{coming_in, entry}
-use Rattle.refinement.specs.Refinement.{RefineJournal, NetworkState}
+use Rattle.switch_core.specs.Exports.{Answer, SwitchValue, call_counted}
+use Rattle.refinement.specs.Exports.{NetworkState, RefineJournal, switch_of}
+use Rattle.steps.specs.Exports.{IsStep}
+use Rattle.packet_laws.specs.Exports.{IsUnknown, what_is_known}
+use Rattle.world_log.specs.Exports.{coming_in, entered_flight, entered_items, entered_posts, entry}
 use Rattle.travelling.specs.Travelling.{Flights, WithOne, flight, Standing}
-use Rattle.world_log.specs.Writing.{entered_items, entered_posts, entered_flight}
 use Rattle.refinement.proofs.ComePieces.{come_along, come_called, entered_once}
 use Rattle.refinement.proofs.AskingSwitch.{known_of, seen}
 use Rattle.refinement.proofs.IncomingWrites.{ComesTo, come_goes, come_law, looking}

@@ -1,30 +1,17 @@
 -- A packet that enters: what its step writes.
-use Rattle.std.proofs.Common.{ℕ, ◌≡◌, ◌<◌, ◌==◌, Bool, true, false, if◌then◌else◌, List, [], ◌∷◌, ◌++◌, refl, ap, sym, subst, ◌∙◌, length, eq-eqb, Option, Some, None}
-use Rattle.failover.specs.Links.{no_links}
-use Rattle.five_tuple.specs.Header.{IsHeader}
-use Rattle.five_tuple.specs.declared.header.Header.{Header}
-use Rattle.net_file.specs.Owners.{AreOwners}
-use Rattle.net_file.specs.declared.ports.Ports.{Ports}
-use Rattle.journal.specs.declared.item.Item.{Item}
+use Rattle.std.proofs.Common.{[], if◌then◌else◌, ◌++◌, ◌<◌, ◌==◌, ◌∙◌, ◌∷◌, ◌≡◌, Bool, List, None, Option, Some, ap, eq-eqb, false, length, refl, subst, sym, true, ℕ}
+use Rattle.failover.specs.Exports.{no_links}
+use Rattle.five_tuple.specs.Exports.{IsHeader}
+use Rattle.update_machine.specs.Exports.{Header, Item, Ports, Setting, Step, lookup_items, next_message, packet_items, serves, targets_of}
+use Rattle.net_file.specs.Exports.{AreOwners}
 use Rattle.journal.specs.declared.item.Item.TheVariants as item
-use Rattle.steps.specs.declared.step.Step.{Step}
-use Rattle.switch_core.specs.Answering.{admitted, incoming_packet, looked_up}
-use Rattle.switch_core.specs.Ends.{around}
-use Rattle.switch_core.specs.State.{SwitchValue, serves as serves_now}
-use Rattle.switch_core.specs.Answers.{Answer}
+use Rattle.switch_core.specs.Exports.{Answer, SwitchValue, admitted, around, incoming_packet, looked_up, serves as serves_now}
 use Rattle.switch_core.specs.declared.tunnel_calls.Packet.{Packet}
-use Rattle.update_machine.specs.Links.{serves}
-use Rattle.update_machine.specs.Messages.{next_message}
-use Rattle.update_machine.specs.Moves.{lookup_items}
-use Rattle.update_machine.specs.PacketRoutes.{targets_of}
-use Rattle.update_machine.specs.Pieces.{packet_items}
-use Rattle.update_machine.specs.Setting.{Setting}
-use Rattle.update_machine.proofs.CallerLemmas.{have_append, messages_keep, switch_keeps}
-use Rattle.control_laws.specs.ItemCauses.{HasItemCause}
-use Rattle.packet_laws.specs.Facts.{what_is_known}
-use Rattle.packet_laws.proofs.PacketFacts.{facts_grow}
-use Rattle.world_log.specs.Packets.{coming_in, entry}
-use Rattle.world_log.specs.Writing.{answer_items, entered_items}
+use Rattle.update_machine.proofs.Exports.{have_append, messages_keep, switch_keeps}
+use Rattle.control_laws.specs.Exports.{HasItemCause}
+use Rattle.packet_laws.specs.Exports.{what_is_known}
+use Rattle.packet_laws.proofs.Exports.{facts_grow}
+use Rattle.world_log.specs.Exports.{answer_items, coming_in, entered_items, entry}
 use Rattle.refinement.proofs.AuthorityDecisions.{IsPacket}
 use Rattle.refinement.proofs.OnwardPackets.{GoesIn, looked_goes}
 use Rattle.refinement.proofs.JournalLaws.{Known}

@@ -1,39 +1,14 @@
 -- What the laws say of a journal of steps of the network, and one more step of it.
-use Rattle.std.proofs.Common.{ℕ, ◌≡◌, Bool, true, false, Option, List, [], ◌∷◌, ◌++◌, refl, ap, sym, subst, ◌∙◌, length, arith, inl}
-use Rattle.std.specs.Prelude.{unwrap_or}
-use Rattle.std.proofs.lemmas.List.Elements.{All-push}
-use Rattle.journal.specs.declared.item.Item.{Item}
-use Rattle.policy_rules.specs.declared.packet.Leg.{Leg}
-use Rattle.policy_rules.specs.declared.packet.Leg.TheVariants.{Seek, Exit}
-use Rattle.steps.specs.Steps.{IsStep}
-use Rattle.steps.specs.declared.step.Step.{Step}
-use Rattle.update_machine.specs.Answers.{IsReached, StepOfRow, after_steps}
-use Rattle.update_machine.specs.Causes.{HaveCauses}
-use Rattle.update_machine.specs.PacketRoutes.{targets_in, targets_of}
-use Rattle.update_machine.specs.Pieces.{piece}
-use Rattle.update_machine.specs.Setting.{Setting, IsSetting}
-use Rattle.update_machine.proofs.CallerLemmas.{plan_stays}
-use Rattle.control_laws.specs.BootLaws.{ServingIsKnown}
-use Rattle.control_laws.specs.ItemCauses.{HasItemCause}
-use Rattle.control_laws.proofs.SwitchOpenings.{caused_known, serving_known}
-use Rattle.control_laws.proofs.MarkLaws.{bounded}
-use Rattle.control_laws.proofs.NamedByMessages.{bodies_named}
-use Rattle.refinement.specs.Knowing.{TablesAreKnown}
-use Rattle.control_laws.proofs.VersionNumbers.{caused_numbered}
-use Rattle.control_laws.specs.Serving.{ServingHold}
-use Rattle.control_laws.proofs.PlannedTables.{tables_planned, versions_planned}
-use Rattle.control_laws.proofs.ServingSwitches.{serving_hold}
-use Rattle.control_laws.specs.Touched.{StampsSayTouched}
-use Rattle.control_laws.proofs.TouchedStamps.{stamps_touched}
-use Rattle.packet_laws.specs.OnWay.{IsOnLeg, IsOnWay}
-use Rattle.packet_laws.specs.Facts.{PacketFacts, what_is_known}
-use Rattle.packet_laws.specs.KeptFacts.{AllKept}
-use Rattle.packet_laws.specs.Rest.{IsServed}
-use Rattle.packet_laws.proofs.AllKept.{Before, all_kept}
-use Rattle.packet_laws.proofs.PacketsHere.{travels_in}
-use Rattle.packet_laws.proofs.ReachedJournals.{reached_settled}
-use Rattle.packet_laws.proofs.RestingPackets.{IsSettled, switches_of_all}
-use Rattle.refinement.specs.Flights.{flight_in}
+use Rattle.std.proofs.Common.{[], ◌++◌, ◌∙◌, ◌∷◌, ◌≡◌, Bool, List, Option, ap, arith, false, inl, length, refl, subst, sym, true, unwrap_or, ℕ}
+use Rattle.base.proofs.Exports.{All-push}
+use Rattle.update_machine.specs.Exports.{Exit, HaveCauses, IsReached, IsSetting, Item, Leg, Seek, Setting, Step, StepOfRow, after_steps, piece, targets_in, targets_of}
+use Rattle.steps.specs.Exports.{IsStep}
+use Rattle.update_machine.proofs.Exports.{plan_stays}
+use Rattle.control_laws.specs.Exports.{HasItemCause, ServingHold, ServingIsKnown, StampsSayTouched}
+use Rattle.control_laws.proofs.Exports.{bodies_named, bounded, caused_known, caused_numbered, serving_hold, serving_known, stamps_touched, tables_planned, versions_planned}
+use Rattle.refinement.specs.Exports.{TablesAreKnown, flight_in}
+use Rattle.packet_laws.specs.Exports.{AllKept, IsOnLeg, IsOnWay, IsServed, PacketFacts, what_is_known}
+use Rattle.packet_laws.proofs.Exports.{Before, IsSettled, all_kept, reached_settled, switches_of_all, travels_in}
 use Rattle.refinement.proofs.OtherPackets.{NoneName, unnamed}
 use Rattle.refinement.proofs.FactsAlong.{by_targets, flight_by, flight_now, facts_all}
 

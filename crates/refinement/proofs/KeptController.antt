@@ -1,24 +1,14 @@
 -- What leaves the controller as it was, and the start.
-use Rattle.std.proofs.Common.{ℕ, ◌≡◌, ◌≢◌, ◌+◌, ◌<◌, List, [], ◌∷◌, ◌++◌, length, replicate, refl, ap, sym, subst, ◌∙◌, arith, inl, inr}
-use Rattle.std.specs.Prelude.{IsFalse, IsTrue, Some, unwrap_or}
-use Rattle.std.proofs.lemmas.Bool.{cases_eq}
-use Rattle.std.proofs.lemmas.List.{get_or-replicate, get_or-set_other, get_or-set_same, length-replicate, length-set}
-use Rattle.journal.specs.declared.item.Item.{Item}
+use Rattle.std.proofs.Common.{[], ◌++◌, ◌+◌, ◌<◌, ◌∙◌, ◌∷◌, ◌≡◌, ◌≢◌, IsFalse, IsTrue, List, Some, ap, arith, get_or-set_other, get_or-set_same, inl, inr, length, length-set, refl, replicate, subst, sym, unwrap_or, ℕ}
+use Rattle.base.proofs.Exports.{cases_eq, get_or-replicate, length-replicate}
+use Rattle.update_machine.specs.Exports.{ControllerKeeps, Item, Setting, acked_stamp, controller_heard, current_mark, has_acked, is_member, is_over, known_boot, open_sent, opened_at, retired_mark, version_count}
 use Rattle.journal.specs.declared.item.Item.TheVariants as item
-use Rattle.update_machine.specs.Laws.{ControllerKeeps}
-use Rattle.update_machine.specs.Marks.{acked_stamp, controller_heard, current_mark, has_acked, is_member, is_over, known_boot, open_sent, opened_at, retired_mark}
-use Rattle.update_machine.specs.Setting.{Setting}
-use Rattle.update_machine.specs.Versions.{version_count}
-use Rattle.update_machine.proofs.CallerLemmas.{start_laws}
-use Rattle.control_laws.proofs.FactsGrown.{count_more, current_more, known_more, over_more, retired_more, told_more}
-use Rattle.control_laws.proofs.MessageSends.{acked_same}
-use Rattle.control_laws.proofs.MemberFacts.{opened_same}
-use Rattle.control_laws.proofs.ControllerLeft.{member_same, stamp_same}
-use Rattle.version_update.specs.Marks.{MarksValue, at_switch, first_marks, record_of}
-use Rattle.version_update.specs.Record.{first_record, unknown_switch}
+use Rattle.update_machine.proofs.Exports.{start_laws}
+use Rattle.control_laws.proofs.Exports.{acked_same, count_more, current_more, known_more, member_same, opened_same, over_more, retired_more, stamp_same, told_more}
+use Rattle.version_update.specs.Exports.{MarksValue, at_switch, first_marks, first_record, record_of, unknown_switch}
 use Rattle.version_update.specs.declared.record.SwitchRecord.{SwitchRecord}
 use Rattle.version_update.proofs.AcknowledgedVersions.{first_acked}
-use Rattle.refinement.specs.Marks.{AreMarksOf, IsKnown}
+use Rattle.refinement.specs.Exports.{AreMarksOf, IsKnown}
 
 -- ---- one switch
 

@@ -1,46 +1,23 @@
 -- The link of two switches comes back or fails: what its ends are then, what is told of that, and
 -- what the parts are behind it.
-use Rattle.std.proofs.Common.{ℕ, ◌≡◌, ◌+◌, ◌^◌, ◌<◌, ◌==◌, Bool, true, false, Option, Some, None, List, [], ◌∷◌, ◌++◌, refl, ap, sym, ◌∙◌, length, get_or, min, max, append_assoc, arith, eqb-true}
-use Rattle.std.specs.Bool.{beq}
-use Rattle.std.specs.Prelude.{◌||◌, ◌&&◌, if◌then◌else◌, unwrap_or}
-use Rattle.std.specs.Option.{option_or}
-use Rattle.std.proofs.lemmas.Bool.{and_parts}
-use Rattle.std.proofs.lemmas.Bool.Decides.{nat_tests}
-use Rattle.ctrl_msg.specs.declared.message.Message.{Message}
-use Rattle.journal.specs.declared.item.Item.{Item}
+use Rattle.std.proofs.Common.{[], if◌then◌else◌, ◌&&◌, ◌++◌, ◌+◌, ◌<◌, ◌==◌, ◌^◌, ◌||◌, ◌∙◌, ◌∷◌, ◌≡◌, Bool, List, None, Option, Some, ap, append_assoc, arith, eqb-true, false, get_or, length, max, min, refl, sym, true, unwrap_or, ℕ}
+use Rattle.base.proofs.Exports.{and_parts, any_filter_by, beq, has_mask, mask_of_is, nat_tests, option_or}
+use Rattle.update_machine.specs.Exports.{Item, LinkRow, Message, Net, Setting, Step, concerns_calls, gives_link, is_link_up, items_then, last_given, link_changes, link_items, near, nothing, piece, sent_from}
 use Rattle.journal.specs.declared.item.Item.TheVariants as item
-use Rattle.base.specs.Masks.{has}
-use Rattle.base.proofs.CallerLemmas.{has_mask, mask_of_is}
-use Rattle.base.proofs.ListsOfAny.{any_filter_by}
-use Rattle.net_file.specs.Joins.{are_linked, joins}
-use Rattle.net_file.specs.declared.net.LinkRow.{LinkRow}
-use Rattle.net_file.specs.declared.net.Net.{Net}
+use Rattle.base.specs.Exports.{has}
+use Rattle.net_file.specs.Exports.{are_linked, joins}
 use Rattle.net_file.proofs.RowPlaces.{links as link_laws}
-use Rattle.control_laws.specs.Steps.{asks_controller}
-use Rattle.steps.specs.Steps.{HasLink, IsStep}
-use Rattle.steps.specs.declared.step.Step.{Step}
-use Rattle.switch_core.specs.Life.{next_advert}
-use Rattle.switch_core.specs.State.{SwitchValue}
-use Rattle.refinement.specs.Links.{LeavesSwitch, relinked_switch}
+use Rattle.control_laws.specs.Exports.{asks_controller}
+use Rattle.steps.specs.Exports.{HasLink, IsStep}
+use Rattle.switch_core.specs.Exports.{SwitchValue, next_advert}
+use Rattle.refinement.specs.Exports.{LeavesSwitch, NetworkState, RefineJournal, is_up_link, link_step, relinked_switch, up_links}
 use Rattle.refinement.proofs.SwitchLinkChanges.{links_refine}
-use Rattle.update_machine.specs.Concerns.{concerns_calls}
-use Rattle.update_machine.specs.Deliveries.{link_changes}
-use Rattle.update_machine.specs.Links.{is_link_up, gives_link}
-use Rattle.update_machine.specs.Folds.{last_given}
-use Rattle.update_machine.specs.Messages.{sent_from}
-use Rattle.update_machine.specs.Moves.{items_then}
-use Rattle.update_machine.specs.Pieces.{link_items, nothing, piece}
-use Rattle.update_machine.specs.Setting.{Setting}
-use Rattle.update_machine.specs.LinkMasks.{near}
-use Rattle.update_machine.proofs.CallerLemmas.{last_given_append}
-use Rattle.refinement.specs.Links.{link_step}
-use Rattle.world_log.specs.Linking.{AreRelinked, SetsLink, all_adverts_sent, near_all}
-use Rattle.refinement.specs.Refinement.{RefineJournal, NetworkState, is_up_link, up_links}
+use Rattle.update_machine.proofs.Exports.{last_given_append}
+use Rattle.world_log.specs.Exports.{AreRelinked, MaySend, SetsLink, all_adverts_sent, near_all}
 use Rattle.refinement.proofs.BagDeliveries.{nothing_happens}
 use Rattle.refinement.proofs.OneItem.{WroteOne}
 use Rattle.refinement.proofs.PostedFrames.{bag_on}
 use Rattle.refinement.proofs.LinksChange.{relinked_state, LinksChange, change_piece, change_may, unmoved, change_refines}
-use Rattle.world_log.specs.Sending.{MaySend}
 
 -- ---- links that are up
 

@@ -1,55 +1,28 @@
 -- Links change behind the first items of a step: what is told of that, and what the parts are
 -- behind it.
-use Rattle.std.proofs.Common.{ℕ, ◌≡◌, ◌+◌, ◌-◌, ◌^◌, ◌<◌, ◌==◌, Bool, true, false, List, [], ◌∷◌, ◌++◌, refl, ap, sym, subst, ◌∙◌, length, get_or, map, filter, set, append_assoc, arith, eq-eqb, eqb-true}
-use Rattle.std.specs.Prelude.{IsFalse, All}
-use Rattle.std.specs.List.{flat_map}
-use Rattle.std.proofs.lemmas.List.{get_or-set_other, get_or-set_same, length-set}
-use Rattle.message_bag.specs.Posts.{Post, new_post}
-use Rattle.control_laws.proofs.SwitchOpenings.{caused_known, serving_known}
-use Rattle.control_laws.specs.ItemCauses.{HasItemCause}
-use Rattle.control_laws.proofs.ItemFacts.{have_front}
+use Rattle.std.proofs.Common.{[], ◌++◌, ◌+◌, ◌-◌, ◌<◌, ◌==◌, ◌^◌, ◌∙◌, ◌∷◌, ◌≡◌, All, Bool, IsFalse, List, ap, append_assoc, arith, eq-eqb, eqb-true, false, filter, get_or, get_or-set_other, get_or-set_same, length, length-set, map, refl, set, subst, sym, true, ℕ}
+use Rattle.base.proofs.Exports.{flat_map, has_mask}
+use Rattle.message_bag.specs.Exports.{Post, new_post}
+use Rattle.control_laws.proofs.Exports.{caused_known, fit_in_room, have_front, serving_known}
+use Rattle.control_laws.specs.Exports.{HasItemCause, NumbersFit, asks_controller}
 use Rattle.controller.specs.declared.sends.Act.{Act}
 use Rattle.controller.specs.declared.sends.Act.TheVariants.{Post as PostAct}
-use Rattle.ctrl_msg.specs.declared.message.Message.{Message}
-use Rattle.journal.specs.declared.item.Item.{Item}
+use Rattle.update_machine.specs.Exports.{HasRoom, HaveCauses, Item, Message, Setting, Step, count_of, has_changed, is_packet, link_changes, messages_of, near, own_advert, piece, sent_from, switches_of}
 use Rattle.journal.specs.declared.item.Item.TheVariants as item
-use Rattle.refinement.specs.Bags.{IsBagOf}
-use Rattle.refinement.specs.Flights.{flight_in}
+use Rattle.refinement.specs.Exports.{AreUp, AreUsable, HasNextSeq, IsBagOf, LeavesSwitch, NetworkState, RefineJournal, flight_in, relinked_switch, switch_of, up_links}
 use Rattle.refinement.proofs.JournalLaws.{reached_known, reached_more, flight_stays}
 use Rattle.refinement.proofs.OtherPackets.{NoneName, none_more}
 use Rattle.refinement.proofs.PostedFrames.{bag_sends}
-use Rattle.base.specs.Masks.{has}
-use Rattle.base.proofs.CallerLemmas.{has_mask}
-use Rattle.net_file.specs.Joins.{are_linked}
-use Rattle.control_laws.specs.Sends.{NumbersFit}
-use Rattle.control_laws.proofs.NumbersFit.{fit_in_room}
-use Rattle.control_laws.specs.Steps.{asks_controller}
-use Rattle.steps.specs.Steps.{IsStep}
-use Rattle.steps.specs.declared.step.Step.{Step}
-use Rattle.switch_core.specs.Life.{next_advert}
-use Rattle.switch_core.specs.State.{SwitchValue}
-use Rattle.refinement.specs.Asked.{HasNextSeq}
-use Rattle.refinement.specs.Links.{LeavesSwitch, relinked_switch}
-use Rattle.refinement.specs.SwitchOf.{switch_of}
+use Rattle.base.specs.Exports.{has}
+use Rattle.net_file.specs.Exports.{are_linked}
+use Rattle.steps.specs.Exports.{IsStep}
+use Rattle.switch_core.specs.Exports.{SwitchValue, next_advert}
 use Rattle.refinement.proofs.AskedRequirements.{requirements_hold}
 use Rattle.refinement.proofs.SwitchLinkChanges.{links_refine}
 use Rattle.travelling.specs.Travelling.{Flights, flight}
-use Rattle.update_machine.specs.Adverts.{own_advert}
-use Rattle.update_machine.specs.Causes.{HaveCauses}
-use Rattle.update_machine.specs.Deliveries.{has_changed, link_changes, messages_of}
-use Rattle.update_machine.specs.Folds.{count_of}
-use Rattle.update_machine.specs.Full.{HasRoom}
-use Rattle.update_machine.specs.LinkMasks.{near}
-use Rattle.update_machine.specs.Messages.{sent_from}
-use Rattle.update_machine.specs.Packets.{is_packet}
-use Rattle.update_machine.specs.Pieces.{piece}
-use Rattle.update_machine.specs.Setting.{Setting}
-use Rattle.update_machine.specs.SwitchNumbers.{switches_of}
-use Rattle.update_machine.proofs.CallerLemmas.{count_of_append}
-use Rattle.world_log.specs.Linking.{AreRelinked, all_adverts_sent, near_all}
-use Rattle.world_log.specs.Sending.{MaySend, act_items, act_posts}
+use Rattle.update_machine.proofs.Exports.{count_of_append}
+use Rattle.world_log.specs.Exports.{AreRelinked, MaySend, act_items, act_posts, all_adverts_sent, near_all}
 use Rattle.world_log.proofs.MessageLogs.{posts_as_acts, sent_as_acts}
-use Rattle.refinement.specs.Refinement.{RefineJournal, AreUp, AreUsable, NetworkState, up_links}
 use Rattle.refinement.proofs.ActItems.{acts_bring_none, acts_posted, acts_send, acts_unnamed}
 use Rattle.refinement.proofs.RelinkedItems.{CanRelink, near_now, switches_now, told_now, up_ends}
 use Rattle.refinement.proofs.ToldSteps.{acts_leave, links_left}

@@ -1,43 +1,19 @@
 -- What a switch answers by a lookup is what the journal's definitions say.
-use Rattle.std.proofs.Common.{ℕ, ◌≡◌, ◌<◌, Option, Some, List, [], ◌∷◌, ◌++◌, refl, ap, sym, subst, ◌∙◌, length, arith, slice_get}
-use Rattle.std.specs.Prelude.{IsTrue, Result, Ok, Err, option_map, unwrap_or}
-use Rattle.std.proofs.lemmas.Option.{get_or_from_slice_get}
-use Rattle.five_tuple.specs.Header.{IsHeader}
-use Rattle.five_tuple.specs.declared.header.Header.{Header}
-use Rattle.net_file.specs.Owners.{AreOwners}
-use Rattle.net_file.specs.declared.ports.Ports.{Ports}
-use Rattle.policy_rules.specs.declared.packet.Cause.{Cause}
-use Rattle.policy_rules.specs.declared.packet.Leg.{Leg}
-use Rattle.policy_rules.specs.declared.packet.Leg.TheVariants.{Seek}
-use Rattle.policy_rules.specs.declared.rules.Partition.{Partition}
-use Rattle.policy_rules.specs.declared.rules.Rule.{Rule}
-use Rattle.journal.specs.declared.item.Item.{Item}
+use Rattle.std.proofs.Common.{[], ◌++◌, ◌<◌, ◌∙◌, ◌∷◌, ◌≡◌, Err, IsTrue, List, Ok, Option, Result, Some, ap, arith, length, option_map, refl, slice_get, subst, sym, unwrap_or, ℕ}
+use Rattle.base.proofs.Exports.{get_or_from_slice_get}
+use Rattle.five_tuple.specs.Exports.{IsHeader}
+use Rattle.update_machine.specs.Exports.{CacheEntry, Cause, Found, HaveCauses, Header, IsSetting, Item, Leg, Partition, Ports, Rule, Seek, Setting, Tables, authority_items, authority_rule, found_items, lookup_at, lookup_items, next_message, plan_at, policy_at, sent_from, serves, stamp_of, tables_at, targets_of}
+use Rattle.net_file.specs.Exports.{AreOwners}
 use Rattle.journal.specs.declared.item.Item.TheVariants as item
-use Rattle.switch_core.specs.Answering.{answer_by, decided_at, looked_up, seek_by}
-use Rattle.switch_core.specs.Deciding.{by_entry, by_rule, rule_for_cache, no_rule, part_numbered, rule_in}
-use Rattle.switch_core.specs.Ends.{Site, around, next_of, set_out}
-use Rattle.switch_core.specs.State.{SwitchValue, stamp_tables}
-use Rattle.switch_core.specs.Answers.{Decided}
+use Rattle.switch_core.specs.Exports.{Decided, Site, SwitchValue, answer_by, around, by_entry, by_rule, decided_at, looked_up, next_of, no_rule, part_numbered, rule_for_cache, rule_in, seek_by, set_out, stamp_tables}
 use Rattle.switch_core.specs.declared.deciding.Decision.{Decision}
 use Rattle.switch_core.specs.declared.tunnel_calls.Packet.{Packet}
-use Rattle.switch_table.specs.Tables.{Hosted, has_target, part_of}
-use Rattle.switch_table.specs.declared.cache.CacheEntry.{CacheEntry}
-use Rattle.switch_table.specs.declared.search.Found.{Found}
+use Rattle.switch_table.specs.Exports.{Hosted, has_target, part_of}
 use Rattle.switch_table.specs.declared.search.Found.TheVariants as found
-use Rattle.switch_table.specs.declared.tables.Tables.{Tables}
-use Rattle.tunnel.specs.Tunnel.{TunnelValue}
-use Rattle.update_machine.specs.Links.{serves}
-use Rattle.update_machine.specs.Caches.{lookup_at}
-use Rattle.update_machine.specs.Causes.{HaveCauses}
-use Rattle.update_machine.specs.Messages.{next_message, sent_from}
-use Rattle.update_machine.specs.Moves.{authority_items, authority_rule, found_items, lookup_items}
-use Rattle.update_machine.specs.PacketRoutes.{targets_of}
-use Rattle.update_machine.specs.Setting.{Setting, IsSetting}
-use Rattle.update_machine.specs.Versions.{policy_at, stamp_of, tables_at, plan_at}
-use Rattle.control_laws.specs.ItemCauses.{HasItemCause}
-use Rattle.packet_laws.proofs.HeaderLookups.{FindsRule, FindsTargets, IsStamped, authority_found, deciding, redirect_found, rule_there, stamped}
-use Rattle.packet_laws.proofs.PlanLookups.{Finds, IsPlanned}
-use Rattle.world_log.specs.Writing.{answer_items, set_item}
+use Rattle.tunnel.specs.Exports.{TunnelValue}
+use Rattle.control_laws.specs.Exports.{HasItemCause}
+use Rattle.packet_laws.proofs.Exports.{Finds, FindsRule, FindsTargets, IsPlanned, IsStamped, authority_found, deciding, redirect_found, rule_there, stamped}
+use Rattle.world_log.specs.Exports.{answer_items, set_item}
 use Rattle.travelling.specs.Travelling.{Standing}
 use Rattle.refinement.proofs.AuthorityDecisions.{IsPacket, authority_law, decided_facts, found_of, header_is}
 use Rattle.refinement.proofs.DecidedEnds.{end_law}

@@ -1,19 +1,12 @@
 -- A packet is lost.
-use Rattle.std.proofs.Common.{ℕ, ◌≡◌, ◌==◌, Bool, true, false, if◌then◌else◌, Some, None, List, [], ◌∷◌, ◌++◌, refl, ap, sym, ◌∙◌, arith, length}
-use Rattle.std.specs.Prelude.{is_some}
-use Rattle.std.proofs.lemmas.Bool.Decides.{nat_tests}
-use Rattle.journal.specs.declared.item.Item.{Item}
+use Rattle.std.proofs.Common.{[], if◌then◌else◌, ◌++◌, ◌==◌, ◌∙◌, ◌∷◌, ◌≡◌, Bool, List, None, Some, ap, arith, false, is_some, length, refl, sym, true, ℕ}
+use Rattle.base.proofs.Exports.{nat_tests}
+use Rattle.update_machine.specs.Exports.{Item, Lose, Setting, Step, lose_items, nothing, piece, travels}
 use Rattle.journal.specs.declared.item.Item.TheVariants as item
-use Rattle.steps.specs.declared.step.Step.{Step}
-use Rattle.steps.specs.declared.step.Step.TheVariants.{Lose}
-use Rattle.update_machine.specs.Travels.{travels}
-use Rattle.update_machine.specs.Pieces.{lose_items, nothing, piece}
-use Rattle.steps.specs.Steps.{IsStep}
-use Rattle.update_machine.specs.Setting.{Setting}
-use Rattle.packet_laws.specs.Facts.{what_is_known}
-use Rattle.packet_laws.proofs.PacketFacts.{facts_grow}
-use Rattle.refinement.specs.Refinement.{RefineJournal, NetworkState}
-use Rattle.refinement.specs.Flights.{flight_in}
+use Rattle.steps.specs.Exports.{IsStep}
+use Rattle.packet_laws.specs.Exports.{what_is_known}
+use Rattle.packet_laws.proofs.Exports.{facts_grow}
+use Rattle.refinement.specs.Exports.{NetworkState, RefineJournal, flight_in}
 use Rattle.travelling.specs.Travelling.{Flights, WithOne, flight}
 use Rattle.refinement.proofs.JournalLaws.{Known, reached_known, flight_stays}
 use Rattle.refinement.proofs.BagDeliveries.{nothing_happens}

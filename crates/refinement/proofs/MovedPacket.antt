@@ -1,55 +1,24 @@
 -- A packet on its way at its switch: what a hop writes, and what becomes of the packet.
-use Rattle.std.proofs.Common.{ℕ, ◌≡◌, ◌+◌, Bool, true, false, Option, Some, None, List, [], ◌∷◌, ◌++◌, refl, ap, sym, subst, ◌∙◌, rules}
-use Rattle.std.specs.Prelude.{IsTrue, nat_eq, option_map, slice_get, unwrap_or}
-use Rattle.std.specs.List.{list_any}
-use Rattle.failover.specs.Links.{with_link}
-use Rattle.failover.specs.Routes.{route_of}
-use Rattle.five_tuple.specs.declared.header.Header.{Header}
-use Rattle.base.specs.Masks.{has}
-use Rattle.net_file.specs.Owners.{AreOwners}
-use Rattle.net_file.specs.declared.ports.Ports.{Ports}
-use Rattle.policy_rules.specs.declared.packet.Cause.{Cause}
-use Rattle.policy_rules.specs.declared.packet.Leg.{Leg}
-use Rattle.policy_rules.specs.declared.packet.Leg.TheVariants.{Seek, Exit}
-use Rattle.journal.specs.declared.item.Item.{Item}
+use Rattle.std.proofs.Common.{[], ◌++◌, ◌+◌, ◌∙◌, ◌∷◌, ◌≡◌, Bool, IsTrue, List, None, Option, Some, ap, false, nat_eq, option_map, refl, rules, slice_get, subst, sym, true, unwrap_or, ℕ}
+use Rattle.base.proofs.Exports.{list_any}
+use Rattle.failover.specs.Exports.{route_of, with_link}
+use Rattle.update_machine.specs.Exports.{Cause, Exit, HaveCauses, Header, Hop, Item, Leg, Ports, Seek, Setting, arrive_items, cause_at, found_down, go_on, items_then, leg_of, move_items, near, next_message, next_switch, no_switch, owner, reroute_by, reroute_items, route_for, route_from, serves, stays_on_way, stuck_on, targets_of}
+use Rattle.base.specs.Exports.{has}
+use Rattle.net_file.specs.Exports.{AreOwners}
 use Rattle.journal.specs.declared.item.Item.TheVariants as item
-use Rattle.steps.specs.declared.step.Step.TheVariants.{Hop}
-use Rattle.switch_core.specs.Answering.{arrived_on, received}
-use Rattle.switch_core.specs.Ends.{around, cause_of}
-use Rattle.switch_core.specs.Moving.{Moved, link_found_down as found_by, hop_answer, hopped_to, move_answer, moved_along, rerouted_here}
-use Rattle.switch_core.specs.State.{SwitchValue, call_counted}
-use Rattle.switch_core.specs.Answers.{Arrival}
+use Rattle.switch_core.specs.Exports.{Arrival, Moved, SwitchValue, around, arrived_on, call_counted, cause_of, hop_answer, hopped_to, link_found_down as found_by, move_answer, moved_along, received, rerouted_here}
 use Rattle.switch_core.specs.declared.tunnel_calls.HopEnd.{HopEnd}
 use Rattle.switch_core.specs.declared.tunnel_calls.HopEnd.TheVariants as hop
 use Rattle.switch_core.specs.declared.tunnel_calls.Packet.{Packet}
-use Rattle.switch_table.specs.Tables.{Hosted}
-use Rattle.tunnel.specs.Moves.{here, next}
-use Rattle.tunnel.specs.Tunnel.{TunnelValue}
-use Rattle.update_machine.specs.Adverts.{route_from}
-use Rattle.update_machine.specs.Links.{serves}
-use Rattle.update_machine.specs.Causes.{HaveCauses}
-use Rattle.update_machine.specs.Handled.{stays_on_way}
-use Rattle.update_machine.specs.LinkMasks.{near}
-use Rattle.update_machine.specs.Messages.{next_message}
-use Rattle.update_machine.specs.Moves.{arrive_items, cause_at, go_on, move_items, items_then, reroute_by, reroute_items, route_for, stuck_on}
-use Rattle.update_machine.specs.PacketRoutes.{found_down, next_switch, no_switch, owner, targets_of}
-use Rattle.update_machine.specs.Setting.{Setting}
-use Rattle.update_machine.specs.Travels.{leg_of}
-use Rattle.update_machine.proofs.CallerLemmas.{have_append, messages_keep, switch_keeps}
-use Rattle.control_laws.specs.ItemCauses.{HasItemCause}
-use Rattle.control_laws.proofs.ItemFacts.{own}
-use Rattle.packet_laws.specs.OnWay.{IsOnLeg}
-use Rattle.packet_laws.specs.Facts.{PacketFacts, what_is_known}
-use Rattle.packet_laws.proofs.PacketFacts.{facts_grow}
-use Rattle.packet_laws.specs.Stages.{stage_of}
-use Rattle.packet_laws.proofs.AllKept.{knows}
-use Rattle.packet_laws.proofs.PacketEnds.{last_here, one_target}
-use Rattle.packet_laws.proofs.PacketsHere.{found_in, next_in}
-use Rattle.packet_laws.proofs.KeptFacts.{Knows}
-use Rattle.packet_laws.proofs.KnownRoutes.{IsWay, route_way}
-use Rattle.world_log.specs.Packets.{arrival, arrival_items, ended_items, ended_flight, hop_written, hop_flight, turned_items}
+use Rattle.switch_table.specs.Exports.{Hosted}
+use Rattle.tunnel.specs.Exports.{TunnelValue, here, next}
+use Rattle.update_machine.proofs.Exports.{have_append, messages_keep, switch_keeps}
+use Rattle.control_laws.specs.Exports.{HasItemCause}
+use Rattle.control_laws.proofs.Exports.{own}
+use Rattle.packet_laws.specs.Exports.{IsOnLeg, PacketFacts, stage_of, what_is_known}
+use Rattle.packet_laws.proofs.Exports.{IsWay, Knows, facts_grow, found_in, knows, last_here, next_in, one_target, route_way}
+use Rattle.world_log.specs.Exports.{arrival, arrival_items, arrived_items, ended_flight, ended_items, hop_flight, hop_written, turned_items}
 use Rattle.travelling.specs.Travelling.{Flight, standing_at, Standing}
-use Rattle.world_log.specs.Writing.{arrived_items}
 use Rattle.refinement.proofs.ArrivedPackets.{IsAtEnd, arrival_goes, arrive_comes, arrive_law, at_end_on, end_of_route, ours_of}
 use Rattle.refinement.proofs.OnwardPackets.{AreOfFacts}
 use Rattle.refinement.proofs.JournalLaws.{before_of}

@@ -1,11 +1,9 @@
 -- The switches of a world are those of its network.
-use Rattle.std.proofs.Common.{ℕ, ◌≡◌, ◌<◌, ◌≤◌, List, ◌∙◌, length, get_or, arith}
-use Rattle.journal.specs.declared.item.Item.{Item}
-use Rattle.steps.specs.Steps.{HasSwitch}
-use Rattle.switch_core.specs.State.{SwitchValue}
-use Rattle.refinement.specs.SwitchOf.{switch_of}
-use Rattle.update_machine.specs.Setting.{Setting}
-use Rattle.refinement.specs.Refinement.{RefineJournal, NetworkState}
+use Rattle.std.proofs.Common.{◌<◌, ◌∙◌, ◌≡◌, ◌≤◌, List, arith, get_or, length, ℕ}
+use Rattle.update_machine.specs.Exports.{Item, Setting}
+use Rattle.steps.specs.Exports.{HasSwitch}
+use Rattle.switch_core.specs.Exports.{SwitchValue}
+use Rattle.refinement.specs.Exports.{NetworkState, RefineJournal, switch_of}
 
 module _ {setting : Setting} {journal : List Item} {state : NetworkState}
     (refines : RefineJournal setting journal state) where

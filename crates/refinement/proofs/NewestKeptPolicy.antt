@@ -1,18 +1,12 @@
 -- The policy of the newest version, which the controller keeps.
-use Rattle.std.proofs.Common.{Bool, ℕ, zero, suc, ◌≡◌, ◌+◌, ◌-◌, ◌<◌, ◌≤◌, Some, List, map, ap, sym, ◌∙◌, arith, inl, inr}
-use Rattle.std.specs.Prelude.{◌==◌, find, option_map}
-use Rattle.std.specs.List.{range_with_len}
-use Rattle.std.proofs.lemmas.Bool.{cases_eq, eq-eqb, ne_eqb}
-use Rattle.controller.specs.Controller.{ControllerValue, KeptPlan, newest_policy}
-use Rattle.journal.specs.declared.item.Item.{Item}
-use Rattle.update_machine.specs.Marks.{current_mark}
-use Rattle.update_machine.specs.Setting.{IsSetting, Setting, policy_in}
-use Rattle.update_machine.specs.Versions.{HasPlan, version_count}
-use Rattle.update_machine.proofs.CallerLemmas.{begins_planned}
-use Rattle.control_laws.specs.Bounds.{MarksAreBounded}
-use Rattle.control_laws.proofs.MarkLaws.{bounded}
-use Rattle.control_laws.proofs.PlannedTables.{versions_planned}
-use Rattle.refinement.specs.Controller.{IsControllerOf, plan_to_keep}
+use Rattle.std.proofs.Common.{◌+◌, ◌-◌, ◌<◌, ◌==◌, ◌∙◌, ◌≡◌, ◌≤◌, Bool, List, Some, ap, arith, eq-eqb, find, inl, inr, map, ne_eqb, option_map, suc, sym, zero, ℕ}
+use Rattle.base.proofs.Exports.{cases_eq, range_with_len}
+use Rattle.controller.specs.Exports.{ControllerValue, KeptPlan, newest_policy}
+use Rattle.update_machine.specs.Exports.{HasPlan, IsSetting, Item, Setting, current_mark, policy_in, version_count}
+use Rattle.update_machine.proofs.Exports.{begins_planned}
+use Rattle.control_laws.specs.Exports.{MarksAreBounded}
+use Rattle.control_laws.proofs.Exports.{bounded, versions_planned}
+use Rattle.refinement.specs.Exports.{IsControllerOf, plan_to_keep}
 use Rattle.refinement.proofs.SettledMarks.{AreCaused}
 
 abbrev pub is_of : ℕ → KeptPlan → Bool

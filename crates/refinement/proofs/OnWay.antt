@@ -1,19 +1,10 @@
 -- A packet on its way: what is known of it.
-use Rattle.std.proofs.Common.{ℕ, ◌≡◌, ◌<◌, Bool, true, false, if◌then◌else◌, Some, None, List, refl, sym, length, get_or}
-use Rattle.std.specs.Prelude.{IsTrue, unwrap_or, option_map, slice_get}
-use Rattle.std.proofs.lemmas.Option.{slice_get_within, slice_get-get_or}
-use Rattle.base.proofs.OptionsMade.{some_same}
-use Rattle.five_tuple.specs.Header.{IsHeader}
-use Rattle.five_tuple.specs.declared.header.Header.{Header}
-use Rattle.policy_rules.specs.declared.packet.Leg.{Leg}
-use Rattle.journal.specs.declared.item.Item.{Item}
-use Rattle.tunnel.specs.Tunnel.{TunnelValue}
-use Rattle.update_machine.specs.Links.{serves}
-use Rattle.update_machine.specs.PacketRoutes.{targets_of}
-use Rattle.update_machine.specs.Setting.{Setting}
-use Rattle.packet_laws.specs.OnWay.{IsOnLeg, IsOnWay}
-use Rattle.packet_laws.specs.Facts.{PacketFacts, what_is_known}
-use Rattle.packet_laws.specs.Rest.{IsServed}
+use Rattle.std.proofs.Common.{if◌then◌else◌, ◌<◌, ◌≡◌, Bool, IsTrue, List, None, Some, false, get_or, length, option_map, refl, slice_get, sym, true, unwrap_or, ℕ}
+use Rattle.base.proofs.Exports.{slice_get-get_or, slice_get_within, some_same}
+use Rattle.five_tuple.specs.Exports.{IsHeader}
+use Rattle.update_machine.specs.Exports.{Header, Item, Leg, Setting, serves, targets_of}
+use Rattle.tunnel.specs.Exports.{TunnelValue}
+use Rattle.packet_laws.specs.Exports.{IsOnLeg, IsOnWay, IsServed, PacketFacts, what_is_known}
 use Rattle.travelling.specs.Travelling.{Flight}
 use Rattle.refinement.proofs.JournalLaws.{Known, Travels, travels_known}
 use Rattle.refinement.proofs.FactsAlong.{Targets, flight_by}

@@ -1,20 +1,12 @@
 -- A step that writes one item, by which no packet moves and no switch answers a call.
-use Rattle.std.proofs.Common.{ℕ, ◌≡◌, ◌<◌, List, [], ◌∷◌, ◌++◌, sym, ◌∙◌, length, get_or, arith}
-use Rattle.message_bag.specs.Posts.{Post}
+use Rattle.std.proofs.Common.{[], ◌++◌, ◌<◌, ◌∙◌, ◌∷◌, ◌≡◌, List, arith, get_or, length, sym, ℕ}
+use Rattle.message_bag.specs.Exports.{Post}
 use Rattle.refinement.proofs.ControllerUntouched.{items_leave}
-use Rattle.journal.specs.declared.item.Item.{Item}
+use Rattle.update_machine.specs.Exports.{Item, NoneConcern, Setting, Step, concerns_controller, concerns_links, count_of, is_packet, piece}
 use Rattle.journal.specs.declared.item.Item.TheVariants as item
-use Rattle.steps.specs.declared.step.Step.{Step}
-use Rattle.switch_core.specs.State.{SwitchValue}
-use Rattle.refinement.specs.SwitchOf.{switch_of}
-use Rattle.update_machine.specs.Concerns.{NoneConcern, concerns_controller, concerns_links}
-use Rattle.update_machine.specs.Folds.{count_of}
-use Rattle.update_machine.specs.Packets.{is_packet}
-use Rattle.update_machine.specs.Pieces.{piece}
-use Rattle.steps.specs.Steps.{IsStep}
-use Rattle.update_machine.specs.Setting.{Setting}
-use Rattle.refinement.specs.Refinement.{RefineJournal, NetworkState}
-use Rattle.refinement.specs.Bags.{IsBagOf}
+use Rattle.switch_core.specs.Exports.{SwitchValue}
+use Rattle.refinement.specs.Exports.{IsBagOf, NetworkState, RefineJournal, switch_of}
+use Rattle.steps.specs.Exports.{IsStep}
 use Rattle.refinement.proofs.JournalLaws.{reached_known, flight_stays}
 use Rattle.refinement.proofs.OtherPackets.{NoneName}
 use Rattle.refinement.proofs.StepRefines.{links_stay, refines_taken, up_stay}

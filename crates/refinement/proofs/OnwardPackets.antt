@@ -1,42 +1,21 @@
 -- Where a packet goes on by its switch's answer: by its port, or to the targets of its partition.
-use Rattle.std.proofs.Common.{ℕ, ◌≡◌, ◌==◌, Bool, true, false, if◌then◌else◌, Option, Some, None, List, [], ◌∷◌, ◌++◌, refl, ap, sym, subst, eq-eqb}
-use Rattle.std.specs.Prelude.{⊤, option_map, unwrap_or}
-use Rattle.std.specs.Option.{ok_or}
-use Rattle.failover.specs.Routes.{route_of}
-use Rattle.net_file.specs.Joins.{owner_of}
-use Rattle.net_file.specs.Owners.{AreOwners, port_owner}
-use Rattle.net_file.specs.declared.ports.Ports.{Ports}
-use Rattle.policy_rules.specs.declared.packet.Cause.{Cause}
-use Rattle.policy_rules.specs.declared.packet.Leg.TheVariants.{Seek, Exit}
-use Rattle.policy_rules.specs.declared.policy.Action.{Action}
+use Rattle.std.proofs.Common.{[], if◌then◌else◌, ◌++◌, ◌==◌, ◌∷◌, ◌≡◌, Bool, List, None, Option, Some, ap, eq-eqb, false, ok_or, option_map, refl, subst, sym, true, unwrap_or, ℕ}
+use Rattle.base.proofs.Exports.{⊤}
+use Rattle.failover.specs.Exports.{route_of}
+use Rattle.net_file.specs.Exports.{AreOwners, owner_of, port_owner}
+use Rattle.update_machine.specs.Exports.{Action, Cause, Exit, Found, Item, Partition, Ports, Rule, Seek, Setting, lookup_at, no_switch, owner, retired_mark, sent_from, stamp_of, tables_at, targets_of}
 use Rattle.policy_rules.specs.declared.policy.Action.TheVariants as action
-use Rattle.policy_rules.specs.declared.rules.Partition.{Partition}
-use Rattle.policy_rules.specs.declared.rules.Rule.{Rule}
-use Rattle.journal.specs.declared.item.Item.{Item}
 use Rattle.journal.specs.declared.item.Item.TheVariants as item
-use Rattle.switch_core.specs.Deciding.{by_entry, by_rule, part_numbered, rule_in}
-use Rattle.switch_core.specs.Ends.{around, cause_of, exit_by, leave_by, next_of, set_out}
-use Rattle.switch_core.specs.Answering.{answer_by, decided_at, looked_up, seek_by}
-use Rattle.switch_core.specs.Answers.{Answer}
+use Rattle.switch_core.specs.Exports.{Answer, SwitchValue, answer_by, around, by_entry, by_rule, cause_of, decided_at, exit_by, leave_by, looked_up, next_of, part_numbered, rule_in, seek_by, set_out, stamp_tables}
 use Rattle.switch_core.specs.Answers as answer
-use Rattle.switch_core.specs.State.{SwitchValue, stamp_tables}
 use Rattle.switch_core.specs.declared.deciding.Decision.{Decision}
 use Rattle.switch_core.specs.declared.tunnel_calls.Next.TheVariants.{Out}
 use Rattle.switch_core.specs.declared.tunnel_calls.Packet.{Packet}
-use Rattle.switch_table.specs.declared.search.Found.{Found}
 use Rattle.switch_table.specs.declared.search.Found.TheVariants as found
-use Rattle.tunnel.specs.Moves.{tunnel_begun}
-use Rattle.tunnel.specs.Tunnel.{TunnelValue}
-use Rattle.update_machine.specs.Caches.{lookup_at}
-use Rattle.update_machine.specs.Marks.{retired_mark}
-use Rattle.update_machine.specs.Messages.{sent_from}
-use Rattle.update_machine.specs.PacketRoutes.{no_switch, owner, targets_of}
-use Rattle.update_machine.specs.Setting.{Setting}
-use Rattle.update_machine.specs.Versions.{stamp_of, tables_at}
-use Rattle.packet_laws.specs.OnWay.{IsUnknown}
-use Rattle.packet_laws.specs.Facts.{PacketFacts, facts_after}
-use Rattle.packet_laws.proofs.HeaderLookups.{FindsTargets, redirect_found}
-use Rattle.world_log.specs.Writing.{answer_items, answer_flight, cache_message, entered_items, entered_flight, message_list}
+use Rattle.tunnel.specs.Exports.{TunnelValue, tunnel_begun}
+use Rattle.packet_laws.specs.Exports.{IsUnknown, PacketFacts, facts_after}
+use Rattle.packet_laws.proofs.Exports.{FindsTargets, redirect_found}
+use Rattle.world_log.specs.Exports.{answer_flight, answer_items, cache_message, entered_flight, entered_items, message_list}
 use Rattle.travelling.specs.Travelling.{Standing}
 use Rattle.refinement.proofs.TakenLegs.{at_switch}
 use Rattle.refinement.proofs.LookupRefines.{IsAsked, targets_are, its_stamp}

@@ -1,43 +1,24 @@
 -- A message that is delivered opens its switch: which links change, what is told of that, and what
 -- the parts are behind it.
-use Rattle.std.proofs.Common.{ℕ, ◌≡◌, ◌+◌, ◌-◌, ◌^◌, ◌<◌, ◌==◌, false, Some, List, [], ◌∷◌, ◌++◌, refl, ap, sym, subst, ◌∙◌, length, get_or, set, append_assoc}
-use Rattle.std.specs.Prelude.{All}
-use Rattle.std.specs.Option.{option_map_or}
-use Rattle.std.proofs.lemmas.List.{length-set}
-use Rattle.message_bag.specs.Posts.{IsMessageOf, Post, with_delivered}
-use Rattle.ctrl_msg.specs.declared.message.Message.{Message}
+use Rattle.std.proofs.Common.{[], ◌++◌, ◌+◌, ◌-◌, ◌<◌, ◌==◌, ◌^◌, ◌∙◌, ◌∷◌, ◌≡◌, All, List, Some, ap, append_assoc, false, get_or, length, length-set, refl, set, subst, sym, ℕ}
+use Rattle.base.proofs.Exports.{option_map_or}
+use Rattle.message_bag.specs.Exports.{IsMessageOf, Post, with_delivered}
+use Rattle.update_machine.specs.Exports.{Deliver, Item, LinkRow, Message, Setting, is_link_up, is_to_controller, is_to_switch, link_changes, near, piece, sent_from}
 use Rattle.ctrl_msg.specs.declared.message.Place.TheVariants as receiver
-use Rattle.journal.specs.declared.item.Item.{Item}
 use Rattle.journal.specs.declared.item.Item.TheVariants as item
-use Rattle.net_file.specs.Owners.{links_of}
-use Rattle.net_file.specs.declared.net.LinkRow.{LinkRow}
-use Rattle.steps.specs.declared.step.Step.TheVariants.{Deliver}
-use Rattle.switch_core.specs.Hearing.{with_message, opening_stamp}
-use Rattle.switch_core.specs.Life.{next_advert}
-use Rattle.switch_core.specs.State.{SwitchValue}
-use Rattle.refinement.specs.Hearing.{HearsOpening}
-use Rattle.refinement.specs.Links.{LeavesSwitch, relinked_switch}
-use Rattle.refinement.specs.SwitchOf.{switch_of}
+use Rattle.net_file.specs.Exports.{links_of}
+use Rattle.switch_core.specs.Exports.{SwitchValue, next_advert, opening_stamp, with_message}
+use Rattle.refinement.specs.Exports.{HearsOpening, IsBagOf, LeavesSwitch, NetworkState, RefineJournal, is_up_link, relinked_switch, switch_of, up_links}
 use Rattle.refinement.proofs.DeliveredRecords.{hearing_refines}
-use Rattle.update_machine.specs.Deliveries.{link_changes}
-use Rattle.update_machine.specs.Links.{is_link_up}
-use Rattle.update_machine.specs.Messages.{is_to_controller, sent_from}
-use Rattle.update_machine.specs.Pieces.{piece}
-use Rattle.steps.specs.Steps.{IsStep}
-use Rattle.update_machine.specs.Setting.{Setting}
-use Rattle.update_machine.specs.Boots.{is_to_switch}
-use Rattle.update_machine.specs.LinkMasks.{near}
-use Rattle.update_machine.proofs.CallerLemmas.{last_given_append}
-use Rattle.world_log.specs.Linking.{AreRelinked, all_adverts_sent, near_all}
-use Rattle.refinement.specs.Refinement.{RefineJournal, NetworkState, is_up_link, up_links}
-use Rattle.refinement.specs.Bags.{IsBagOf}
+use Rattle.steps.specs.Exports.{IsStep}
+use Rattle.update_machine.proofs.Exports.{last_given_append}
+use Rattle.world_log.specs.Exports.{AreRelinked, MaySend, all_adverts_sent, near_all}
 use Rattle.refinement.proofs.HeardBy.{IsThere, as_sent, deliver_piece, is_there, row_keeps}
 use Rattle.refinement.proofs.OneItem.{grown}
 use Rattle.refinement.proofs.JournalLaws.{reached_known}
 use Rattle.refinement.proofs.PostedFrames.{bag_on}
 use Rattle.refinement.proofs.StepRefines.{same_links}
 use Rattle.refinement.proofs.LinksChange.{relinked_state, one_relinks, one_advert, one_next, LinksChange, change_piece, change_may, unmoved, change_refines}
-use Rattle.world_log.specs.Sending.{MaySend}
 
 -- links are up as before, where none is told to be up or down
 same_up : (journal : List Item) (row n s stamp : ℕ) (link : LinkRow)

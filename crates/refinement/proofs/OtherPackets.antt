@@ -1,20 +1,14 @@
 -- What a switch's answer to one packet says of all others: nothing.
-use Rattle.std.specs.Prelude.{⊤}
-use Rattle.std.proofs.Common.{ℕ, ◌≡◌, ◌==◌, false, if◌then◌else◌, Option, Some, None, List, [], ◌∷◌, ◌++◌, refl, ap, sym, ◌∙◌, append-nil, append_assoc}
-use Rattle.ctrl_msg.specs.declared.message.Message.{Message}
-use Rattle.policy_rules.specs.declared.packet.Leg.{Leg}
-use Rattle.policy_rules.specs.declared.packet.Leg.TheVariants.{Seek, Exit}
-use Rattle.journal.specs.declared.item.Item.{Item}
-use Rattle.switch_core.specs.Answers.{Answer, Arrival}
+use Rattle.base.proofs.Exports.{⊤}
+use Rattle.std.proofs.Common.{[], if◌then◌else◌, ◌++◌, ◌==◌, ◌∙◌, ◌∷◌, ◌≡◌, List, None, Option, Some, ap, append-nil, append_assoc, false, refl, sym, ℕ}
+use Rattle.update_machine.specs.Exports.{Exit, Item, Leg, Message, Seek, retired_mark, sent_from, takes_route}
+use Rattle.switch_core.specs.Exports.{Answer, Arrival}
 use Rattle.switch_core.specs.Answers as answer
 use Rattle.switch_core.specs.declared.deciding.Decision.{Decision}
 use Rattle.switch_core.specs.declared.tunnel_calls.Next.{Next}
 use Rattle.switch_core.specs.declared.tunnel_calls.Next.TheVariants as next
-use Rattle.update_machine.specs.Marks.{retired_mark}
-use Rattle.update_machine.specs.Messages.{sent_from}
-use Rattle.update_machine.specs.Moves.{takes_route}
-use Rattle.packet_laws.specs.Facts.{PacketFacts, is_of_packet, facts_after}
-use Rattle.world_log.specs.Writing.{answer_items, arrived_items, cache_message, end_item, entered_items, message_list}
+use Rattle.packet_laws.specs.Exports.{PacketFacts, facts_after, is_of_packet}
+use Rattle.world_log.specs.Exports.{answer_items, arrived_items, cache_message, end_item, entered_items, message_list}
 use Rattle.travelling.specs.Travelling.{Flight, Standing}
 use Rattle.refinement.proofs.FactsAlong.{facts_along}
 

@@ -1,17 +1,15 @@
 -- What a switch's answer says of its own packet: the packet in flight that goes on.
-use Rattle.std.proofs.Common.{ℕ, ◌≡◌, ◌==◌, true, if◌then◌else◌, Some, List, [], ◌∷◌, ◌++◌, refl, ap, sym, subst, ◌∙◌, eq-eqb}
-use Rattle.std.specs.Prelude.{⊤}
-use Rattle.policy_rules.specs.declared.packet.Leg.TheVariants.{Exit}
+use Rattle.std.proofs.Common.{[], if◌then◌else◌, ◌++◌, ◌==◌, ◌∙◌, ◌∷◌, ◌≡◌, List, Some, ap, eq-eqb, refl, subst, sym, true, ℕ}
+use Rattle.base.proofs.Exports.{⊤}
+use Rattle.update_machine.specs.Exports.{Exit, Item}
 use Rattle.policy_rules.specs.declared.policy.Action.TheVariants as action
-use Rattle.journal.specs.declared.item.Item.{Item}
 use Rattle.journal.specs.declared.item.Item.TheVariants as item
 use Rattle.switch_core.specs.declared.deciding.Decision.{Decision}
 use Rattle.switch_core.specs.declared.tunnel_calls.Next.{Next}
 use Rattle.switch_core.specs.declared.tunnel_calls.Next.TheVariants as next
-use Rattle.tunnel.specs.Moves.{tunnel_begun}
-use Rattle.tunnel.specs.Tunnel.{TunnelValue}
-use Rattle.packet_laws.specs.Facts.{PacketFacts}
-use Rattle.world_log.specs.Writing.{decided_items, decided_flight, end_item}
+use Rattle.tunnel.specs.Exports.{TunnelValue, tunnel_begun}
+use Rattle.packet_laws.specs.Exports.{PacketFacts}
+use Rattle.world_log.specs.Exports.{decided_flight, decided_items, end_item}
 use Rattle.travelling.specs.Travelling.{Standing}
 use Rattle.refinement.proofs.OtherPackets.{NoneName, unnamed_first}
 use Rattle.refinement.proofs.FactsAlong.{Targets, flight_by, facts_along}

@@ -1,11 +1,9 @@
 -- A switch's own partition of a number is that of the plan.
-use Rattle.std.proofs.Common.{ℕ, ◌≡◌, Option, Some, None, List, refl, map, slice_get}
-use Rattle.std.specs.Prelude.{IsTrue, unwrap_or}
-use Rattle.std.specs.Option.{IsSomeAnd}
-use Rattle.policy_rules.specs.Partitions.{ArePartsNumbered}
-use Rattle.policy_rules.specs.declared.rules.Partition.{Partition}
-use Rattle.switch_core.specs.Deciding.{no_part, own_part, part_numbered}
-use Rattle.switch_table.specs.Tables.{Hosted, has_target, part_of, tables_of}
+use Rattle.std.proofs.Common.{◌≡◌, IsSomeAnd, IsTrue, List, None, Option, Some, map, refl, slice_get, unwrap_or, ℕ}
+use Rattle.policy_rules.specs.Exports.{ArePartsNumbered}
+use Rattle.update_machine.specs.Exports.{Partition}
+use Rattle.switch_core.specs.Exports.{no_part, own_part, part_numbered}
+use Rattle.switch_table.specs.Exports.{Hosted, has_target, part_of, tables_of}
 use Rattle.refinement.proofs.AskedRequirements.{own_has}
 
 unwrapped : (o : Option Partition) (this : Partition) → IsSomeAnd o (λ part. part ≡ this)

@@ -1,21 +1,11 @@
 -- No switch acknowledged tables in a boot that isn't known yet: none were sent to it in that boot.
-use Rattle.std.proofs.Common.{ℕ, ◌≡◌, ◌<◌, ◌≤◌, true, false, Option, Some, None, List, [], ◌∷◌, ◌++◌, refl, ap, subst, ◌∙◌, arith, inl, inr}
-use Rattle.std.specs.Prelude.{option_and_then, option_to_list}
-use Rattle.ctrl_msg.specs.declared.message.Body.TheVariants.{Installed}
-use Rattle.ctrl_msg.specs.Kinds.{to_controller}
-use Rattle.journal.specs.declared.item.Item.{Item}
+use Rattle.std.proofs.Common.{[], ◌++◌, ◌<◌, ◌∙◌, ◌∷◌, ◌≡◌, ◌≤◌, List, None, Option, Some, ap, arith, false, inl, inr, option_and_then, option_to_list, refl, subst, true, ℕ}
+use Rattle.update_machine.specs.Exports.{Installed, Item, Setting, body_to_controller, controller_heard, installed_in, known_boot, message_of}
+use Rattle.ctrl_msg.specs.Exports.{to_controller}
 use Rattle.journal.specs.declared.item.Item.TheVariants as item
-use Rattle.update_machine.specs.Marks.{controller_heard, installed_in, known_boot, body_to_controller}
-use Rattle.update_machine.specs.Setting.{Setting}
-use Rattle.update_machine.specs.Links.{message_of}
-use Rattle.update_machine.proofs.CallerLemmas.{start_laws}
-use Rattle.control_laws.specs.ItemCauses.{HasItemCause}
-use Rattle.control_laws.proofs.BootsKnown.{by_number, known_rises}
-use Rattle.control_laws.proofs.ItemFacts.{AreKept, FromCauses, from_causes}
-use Rattle.control_laws.proofs.SwitchOpenings.{IsKnown, known_at_first, known_kept}
-use Rattle.control_laws.proofs.HeardTables.{HeardAreKnown, heard_known}
-use Rattle.control_laws.proofs.AcknowledgementKinds.{installed_is}
-use Rattle.control_laws.proofs.ToldToController.{tells, told_by, told_by_more, told_sent}
+use Rattle.update_machine.proofs.Exports.{start_laws}
+use Rattle.control_laws.specs.Exports.{HasItemCause}
+use Rattle.control_laws.proofs.Exports.{AreKept, FromCauses, HeardAreKnown, IsKnown, by_number, from_causes, heard_known, installed_is, known_at_first, known_kept, known_rises, tells, told_by, told_by_more, told_sent}
 
 -- the boot in which a switch heard tables is known; acknowledgements that were sent, and those that
 -- the controller was told, are of boots that are

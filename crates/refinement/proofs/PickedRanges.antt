@@ -1,8 +1,6 @@
 -- Numbers of a range that are picked by a test, and what is made of them.
-use Rattle.std.proofs.Common.{ℕ, zero, suc, ◌≡◌, ◌+◌, ◌<◌, ◌≤◌, Bool, true, false, [], ◌∷◌, length, ap, subst, ◌∙◌, arith}
-use Rattle.std.specs.Prelude.{IsTrue, IsFalse, cond, take_while}
-use Rattle.std.specs.List.{range_with_len}
-use Rattle.std.proofs.lemmas.List.Sums.{take_while-cons}
+use Rattle.std.proofs.Common.{[], ◌+◌, ◌<◌, ◌∙◌, ◌∷◌, ◌≡◌, ◌≤◌, Bool, IsFalse, IsTrue, ap, arith, cond, false, length, subst, suc, take_while, true, zero, ℕ}
+use Rattle.base.proofs.Exports.{range_with_len, take_while-cons}
 pub use Rattle.control_laws.proofs.PickedNumbers.{any_picked}
 
 -- ---- ranges

@@ -1,22 +1,13 @@
 -- The bag of a world has the frames of the messages that its journal says.
-use Rattle.std.proofs.Common.{ℕ, zero, suc, ◌≡◌, ◌+◌, ◌<◌, ◌≤◌, ◌==◌, Bool, true, false, if◌then◌else◌, Option, Some, None, List, [], ◌∷◌, ◌++◌, refl, ap, sym, subst, ◌∙◌, length, length-append, append-nil, append_assoc, arith, eq-eqb, eqb-true, ne_eqb}
-use Rattle.std.specs.Prelude.{⊤, ◌||◌, IsFalse, is_some, option_map, slice_get}
-use Rattle.std.specs.Option.{option_and_then, option_or}
-use Rattle.std.proofs.lemmas.Option.{slice_get_within}
-use Rattle.message_bag.specs.Numbered.{item_numbered, with_changed}
-use Rattle.message_bag.specs.Posts.{Post, posted_frames, frames_posted, is_post_deliverable, new_post, remembered_frames, with_delivered, with_forgotten}
+use Rattle.std.proofs.Common.{[], if◌then◌else◌, ◌++◌, ◌+◌, ◌<◌, ◌==◌, ◌||◌, ◌∙◌, ◌∷◌, ◌≡◌, ◌≤◌, Bool, IsFalse, List, None, Option, Some, ap, append-nil, append_assoc, arith, eq-eqb, eqb-true, false, is_some, length, length-append, ne_eqb, option_and_then, option_map, refl, slice_get, subst, suc, sym, true, zero, ℕ}
+use Rattle.base.proofs.Exports.{option_or, slice_get_within, ⊤}
+use Rattle.message_bag.specs.Exports.{Post, frames_posted, is_post_deliverable, item_numbered, new_post, posted_frames, remembered_frames, with_changed, with_delivered, with_forgotten}
 use Rattle.message_bag.proofs.NumberedPosts.{length_changed, numbered_changed, numbered_pushed}
-use Rattle.ctrl_msg.specs.declared.message.Message.{Message}
-use Rattle.journal.specs.declared.item.Item.{Item}
+use Rattle.update_machine.specs.Exports.{Item, Message, MessageKeeps, NoneConcern, concerns_known, concerns_links, concerns_message, concerns_messages, concerns_policies, count_of, gives_message, is_delivery, is_forgetting, is_forgotten, is_sending, last_given, message_of, next_message, was_delivered}
 use Rattle.journal.specs.declared.item.Item.TheVariants as item
-use Rattle.update_machine.specs.Concerns.{NoneConcern, concerns_known, concerns_links, concerns_message, concerns_messages, concerns_policies}
-use Rattle.update_machine.specs.Folds.{count_of, last_given}
-use Rattle.update_machine.specs.Laws.{MessageKeeps}
-use Rattle.update_machine.specs.Messages.{is_forgotten, is_forgetting, is_delivery, is_sending, next_message, was_delivered}
-use Rattle.update_machine.specs.Links.{message_of, gives_message}
-use Rattle.update_machine.proofs.CallerLemmas.{count_of_append, last_given_append, fewer, message_keeps, messages_keep, start_laws, each_silent, next_sent}
-use Rattle.control_laws.proofs.FactsGrown.{some_more}
-use Rattle.refinement.specs.Bags.{IsBagOf, post_in}
+use Rattle.update_machine.proofs.Exports.{count_of_append, each_silent, fewer, last_given_append, message_keeps, messages_keep, next_sent, start_laws}
+use Rattle.control_laws.proofs.Exports.{some_more}
+use Rattle.refinement.specs.Exports.{IsBagOf, post_in}
 
 -- ---- items that concern no message
 

@@ -1,39 +1,15 @@
 -- Behind items by which links changed, or switches began or ceased to serve: which links can be
 -- used, and what the switches tell of that.
-use Rattle.std.proofs.Common.{ℕ, zero, suc, ◌≡◌, ◌+◌, ◌<◌, ◌≤◌, ◌==◌, Bool, true, false, cond, Some, None, List, [], ◌∷◌, ◌++◌, refl, ap, sym, subst, ◌∙◌, length, get_or, filter, append-nil, arith}
-use Rattle.std.specs.Prelude.{◌&&◌, ◌||◌, if◌then◌else◌, not}
-use Rattle.std.specs.List.{flat_map, list_any, range_with_len, AllByRecursion}
-use Rattle.std.specs.Option.{option_map_or}
-use Rattle.std.proofs.lemmas.Bool.{and_parts, eqb-true}
-use Rattle.std.proofs.lemmas.Grind.{flat_map-append}
-use Rattle.std.proofs.lemmas.List.FromFn.{get_or-map-range_with_len}
-use Rattle.std.proofs.lemmas.Option.{slice_get-get_or}
-use Rattle.ctrl_msg.specs.declared.message.Message.{Message}
-use Rattle.journal.specs.declared.item.Item.{Item}
-use Rattle.base.specs.Masks.{has}
-use Rattle.base.specs.ComputedMasks.{mask_of}
-use Rattle.base.proofs.CallerLemmas.{has_mask, mask_of_is, mask_of_lt}
-use Rattle.net_file.specs.Net.{IsLink, IsNet}
-use Rattle.net_file.specs.declared.net.LinkRow.{LinkRow}
-use Rattle.net_file.specs.Joins.{are_linked, joins}
-use Rattle.switch_core.specs.Life.{near_changed, next_advert}
-use Rattle.switch_core.specs.State.{SwitchValue, serves}
-use Rattle.refinement.specs.Links.{relinked_switch, link_messages}
-use Rattle.refinement.specs.SwitchOf.{switch_of}
+use Rattle.std.proofs.Common.{[], if◌then◌else◌, ◌&&◌, ◌++◌, ◌+◌, ◌<◌, ◌==◌, ◌||◌, ◌∙◌, ◌∷◌, ◌≡◌, ◌≤◌, Bool, List, None, Some, ap, append-nil, arith, cond, eqb-true, false, filter, get_or, length, not, refl, subst, suc, sym, true, zero, ℕ}
+use Rattle.base.proofs.Exports.{AllByRecursion, and_parts, any_filter, filter_more, flat_map, flat_map-append, get_or-map-range_with_len, has_mask, list_any, mask_of_is, mask_of_lt, option_map_or, range_more, range_with_len, recursion_from_All, slice_get-get_or}
+use Rattle.update_machine.specs.Exports.{Item, LinkRow, Message, Setting, has_changed, is_up, is_usable, messages_of, near, own_advert, serves as serves_in, switches_of, usable_links}
+use Rattle.base.specs.Exports.{has, mask_of}
+use Rattle.net_file.specs.Exports.{IsLink, IsNet, are_linked, joins}
+use Rattle.switch_core.specs.Exports.{SwitchValue, near_changed, next_advert, serves}
+use Rattle.refinement.specs.Exports.{is_up_link, link_messages, relinked_switch, switch_of, up_links}
 use Rattle.refinement.proofs.SwitchLinkChanges.{links_refine}
-use Rattle.update_machine.specs.Adverts.{own_advert}
-use Rattle.update_machine.specs.Boots.{is_up}
-use Rattle.update_machine.specs.Deliveries.{has_changed, messages_of}
-use Rattle.update_machine.specs.Links.{is_usable, serves as serves_in}
-use Rattle.update_machine.specs.Setting.{Setting}
-use Rattle.update_machine.specs.SwitchNumbers.{switches_of}
-use Rattle.update_machine.specs.LinkMasks.{near, usable_links}
-use Rattle.refinement.specs.Refinement.{is_up_link, up_links}
-use Rattle.world_log.specs.Linking.{AreRelinked, all_adverts_sent, links_change, near_all, near_by, serves_at, adverts_on_change, adverts_at, adverts_over}
+use Rattle.world_log.specs.Exports.{AreRelinked, adverts_at, adverts_on_change, adverts_over, all_adverts_sent, links_change, near_all, near_by, serves_at}
 use Rattle.world_log.proofs.RelinkingAdverts.{told_nothing}
-use Rattle.std.proofs.lemmas.List.Elements.{recursion_from_All}
-use Rattle.base.proofs.ListsOfAny.{any_filter}
-use Rattle.base.proofs.ListsOfRanges.{filter_more, range_more}
 
 -- ---- masks
 

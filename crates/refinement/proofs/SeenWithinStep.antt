@@ -1,28 +1,14 @@
 -- What a switch has and knows is what the journal says, also within a step.
-use Rattle.std.proofs.Common.{ℕ, ◌≡◌, ◌<◌, Bool, true, false, ◌||◌, ◌&&◌, if◌then◌else◌, Some, None, List, [], ◌∷◌, ◌++◌, refl, ap, sym, ◌∙◌, length, rules}
-use Rattle.std.specs.Prelude.{IsFalse, IsTrue, unwrap_or}
-use Rattle.failover.specs.Isolated.{is_isolated}
-use Rattle.failover.specs.Routes.{route_of}
-use Rattle.five_tuple.specs.declared.header.Header.{Header}
-use Rattle.journal.specs.declared.item.Item.{Item}
-use Rattle.switch_core.specs.State.{SwitchValue, call_counted, held_tables, holds_version, no_tables, serves, stamp_tables}
-use Rattle.switch_table.specs.Lookup.{lookup_of}
-use Rattle.switch_table.specs.declared.tables.Tables.{Tables}
-use Rattle.refinement.specs.SwitchOf.{switch_of}
+use Rattle.std.proofs.Common.{[], if◌then◌else◌, ◌&&◌, ◌++◌, ◌<◌, ◌||◌, ◌∙◌, ◌∷◌, ◌≡◌, Bool, IsFalse, IsTrue, List, None, Some, ap, false, length, refl, rules, sym, true, unwrap_or, ℕ}
+use Rattle.failover.specs.Exports.{is_isolated, route_of}
+use Rattle.update_machine.specs.Exports.{Header, Item, KnownKeeps, Setting, SwitchKeeps, Tables, concerns_links, concerns_policies, concerns_switch, holds_version as holds_in, is_cut_off, is_up, lookup_at, near, plan_at, route_from, serves as serves_in, stamp_of, tables_at}
+use Rattle.switch_core.specs.Exports.{SwitchValue, call_counted, held_tables, holds_version, no_tables, serves, stamp_tables}
+use Rattle.switch_table.specs.Exports.{lookup_of, tables_of}
+use Rattle.refinement.specs.Exports.{switch_of}
 use Rattle.refinement.proofs.SwitchKnowledge.{knowledge_refines}
 use Rattle.refinement.proofs.SwitchFacts.{stamp_shown, number_shown}
 use Rattle.refinement.proofs.AskedRequirements.{open_shown}
-use Rattle.update_machine.specs.Adverts.{is_cut_off, route_from}
-use Rattle.update_machine.specs.Boots.{is_up}
-use Rattle.update_machine.specs.Caches.{lookup_at}
-use Rattle.update_machine.specs.Concerns.{concerns_links, concerns_policies, concerns_switch}
-use Rattle.update_machine.specs.Laws.{KnownKeeps, SwitchKeeps}
-use Rattle.update_machine.specs.LinkMasks.{near}
-use Rattle.update_machine.specs.Setting.{Setting}
-use Rattle.update_machine.specs.Versions.{holds_version as holds_in, stamp_of, tables_at, plan_at}
-use Rattle.update_machine.specs.Links.{serves as serves_in}
-use Rattle.update_machine.proofs.CallerLemmas.{known_keeps, lookup_stays, near_stays, policies_keep, switch_keeps}
-use Rattle.switch_table.specs.Tables.{tables_of}
+use Rattle.update_machine.proofs.Exports.{known_keeps, lookup_stays, near_stays, policies_keep, switch_keeps}
 use Rattle.refinement.proofs.JournalLaws.{Known}
 
 -- the switch and the mask of its usable links are as the journal says of this one

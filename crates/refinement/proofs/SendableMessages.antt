@@ -1,32 +1,20 @@
 -- What a step sends finds room in the bag, and has short spellings.
-use Rattle.std.proofs.Common.{ℕ, ◌≡◌, ◌+◌, ◌<◌, Some, None, List, [], ◌∷◌, ◌++◌, refl, ap, sym, subst, ◌∙◌, length, map, append_assoc, eq-eqb, ne_eqb, arith}
-use Rattle.std.specs.Prelude.{All}
-use Rattle.std.specs.List.{AllByRecursion}
-use Rattle.std.proofs.lemmas.List.{append-nil, length-map}
-use Rattle.std.proofs.lemmas.List.Elements.{All-from_recursion}
-use Rattle.message_bag.specs.Posts.{Post, new_post}
+use Rattle.std.proofs.Common.{[], ◌++◌, ◌+◌, ◌<◌, ◌∙◌, ◌∷◌, ◌≡◌, All, List, None, Some, ap, append-nil, append_assoc, arith, eq-eqb, length, map, ne_eqb, refl, subst, sym, ℕ}
+use Rattle.base.proofs.Exports.{All-from_recursion, AllByRecursion, length-map}
+use Rattle.message_bag.specs.Exports.{HasShortSpelling, Post, new_post}
 use Rattle.controller.specs.declared.sends.Act.{Act}
 use Rattle.controller.specs.declared.sends.Act.TheVariants as act
-use Rattle.ctrl_msg.specs.declared.message.Body.TheVariants.{Hello}
-use Rattle.ctrl_msg.specs.declared.message.Message.{Message}
-use Rattle.ctrl_msg.specs.Kinds.{to_controller}
-use Rattle.message_bag.specs.Feeding.{HasShortSpelling}
+use Rattle.update_machine.specs.Exports.{Hello, Item, Message, Setting, Step, gives_message, last_given, message_of, piece}
+use Rattle.ctrl_msg.specs.Exports.{to_controller}
 use Rattle.message_bag.proofs.SpellingLengths.{alone_short}
-use Rattle.journal.specs.declared.item.Item.{Item}
 use Rattle.journal.specs.declared.item.Item.TheVariants as item
-use Rattle.refinement.specs.Spelled.{AreSpelled}
+use Rattle.refinement.specs.Exports.{AreSpelled, NetworkState, RefineJournal}
 use Rattle.refinement.proofs.SpelledMessages.{reached_spelled}
-use Rattle.steps.specs.Steps.{IsStep}
-use Rattle.steps.specs.declared.step.Step.{Step}
-use Rattle.update_machine.specs.Folds.{last_given}
-use Rattle.update_machine.specs.Links.{message_of, gives_message}
-use Rattle.update_machine.specs.Pieces.{piece}
-use Rattle.update_machine.specs.Setting.{Setting}
-use Rattle.update_machine.proofs.CallerLemmas.{last_given_append}
-use Rattle.world_log.specs.Sending.{IsSpelled, MayNote, MaySend, act_items}
+use Rattle.steps.specs.Exports.{IsStep}
+use Rattle.update_machine.proofs.Exports.{last_given_append}
+use Rattle.world_log.specs.Exports.{IsSpelled, MayNote, MaySend, act_items}
 use Rattle.world_log.proofs.MessageLogs.{messages_spelled, posts_as_acts}
 use Rattle.refinement.proofs.JournalLaws.{reached_known, reached_more}
-use Rattle.refinement.specs.Refinement.{RefineJournal, NetworkState}
 use Rattle.refinement.proofs.HearReady.{sends_few}
 use Rattle.refinement.proofs.ToldSteps.{acts_fit}
 

@@ -1,37 +1,20 @@
 -- What a switch and the controller send again: what is written then, and what the parts are behind
 -- it.
-use Rattle.std.proofs.Common.{ℕ, ◌≡◌, ◌≢◌, ◌+◌, ◌<◌, ◌==◌, Bool, true, false, List, [], ◌∷◌, ◌++◌, refl, ap, sym, ◌∙◌, length, get_or, map, arith, eqb-true}
-use Rattle.std.specs.Prelude.{if◌then◌else◌}
-use Rattle.std.specs.List.{flat_map}
-use Rattle.message_bag.specs.Posts.{Post as BagPost}
-use Rattle.refinement.specs.Written.{AreWritten, acts_of_resend}
+use Rattle.std.proofs.Common.{[], if◌then◌else◌, ◌++◌, ◌+◌, ◌<◌, ◌==◌, ◌∙◌, ◌∷◌, ◌≡◌, ◌≢◌, Bool, List, ap, arith, eqb-true, false, flat_map, get_or, length, map, refl, sym, true, ℕ}
+use Rattle.message_bag.specs.Exports.{Post as BagPost}
+use Rattle.refinement.specs.Exports.{AreWritten, IsBagOf, NetworkState, RefineJournal, acts_of_resend, switch_of}
 use Rattle.refinement.proofs.ControllerUntouched.{resends_nothing, resends_some}
-use Rattle.controller.specs.Controller.{ControllerValue}
-use Rattle.controller.specs.Sends.{resend_acts}
+use Rattle.controller.specs.Exports.{ControllerValue, resend_acts}
 use Rattle.controller.specs.declared.sends.Act.{Act}
 use Rattle.controller.specs.declared.sends.Act.TheVariants.{Post}
-use Rattle.ctrl_msg.specs.declared.message.Body.TheVariants.{Hello}
-use Rattle.ctrl_msg.specs.declared.message.Message.{Message}
-use Rattle.ctrl_msg.specs.Kinds.{to_controller}
-use Rattle.failover.specs.declared.advert.Advert.{Advert}
-use Rattle.journal.specs.declared.item.Item.{Item}
+use Rattle.update_machine.specs.Exports.{Advert, Hello, Item, Message, Resend, Setting, advert_to, boot_of, held_adverts, is_up, near, piece, resent_by_switch, switches_in}
+use Rattle.ctrl_msg.specs.Exports.{to_controller}
 use Rattle.journal.specs.declared.item.Item.TheVariants as item
-use Rattle.steps.specs.declared.step.Step.TheVariants.{Resend}
-use Rattle.switch_core.specs.State.{SwitchValue}
-use Rattle.refinement.specs.SwitchOf.{switch_of}
+use Rattle.switch_core.specs.Exports.{SwitchValue}
 use Rattle.refinement.proofs.SwitchLinkChanges.{kept_is, links_refine}
-use Rattle.update_machine.specs.Adverts.{held_adverts}
-use Rattle.update_machine.specs.Boots.{boot_of, is_up}
-use Rattle.update_machine.specs.Deliveries.{advert_to, switches_in}
-use Rattle.update_machine.specs.LinkMasks.{near}
-use Rattle.update_machine.specs.Pieces.{piece, resent_by_switch}
-use Rattle.update_machine.specs.Setting.{Setting}
-use Rattle.update_machine.proofs.CallerLemmas.{near_stays}
-use Rattle.world_log.specs.Linking.{adverts_again}
-use Rattle.steps.specs.Steps.{IsStep}
-use Rattle.world_log.specs.Sending.{MayNote, act_items, act_posts}
-use Rattle.refinement.specs.Refinement.{RefineJournal, NetworkState}
-use Rattle.refinement.specs.Bags.{IsBagOf}
+use Rattle.update_machine.proofs.Exports.{near_stays}
+use Rattle.world_log.specs.Exports.{MayNote, act_items, act_posts, adverts_again}
+use Rattle.steps.specs.Exports.{IsStep}
 use Rattle.travelling.specs.Travelling.{Flights}
 use Rattle.refinement.proofs.ActItems.{written_is}
 use Rattle.refinement.proofs.BagDeliveries.{nothing_happens}

@@ -1,65 +1,28 @@
 -- The marks settle as the journal's rule says, and what is sent then is what the definition says.
-use Rattle.std.proofs.Common.{ℕ, ◌≡◌, ◌+◌, ◌-◌, ◌<◌, ◌≤◌, ◌&&◌, ◌==◌, Bool, true, false, not, if◌then◌else◌, Option, Some, None, List, [], ◌∷◌, ◌++◌, length, map, refl, ap, sym, subst, ◌∙◌, append-nil, append_assoc, arith, rules}
-use Rattle.std.specs.Prelude.{◌||◌, IsTrue, IsFalse, filter, is_some, nat_lt, slice_get, unwrap_or}
-use Rattle.std.specs.List.{list_all, list_any, range_with_len}
-use Rattle.std.specs.Option.{option_map_or, option_or}
-use Rattle.std.proofs.lemmas.Bool.{eq-eqb, eqb-true}
-use Rattle.std.proofs.lemmas.Bool.Decides.{nat_tests}
-use Rattle.std.proofs.lemmas.List.{get_or-map, length-map}
-use Rattle.std.proofs.lemmas.List.Folds.{list_all-map}
-use Rattle.std.proofs.lemmas.List.FromFn.{fill_by_all}
-use Rattle.std.proofs.lemmas.Option.{slice_get-get_or}
-use Rattle.base.proofs.ListsFiltered.{filter_made, map_twice}
-use Rattle.base.proofs.ListsOfEach.{each_always, each_map}
-use Rattle.base.proofs.ListsOfRanges.{picked_same}
-use Rattle.ctrl_msg.specs.declared.message.Body.{Body}
-use Rattle.ctrl_msg.specs.declared.message.Body.TheVariants.{Collect, OpenAt, Stamp}
-use Rattle.ctrl_msg.specs.declared.message.Message.{Message}
-use Rattle.journal.specs.declared.item.Item.{Item}
+use Rattle.std.proofs.Common.{[], if◌then◌else◌, ◌&&◌, ◌++◌, ◌+◌, ◌-◌, ◌<◌, ◌==◌, ◌||◌, ◌∙◌, ◌∷◌, ◌≡◌, ◌≤◌, Bool, IsFalse, IsTrue, List, None, Option, Some, ap, append-nil, append_assoc, arith, eq-eqb, eqb-true, false, filter, is_some, length, map, nat_lt, not, refl, rules, slice_get, subst, sym, true, unwrap_or, ℕ}
+use Rattle.base.proofs.Exports.{each_always, each_map, fill_by_all, filter_made, get_or-map, length-map, list_all, list_all-map, list_any, map_twice, nat_tests, option_map_or, option_or, picked_same, range_with_len, slice_get-get_or}
+use Rattle.update_machine.specs.Exports.{Body, Collect, HaveCauses, Item, Message, OpenAt, Setting, Stamp, acked_stamp, controller_heard, current_items, current_mark, first_number, items_then, known_boot, least_number, next_current, next_message, next_retired, open_for, open_in, open_items, open_version, opened_at, opening_switches, retired_items, retired_mark, send_items, sent_from, settling, switches_of, to_switch, touched_by, version_count}
 use Rattle.journal.specs.declared.item.Item.TheVariants as item
-use Rattle.update_machine.specs.Causes.{HaveCauses}
 use Rattle.update_machine.specs.Marks as machine
-use Rattle.update_machine.specs.Marks.{acked_stamp, controller_heard, current_mark, first_number, known_boot, least_number, next_current, next_retired, open_in, open_version, opened_at, retired_mark}
-use Rattle.update_machine.specs.Messages.{next_message, send_items, sent_from}
-use Rattle.update_machine.specs.Moves.{items_then}
-use Rattle.update_machine.specs.Setting.{Setting}
-use Rattle.update_machine.specs.SwitchNumbers.{switches_of}
-use Rattle.update_machine.specs.Settling.{current_items, open_for, open_items, opening_switches, retired_items, settling, to_switch}
-use Rattle.update_machine.specs.Versions.{version_count}
-use Rattle.update_machine.proofs.CallerLemmas.{have_append}
-use Rattle.update_machine.specs.Touched.{touched_by}
-use Rattle.control_laws.specs.ItemCauses.{HasItemCause}
-use Rattle.control_laws.proofs.ControllerBlocks.{settling_have}
-use Rattle.control_laws.proofs.ItemFacts.{have_front}
-use Rattle.control_laws.proofs.FactsGrown.{count_more, current_more, known_more, opened_at_more, over_more, retired_more, told_more}
-use Rattle.control_laws.proofs.MessageSends.{acked_same}
-use Rattle.control_laws.proofs.SwitchOpenings.{member_of, member_parts}
-use Rattle.control_laws.specs.Bounds.{MarksAreBounded}
-use Rattle.control_laws.proofs.GreatestNumbers.{acked_stamp_opened}
-use Rattle.control_laws.proofs.MarkLaws.{bounded}
-use Rattle.control_laws.proofs.MarkRises.{behind}
-use Rattle.control_laws.proofs.ControllerLeft.{leaves_keep, stamp_same}
-use Rattle.control_laws.proofs.OtherSteps.{ReopensAlone, sends_leave}
-use Rattle.control_laws.proofs.MarksSettle.{in_three}
+use Rattle.update_machine.proofs.Exports.{have_append}
+use Rattle.control_laws.specs.Exports.{HasItemCause, MarksAreBounded}
+use Rattle.control_laws.proofs.Exports.{ReopensAlone, acked_same, acked_stamp_opened, behind, bounded, count_more, current_more, have_front, in_three, known_more, leaves_keep, member_of, member_parts, opened_at_more, over_more, retired_more, sends_leave, settling_have, stamp_same, told_more}
 use Rattle.version_update.specs.Marks as marks
-use Rattle.version_update.specs.Marks.{MarksValue, record_of}
+use Rattle.version_update.specs.Exports.{MarksValue, RisesTo, Settles, has_acked, is_joining, is_member, is_over, opens_at, record_of, unknown_switch}
 use Rattle.version_update.specs.Record as known
-use Rattle.version_update.specs.Record.{has_acked, is_joining, is_member, is_over, unknown_switch, opens_at}
-use Rattle.version_update.specs.Settling.{RisesTo, Settles}
 use Rattle.version_update.specs.declared.marks.Settled.{Settled}
 use Rattle.version_update.specs.declared.record.Phase.{Phase}
 use Rattle.version_update.specs.declared.record.Phase.TheVariants.{Joining, Member, Over}
 use Rattle.version_update.specs.declared.record.SwitchRecord.{SwitchRecord}
 use Rattle.controller.specs.Sends as acts
-use Rattle.controller.specs.Sends.{boot_recorded, posts_to, switches_where}
+use Rattle.controller.specs.Exports.{boot_recorded, posts_to, switches_where}
 use Rattle.controller.specs.declared.sends.Act.{Act}
 use Rattle.controller.specs.declared.sends.Act.TheVariants.{Current, Post, Retired}
-use Rattle.refinement.specs.Marks.{AreMarksOf, IsKnown}
-use Rattle.refinement.specs.Written.{item_of, written_items}
+use Rattle.refinement.specs.Exports.{AreMarksOf, IsKnown, item_of, written_items}
 use Rattle.refinement.proofs.KeptController.{current_on, known_on, marks_on, retired_on}
 use Rattle.refinement.proofs.PickedRanges.{any_picked, passing_is}
 use Rattle.refinement.proofs.WrittenActs.{posted, written_in_three}
-use Rattle.ternary.specs.Word.{WordValue}
+use Rattle.ternary.specs.Exports.{WordValue}
 
 -- ---- members, and what is told
 

@@ -1,16 +1,11 @@
 -- The tables of a version are small, and name switches of the network alone.
-use Rattle.std.proofs.Common.{◌≡◌, ℕ, ◌≤◌, List, [], length, map, refl, ap, ◌∙◌, arith}
-use Rattle.std.specs.Prelude.{All, filter, not}
-use Rattle.std.proofs.lemmas.List.{get_or-map, length-map}
-use Rattle.std.proofs.lemmas.List.Elements.{All-filter, All-map}
-use Rattle.std.proofs.lemmas.List.Filters.{length-filter_both}
-use Rattle.net_file.specs.Net.{IsNet}
-use Rattle.net_file.specs.declared.net.Net.{Net}
+use Rattle.std.proofs.Common.{[], ◌∙◌, ◌≡◌, ◌≤◌, All, List, ap, arith, filter, length, map, not, refl, ℕ}
+use Rattle.base.proofs.Exports.{All-filter, All-map, get_or-map, length-filter_both, length-map}
+use Rattle.net_file.specs.Exports.{IsNet}
+use Rattle.update_machine.specs.Exports.{Net, PartRow, Row}
 use Rattle.partition.specs.Plan.{IsPlan, Hosted}
-use Rattle.policy_rules.specs.declared.policy.Row.{Row}
-use Rattle.switch_table.specs.Tables.{has_target, part_of, row_of, tables_of}
-use Rattle.switch_table.specs.declared.tables.PartRow.{PartRow}
-use Rattle.wire.specs.Messages.{AreShort, AreSwitches}
+use Rattle.switch_table.specs.Exports.{has_target, part_of, row_of, tables_of}
+use Rattle.wire.specs.Exports.{AreShort, AreSwitches}
 use Rattle.refinement.proofs.TableSpellings.{AreSmall}
 
 module _ (rows : List Row) (net : Net) (plan : List Hosted) (version s : ℕ)

@@ -1,38 +1,19 @@
 -- What was sent has a short spelling.
-use Rattle.std.proofs.Common.{◌≡◌, ℕ, ◌<◌, ◌^◌, Some, List, length, refl, sym, subst, arith, ◌≤◌}
-use Rattle.ctrl_msg.specs.declared.message.Body.{Body}
-use Rattle.ctrl_msg.specs.declared.message.Body.TheVariants.{Install, Stamp, Advertise, Hello, Installed, Stamped}
-use Rattle.ctrl_msg.specs.declared.message.Place.{Place}
+use Rattle.std.proofs.Common.{◌<◌, ◌^◌, ◌≡◌, ◌≤◌, List, Some, arith, length, length-append, refl, subst, sym, ℕ}
+use Rattle.update_machine.specs.Exports.{Advertise, Body, Hello, Install, Installed, IsReached, IsSetting, Item, Place, Setting, Stamp, Stamped, Tables, message_of, plan_at, to_switch}
 use Rattle.ctrl_msg.specs.declared.message.Place.TheVariants as receiver
-use Rattle.switch_table.specs.declared.tables.Tables.{Tables}
-use Rattle.wire.specs.Fields.{n4, tables}
-use Rattle.wire.specs.Messages.{AreShort, install_form, message}
+use Rattle.wire.specs.Exports.{AreShort, install_form, message, n4, tables}
 use Rattle.wire.proofs.FrameBytes.{length_n4}
-use Rattle.std.proofs.lemmas.List.{length-append}
-use Rattle.message_bag.specs.Feeding.{HasShortSpelling}
+use Rattle.message_bag.specs.Exports.{HasShortSpelling}
 use Rattle.message_bag.proofs.SpellingLengths.{alone_short, length_message, stamp_sent_short}
-use Rattle.journal.specs.declared.item.Item.{Item}
-use Rattle.update_machine.specs.Answers.{IsReached}
-use Rattle.update_machine.specs.Links.{message_of}
-use Rattle.update_machine.specs.Setting.{Setting, IsSetting}
-use Rattle.update_machine.specs.Settling.{to_switch}
-use Rattle.update_machine.specs.Versions.{plan_at}
-use Rattle.control_laws.specs.Adverts.{AdvertsAreOfSwitches}
-use Rattle.control_laws.proofs.BothCauses.{behind_both}
-use Rattle.control_laws.proofs.AdvertOrigins.{of_switches}
-use Rattle.update_machine.proofs.CallerLemmas.{begins_planned, touched_few}
-use Rattle.control_laws.proofs.PieceCauses.{always}
-use Rattle.control_laws.specs.Named.{BodiesNameThere, IsAddressed}
-use Rattle.control_laws.proofs.NamedByMessages.{bodies_named}
-use Rattle.control_laws.specs.Planned.{TablesArePlanned, VersionsArePlanned}
-use Rattle.control_laws.proofs.PlannedTables.{tables_planned, versions_planned}
-use Rattle.control_laws.specs.Touched.{StampsSayTouched, stamp_to}
-use Rattle.control_laws.proofs.TouchedStamps.{stamps_touched}
-use Rattle.packet_laws.proofs.PlanLookups.{version_planned}
-use Rattle.refinement.specs.Spelled.{AreSpelled}
+use Rattle.control_laws.specs.Exports.{AdvertsAreOfSwitches, BodiesNameThere, IsAddressed, StampsSayTouched, TablesArePlanned, VersionsArePlanned, stamp_to}
+use Rattle.control_laws.proofs.Exports.{always, behind_both, bodies_named, of_switches, stamps_touched, tables_planned, versions_planned}
+use Rattle.update_machine.proofs.Exports.{begins_planned, touched_few}
+use Rattle.packet_laws.proofs.Exports.{version_planned}
+use Rattle.refinement.specs.Exports.{AreSpelled}
 use Rattle.refinement.proofs.TableSpellings.{AreSmall, tables_len}
 use Rattle.refinement.proofs.SmallTables.{short, small}
-use Rattle.ternary.specs.Word.{WordValue}
+use Rattle.ternary.specs.Exports.{WordValue}
 
 tables_short : (to : Place) (boot : ℕ) (t : Tables) → AreSmall t
     → length (message.spell (record { to = to; body = Install boot t })) < 2 ^ 40

@@ -1,18 +1,10 @@
 -- The packets that stand at a switch: those of the table are those of the journal.
-use Rattle.std.proofs.Common.{ℕ, suc, ◌≡◌, ◌+◌, ◌<◌, ◌≤◌, ◌==◌, ◌⊎◌, inl, inr, Bool, true, false, ◌&&◌, if◌then◌else◌, Some, None, List, [], refl, ap, sym, ◌∙◌, length, get_or, filter, arith}
-use Rattle.std.specs.List.{list_any, range_with_len}
-use Rattle.std.proofs.lemmas.Bool.{cases_lt, eqb-true}
-use Rattle.std.proofs.lemmas.List.Elements.{filter_agree}
-use Rattle.std.proofs.lemmas.Map.Views.{any-filter_same}
-use Rattle.journal.specs.declared.item.Item.{Item}
-use Rattle.update_machine.specs.Folds.{count_of}
-use Rattle.update_machine.specs.Packets.{is_packet, next_packet, standing}
-use Rattle.update_machine.specs.Setting.{Setting}
-use Rattle.update_machine.specs.Travels.{is_at, packets_at, travels, travels_at}
-use Rattle.packet_laws.specs.Facts.{what_is_known}
-use Rattle.packet_laws.proofs.RestingPackets.{numbered, ways_of_all}
-use Rattle.refinement.specs.Refinement.{RefineJournal, NetworkState}
-use Rattle.refinement.specs.Flights.{flight_in, flight_of}
+use Rattle.std.proofs.Common.{[], if◌then◌else◌, ◌&&◌, ◌+◌, ◌<◌, ◌==◌, ◌∙◌, ◌≡◌, ◌≤◌, ◌⊎◌, Bool, List, None, Some, ap, arith, eqb-true, false, filter, get_or, inl, inr, length, refl, suc, sym, true, ℕ}
+use Rattle.base.proofs.Exports.{any-filter_same, cases_lt, filter_agree, list_any, range_with_len}
+use Rattle.update_machine.specs.Exports.{Item, Setting, count_of, is_at, is_packet, next_packet, packets_at, standing, travels, travels_at}
+use Rattle.packet_laws.specs.Exports.{what_is_known}
+use Rattle.packet_laws.proofs.Exports.{numbered, ways_of_all}
+use Rattle.refinement.specs.Exports.{NetworkState, RefineJournal, flight_in, flight_of}
 use Rattle.travelling.specs.Travelling.{Flight, Flights, numbers_at, stands_at, flight}
 use Rattle.travelling.proofs.SlotNumbers.{beyond, none_between}
 use Rattle.refinement.proofs.JournalLaws.{Known, reached_known}

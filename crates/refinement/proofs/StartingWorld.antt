@@ -1,34 +1,17 @@
 -- A world in which nothing happened yet is as its journal says.
-use Rattle.std.proofs.Common.{ℕ, ◌≡◌, ◌<◌, ◌≤◌, List, [], ◌∷◌, refl, ap, sym, subst, ◌∙◌, length, cond, filter, map, get_or, arith, All}
-use Rattle.std.specs.Prelude.{Ok, Some, slice_get}
-use Rattle.std.specs.List.{range_with_len}
-use Rattle.std.proofs.lemmas.List.Elements.{All-nil}
-use Rattle.std.proofs.lemmas.List.FromFn.{get_or-map-range_with_len, length-map-range_with_len}
-use Rattle.refinement.specs.Controller.{IsControllerOf, plan_to_keep}
+use Rattle.std.proofs.Common.{[], ◌<◌, ◌∙◌, ◌∷◌, ◌≡◌, ◌≤◌, All, List, Ok, Some, ap, arith, cond, filter, get_or, length, map, refl, slice_get, subst, sym, ℕ}
+use Rattle.base.proofs.Exports.{All-nil, get_or-map-range_with_len, length-map-range_with_len, range_with_len}
+use Rattle.refinement.specs.Exports.{IsControllerOf, RefineJournal, flight_in, is_up_link, plan_to_keep, switch_begun, switch_of}
 use Rattle.refinement.proofs.ControllerCalls.{begins}
-use Rattle.controller.specs.Controller.{ControllerValue, first_controller}
-use Rattle.controller.specs.Plan.{PlanValue}
-use Rattle.net_file.specs.Net.{IsNet}
-use Rattle.net_file.specs.declared.net.LinkRow.{LinkRow}
-use Rattle.net_file.specs.declared.net.Net.{Net}
-use Rattle.net_file.specs.Owners.{links_of}
+use Rattle.controller.specs.Exports.{ControllerValue, PlanValue, first_controller}
+use Rattle.net_file.specs.Exports.{IsNet, links_of}
+use Rattle.update_machine.specs.Exports.{IsSetting, LinkRow, NamesOwnPort, Net, PolicyFile, Row, Setting, Whole, next_packet, plan_at, policy_at, setting_of, travels}
 use Rattle.partition.specs.Plan.{Hosted, plan_of}
-use Rattle.policy_rules.specs.PolicyFiles.{GivesOnly, IsPolicyFile}
-use Rattle.policy_rules.specs.declared.file.PolicyFile.{PolicyFile}
-use Rattle.policy_rules.specs.declared.file.PolicyFile.TheVariants.{Whole}
-use Rattle.policy_rules.specs.declared.policy.Row.{Row}
-use Rattle.steps.specs.Steps.{IsStep}
-use Rattle.switch_core.specs.State.{SwitchValue}
-use Rattle.refinement.specs.SwitchOf.{switch_of}
-use Rattle.update_machine.specs.Packets.{next_packet}
-use Rattle.update_machine.specs.Setting.{Setting, setting_of, IsSetting, NamesOwnPort}
-use Rattle.update_machine.specs.Travels.{travels}
-use Rattle.update_machine.specs.Versions.{policy_at, plan_at}
-use Rattle.update_machine.proofs.CallerLemmas.{first_version_is, setting_begun, start_laws}
-use Rattle.world_log.specs.Linking.{AreNear}
-use Rattle.refinement.specs.Begun.{switch_begun}
-use Rattle.refinement.specs.Refinement.{RefineJournal, is_up_link}
-use Rattle.refinement.specs.Flights.{flight_in}
+use Rattle.policy_rules.specs.Exports.{GivesOnly, IsPolicyFile}
+use Rattle.steps.specs.Exports.{IsStep}
+use Rattle.switch_core.specs.Exports.{SwitchValue}
+use Rattle.update_machine.proofs.Exports.{first_version_is, setting_begun, start_laws}
+use Rattle.world_log.specs.Exports.{AreNear}
 use Rattle.refinement.proofs.PostedFrames.{bag_begun}
 
 -- a switch before the first item

@@ -1,28 +1,13 @@
 -- The laws of this crate, of what is known within a step.
-use Rattle.std.proofs.Common.{ℕ, ◌≡◌, ◌<◌, ◌==◌, Bool, true, false, if◌then◌else◌, List, [], ◌∷◌, ◌++◌, refl, ap, sym, ◌∙◌, length, eq-eqb, arith, rules, Option}
-use Rattle.five_tuple.specs.Header.{IsHeader}
-use Rattle.five_tuple.specs.declared.header.Header.{Header}
-use Rattle.journal.specs.declared.item.Item.{Item}
+use Rattle.std.proofs.Common.{[], if◌then◌else◌, ◌++◌, ◌<◌, ◌==◌, ◌∙◌, ◌∷◌, ◌≡◌, Bool, List, Option, ap, arith, eq-eqb, false, length, refl, rules, sym, true, ℕ}
+use Rattle.five_tuple.specs.Exports.{IsHeader}
+use Rattle.update_machine.specs.Exports.{Header, Item, Packet, Ports, Setting, Step, near, next_message, next_packet, piece, targets_of}
 use Rattle.journal.specs.declared.item.Item.TheVariants as item
-use Rattle.net_file.specs.declared.ports.Ports.{Ports}
-use Rattle.steps.specs.declared.step.Step.{Step}
-use Rattle.steps.specs.declared.step.Step.TheVariants.{Packet}
-use Rattle.switch_core.specs.State.{SwitchValue}
-use Rattle.switch_core.specs.Answers.{Answer}
-use Rattle.refinement.specs.SwitchOf.{switch_of}
-use Rattle.tunnel.specs.Moves.{here}
-use Rattle.update_machine.specs.LinkMasks.{near}
-use Rattle.update_machine.specs.Messages.{next_message}
-use Rattle.update_machine.specs.Packets.{next_packet}
-use Rattle.update_machine.specs.Pieces.{piece}
-use Rattle.update_machine.specs.Setting.{Setting}
-use Rattle.update_machine.specs.PacketRoutes.{targets_of}
-use Rattle.packet_laws.specs.OnWay.{IsUnknown}
-use Rattle.packet_laws.specs.Facts.{what_is_known}
-use Rattle.world_log.specs.Packets.{coming_in}
-use Rattle.world_log.specs.Writing.{entered_items, entered_flight}
-use Rattle.refinement.specs.PacketSteps.{BagsRefine, EntriesRefine, Comes, HopsRefine, IsOfNet, entry_at}
-use Rattle.refinement.specs.Flights.{flight_in}
+use Rattle.switch_core.specs.Exports.{Answer, SwitchValue}
+use Rattle.refinement.specs.Exports.{BagsRefine, Comes, EntriesRefine, HopsRefine, IsOfNet, entry_at, flight_in, switch_of}
+use Rattle.tunnel.specs.Exports.{here}
+use Rattle.packet_laws.specs.Exports.{IsUnknown, what_is_known}
+use Rattle.world_log.specs.Exports.{coming_in, entered_flight, entered_items}
 use Rattle.refinement.proofs.CanAsk.{CanAsk, can_be_asked, looks_up_as}
 use Rattle.refinement.proofs.ComePieces.{come_along}
 use Rattle.refinement.proofs.IncomingWrites.{ComesTo, come_goes, come_law, looking}

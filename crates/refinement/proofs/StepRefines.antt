@@ -1,30 +1,15 @@
 -- One more step keeps the tie of a world to its journal.
-use Rattle.std.proofs.Common.{ℕ, ◌≡◌, ◌≢◌, ◌+◌, ◌<◌, ◌==◌, Bool, true, false, cond, refl, List, [], ◌∷◌, ◌++◌, ap, sym, append-nil, subst, ◌∙◌, length, filter, get_or, set, arith, eq-eqb, eqb-true}
-use Rattle.std.specs.Prelude.{IsFalse}
-use Rattle.std.proofs.lemmas.List.{get_or-set_other, get_or-set_same}
-use Rattle.refinement.specs.Controller.{IsControllerOf}
+use Rattle.std.proofs.Common.{[], ◌++◌, ◌+◌, ◌<◌, ◌==◌, ◌∙◌, ◌∷◌, ◌≡◌, ◌≢◌, Bool, IsFalse, List, ap, append-nil, arith, cond, eq-eqb, eqb-true, false, filter, get_or, get_or-set_other, get_or-set_same, length, refl, set, subst, sym, true, ℕ}
+use Rattle.refinement.specs.Exports.{AreUp, AreUsable, IsBagOf, IsControllerOf, NetworkState, RefineJournal, flight_in, is_up_link, switch_of}
 use Rattle.refinement.proofs.ControllerUntouched.{steps_leave}
-use Rattle.journal.specs.declared.item.Item.{Item}
+use Rattle.update_machine.specs.Exports.{IsReached, Item, LinkRow, NoneConcern, Setting, Step, concerns_calls, concerns_known, concerns_links, count_of, is_packet, next_message, next_packet, piece}
 use Rattle.journal.specs.declared.item.Item.TheVariants as item
-use Rattle.net_file.specs.Owners.{links_of}
-use Rattle.net_file.specs.declared.net.LinkRow.{LinkRow}
-use Rattle.control_laws.specs.Steps.{asks_controller}
-use Rattle.steps.specs.declared.step.Step.{Step}
-use Rattle.switch_core.specs.State.{SwitchValue}
-use Rattle.refinement.specs.SwitchOf.{switch_of}
+use Rattle.net_file.specs.Exports.{links_of}
+use Rattle.control_laws.specs.Exports.{asks_controller}
+use Rattle.switch_core.specs.Exports.{SwitchValue}
 use Rattle.refinement.proofs.SwitchLinkChanges.{kept_is}
-use Rattle.update_machine.specs.Answers.{IsReached}
-use Rattle.update_machine.specs.Concerns.{NoneConcern, concerns_calls, concerns_known, concerns_links}
-use Rattle.update_machine.specs.Folds.{count_of}
-use Rattle.update_machine.specs.Messages.{next_message}
-use Rattle.update_machine.specs.Packets.{is_packet, next_packet}
-use Rattle.update_machine.specs.Pieces.{piece}
-use Rattle.steps.specs.Steps.{IsStep}
-use Rattle.update_machine.specs.Setting.{Setting}
-use Rattle.update_machine.proofs.CallerLemmas.{count_of_append, links_keep, near_stays}
-use Rattle.refinement.specs.Refinement.{RefineJournal, AreUp, AreUsable, NetworkState, is_up_link}
-use Rattle.refinement.specs.Bags.{IsBagOf}
-use Rattle.refinement.specs.Flights.{flight_in}
+use Rattle.steps.specs.Exports.{IsStep}
+use Rattle.update_machine.proofs.Exports.{count_of_append, links_keep, near_stays}
 use Rattle.travelling.specs.Travelling.{Flights, flight}
 use Rattle.refinement.proofs.JournalLaws.{reached_known, reached_more}
 use Rattle.refinement.proofs.PostedFrames.{SendFrom, are_apart, bag_sends, posts_in}

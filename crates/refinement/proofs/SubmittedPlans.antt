@@ -1,45 +1,24 @@
 -- What the submission of a plan writes, and its refusals.
-use Rattle.std.proofs.Common.{ℕ, ◌≡◌, ◌≢◌, ◌+◌, ◌-◌, ◌==◌, not, if◌then◌else◌, Option, Some, None, List, [], ◌∷◌, ◌++◌, map, refl, ap, sym, subst, ◌∙◌, arith}
-use Rattle.std.specs.Prelude.{IsOk, filter}
-use Rattle.std.proofs.lemmas.Bool.{eq-eqb, ne_eqb}
-use Rattle.journal.specs.declared.item.Item.{Item}
+use Rattle.std.proofs.Common.{[], if◌then◌else◌, ◌++◌, ◌+◌, ◌-◌, ◌==◌, ◌∙◌, ◌∷◌, ◌≡◌, ◌≢◌, IsOk, List, None, Option, Some, ap, arith, eq-eqb, map, ne_eqb, not, refl, subst, sym, ℕ}
+use Rattle.base.proofs.Exports.{filter}
+use Rattle.update_machine.specs.Exports.{Item, Setting, Step, Update, file_at, hosted_in, install_for, installs_to_all, items_then, known_boot, next_touched, piece, plan_at, policy_at, policy_in, settling, submitted_items, switches_of, touched_of, update_code, update_items, version_count, versions_from_current}
 use Rattle.journal.specs.declared.item.Item.TheVariants as item
-use Rattle.steps.specs.declared.step.Step.{Step}
-use Rattle.steps.specs.declared.step.Step.TheVariants.{Update}
 use Rattle.update_machine.specs.Marks as machine
-use Rattle.update_machine.specs.Marks.{known_boot}
-use Rattle.update_machine.specs.Moves.{items_then}
-use Rattle.update_machine.specs.Pieces.{piece, update_code, update_items}
-use Rattle.update_machine.specs.Setting.{Setting, file_at, policy_in}
-use Rattle.update_machine.specs.SwitchNumbers.{switches_of}
-use Rattle.update_machine.specs.Settling.{install_for, installs_to_all, settling, submitted_items, versions_from_current}
-use Rattle.update_machine.specs.Versions.{policy_at, version_count, hosted_in, plan_at}
-use Rattle.update_machine.proofs.CallerLemmas.{controller_keeps, have_append, next_is, planned_code, policies_keep, next_touched_is}
-use Rattle.update_machine.specs.Touched.{next_touched, touched_of}
-use Rattle.control_laws.specs.ItemCauses.{HasItemCause, SubmitsRightly}
-use Rattle.control_laws.proofs.ControllerBlocks.{submitted_have}
-use Rattle.control_laws.proofs.ItemFacts.{have_front}
-use Rattle.control_laws.proofs.FactsGrown.{current_more}
-use Rattle.control_laws.proofs.VersionNumbers.{caused_numbered}
-use Rattle.control_laws.proofs.MarksSettle.{in_two}
-use Rattle.version_update.specs.Marks.{with_version}
-use Rattle.version_update.specs.Record.{is_over}
-use Rattle.controller.specs.Controller.{ControllerValue, KeptPlan, current_touched}
-use Rattle.controller.specs.Plan.{PlanValue}
+use Rattle.update_machine.proofs.Exports.{controller_keeps, have_append, next_is, next_touched_is, planned_code, policies_keep}
+use Rattle.control_laws.specs.Exports.{HasItemCause, SubmitsRightly}
+use Rattle.control_laws.proofs.Exports.{caused_numbered, current_more, have_front, in_two, submitted_have}
+use Rattle.version_update.specs.Exports.{is_over, with_version}
+use Rattle.controller.specs.Exports.{ControllerValue, KeptPlan, PlanValue, SubmitsPlan, boot_recorded, current_touched, install_act, next_kept, submit_acts, switches_where}
 use Rattle.controller.specs.Sends as acts
-use Rattle.controller.specs.Sends.{boot_recorded, install_act, submit_acts, switches_where}
-use Rattle.controller.specs.Submit.{SubmitsPlan, next_kept}
 use Rattle.controller.specs.declared.sends.Act.{Act}
 use Rattle.controller.specs.declared.sends.Act.TheVariants.{Post}
-use Rattle.refinement.specs.Controller.{IsControllerOf, IsPlanOfNext, plan_to_keep}
-use Rattle.refinement.specs.Marks.{AreMarksOf}
-use Rattle.refinement.specs.Written.{AreWritten, written_items}
+use Rattle.refinement.specs.Exports.{AreMarksOf, AreWritten, IsControllerOf, IsPlanOfNext, plan_to_keep, written_items}
 use Rattle.refinement.proofs.ControllerCalls.{are_written, behind_row, row_on}
 use Rattle.refinement.proofs.KeptController.{count_on}
 use Rattle.refinement.proofs.ControllerPlans.{controller_on, plans_on, plans_pushed, settles_with}
 use Rattle.refinement.proofs.SettledMarks.{AreCaused, leave_on, told_posted}
 use Rattle.refinement.proofs.WrittenActs.{written_in_two}
-use Rattle.ternary.specs.Word.{WordValue}
+use Rattle.ternary.specs.Exports.{WordValue}
 
 -- ---- a plan that is refused
 

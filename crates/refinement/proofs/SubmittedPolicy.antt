@@ -1,38 +1,18 @@
 -- A policy is submitted or refused: what is written then, and what the parts are behind it.
-use Rattle.std.proofs.Common.{ℕ, ◌≡◌, ◌≢◌, ◌+◌, ◌-◌, ◌<◌, ◌≤◌, ◌==◌, false, if◌then◌else◌, Some, None, List, [], ◌∷◌, ◌++◌, refl, ap, sym, subst, ◌∙◌, length, append-nil, arith, rules}
-use Rattle.std.specs.Prelude.{Err, Ok, slice_get}
-use Rattle.std.proofs.lemmas.Bool.Decides.{nat_tests}
-use Rattle.refinement.specs.Controller.{IsControllerOf, IsPlanOfNext}
-use Rattle.refinement.specs.Written.{AreWritten}
+use Rattle.std.proofs.Common.{[], if◌then◌else◌, ◌++◌, ◌+◌, ◌-◌, ◌<◌, ◌==◌, ◌∙◌, ◌∷◌, ◌≡◌, ◌≢◌, ◌≤◌, Err, List, None, Ok, Some, ap, append-nil, arith, false, length, refl, rules, slice_get, subst, sym, ℕ}
+use Rattle.base.proofs.Exports.{nat_tests}
+use Rattle.refinement.specs.Exports.{AreWritten, IsBagOf, IsControllerOf, IsPlanOfNext, NetworkState, RefineJournal}
 use Rattle.refinement.proofs.ControllerUntouched.{items_leave}
 use Rattle.refinement.proofs.SubmittedPlans.{submits, too_many_live, too_many_versions}
-use Rattle.controller.specs.Controller.{ControllerValue, newest_policy}
-use Rattle.controller.specs.Plan.{PlanValue}
-use Rattle.controller.specs.Sends.{submit_acts}
-use Rattle.controller.specs.Submit.{SubmitsPlan, next_kept}
+use Rattle.controller.specs.Exports.{ControllerValue, PlanValue, SubmitsPlan, newest_policy, next_kept, submit_acts}
 use Rattle.controller.specs.declared.sends.Act.{Act}
-use Rattle.journal.specs.declared.item.Item.{Item}
+use Rattle.update_machine.specs.Exports.{Inapplicable, Item, Net, PoliciesKeep, PolicyFile, Row, Setting, Step, Update, apply_code, items_then, made_by, piece, plan_code, policy_in, setting_of, submitted_items, touched_of, update_code, update_items, version_count}
 use Rattle.journal.specs.declared.item.Item.TheVariants as item
-use Rattle.net_file.specs.declared.net.Net.{Net}
 use Rattle.partition.specs.Plan.{plan_of}
-use Rattle.policy_rules.specs.declared.applying.Inapplicable.{Inapplicable}
-use Rattle.policy_rules.specs.declared.file.PolicyFile.{PolicyFile}
-use Rattle.policy_rules.specs.declared.policy.Row.{Row}
-use Rattle.policy_rules.specs.Hosted.{NoPlan}
-use Rattle.steps.specs.declared.step.Step.{Step}
-use Rattle.steps.specs.declared.step.Step.TheVariants.{Update}
-use Rattle.update_machine.specs.Laws.{PoliciesKeep}
-use Rattle.update_machine.specs.Moves.{items_then}
-use Rattle.update_machine.specs.Pieces.{apply_code, piece, plan_code, update_code, update_items}
-use Rattle.steps.specs.Steps.{IsStep}
-use Rattle.update_machine.specs.Setting.{Setting, made_by, policy_in, setting_of}
-use Rattle.update_machine.specs.Settling.{submitted_items}
-use Rattle.update_machine.specs.Versions.{version_count}
-use Rattle.update_machine.proofs.CallerLemmas.{next_by, policies_keep, unapplied_code, unplanned_code}
-use Rattle.update_machine.specs.Touched.{touched_of}
-use Rattle.world_log.specs.Sending.{MayNote, act_items, act_posts}
-use Rattle.refinement.specs.Refinement.{RefineJournal, NetworkState}
-use Rattle.refinement.specs.Bags.{IsBagOf}
+use Rattle.policy_rules.specs.Exports.{NoPlan}
+use Rattle.steps.specs.Exports.{IsStep}
+use Rattle.update_machine.proofs.Exports.{next_by, policies_keep, unapplied_code, unplanned_code}
+use Rattle.world_log.specs.Exports.{MayNote, act_items, act_posts}
 use Rattle.refinement.proofs.ActItems.{written_is}
 use Rattle.refinement.proofs.JournalLaws.{reached_known}
 use Rattle.refinement.proofs.NewestKeptPolicy.{newest_in}
@@ -41,7 +21,7 @@ use Rattle.refinement.proofs.PostedFrames.{bag_on}
 use Rattle.refinement.proofs.ToldSteps.{refines_told}
 use Rattle.refinement.proofs.StepRefines.{links_stay, switches_stay, up_stay}
 use Rattle.refinement.proofs.SendableMessages.{may_note}
-use Rattle.ternary.specs.Word.{WordValue}
+use Rattle.ternary.specs.Exports.{WordValue}
 
 -- ---- the file of an update
 

@@ -1,23 +1,11 @@
 -- What one item makes of the facts of a switch.
-use Rattle.std.proofs.Common.{ℕ, ◌≡◌, ◌==◌, Bool, true, ◌&&◌, Option, Some, None, unwrap_or, List, [], ◌∷◌, ◌++◌, refl, ap, ◌∙◌}
-use Rattle.std.specs.Option.{option_map_or}
-use Rattle.std.proofs.lemmas.Bool.{eq-eqb, or_parts}
-use Rattle.ctrl_msg.specs.declared.message.Body.{Body}
-use Rattle.journal.specs.declared.item.Item.{Item}
+use Rattle.std.proofs.Common.{[], ◌&&◌, ◌++◌, ◌==◌, ◌∙◌, ◌∷◌, ◌≡◌, Bool, List, None, Option, Some, ap, eq-eqb, refl, true, unwrap_or, ℕ}
+use Rattle.base.proofs.Exports.{option_map_or, or_parts}
+use Rattle.update_machine.specs.Exports.{Body, Item, NoneConcern, Setting, body_to_switch, boot_of, cache_after, cache_of, changes_cache, changes_heard, concerns_known, concerns_links, concerns_switch, gives_boot, gives_serving, gives_up, handled_count, heard, is_up, near, own_seq, serves, stamp_of, touched_by}
 use Rattle.journal.specs.declared.item.Item.TheVariants as item
-use Rattle.switch_table.specs.Cache.{after_expire}
-use Rattle.update_machine.specs.Adverts.{own_seq}
-use Rattle.update_machine.specs.Boots.{boot_of, changes_heard, heard, is_up, body_to_switch, gives_boot, gives_up}
-use Rattle.update_machine.specs.Caches.{cache_after, cache_of, changes_cache}
-use Rattle.update_machine.specs.Concerns.{NoneConcern, concerns_known, concerns_links, concerns_switch}
-use Rattle.update_machine.specs.Handled.{handled_count}
-use Rattle.update_machine.specs.LinkMasks.{near}
-use Rattle.update_machine.specs.Setting.{Setting}
-use Rattle.update_machine.specs.Versions.{stamp_of}
-use Rattle.update_machine.specs.Links.{serves, gives_serving}
-use Rattle.update_machine.proofs.CallerLemmas.{calls_stay, fewer, folded_append, links_keep, switch_keeps}
-use Rattle.update_machine.specs.Touched.{touched_by}
-use Rattle.control_laws.proofs.FactsGrown.{boot_more, heard_more, serving_more, up_more}
+use Rattle.switch_table.specs.Exports.{after_expire}
+use Rattle.update_machine.proofs.Exports.{calls_stay, fewer, folded_append, links_keep, switch_keeps}
+use Rattle.control_laws.proofs.Exports.{boot_more, heard_more, serving_more, up_more}
 use Rattle.refinement.proofs.SwitchHears.{heard_facts}
 use Rattle.refinement.proofs.SwitchFacts.{SwitchFacts, stamp_by, facts_of}
 

@@ -1,26 +1,13 @@
 -- What a journal says of a switch, by eight facts of it.
-use Rattle.std.proofs.Common.{ℕ, ◌≡◌, ◌==◌, Bool, ◌&&◌, ◌||◌, not, if◌then◌else◌, Option, List, [], ◌∷◌, ◌++◌, refl, ap, ◌∙◌, length, map}
-use Rattle.std.specs.Prelude.{filter, filter_map, fold, slice_set}
-use Rattle.std.specs.List.{list_any}
-use Rattle.ctrl_msg.specs.declared.message.Body.{Body}
-use Rattle.failover.specs.Adverts.{after_hearing_all, first_adverts, no_adverts}
-use Rattle.failover.specs.declared.advert.Advert.{Advert}
-use Rattle.net_file.specs.Owners.{links_of}
-use Rattle.journal.specs.declared.item.Item.{Item}
-use Rattle.switch_core.specs.State.{SwitchValue}
-use Rattle.switch_table.specs.Cache.{CacheValue}
-use Rattle.switch_table.specs.declared.tables.Tables.{Tables}
-use Rattle.update_machine.specs.Adverts.{adverts_known, own_advert, own_if_sent, own_seq}
-use Rattle.update_machine.specs.Boots.{boot_of, heard, is_up}
-use Rattle.update_machine.specs.Caches.{cache_of}
-use Rattle.update_machine.specs.Handled.{handled_count}
-use Rattle.update_machine.specs.LinkMasks.{near, other_advert}
-use Rattle.update_machine.specs.Setting.{Setting}
-use Rattle.update_machine.specs.SwitchNumbers.{switches_of}
-use Rattle.update_machine.specs.Versions.{collects_version, greatest_number, holds_version, installs_version, stamp_in, stamp_of, tables_at}
-use Rattle.update_machine.specs.Links.{serves}
-use Rattle.update_machine.proofs.CallerLemmas.{first_plan_stays}
-use Rattle.refinement.specs.SwitchOf.{collect_in, switch_of, tables_in, with_tables}
+use Rattle.std.proofs.Common.{[], if◌then◌else◌, ◌&&◌, ◌++◌, ◌==◌, ◌||◌, ◌∙◌, ◌∷◌, ◌≡◌, Bool, List, Option, ap, filter, filter_map, fold, length, map, not, refl, slice_set, ℕ}
+use Rattle.base.proofs.Exports.{list_any}
+use Rattle.update_machine.specs.Exports.{Advert, Body, Item, Setting, Tables, adverts_known, boot_of, cache_of, collects_version, greatest_number, handled_count, heard, holds_version, installs_version, is_up, near, other_advert, own_advert, own_if_sent, own_seq, serves, stamp_in, stamp_of, switches_of, tables_at}
+use Rattle.failover.specs.Exports.{after_hearing_all, first_adverts, no_adverts}
+use Rattle.net_file.specs.Exports.{links_of}
+use Rattle.switch_core.specs.Exports.{SwitchValue}
+use Rattle.switch_table.specs.Exports.{CacheValue}
+use Rattle.update_machine.proofs.Exports.{first_plan_stays}
+use Rattle.refinement.specs.Exports.{collect_in, switch_of, tables_in, with_tables}
 
 pub record SwitchFacts : Type 0 where
   pub boot : ℕ

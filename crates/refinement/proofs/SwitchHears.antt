@@ -1,32 +1,15 @@
 -- What a body that a switch hears makes of its record.
-use Rattle.std.proofs.Common.{ℕ, ◌≡◌, ◌≢◌, ◌==◌, Bool, true, false, ◌&&◌, ◌||◌, not, max, if◌then◌else◌, Option, Some, None, List, [], ◌∷◌, ◌++◌, set, refl, ap, sym, ◌∙◌, arith, append-nil, get_or-set_other}
-use Rattle.std.specs.Prelude.{filter_map, find, fold, is_some, nat_le, nat_lt, ⊤}
-use Rattle.std.specs.List.{list_any}
-use Rattle.std.specs.Option.{option_map_or}
-use Rattle.std.proofs.lemmas.Bool.{eq-eqb}
-use Rattle.std.proofs.lemmas.Bool.Decides.{nat_tests}
-use Rattle.std.proofs.lemmas.List.{set_comm}
-use Rattle.std.proofs.lemmas.List.Elements.{filter_map-append}
-use Rattle.std.proofs.lemmas.List.Sums.{fold-append}
-use Rattle.base.proofs.ListsOfEach.{each_append}
-use Rattle.ctrl_msg.specs.declared.message.Body.{Body}
-use Rattle.ctrl_msg.specs.declared.message.Body.TheVariants.{Install, OpenAt, Stamp, Collect, CacheRule, Advertise, Hello, Installed, Stamped}
-use Rattle.failover.specs.Adverts.{after_hearing, held_advert, is_news, is_newer}
-use Rattle.failover.specs.declared.advert.Advert.{Advert}
+use Rattle.std.proofs.Common.{[], if◌then◌else◌, ◌&&◌, ◌++◌, ◌==◌, ◌||◌, ◌∙◌, ◌∷◌, ◌≡◌, ◌≢◌, Bool, List, None, Option, Some, ap, append-nil, arith, eq-eqb, false, filter_map, find, fold, get_or-set_other, is_some, max, nat_le, nat_lt, not, refl, set, sym, true, ℕ}
+use Rattle.base.proofs.Exports.{each_append, filter_map-append, fold-append, list_any, nat_tests, option_map_or, set_comm, ⊤}
+use Rattle.update_machine.specs.Exports.{Advert, Advertise, Body, CacheRule, Collect, Hello, Install, Installed, OpenAt, Setting, Stamp, Stamped, Tables, cache_after, carried_from, other_advert, raised_from, stamp_in}
+use Rattle.failover.specs.Exports.{after_hearing, held_advert, is_newer, is_news}
 use Rattle.failover.proofs.HeldAdverts.{after_no_news}
-use Rattle.switch_core.specs.Hearing.{after_body, collected_to, with_heard, with_installed, is_news_here, raised_to, stamped_with}
-use Rattle.switch_core.specs.State.{SwitchValue}
-use Rattle.switch_table.specs.Cache.{after_raise}
-use Rattle.switch_table.specs.declared.tables.Tables.{Tables}
-use Rattle.switch_table.specs.Carried.{after_carry}
-use Rattle.update_machine.specs.LinkMasks.{other_advert}
-use Rattle.update_machine.specs.Caches.{cache_after, carried_from, raised_from}
-use Rattle.update_machine.specs.Setting.{Setting}
-use Rattle.update_machine.specs.Versions.{stamp_in}
-use Rattle.refinement.specs.SwitchOf.{collect_in, tables_in, with_tables}
+use Rattle.switch_core.specs.Exports.{SwitchValue, after_body, collected_to, is_news_here, raised_to, stamped_with, with_heard, with_installed}
+use Rattle.switch_table.specs.Exports.{after_carry, after_raise}
+use Rattle.refinement.specs.Exports.{collect_in, tables_in, with_tables}
 use Rattle.refinement.proofs.HeldTables.{AreVersioned, IsVersioned, above, above_more, above_twice, found_above, tables_are}
 use Rattle.refinement.proofs.SwitchFacts.{SwitchFacts, all_by, collected_by, filled, first_tables, others_by, stamp_by, switch_in}
-use Rattle.ternary.specs.Word.{WordValue}
+use Rattle.ternary.specs.Exports.{WordValue}
 
 -- ---- one body more
 

@@ -1,33 +1,14 @@
 -- What a switch has and knows is what the journal says.
-use Rattle.std.proofs.Common.{ℕ, ◌≡◌, ◌^◌, ◌<◌, ◌≤◌, ◌==◌, Bool, true, false, ◌&&◌, ◌||◌, not, if◌then◌else◌, Option, Some, None, List, [], ◌∷◌, ◌++◌, length, refl, ap, sym, subst, ◌∙◌, arith, All}
-use Rattle.std.specs.Prelude.{filter, filter_map, find, fold, is_some, unwrap_or}
-use Rattle.std.specs.List.{AllByRecursion, list_any}
-use Rattle.std.proofs.lemmas.Bool.{eqb-true}
-use Rattle.std.proofs.lemmas.Bool.Decides.{nat_tests}
-use Rattle.std.proofs.Math.Bool.{or-false, or_assoc, or_comm}
-use Rattle.std.proofs.lemmas.List.Elements.{All-contains, All-from_recursion, recursion_from_All}
-use Rattle.std.proofs.lemmas.List.Folds.{list_any-append}
-use Rattle.base.proofs.ListsFound.{find-there}
-use Rattle.base.proofs.ListsOfEach.{each_kept}
-use Rattle.ctrl_msg.specs.declared.message.Body.{Body}
-use Rattle.ctrl_msg.specs.declared.message.Body.TheVariants.{Install}
+use Rattle.std.proofs.Common.{[], if◌then◌else◌, ◌&&◌, ◌++◌, ◌<◌, ◌==◌, ◌^◌, ◌||◌, ◌∙◌, ◌∷◌, ◌≡◌, ◌≤◌, All, Bool, List, None, Option, Some, ap, arith, eqb-true, false, filter, filter_map, find, fold, is_some, length, not, refl, subst, sym, true, unwrap_or, ℕ}
+use Rattle.base.proofs.Exports.{All-contains, All-from_recursion, AllByRecursion, each_kept, find-there, list_any, list_any-append, nat_tests, or-false, or_assoc, or_comm, recursion_from_All}
+use Rattle.update_machine.specs.Exports.{Body, Install, Item, Row, Setting, Tables, boot_of, collects_version, heard, holds_version as holds_in, installs_version, is_cut_off, is_up, lookup_at, plan_at, policy_at, route_from, stamp_of, tables_at, version_count}
 use Rattle.partition.specs.Plan.{IsPlan}
-use Rattle.policy_rules.specs.declared.policy.Row.{Row}
-use Rattle.journal.specs.declared.item.Item.{Item}
-use Rattle.switch_core.specs.State.{SwitchValue, held_tables, holds_version, no_tables}
-use Rattle.switch_table.specs.Tables.{AreSoundTables, Hosted, tables_of}
-use Rattle.switch_table.specs.declared.tables.Tables.{Tables}
+use Rattle.switch_core.specs.Exports.{SwitchValue, held_tables, holds_version, no_tables}
+use Rattle.switch_table.specs.Exports.{AreSoundTables, Hosted, lookup_of, tables_of}
 use Rattle.switch_table.proofs.TableLemmas.{tables_are_sound}
-use Rattle.switch_table.specs.Lookup.{lookup_of}
-use Rattle.update_machine.specs.Adverts.{is_cut_off, route_from}
-use Rattle.update_machine.specs.Caches.{lookup_at}
-use Rattle.update_machine.specs.Boots.{boot_of, heard, is_up}
-use Rattle.update_machine.specs.Setting.{Setting}
-use Rattle.update_machine.specs.Versions.{collects_version, holds_version as holds_in, installs_version, stamp_of, policy_at, tables_at, version_count, plan_at}
-use Rattle.update_machine.proofs.CallerLemmas.{begins_planned, first_plan_stays, version_is_planned}
-use Rattle.control_laws.specs.Planned.{BringsTables}
-use Rattle.refinement.specs.Knowing.{KnowledgeRefines, TablesAreKnown}
-use Rattle.refinement.specs.SwitchOf.{switch_of, tables_in, with_tables}
+use Rattle.update_machine.proofs.Exports.{begins_planned, first_plan_stays, version_is_planned}
+use Rattle.control_laws.specs.Exports.{BringsTables}
+use Rattle.refinement.specs.Exports.{KnowledgeRefines, TablesAreKnown, switch_of, tables_in, with_tables}
 use Rattle.refinement.proofs.HeldTables.{with_each}
 use Rattle.refinement.proofs.SwitchFacts.{all_by, came_by, first_tables, stamp_shown, switch_is}
 

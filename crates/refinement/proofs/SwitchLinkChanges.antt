@@ -1,30 +1,12 @@
 -- What a change of its links makes of a switch.
-use Rattle.std.proofs.Common.{ℕ, ◌≡◌, ◌+◌, ◌==◌, ◌⊎◌, Bool, true, false, ◌&&◌, not, cond, if◌then◌else◌, Option, Some, None, List, [], ◌∷◌, ◌++◌, set, refl, ap, sym, ◌∙◌, arith, inl, inr, set-set}
-use Rattle.std.specs.Prelude.{IsTrue, count_by}
-use Rattle.std.proofs.lemmas.Bool.{eq-eqb, eqb-true, ne_eqb}
-use Rattle.std.proofs.lemmas.List.Sums.{sum_by-cons}
-use Rattle.ctrl_msg.specs.declared.message.Message.{Message}
-use Rattle.failover.specs.declared.advert.Advert.{Advert}
-use Rattle.journal.specs.declared.item.Item.{Item}
+use Rattle.std.proofs.Common.{[], if◌then◌else◌, ◌&&◌, ◌++◌, ◌+◌, ◌==◌, ◌∙◌, ◌∷◌, ◌≡◌, ◌⊎◌, Bool, IsTrue, List, None, Option, Some, ap, arith, cond, count_by, eq-eqb, eqb-true, false, inl, inr, ne_eqb, not, refl, set, set-set, sym, true, ℕ}
+use Rattle.base.proofs.Exports.{sum_by-cons}
+use Rattle.update_machine.specs.Exports.{Advert, Item, Message, NoneConcern, Setting, Step, StepItems, Tables, boot_of, concerns_calls, concerns_known, handled_count, has_change, has_changed, held_adverts, is_up, near, next_message, own_advert, own_if_sent, own_seq, send_items, sent_from, steps_in}
 use Rattle.journal.specs.declared.item.Item.TheVariants as item
-use Rattle.steps.specs.declared.step.Step.{Step}
-use Rattle.switch_core.specs.Life.{near_changed, next_advert}
-use Rattle.switch_table.specs.declared.tables.Tables.{Tables}
-use Rattle.update_machine.specs.Adverts.{has_change, held_adverts, own_advert, own_if_sent, own_seq}
-use Rattle.update_machine.specs.Boots.{boot_of, is_up}
-use Rattle.update_machine.specs.Concerns.{NoneConcern, concerns_calls, concerns_known}
-use Rattle.update_machine.specs.Deliveries.{has_changed}
-use Rattle.update_machine.specs.Handled.{handled_count}
-use Rattle.update_machine.specs.LinkMasks.{near}
-use Rattle.update_machine.specs.Messages.{next_message, send_items, sent_from}
-use Rattle.update_machine.specs.Setting.{Setting}
-use Rattle.update_machine.specs.Steps.{StepItems, steps_in}
-use Rattle.update_machine.proofs.CallerLemmas.{calls_stay, switch_keeps}
-use Rattle.control_laws.proofs.OwnAdverts.{seq_is}
-use Rattle.control_laws.proofs.AdvertNumbers.{down_none}
-use Rattle.refinement.specs.Calls.{NoRows}
-use Rattle.refinement.specs.Links.{LeavesSwitch, LinksRefine, relinked_switch}
-use Rattle.refinement.specs.SwitchOf.{switch_of}
+use Rattle.switch_core.specs.Exports.{near_changed, next_advert}
+use Rattle.update_machine.proofs.Exports.{calls_stay, switch_keeps}
+use Rattle.control_laws.proofs.Exports.{down_none, seq_is}
+use Rattle.refinement.specs.Exports.{LeavesSwitch, LinksRefine, NoRows, relinked_switch, switch_of}
 use Rattle.refinement.proofs.SwitchFactItems.{facts_kept}
 use Rattle.refinement.proofs.SwitchSteps.{steps_more}
 use Rattle.refinement.proofs.SwitchFacts.{SwitchFacts, by_facts, filled, switch_by, switch_is, told_by_facts, facts_of}

@@ -1,15 +1,10 @@
 -- Packets that are lost with a switch: what that leaves, and what the packets on their way are.
-use Rattle.std.proofs.Common.{ℕ, ◌≡◌, ◌==◌, Bool, true, false, cond, if◌then◌else◌, None, List, [], ◌∷◌, ◌++◌, refl, ap, sym, ◌∙◌, map, arith}
-use Rattle.std.specs.Prelude.{IsFalse}
-use Rattle.std.proofs.lemmas.List.Sums.{sum_by-cons}
-use Rattle.journal.specs.declared.item.Item.{Item}
+use Rattle.std.proofs.Common.{[], if◌then◌else◌, ◌++◌, ◌==◌, ◌∙◌, ◌∷◌, ◌≡◌, Bool, IsFalse, List, None, ap, arith, cond, false, map, refl, sym, true, ℕ}
+use Rattle.base.proofs.Exports.{sum_by-cons}
+use Rattle.update_machine.specs.Exports.{Item, NoneConcern, count_of, is_packet, retired_mark}
 use Rattle.journal.specs.declared.item.Item.TheVariants as item
-use Rattle.refinement.specs.Calls.{NoRows}
-use Rattle.update_machine.specs.Concerns.{NoneConcern}
-use Rattle.update_machine.specs.Folds.{count_of}
-use Rattle.update_machine.specs.Marks.{retired_mark}
-use Rattle.update_machine.specs.Packets.{is_packet}
-use Rattle.packet_laws.specs.Facts.{PacketFacts, facts_after}
+use Rattle.refinement.specs.Exports.{NoRows}
+use Rattle.packet_laws.specs.Exports.{PacketFacts, facts_after}
 use Rattle.refinement.proofs.OtherPackets.{NoneName, unnamed}
 use Rattle.refinement.proofs.StandingPackets.{among}
 use Rattle.refinement.proofs.FactsAlong.{Targets, flight_by, facts_along}

@@ -1,21 +1,11 @@
 -- One more step of a journal, and the calls that it counts.
-use Rattle.std.proofs.Common.{ℕ, ◌≡◌, ◌+◌, ◌==◌, Bool, true, false, cond, if◌then◌else◌, List, [], ◌∷◌, ◌++◌, refl, ap, sym, ◌∙◌, append_assoc, append-nil, arith, min, sum_by}
-use Rattle.std.proofs.lemmas.List.Sums.{sum_by-cons}
-use Rattle.five_tuple.specs.declared.header.Header.{Header}
-use Rattle.journal.specs.declared.item.Item.{Item}
+use Rattle.std.proofs.Common.{[], if◌then◌else◌, ◌++◌, ◌+◌, ◌==◌, ◌∙◌, ◌∷◌, ◌≡◌, Bool, List, ap, append-nil, append_assoc, arith, cond, false, min, refl, sum_by, sym, true, ℕ}
+use Rattle.base.proofs.Exports.{sum_by-cons}
+use Rattle.update_machine.specs.Exports.{Header, Hop, Item, NoneConcern, Packet, Setting, Step, StepItems, changes_steps, concerns_known, count_of, folded_from, handled_count, hop_calls, is_entry_at, most_handled, stays_on_way, steps_in, travels_at}
 use Rattle.journal.specs.declared.item.Item.TheVariants as item
-use Rattle.steps.specs.declared.step.Step.{Step}
-use Rattle.steps.specs.declared.step.Step.TheVariants.{Packet, Hop}
-use Rattle.switch_core.specs.State.{SwitchValue, call_counted}
-use Rattle.update_machine.specs.Concerns.{NoneConcern, concerns_known}
-use Rattle.update_machine.specs.Folds.{count_of, folded_from}
-use Rattle.update_machine.specs.Handled.{handled_count, hop_calls, is_entry_at, most_handled, stays_on_way}
-use Rattle.update_machine.specs.Travels.{travels_at}
-use Rattle.update_machine.specs.Setting.{Setting}
-use Rattle.update_machine.specs.Steps.{StepItems, changes_steps, steps_in}
-use Rattle.update_machine.proofs.CallerLemmas.{count_of_append, folded_append}
-use Rattle.refinement.specs.Calls.{AreInStep, CallsRefine, IsInStep, NoRow, NoRows}
-use Rattle.refinement.specs.SwitchOf.{switch_of}
+use Rattle.switch_core.specs.Exports.{SwitchValue, call_counted}
+use Rattle.update_machine.proofs.Exports.{count_of_append, folded_append}
+use Rattle.refinement.specs.Exports.{AreInStep, CallsRefine, IsInStep, NoRow, NoRows, switch_of}
 use Rattle.refinement.proofs.SwitchFactItems.{facts_kept}
 use Rattle.refinement.proofs.SwitchFacts.{by_facts, switch_by, switch_is, facts_of}
 

@@ -1,34 +1,15 @@
 -- What is said of a switch and of its calls, computed on journals of few items.
-use Rattle.std.proofs.Common.{ℕ, ◌≡◌, true, false, Some, None, List, [], ◌∷◌, ◌++◌, map, refl, ap, subst, sym, ◌∙◌}
-use Rattle.std.specs.Prelude.{nat_eq, slice_get}
-use Rattle.std.specs.List.{list_any}
-use Rattle.ctrl_msg.specs.declared.message.Body.{Body}
-use Rattle.ctrl_msg.specs.declared.message.Body.TheVariants.{Collect, Install}
-use Rattle.base.specs.Masks.{switches}
-use Rattle.base.specs.ComputedMasks.{mask_of, mask_where}
-use Rattle.policy_rules.specs.declared.packet.Leg.TheVariants.{Seek}
-use Rattle.policy_rules.specs.declared.policy.Action.TheVariants.{Drop, Out}
-use Rattle.switch_table.specs.Tables.{Hosted}
-use Rattle.ternary.specs.Word.{holds}
+use Rattle.std.proofs.Common.{[], ◌++◌, ◌∙◌, ◌∷◌, ◌≡◌, List, None, Some, ap, false, map, nat_eq, refl, slice_get, subst, sym, true, ℕ}
+use Rattle.base.proofs.Exports.{list_any}
+use Rattle.update_machine.specs.Exports.{Body, Collect, Drop, Install, Item, Out, Seek, boot_of, cache_of, has_changed, heard, holds_version, is_link_up, is_up, message_of, near, own_seq, serves, stamp_of, steps_in}
+use Rattle.base.specs.Exports.{mask_of, mask_where, switches}
+use Rattle.switch_table.specs.Exports.{Hosted}
+use Rattle.ternary.specs.Exports.{holds}
 use Rattle.steps.specs.declared.step.Step.TheVariants as step
-use Rattle.journal.specs.declared.item.Item.{Item}
 use Rattle.journal.specs.declared.item.Item.TheVariants as item
-use Rattle.update_machine.specs.Adverts.{own_seq}
-use Rattle.update_machine.specs.Boots.{boot_of, heard, is_up}
-use Rattle.update_machine.specs.Caches.{cache_of}
-use Rattle.update_machine.specs.Deliveries.{has_changed}
-use Rattle.update_machine.specs.Links.{is_link_up, serves, message_of}
-use Rattle.update_machine.specs.Steps.{steps_in}
-use Rattle.update_machine.specs.Versions.{holds_version, stamp_of}
-use Rattle.update_machine.specs.LinkMasks.{near}
-use Rattle.update_machine.proofs.ExampleVersions.{first_plan}
-use Rattle.update_machine.proofs.ExampleNetworks.{any_word, one, open_net, plan_p, rule, tables_of, to}
-use Rattle.control_laws.specs.Authorities.{EndsAt}
-use Rattle.refinement.specs.Asked.{CanRestart}
-use Rattle.refinement.specs.Calls.{AreInStep}
-use Rattle.refinement.specs.Life.{message_at}
-use Rattle.refinement.specs.Links.{LeavesSwitch}
-use Rattle.refinement.specs.SwitchOf.{tables_kept, switch_of}
+use Rattle.update_machine.proofs.Exports.{any_word, first_plan, one, open_net, plan_p, rule, tables_of, to}
+use Rattle.control_laws.specs.Exports.{EndsAt}
+use Rattle.refinement.specs.Exports.{AreInStep, CanRestart, LeavesSwitch, message_at, switch_of, tables_kept}
 
 -- switch a is told this
 abbrev told : ℕ → Body → List Item

@@ -1,15 +1,8 @@
 -- How long the spelling of small tables is.
-use Rattle.std.proofs.Common.{◌≡◌, ℕ, ◌≤◌, ◌<◌, ◌^◌, ◌++◌, get_or, length, refl, arith}
-use Rattle.std.specs.Prelude.{All}
-use Rattle.std.specs.List.{flat_map}
-use Rattle.std.proofs.lemmas.List.{length-append}
-use Rattle.base.proofs.ListsFiltered.{each_short}
-use Rattle.policy_rules.specs.declared.rules.Partition.{Partition}
-use Rattle.policy_rules.specs.declared.rules.Rule.{Rule}
-use Rattle.switch_table.specs.declared.tables.PartRow.{PartRow}
-use Rattle.switch_table.specs.declared.tables.Tables.{Tables}
-use Rattle.wire.specs.Format.{spelled_number}
-use Rattle.wire.specs.Fields.{action, n1, n4, partition, region, rule, rule_name, switch, tables, target_count, targets, word}
+use Rattle.std.proofs.Common.{◌++◌, ◌<◌, ◌^◌, ◌≡◌, ◌≤◌, All, arith, flat_map, get_or, length, length-append, refl, ℕ}
+use Rattle.base.proofs.Exports.{each_short}
+use Rattle.update_machine.specs.Exports.{PartRow, Partition, Rule, Tables}
+use Rattle.wire.specs.Exports.{action, n1, n4, partition, region, rule, rule_name, spelled_number, switch, tables, target_count, targets, word}
 use Rattle.wire.proofs.FrameBytes.{length_n4}
 use Rattle.message_bag.proofs.SpellingLengths.{action_len, rule_len, word_len}
 

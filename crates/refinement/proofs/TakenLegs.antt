@@ -1,26 +1,14 @@
 -- A switch takes a leg as the journal's definitions say.
-use Rattle.std.proofs.Common.{ℕ, ◌≡◌, Bool, ◌&&◌, Option, Some, None, if◌then◌else◌, List, [], ◌∷◌, refl, ap, ◌∙◌, sym}
-use Rattle.std.specs.Prelude.{option_map}
-use Rattle.std.specs.List.{list_all}
-use Rattle.std.specs.Option.{ok_or}
-use Rattle.failover.specs.Isolated.{is_isolated}
-use Rattle.failover.specs.Routes.{route_of}
-use Rattle.policy_rules.specs.declared.packet.Cause.{Cause}
-use Rattle.policy_rules.specs.declared.packet.Cause.TheVariants.{NoAuthority, NoRoute}
-use Rattle.policy_rules.specs.declared.packet.Leg.{Leg}
-use Rattle.policy_rules.specs.declared.packet.Leg.TheVariants.{Seek, Exit}
-use Rattle.journal.specs.declared.item.Item.{Item}
+use Rattle.std.proofs.Common.{[], if◌then◌else◌, ◌&&◌, ◌∙◌, ◌∷◌, ◌≡◌, Bool, List, None, Option, Some, ap, ok_or, option_map, refl, sym, ℕ}
+use Rattle.base.proofs.Exports.{list_all}
+use Rattle.failover.specs.Exports.{is_isolated, route_of}
+use Rattle.update_machine.specs.Exports.{Cause, Exit, Item, Leg, NoAuthority, NoRoute, Seek, Setting, cause_at, found_down, is_cut_off, leg_items, route_from, takes_route, targets_of}
 use Rattle.journal.specs.declared.item.Item.TheVariants as item
-use Rattle.switch_core.specs.Ends.{are_isolated, cause_of, set_out}
-use Rattle.switch_core.specs.State.{SwitchValue}
+use Rattle.switch_core.specs.Exports.{SwitchValue, are_isolated, cause_of, set_out}
 use Rattle.switch_core.specs.declared.tunnel_calls.Packet.{Packet}
-use Rattle.tunnel.specs.Moves.{tunnel_begun}
-use Rattle.update_machine.specs.Adverts.{is_cut_off, route_from}
-use Rattle.update_machine.specs.Moves.{cause_at, leg_items, takes_route}
-use Rattle.update_machine.specs.PacketRoutes.{found_down, targets_of}
-use Rattle.update_machine.specs.Setting.{Setting}
+use Rattle.tunnel.specs.Exports.{tunnel_begun}
 use Rattle.travelling.specs.Travelling.{Standing}
-use Rattle.world_log.specs.Writing.{set_item}
+use Rattle.world_log.specs.Exports.{set_item}
 use Rattle.refinement.proofs.SeenWithinStep.{Sees}
 
 abbrev pub at_switch : ℕ → Packet → Standing

@@ -1,27 +1,16 @@
 -- A step by which something is told, and the controller or a switch acts upon it: marks rise, and
 -- messages are sent.
-use Rattle.std.proofs.Common.{ℕ, ◌≡◌, ◌+◌, ◌<◌, ◌≤◌, Bool, List, ◌∷◌, ◌++◌, refl, ap, sym, subst, ◌∙◌, length, get_or, append_assoc, arith}
-use Rattle.std.specs.Prelude.{IsFalse}
-use Rattle.refinement.specs.Controller.{IsControllerOf}
+use Rattle.std.proofs.Common.{◌++◌, ◌+◌, ◌<◌, ◌∙◌, ◌∷◌, ◌≡◌, ◌≤◌, Bool, IsFalse, List, ap, append_assoc, arith, get_or, length, refl, subst, sym, ℕ}
+use Rattle.refinement.specs.Exports.{AreUp, AreUsable, IsBagOf, IsControllerOf, NetworkState, RefineJournal, switch_of}
 use Rattle.controller.specs.declared.sends.Act.{Act}
-use Rattle.journal.specs.declared.item.Item.{Item}
+use Rattle.update_machine.specs.Exports.{IsReached, Item, NoneConcern, Setting, Step, concerns_calls, concerns_known, concerns_links, concerns_packets, count_of, is_sending, piece}
 use Rattle.journal.specs.declared.item.Item.TheVariants as item
-use Rattle.control_laws.specs.Sends.{StepsSendFew}
-use Rattle.steps.specs.declared.step.Step.{Step}
-use Rattle.switch_core.specs.State.{SwitchValue}
-use Rattle.refinement.specs.SwitchOf.{switch_of}
+use Rattle.control_laws.specs.Exports.{StepsSendFew}
+use Rattle.switch_core.specs.Exports.{SwitchValue}
 use Rattle.refinement.proofs.SwitchLinkChanges.{kept_is}
-use Rattle.update_machine.specs.Answers.{IsReached}
-use Rattle.update_machine.specs.Concerns.{NoneConcern, concerns_calls, concerns_known, concerns_links, concerns_packets}
-use Rattle.update_machine.specs.Folds.{count_of}
-use Rattle.update_machine.specs.Messages.{is_sending}
-use Rattle.update_machine.specs.Pieces.{piece}
-use Rattle.steps.specs.Steps.{IsStep}
-use Rattle.update_machine.specs.Setting.{Setting}
-use Rattle.update_machine.proofs.CallerLemmas.{count_of_append, have_append, near_stays, packets_keep}
-use Rattle.world_log.specs.Sending.{act_items, act_posts}
-use Rattle.refinement.specs.Refinement.{RefineJournal, AreUp, AreUsable, NetworkState}
-use Rattle.refinement.specs.Bags.{IsBagOf}
+use Rattle.steps.specs.Exports.{IsStep}
+use Rattle.update_machine.proofs.Exports.{count_of_append, have_append, near_stays, packets_keep}
+use Rattle.world_log.specs.Exports.{act_items, act_posts}
 use Rattle.refinement.proofs.ActItems.{SparesActs, acts_apart, acts_counted, acts_posted, acts_send, acts_unnamed}
 use Rattle.refinement.proofs.JournalLaws.{reached_known, reached_more, flight_stays}
 use Rattle.refinement.proofs.OtherPackets.{NoneName, none_more}

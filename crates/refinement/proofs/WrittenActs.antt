@@ -1,14 +1,11 @@
 -- What acts write, one part after another.
-use Rattle.std.proofs.Common.{◌≡◌, List, [], ◌∷◌, ◌++◌, map, refl, ap, sym, ◌∙◌, append-nil, append_assoc}
+use Rattle.std.proofs.Common.{[], ◌++◌, ◌∙◌, ◌∷◌, ◌≡◌, List, ap, append-nil, append_assoc, map, refl, sym}
 use Rattle.controller.specs.declared.sends.Act.{Act}
 use Rattle.controller.specs.declared.sends.Act.TheVariants.{Post}
-use Rattle.ctrl_msg.specs.declared.message.Message.{Message}
-use Rattle.journal.specs.declared.item.Item.{Item}
+use Rattle.update_machine.specs.Exports.{Item, Message, in_turn, next_message, send_items, sent_from}
 use Rattle.journal.specs.declared.item.Item.TheVariants as item
-use Rattle.update_machine.specs.Messages.{next_message, send_items, sent_from}
-use Rattle.update_machine.specs.Moves.{in_turn}
-use Rattle.update_machine.proofs.CallerLemmas.{next_sent}
-use Rattle.refinement.specs.Written.{item_of, written_items}
+use Rattle.update_machine.proofs.Exports.{next_sent}
+use Rattle.refinement.specs.Exports.{item_of, written_items}
 
 pub written_append : (journal : List Item) (xs ys : List Act)
     → written_items journal (xs ++ ys)

@@ -1,21 +1,9 @@
 -- What the calls of a switch require, as laws of journals establish it: of versions, tables, boots
 -- and adverts, whatever steps were taken.
-use Rattle.std.specs.Prelude.{ℕ, ◌≡◌, ◌-◌, ◌^◌, ◌<◌, Some, List, length, IsFalse, IsTrue}
-use Rattle.ctrl_msg.specs.declared.message.Body.{Body}
-use Rattle.five_tuple.specs.declared.header.Header.{Header}
-use Rattle.policy_rules.specs.declared.packet.Leg.{Leg}
-use Rattle.journal.specs.declared.item.Item.{Item}
-use Rattle.switch_core.specs.Answering.{CanLookUp, IsAtAuthority}
-use Rattle.switch_core.specs.Hearing.{IsSoundBody, with_message}
-use Rattle.switch_core.specs.State.{SwitchValue, serves}
-use Rattle.update_machine.specs.Boots.{is_up}
-use Rattle.update_machine.specs.Setting.{Setting}
-use Rattle.update_machine.specs.Settling.{to_switch}
-use Rattle.update_machine.specs.Links.{serves as serves_in, message_of}
-use Rattle.control_laws.specs.BootLaws.{ServingIsKnown}
-use Rattle.control_laws.specs.Sends.{NumbersFit}
-use Rattle.control_laws.specs.Authorities.{EndsAt}
-use Rattle.control_laws.specs.Serving.{ServingHold}
+use Rattle.std.specs.Prelude.{◌-◌, ◌<◌, ◌^◌, ◌≡◌, IsFalse, IsTrue, List, Some, length, ℕ}
+use Rattle.update_machine.specs.Exports.{Body, Header, Item, Leg, Setting, is_up, message_of, serves as serves_in, to_switch}
+use Rattle.switch_core.specs.Exports.{CanLookUp, IsAtAuthority, IsSoundBody, SwitchValue, serves, with_message}
+use Rattle.control_laws.specs.Exports.{EndsAt, NumbersFit, ServingHold, ServingIsKnown}
 use Rattle.refinement.specs.Knowing.{TablesAreKnown}
 use Rattle.refinement.specs.SwitchOf.{switch_of}
 

@@ -1,10 +1,7 @@
 -- What a journal says of the messages that were sent.
-use Rattle.std.specs.Prelude.{ℕ, ◌≡◌, ◌+◌, ◌<◌, false, Option, option_map, List, length}
-use Rattle.message_bag.specs.Numbered.{item_numbered}
-use Rattle.message_bag.specs.Posts.{Post, posted_frames}
-use Rattle.journal.specs.declared.item.Item.{Item}
-use Rattle.update_machine.specs.Messages.{is_forgotten, next_message, was_delivered}
-use Rattle.update_machine.specs.Links.{message_of}
+use Rattle.std.specs.Prelude.{◌+◌, ◌<◌, ◌≡◌, List, Option, false, length, option_map, ℕ}
+use Rattle.message_bag.specs.Exports.{Post, item_numbered, posted_frames}
+use Rattle.update_machine.specs.Exports.{Item, is_forgotten, message_of, next_message, was_delivered}
 
 -- what the journal says of the message of a number, if it was sent: its frames, and what became of
 -- it

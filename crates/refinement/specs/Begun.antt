@@ -1,13 +1,12 @@
 -- What a world has at its beginning.
-use Rattle.std.specs.Prelude.{ℕ, ◌≡◌, map, List, length}
-use Rattle.std.specs.List.{range_with_len}
-use Rattle.controller.specs.Controller.{ControllerValue, first_controller}
-use Rattle.controller.specs.Plan.{PlanValue}
-use Rattle.failover.specs.Adverts.{first_adverts}
-use Rattle.net_file.specs.Owners.{links_of}
-use Rattle.net_file.specs.declared.net.Net.{Net}
-use Rattle.switch_core.specs.State.{SwitchValue, new_switch}
-use Rattle.switch_table.specs.Tables.{Hosted, tables_of}
+use Rattle.std.specs.Prelude.{◌≡◌, List, length, map, ℕ}
+use Rattle.base.specs.Exports.{range_with_len}
+use Rattle.controller.specs.Exports.{ControllerValue, PlanValue, first_controller}
+use Rattle.failover.specs.Exports.{first_adverts}
+use Rattle.net_file.specs.Exports.{links_of}
+use Rattle.update_machine.specs.Exports.{Net}
+use Rattle.switch_core.specs.Exports.{SwitchValue, new_switch}
+use Rattle.switch_table.specs.Exports.{Hosted, tables_of}
 
 -- a switch at the beginning of its first boot, with the tables of this plan
 abbrev pub switch_begun : Net → List Hosted → ℕ → SwitchValue

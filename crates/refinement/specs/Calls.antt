@@ -1,14 +1,8 @@
 -- The items of one step, and which of them are calls of a switch.
-use Rattle.std.specs.Prelude.{⊤, ℕ, ◌≡◌, ◌==◌, if◌then◌else◌, List, [], ◌∷◌, ◌++◌}
-use Rattle.five_tuple.specs.declared.header.Header.{Header}
-use Rattle.journal.specs.declared.item.Item.{Item}
+use Rattle.std.specs.Prelude.{[], if◌then◌else◌, ◌++◌, ◌==◌, ◌∷◌, ◌≡◌, List, ℕ, ⊤}
+use Rattle.update_machine.specs.Exports.{Header, Hop, Item, NoneConcern, Packet, Setting, concerns_known, stays_on_way, travels_at}
 use Rattle.journal.specs.declared.item.Item.TheVariants as item
-use Rattle.steps.specs.declared.step.Step.TheVariants.{Packet, Hop}
-use Rattle.switch_core.specs.State.{call_counted}
-use Rattle.update_machine.specs.Concerns.{NoneConcern, concerns_known}
-use Rattle.update_machine.specs.Handled.{stays_on_way}
-use Rattle.update_machine.specs.Travels.{travels_at}
-use Rattle.update_machine.specs.Setting.{Setting}
+use Rattle.switch_core.specs.Exports.{call_counted}
 use Rattle.refinement.specs.SwitchOf.{switch_of}
 
 -- an item that begins no step

@@ -1,16 +1,11 @@
 -- The controller, as a journal says it: its marks, and the plans of the versions that it may still
 -- install, in the two-phase update of Reitblatt, Foster, Rexford, Schlesinger and Walker,
 -- "Abstractions for Network Update", SIGCOMM 2012.
-use Rattle.std.specs.Prelude.{ℕ, ◌≡◌, Ok, List, map}
-use Rattle.controller.specs.Controller.{ControllerValue, KeptPlan}
-use Rattle.controller.specs.Plan.{PlanValue}
-use Rattle.journal.specs.declared.item.Item.{Item}
-use Rattle.update_machine.specs.Setting.{Setting}
-use Rattle.update_machine.specs.Settling.{versions_from_current}
-use Rattle.update_machine.specs.Versions.{next_policy, policy_at, plan_at}
-use Rattle.update_machine.specs.Touched.{next_touched, touched_by}
+use Rattle.std.specs.Prelude.{◌≡◌, List, Ok, map, ℕ}
+use Rattle.controller.specs.Exports.{ControllerValue, KeptPlan, PlanValue}
+use Rattle.update_machine.specs.Exports.{Item, Setting, next_policy, next_touched, plan_at, policy_at, touched_by, versions_from_current}
 use Rattle.refinement.specs.Marks.{AreMarksOf}
-use Rattle.ternary.specs.Word.{WordValue}
+use Rattle.ternary.specs.Exports.{WordValue}
 
 -- a version with its policy and its plan, and what its change touches
 abbrev pub plan_to_keep : Setting → List Item → ℕ → KeptPlan

@@ -1,15 +1,8 @@
 -- What a journal says of a packet on its way: where it is, and what is known of it.
-use Rattle.std.specs.Prelude.{ℕ, if◌then◌else◌, Option, Some, None, option_map, unwrap_or, List}
-use Rattle.policy_rules.specs.declared.packet.Leg.{Leg}
-use Rattle.policy_rules.specs.declared.packet.Leg.TheVariants.{Exit}
-use Rattle.journal.specs.declared.item.Item.{Item}
+use Rattle.std.specs.Prelude.{if◌then◌else◌, List, None, Option, Some, option_map, unwrap_or, ℕ}
+use Rattle.update_machine.specs.Exports.{Exit, Item, Leg, Setting, decision_of, found_down, header_at, ingress_of, leg_of, route_in, route_place, targets_of, travels}
 use Rattle.travelling.specs.Travelling.{Flight}
-use Rattle.tunnel.specs.Tunnel.{TunnelValue}
-use Rattle.update_machine.specs.Moves.{header_at}
-use Rattle.update_machine.specs.Packets.{decision_of}
-use Rattle.update_machine.specs.Setting.{Setting}
-use Rattle.update_machine.specs.Travels.{ingress_of, leg_of, travels}
-use Rattle.update_machine.specs.PacketRoutes.{found_down, route_in, route_place, targets_of}
+use Rattle.tunnel.specs.Exports.{TunnelValue}
 
 -- its leg; any if it has none
 abbrev pub own_leg : List Item → ℕ → Leg

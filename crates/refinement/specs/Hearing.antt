@@ -1,23 +1,10 @@
 -- What a delivered message does to a switch, and what the switch does in reply.
-use Rattle.std.specs.Prelude.{ℕ, ◌≡◌, Some, None, List, [], ◌∷◌, ◌++◌, IsFalse, IsTrue}
-use Rattle.ctrl_msg.specs.declared.message.Body.{Body}
-use Rattle.net_file.specs.Net.{IsNet}
-use Rattle.journal.specs.declared.item.Item.{Item}
+use Rattle.std.specs.Prelude.{[], ◌++◌, ◌∷◌, ◌≡◌, IsFalse, IsTrue, List, None, Some, ℕ}
+use Rattle.update_machine.specs.Exports.{Body, Deliver, Item, Setting, delivery_items, has_changed, is_message_to, items_then, link_changes, message_of, near, own_advert, send_items, to_switch}
+use Rattle.net_file.specs.Exports.{IsNet}
 use Rattle.journal.specs.declared.item.Item.TheVariants as item
-use Rattle.steps.specs.declared.step.Step.TheVariants.{Deliver}
-use Rattle.switch_core.specs.Hearing.{with_message, opening_stamp, replies}
-use Rattle.switch_core.specs.Life.{next_advert}
-use Rattle.update_machine.specs.Adverts.{own_advert}
-use Rattle.update_machine.specs.Concerns.{is_message_to}
-use Rattle.update_machine.specs.Deliveries.{delivery_items, has_changed, link_changes}
-use Rattle.update_machine.specs.LinkMasks.{near}
-use Rattle.update_machine.specs.Messages.{send_items}
-use Rattle.update_machine.specs.Moves.{items_then}
-use Rattle.update_machine.specs.Setting.{Setting}
-use Rattle.update_machine.specs.Settling.{to_switch}
-use Rattle.update_machine.specs.Links.{message_of}
-use Rattle.control_laws.specs.Named.{BodiesNameThere}
-use Rattle.control_laws.specs.Touched.{StampsSayTouched}
+use Rattle.switch_core.specs.Exports.{next_advert, opening_stamp, replies, with_message}
+use Rattle.control_laws.specs.Exports.{BodiesNameThere, StampsSayTouched}
 use Rattle.refinement.specs.Links.{relinked_switch}
 use Rattle.refinement.specs.SwitchOf.{switch_of}
 

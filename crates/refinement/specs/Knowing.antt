@@ -1,18 +1,10 @@
 -- What a switch has and knows: the tables of its versions, what they say of headers, and routes.
-use Rattle.std.specs.Prelude.{ℕ, ◌≡◌, if◌then◌else◌, Some, None, List, IsTrue}
-use Rattle.failover.specs.Isolated.{is_isolated}
-use Rattle.failover.specs.Routes.{route_of}
-use Rattle.five_tuple.specs.declared.header.Header.{Header}
-use Rattle.journal.specs.declared.item.Item.{Item}
-use Rattle.switch_core.specs.State.{held_tables, holds_version, stamp_tables}
-use Rattle.switch_table.specs.Lookup.{lookup_of}
-use Rattle.update_machine.specs.Adverts.{is_cut_off, route_from}
-use Rattle.update_machine.specs.Caches.{lookup_at}
-use Rattle.update_machine.specs.LinkMasks.{near}
-use Rattle.update_machine.specs.Setting.{Setting, IsSetting}
-use Rattle.update_machine.specs.Versions.{holds_version as holds_in, stamp_of, tables_at}
-use Rattle.control_laws.specs.Named.{BodiesNameThere}
-use Rattle.control_laws.specs.Planned.{TablesArePlanned, VersionsArePlanned}
+use Rattle.std.specs.Prelude.{if◌then◌else◌, ◌≡◌, IsTrue, List, None, Some, ℕ}
+use Rattle.failover.specs.Exports.{is_isolated, route_of}
+use Rattle.update_machine.specs.Exports.{Header, IsSetting, Item, Setting, holds_version as holds_in, is_cut_off, lookup_at, near, route_from, stamp_of, tables_at}
+use Rattle.switch_core.specs.Exports.{held_tables, holds_version, stamp_tables}
+use Rattle.switch_table.specs.Exports.{lookup_of}
+use Rattle.control_laws.specs.Exports.{BodiesNameThere, TablesArePlanned, VersionsArePlanned}
 use Rattle.refinement.specs.SwitchOf.{switch_of}
 
 -- what is known of versions and their tables

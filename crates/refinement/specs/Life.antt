@@ -1,13 +1,9 @@
 -- What a crash, a boot and an expiry do to a switch.
-use Rattle.std.specs.Prelude.{ℕ, ◌≡◌, ◌+◌, Option, Some, None, option_map, List, [], ◌∷◌, ◌++◌, slice_get}
-use Rattle.journal.specs.declared.item.Item.{Item}
+use Rattle.std.specs.Prelude.{[], ◌++◌, ◌+◌, ◌∷◌, ◌≡◌, List, None, Option, Some, option_map, slice_get, ℕ}
+use Rattle.update_machine.specs.Exports.{HaveCauses, Item, Setting, boot_of, expire_items, nothing}
 use Rattle.journal.specs.declared.item.Item.TheVariants as item
-use Rattle.switch_core.specs.Life.{crashed_switch, entry_expired, restarted_switch}
-use Rattle.update_machine.specs.Boots.{boot_of}
-use Rattle.update_machine.specs.Causes.{HaveCauses}
-use Rattle.update_machine.specs.Pieces.{expire_items, nothing}
-use Rattle.update_machine.specs.Setting.{Setting}
-use Rattle.control_laws.specs.ItemCauses.{HasItemCause}
+use Rattle.switch_core.specs.Exports.{crashed_switch, entry_expired, restarted_switch}
+use Rattle.control_laws.specs.Exports.{HasItemCause}
 use Rattle.refinement.specs.SwitchOf.{switch_of}
 
 -- the number of the message that brought the cache entry at a place, if there is one

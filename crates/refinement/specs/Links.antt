@@ -1,25 +1,13 @@
 -- What a change of its links does to a switch: it makes its next advert, which it keeps and sends,
 -- as a router in OSPF makes a new own advert when its links changed (RFC 2328, section 12.4).
-use Rattle.std.specs.Prelude.{ℕ, ◌≡◌, Bool, true, false, if◌then◌else◌, List, [], ◌∷◌, ◌++◌, map, IsTrue}
-use Rattle.std.specs.List.{flat_map}
-use Rattle.ctrl_msg.specs.declared.message.Message.{Message}
-use Rattle.base.specs.Masks.{has}
-use Rattle.failover.specs.declared.advert.Advert.{Advert}
-use Rattle.journal.specs.declared.item.Item.{Item}
+use Rattle.std.specs.Prelude.{[], if◌then◌else◌, ◌++◌, ◌∷◌, ◌≡◌, Bool, IsTrue, List, false, flat_map, map, true, ℕ}
+use Rattle.update_machine.specs.Exports.{Advert, Item, LinkDown, LinkUp, Message, NoneConcern, Setting, Step, advert_to, concerns_calls, concerns_known, concerns_switch, has_changed, held_adverts, messages_of, near, own_advert, send_items, switches_in}
+use Rattle.base.specs.Exports.{has}
 use Rattle.journal.specs.declared.item.Item.TheVariants as item
-use Rattle.steps.specs.declared.step.Step.{Step}
-use Rattle.steps.specs.declared.step.Step.TheVariants.{LinkDown, LinkUp}
-use Rattle.switch_core.specs.Life.{near_changed, next_advert}
-use Rattle.switch_core.specs.State.{SwitchValue}
-use Rattle.update_machine.specs.Adverts.{held_adverts, own_advert}
-use Rattle.update_machine.specs.Concerns.{NoneConcern, concerns_calls, concerns_known, concerns_switch}
-use Rattle.update_machine.specs.Deliveries.{advert_to, has_changed, messages_of, switches_in}
-use Rattle.update_machine.specs.LinkMasks.{near}
-use Rattle.update_machine.specs.Messages.{send_items}
-use Rattle.update_machine.specs.Setting.{Setting}
+use Rattle.switch_core.specs.Exports.{SwitchValue, near_changed, next_advert}
 use Rattle.refinement.specs.Calls.{NoRows}
 use Rattle.refinement.specs.SwitchOf.{switch_of}
-use Rattle.world_log.specs.Linking.{all_held}
+use Rattle.world_log.specs.Exports.{all_held}
 
 -- the step by which the link of two switches comes back, or fails
 abbrev pub link_step : Bool → ℕ → ℕ → Step

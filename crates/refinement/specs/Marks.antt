@@ -1,13 +1,10 @@
 -- The controller's marks, as a journal says them: how many versions there are, the current and the
 -- last retired one, and what each switch acknowledged, in the two-phase update of Reitblatt,
 -- Foster, Rexford, Schlesinger and Walker, "Abstractions for Network Update", SIGCOMM 2012.
-use Rattle.std.specs.Prelude.{ℕ, ◌≡◌, ◌<◌, ◌≤◌, IsTrue, IsFalse, List, length}
-use Rattle.journal.specs.declared.item.Item.{Item}
+use Rattle.std.specs.Prelude.{◌<◌, ◌≡◌, ◌≤◌, IsFalse, IsTrue, List, length, ℕ}
+use Rattle.update_machine.specs.Exports.{Item, Setting, version_count}
 use Rattle.update_machine.specs.Marks as machine
-use Rattle.update_machine.specs.Setting.{Setting}
-use Rattle.update_machine.specs.Versions.{version_count}
-use Rattle.version_update.specs.Marks.{MarksValue, record_of}
-use Rattle.version_update.specs.Record.{has_acked, is_member, is_over}
+use Rattle.version_update.specs.Exports.{MarksValue, has_acked, is_member, is_over, record_of}
 use Rattle.version_update.specs.declared.record.SwitchRecord.{SwitchRecord}
 
 -- what is known of a switch is what the journal says: its boot, and whether it is over or a member;

@@ -1,32 +1,17 @@
 -- What a switch returns for a packet, and what the step of the same packet is in the definitions
 -- over journals.
-use Rattle.std.specs.Prelude.{ℕ, ◌≡◌, ◌+◌, ◌<◌, ◌≤◌, ◌==◌, false, Some, List, [], ◌∷◌, ◌++◌, length, IsTrue, Option}
-use Rattle.message_bag.specs.Posts.{Post, new_post, with_delivered, with_forgotten}
-use Rattle.ctrl_msg.specs.declared.message.Message.{Message}
-use Rattle.five_tuple.specs.Header.{IsHeader}
-use Rattle.five_tuple.specs.declared.header.Header.{Header}
-use Rattle.journal.specs.declared.item.Item.{Item}
+use Rattle.std.specs.Prelude.{[], ◌++◌, ◌+◌, ◌<◌, ◌==◌, ◌∷◌, ◌≡◌, ◌≤◌, IsTrue, List, Option, Some, false, length, ℕ}
+use Rattle.message_bag.specs.Exports.{Post, new_post, with_delivered, with_forgotten}
+use Rattle.update_machine.specs.Exports.{Header, Hop, IsReached, IsSetting, Item, Message, NoneConcern, Packet, Ports, Setting, concerns_messages, near, next_message, next_packet, piece}
+use Rattle.five_tuple.specs.Exports.{IsHeader}
 use Rattle.journal.specs.declared.item.Item.TheVariants as item
-use Rattle.net_file.specs.Owners.{AreOwners}
-use Rattle.net_file.specs.declared.ports.Ports.{Ports}
-use Rattle.steps.specs.declared.step.Step.TheVariants.{Packet, Hop}
-use Rattle.switch_core.specs.Answering.{CanLookUp, IsAtAuthority}
-use Rattle.switch_core.specs.Moving.{StandsAt, hop_answer}
-use Rattle.switch_core.specs.State.{serves}
-use Rattle.switch_core.specs.Answers.{Answer}
+use Rattle.net_file.specs.Exports.{AreOwners}
+use Rattle.switch_core.specs.Exports.{Answer, CanLookUp, IsAtAuthority, StandsAt, hop_answer, serves}
 use Rattle.switch_core.specs.declared.tunnel_calls.HopEnd.TheVariants as hop
 use Rattle.refinement.specs.SwitchOf.{switch_of}
 use Rattle.travelling.specs.Travelling.{Flight}
-use Rattle.tunnel.specs.Moves.{here}
-use Rattle.update_machine.specs.Answers.{IsReached}
-use Rattle.update_machine.specs.Concerns.{NoneConcern, concerns_messages}
-use Rattle.update_machine.specs.LinkMasks.{near}
-use Rattle.update_machine.specs.Messages.{next_message}
-use Rattle.update_machine.specs.Packets.{next_packet}
-use Rattle.update_machine.specs.Pieces.{piece}
-use Rattle.update_machine.specs.Setting.{Setting, IsSetting}
-use Rattle.world_log.specs.Packets.{coming_in, entry, hop_written, hop_flight}
-use Rattle.world_log.specs.Writing.{entered_items, entered_flight}
+use Rattle.tunnel.specs.Exports.{here}
+use Rattle.world_log.specs.Exports.{coming_in, entered_flight, entered_items, entry, hop_flight, hop_written}
 use Rattle.refinement.specs.Bags.{IsBagOf}
 use Rattle.refinement.specs.Flights.{flight_in}
 

@@ -1,20 +1,14 @@
 -- How all that a world has is tied to its journal.
-use Rattle.std.specs.Prelude.{ℕ, ◌≡◌, ◌+◌, ◌<◌, Bool, filter, slice_index, List, length, slice_index_or}
-use Rattle.message_bag.specs.Posts.{Post}
-use Rattle.controller.specs.Controller.{ControllerValue}
+use Rattle.std.specs.Prelude.{◌+◌, ◌<◌, ◌≡◌, Bool, List, filter, length, slice_index, slice_index_or, ℕ}
+use Rattle.message_bag.specs.Exports.{Post}
+use Rattle.controller.specs.Exports.{ControllerValue}
 use Rattle.refinement.specs.Controller.{IsControllerOf}
 use Rattle.refinement.specs.Bags.{IsBagOf}
 use Rattle.refinement.specs.Flights.{flight_in}
-use Rattle.journal.specs.declared.item.Item.{Item}
-use Rattle.net_file.specs.Owners.{links_of}
-use Rattle.net_file.specs.declared.net.LinkRow.{LinkRow}
-use Rattle.switch_core.specs.State.{SwitchValue}
+use Rattle.update_machine.specs.Exports.{IsReached, IsSetting, Item, LinkRow, Setting, is_link_up, near as near_of, next_packet}
+use Rattle.net_file.specs.Exports.{links_of}
+use Rattle.switch_core.specs.Exports.{SwitchValue}
 use Rattle.refinement.specs.SwitchOf.{switch_of}
-use Rattle.update_machine.specs.Answers.{IsReached}
-use Rattle.update_machine.specs.Links.{is_link_up}
-use Rattle.update_machine.specs.Packets.{next_packet}
-use Rattle.update_machine.specs.Setting.{Setting, IsSetting}
-use Rattle.update_machine.specs.LinkMasks.{near as near_of}
 use Rattle.travelling.specs.Travelling.{Flights, flight}
 
 -- all that a world has: the switches, the packets on their way, how many entered or were refused,

@@ -1,18 +1,8 @@
 -- What a journal says of a switch: the whole record of it, as the switch keeps it.
-use Rattle.std.specs.Prelude.{ℕ, if◌then◌else◌, ◌==◌, Option, Some, None, List, [], ◌∷◌, ◌++◌, filter, filter_map, fold}
-use Rattle.std.specs.List.{list_any}
-use Rattle.ctrl_msg.specs.declared.message.Body.{Body}
-use Rattle.ctrl_msg.specs.declared.message.Body.TheVariants.{Install, Collect}
-use Rattle.journal.specs.declared.item.Item.{Item}
-use Rattle.switch_core.specs.State.{SwitchValue}
-use Rattle.switch_table.specs.declared.tables.Tables.{Tables}
-use Rattle.update_machine.specs.Adverts.{adverts_known, own_seq}
-use Rattle.update_machine.specs.Boots.{boot_of, heard, is_in_first_boot, is_up}
-use Rattle.update_machine.specs.Caches.{cache_of}
-use Rattle.update_machine.specs.Handled.{handled_count}
-use Rattle.update_machine.specs.Setting.{Setting}
-use Rattle.update_machine.specs.Versions.{greatest_number, holds_version, stamp_of, tables_at}
-use Rattle.update_machine.specs.Links.{serves}
+use Rattle.std.specs.Prelude.{[], if◌then◌else◌, ◌++◌, ◌==◌, ◌∷◌, List, None, Option, Some, filter, filter_map, fold, ℕ}
+use Rattle.base.specs.Exports.{list_any}
+use Rattle.update_machine.specs.Exports.{Body, Collect, Install, Item, Setting, Tables, adverts_known, boot_of, cache_of, greatest_number, handled_count, heard, holds_version, is_in_first_boot, is_up, own_seq, serves, stamp_of, tables_at}
+use Rattle.switch_core.specs.Exports.{SwitchValue}
 
 -- the version up to which a body tells the switch to drop tables: the greatest of the switch's
 -- boot is kept

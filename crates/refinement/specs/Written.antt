@@ -1,15 +1,11 @@
 -- What a controller does at a call, as items of the journal: marks that rise, and messages, each
 -- under the next number. The notion is our own.
-use Rattle.std.specs.Prelude.{ℕ, ◌≡◌, List, [], ◌∷◌, ◌++◌, map}
-use Rattle.controller.specs.Controller.{ControllerValue}
-use Rattle.controller.specs.Sends.{resend_acts}
+use Rattle.std.specs.Prelude.{[], ◌++◌, ◌∷◌, ◌≡◌, List, map, ℕ}
+use Rattle.controller.specs.Exports.{ControllerValue, resend_acts}
 use Rattle.controller.specs.declared.sends.Act.{Act}
 use Rattle.controller.specs.declared.sends.Act.TheVariants.{Current, Retired, Post}
-use Rattle.journal.specs.declared.item.Item.{Item}
+use Rattle.update_machine.specs.Exports.{Item, Setting, next_message, resent_by_switch}
 use Rattle.journal.specs.declared.item.Item.TheVariants as item
-use Rattle.update_machine.specs.Messages.{next_message}
-use Rattle.update_machine.specs.Pieces.{resent_by_switch}
-use Rattle.update_machine.specs.Setting.{Setting}
 use Rattle.refinement.specs.Controller.{IsControllerOf}
 
 abbrev pub item_of : List Item → Act → Item

@@ -1,22 +1,9 @@
 -- The step that an event asks for next: it may be played, and leaves the event fewer to ask for.
-use Rattle.std.proofs.Common.{ℕ, ◌≡◌, ◌+◌, ◌-◌, ◌^◌, ◌<◌, ◌≤◌, Bool, true, false, Option, Some, None, List, ◌++◌, refl, sym, subst, arith, length}
-use Rattle.std.specs.Prelude.{option_map}
-use Rattle.journal.specs.declared.item.Item.{Item}
-use Rattle.steps.specs.declared.step.Event.{Event}
-use Rattle.steps.specs.declared.step.Event.TheVariants.{Drain, Flush, One}
-use Rattle.steps.specs.declared.step.Step.{Step}
-use Rattle.steps.specs.declared.step.Step.TheVariants.{Deliver, Hop, Packet}
-use Rattle.steps.specs.Steps.{IsEvent, IsStep}
-use Rattle.steps.specs.Limits.{max_events}
-use Rattle.packet_laws.specs.Drains.{drain_left}
-use Rattle.update_machine.specs.Answers.{IsReached}
-use Rattle.update_machine.specs.Full.{HasRoom}
-use Rattle.update_machine.specs.Messages.{next_waiting}
-use Rattle.update_machine.specs.Packets.{next_packet}
-use Rattle.update_machine.specs.Pieces.{piece}
-use Rattle.update_machine.specs.Setting.{Setting, IsSetting}
-use Rattle.update_machine.specs.Travels.{next_travelling}
-use Rattle.world.specs.State.{RefinesJournal, WorldValue, comes_in, setting_at}
+use Rattle.std.proofs.Common.{◌++◌, ◌+◌, ◌-◌, ◌<◌, ◌^◌, ◌≡◌, ◌≤◌, Bool, List, None, Option, Some, arith, false, length, option_map, refl, subst, sym, true, ℕ}
+use Rattle.update_machine.specs.Exports.{Deliver, Drain, Event, Flush, HasRoom, Hop, IsReached, IsSetting, Item, One, Packet, Setting, Step, next_packet, next_travelling, next_waiting, piece}
+use Rattle.steps.specs.Exports.{IsEvent, IsStep, max_events}
+use Rattle.packet_laws.specs.Exports.{drain_left}
+use Rattle.world.specs.Exports.{RefinesJournal, WorldValue, comes_in, setting_at}
 use Rattle.replay.specs.Playing.{brought_in, next_step}
 use Rattle.replay.proofs.SmallNumbers.{least_is_packet, least_is_small}
 use Rattle.replay.proofs.WorldRefines.{reached_of, tie_of}

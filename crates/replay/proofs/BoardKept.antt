@@ -1,12 +1,8 @@
 -- A board that notes what left in the items of a step, behind those of the steps before it.
-use Rattle.std.proofs.Common.{◌≡◌, ◌∙◌, ◌-◌, ℕ, List, [], ◌++◌, drop, length, take, ap, append_assoc, append-nil, arith, length-drop, subst, sym}
-use Rattle.std.proofs.lemmas.Grind.{flat_map-append}
-use Rattle.std.proofs.lemmas.List.{take_all}
-use Rattle.std.proofs.Math.Seq.{drop-append_seam}
-use Rattle.journal.specs.declared.item.Item.{Item}
-use Rattle.meters.specs.Gone.{BoardValue, board_after}
-use Rattle.meters.specs.Meters.{PortLeavings}
-use Rattle.meters.specs.Seen.{Seen}
+use Rattle.std.proofs.Common.{[], ◌++◌, ◌-◌, ◌∙◌, ◌≡◌, List, ap, append-nil, append_assoc, arith, drop, length, length-drop, subst, sym, take, take_all, ℕ}
+use Rattle.base.proofs.Exports.{drop-append_seam, flat_map-append}
+use Rattle.update_machine.specs.Exports.{Item}
+use Rattle.meters.specs.Exports.{BoardValue, PortLeavings, Seen, board_after}
 use Rattle.replay.specs.Leavings.{KeepUp, StayOn, left_by, left_in}
 
 left_append : (here items : List Item) → left_in here ++ left_in items ≡ left_in (here ++ items)

@@ -1,11 +1,7 @@
 -- Plays that go on by the steps of events.
-use Rattle.std.proofs.Common.{ℕ, ◌≡◌, ◌+◌, ◌<◌, inl, inr, Option, Some, None, List, [], ◌∷◌, ◌++◌, length, drop, get_or, refl, ap, sym, subst, ◌∙◌, append_assoc, drop-cons, add-one}
-use Rattle.journal.specs.declared.item.Item.{Item}
-use Rattle.steps.specs.declared.step.Event.{Event}
-use Rattle.update_machine.specs.Answers.{AreFirstSteps, AreSteps, StepOfRow, after_steps}
-use Rattle.update_machine.specs.Full.{HaveRoom, IsFull, IsPlay}
-use Rattle.update_machine.specs.Setting.{Setting}
-use Rattle.update_machine.proofs.CallerLemmas.{after_append, rooms_append}
+use Rattle.std.proofs.Common.{[], ◌++◌, ◌+◌, ◌<◌, ◌∙◌, ◌∷◌, ◌≡◌, List, None, Option, Some, add-one, ap, append_assoc, drop, drop-cons, get_or, inl, inr, length, refl, subst, sym, ℕ}
+use Rattle.update_machine.specs.Exports.{AreFirstSteps, AreSteps, Event, HaveRoom, IsFull, IsPlay, Item, Setting, StepOfRow, after_steps}
+use Rattle.update_machine.proofs.Exports.{after_append, rooms_append}
 use Rattle.replay.specs.Playing.{Happens, StopsWithin}
 
 -- the journal is what stood before and the pieces of all steps of these events, of which the first

@@ -1,15 +1,8 @@
 -- An event that takes its steps one after another.
-use Rattle.std.proofs.Common.{ℕ, ◌≡◌, ◌⊎◌, ◌∙◌, Bool, true, false, inl, inr, Option, Some, None, List, [], ◌∷◌, ◌++◌, refl, ap, sym, subst, append_assoc, append-nil}
-use Rattle.journal.specs.declared.item.Item.{Item}
-use Rattle.steps.specs.declared.step.Event.{Event}
-use Rattle.steps.specs.declared.step.Event.TheVariants.{Drain, Flush, One}
-use Rattle.steps.specs.declared.step.Step.{Step}
-use Rattle.update_machine.specs.Answers.{AreAll, AreFirstStepsOf, AreSome, AreStepsOf, StepOfRow, after_steps, next_delivery, next_hop}
-use Rattle.update_machine.specs.Full.{HasRoom, HaveRoom, IsFull}
-use Rattle.update_machine.specs.Pieces.{piece}
-use Rattle.update_machine.specs.Setting.{Setting}
-use Rattle.update_machine.proofs.CallerLemmas.{after_append, rooms_append}
-use Rattle.world_log.specs.Writing.{IsPart}
+use Rattle.std.proofs.Common.{[], ◌++◌, ◌∙◌, ◌∷◌, ◌≡◌, ◌⊎◌, Bool, List, None, Option, Some, ap, append-nil, append_assoc, false, inl, inr, refl, subst, sym, true, ℕ}
+use Rattle.update_machine.specs.Exports.{AreAll, AreFirstStepsOf, AreSome, AreStepsOf, Drain, Event, Flush, HasRoom, HaveRoom, IsFull, Item, One, Setting, Step, StepOfRow, after_steps, next_delivery, next_hop, piece}
+use Rattle.update_machine.proofs.Exports.{after_append, rooms_append}
+use Rattle.world_log.specs.Exports.{IsPart}
 use Rattle.replay.specs.Playing.{BeginsEvent, Happens, StopsWithin, next_step}
 
 abbrev pub is_some_step : List StepOfRow → Bool

@@ -1,18 +1,12 @@
 -- The plan that a controller keeps for the current version is the one in force.
-use Rattle.std.proofs.Common.{ℕ, zero, suc, ◌≡◌, ◌∙◌, ◌+◌, ◌-◌, ◌==◌, Some, List, map, refl, ap, sym, subst, cond, eq-eqb}
-use Rattle.std.specs.Prelude.{find, option_map}
-use Rattle.std.specs.List.{range_with_len}
-use Rattle.controller.specs.Controller.{ControllerValue, KeptPlan, current_plan}
-use Rattle.controller.specs.Plan.{PlanValue}
-use Rattle.journal.specs.declared.item.Item.{Item}
+use Rattle.std.proofs.Common.{◌+◌, ◌-◌, ◌==◌, ◌∙◌, ◌≡◌, List, Some, ap, cond, eq-eqb, find, map, option_map, refl, subst, suc, sym, zero, ℕ}
+use Rattle.base.proofs.Exports.{range_with_len}
+use Rattle.controller.specs.Exports.{ControllerValue, KeptPlan, PlanValue, current_plan}
+use Rattle.update_machine.specs.Exports.{HasPlan, IsSetting, Item, Setting, current_mark, version_count}
 use Rattle.partition.specs.Plan.{IsPlan}
-use Rattle.refinement.specs.Controller.{IsControllerOf, plan_to_keep}
-use Rattle.update_machine.specs.Marks.{current_mark}
-use Rattle.update_machine.specs.Setting.{Setting, IsSetting}
-use Rattle.update_machine.specs.Versions.{HasPlan, version_count}
-use Rattle.update_machine.proofs.CallerLemmas.{begins_planned, version_is_planned}
-use Rattle.control_laws.specs.Bounds.{MarksAreBounded}
-use Rattle.control_laws.specs.Planned.{VersionsArePlanned}
+use Rattle.refinement.specs.Exports.{IsControllerOf, plan_to_keep}
+use Rattle.update_machine.proofs.Exports.{begins_planned, version_is_planned}
+use Rattle.control_laws.specs.Exports.{MarksAreBounded, VersionsArePlanned}
 use Rattle.replay.specs.InForce.{IsPlanInForce}
 
 -- the first of the plans of the versions from one on is that one's

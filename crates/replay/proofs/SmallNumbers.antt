@@ -1,14 +1,8 @@
 -- The numbers of the packet that hops next and of the message that is delivered next are small.
-use Rattle.std.proofs.Common.{ℕ, zero, suc, ◌≡◌, ◌+◌, ◌<◌, ◌≤◌, Bool, true, false, cond, Option, Some, List, arith}
-use Rattle.std.specs.Prelude.{find}
-use Rattle.std.specs.List.{range_with_len}
-use Rattle.journal.specs.declared.item.Item.{Item}
-use Rattle.update_machine.specs.Folds.{count_of}
-use Rattle.update_machine.specs.Full.{HasRoom}
-use Rattle.update_machine.specs.Messages.{is_sending, is_waiting, next_message, next_waiting}
-use Rattle.update_machine.specs.Packets.{next_packet}
+use Rattle.std.proofs.Common.{◌+◌, ◌<◌, ◌≡◌, ◌≤◌, Bool, List, Option, Some, arith, cond, false, find, suc, true, zero, ℕ}
+use Rattle.base.proofs.Exports.{range_with_len}
+use Rattle.update_machine.specs.Exports.{HasRoom, Item, count_of, is_sending, is_waiting, next_message, next_packet, next_travelling, next_waiting, travels}
 use Rattle.update_machine.specs.declared.full.TheConstants.{FULL_AT}
-use Rattle.update_machine.specs.Travels.{next_travelling, travels}
 
 one_more : (from count i : ℕ) (found : Option ℕ) (b : Bool)
     → (found ≡ Some i → i < from + 1 + count) → cond b (Some from) found ≡ Some i

@@ -1,10 +1,9 @@
 -- What a world that is as its journal says is.
-use Rattle.std.proofs.Common.{ℕ, ◌≤◌, arith}
-use Rattle.steps.specs.Limits.{max_events}
-use Rattle.update_machine.specs.Answers.{IsReached}
-use Rattle.update_machine.specs.Packets.{next_packet}
-use Rattle.world.specs.State.{RefinesJournal, WorldValue, setting_at, state_at}
-use Rattle.refinement.specs.Refinement.{RefineJournal}
+use Rattle.std.proofs.Common.{◌≤◌, arith, ℕ}
+use Rattle.steps.specs.Exports.{max_events}
+use Rattle.update_machine.specs.Exports.{IsReached, next_packet}
+use Rattle.world.specs.Exports.{RefinesJournal, WorldValue, setting_at, state_at}
+use Rattle.refinement.specs.Exports.{RefineJournal}
 
 pub tie_of : (world : WorldValue) → RefinesJournal world
     → RefineJournal (setting_at world) world.journal (state_at world)

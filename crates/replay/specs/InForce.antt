@@ -1,11 +1,8 @@
 -- The plan that is in force after a journal: that of the version that is current.
 use Rattle.std.specs.Prelude.{◌≡◌, List}
-use Rattle.controller.specs.Plan.{PlanValue}
-use Rattle.journal.specs.declared.item.Item.{Item}
+use Rattle.controller.specs.Exports.{PlanValue}
+use Rattle.update_machine.specs.Exports.{Item, Setting, current_mark, plan_at, policy_at}
 use Rattle.partition.specs.Plan.{IsPlan}
-use Rattle.update_machine.specs.Marks.{current_mark}
-use Rattle.update_machine.specs.Setting.{Setting}
-use Rattle.update_machine.specs.Versions.{plan_at, policy_at}
 
 -- it has the policy of that version, and its partitions with their targets are the policy's plan on
 -- the network

@@ -1,13 +1,9 @@
 -- The packets that left in a journal, and the board of meters while they do.
-use Rattle.std.specs.Prelude.{◌≡◌, ℕ, List, [], ◌∷◌, ◌++◌}
-use Rattle.std.specs.List.{flat_map}
-use Rattle.journal.specs.declared.item.Item.{Item}
+use Rattle.std.specs.Prelude.{[], ◌++◌, ◌∷◌, ◌≡◌, List, flat_map, ℕ}
+use Rattle.update_machine.specs.Exports.{Item, Net}
 use Rattle.journal.specs.declared.item.Item.TheVariants as item
-use Rattle.meters.specs.Gone.{BoardValue, board_after}
-use Rattle.meters.specs.Meters.{PortLeavings, kept_meters}
-use Rattle.meters.specs.Seen.{Seen}
-use Rattle.net_file.specs.Owners.{port_mask}
-use Rattle.net_file.specs.declared.net.Net.{Net}
+use Rattle.meters.specs.Exports.{BoardValue, PortLeavings, Seen, board_after, kept_meters}
+use Rattle.net_file.specs.Exports.{port_mask}
 
 -- what an item says of a packet that left
 abbrev pub left_by : Item → PortLeavings

@@ -1,19 +1,13 @@
 -- What a play adds to a journal, event by event.
-use Rattle.std.specs.Prelude.{⊤, ℕ, ◌≡◌, Bool, true, false, Option, Some, None, Result, Err, List, [], ◌∷◌, ◌++◌}
+use Rattle.std.specs.Prelude.{[], ◌++◌, ◌∷◌, ◌≡◌, Bool, Err, List, None, Option, Result, Some, false, true, ℕ, ⊤}
 use Rattle.controller.specs.declared.plan_error.PlanError.{PlanError}
 use Rattle.controller.specs.declared.plan_error.PlanError.TheVariants as why
-use Rattle.journal.specs.declared.item.Item.{Item}
+use Rattle.update_machine.specs.Exports.{AreFirstStepsOf, AreStepsOf, Drain, Event, Flush, HaveRoom, IsFull, Item, One, Setting, Step, StepOfRow, after_steps, next_delivery, next_hop}
 use Rattle.partition.specs.Plan.{Hosted}
 use Rattle.policy_rules.specs.Hosted as no_plan
-use Rattle.steps.specs.declared.step.Event.{Event}
-use Rattle.steps.specs.declared.step.Event.TheVariants.{One, Flush, Drain}
-use Rattle.steps.specs.declared.step.Step.{Step}
-use Rattle.update_machine.specs.Answers.{AreFirstStepsOf, AreStepsOf, StepOfRow, after_steps, next_delivery, next_hop}
-use Rattle.update_machine.specs.Full.{HaveRoom, IsFull}
-use Rattle.update_machine.specs.Setting.{Setting}
-use Rattle.world.specs.State.{comes_in}
+use Rattle.world.specs.Exports.{comes_in}
 use Rattle.replay.specs.declared.error.ReplayError.{ReplayError}
-use Rattle.policy_rules.specs.Hosted.{NoPlan}
+use Rattle.policy_rules.specs.Exports.{NoPlan}
 use Rattle.replay.specs.declared.error.ReplayError.TheVariants as replayed
 
 -- the step that the event asks for next after this journal, whether it has begun or not

@@ -1,16 +1,7 @@
 -- The network of each load case is sound.
-use Rattle.std.specs.Prelude.{IsTrue, IsFalse, AllPairs, bytes_eq, slice_index}
-use Rattle.std.specs.Int.{bit_at}
-use Rattle.std.specs.List.{list_all, range_with_len}
-use Rattle.std.proofs.Common.{◌≡◌, ◌≢◌, ℕ, zero, suc, ◌+◌, ◌<◌, ◌≤◌, ◌^◌, ◌==◌, Bool, true, false, not, ◌&&◌, List, [], ◌∷◌, ◌++◌, length, map, All, refl, sym, ap, ◌∙◌, true≢false, eq-eqb, ne_eqb, eqb-true, ltb-true, leb-true, nat_lt, nat_le, is_some, arith}
-use Rattle.std.proofs.lemmas.Nat.Bits.{bit_at-pow_other}
-use Rattle.std.proofs.lemmas.Slice.Eq.{bytes_eq-Decides}
-use Rattle.std.proofs.lemmas.List.FromFn.{map-range_with_len_more}
-use Rattle.std.proofs.lemmas.List.Elements.{All-cons, All-nil}
-use Rattle.std.proofs.lemmas.List.Kept.{AllPairs-cons}
-use Rattle.std.proofs.lemmas.Bool.{and_parts, not-true}
-use Rattle.net_file.specs.Net.{AreApart, AreOther, IsLink, IsNet, IsSwitchRow, is_name}
-use Rattle.net_file.specs.Joins.{has_port, joins, owner_of}
+use Rattle.std.proofs.Common.{[], ◌&&◌, ◌++◌, ◌+◌, ◌<◌, ◌==◌, ◌^◌, ◌∙◌, ◌∷◌, ◌≡◌, ◌≢◌, ◌≤◌, All, AllPairs, Bool, IsFalse, IsTrue, List, ap, arith, bytes_eq, eq-eqb, eqb-true, false, is_some, leb-true, length, ltb-true, map, nat_le, nat_lt, ne_eqb, not, refl, slice_index, suc, sym, true, true≢false, zero, ℕ}
+use Rattle.base.proofs.Exports.{All-cons, All-nil, AllPairs-cons, and_parts, bit_at, bit_at-pow_other, bytes_eq-Decides, list_all, map-range_with_len_more, not-true, range_with_len}
+use Rattle.net_file.specs.Exports.{AreApart, AreOther, IsLink, IsNet, IsSwitchRow, has_port, is_name, joins, owner_of}
 use Rattle.schedule.specs.Case.{load_links, load_net, room_of, switch_row}
 
 -- ---- lists by a test that computes

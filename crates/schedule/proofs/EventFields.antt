@@ -1,7 +1,6 @@
 -- The fields of a record, one by one.
-use Rattle.std.proofs.Common.{ℕ, ◌≡◌, ◌∙◌, false, ◌&&◌, Some, None, List, [], ◌∷◌, length, drop, refl, ap, arith}
-use Rattle.std.specs.Prelude.{◌≢◌, Err, bytes_eq, codes}
-use Rattle.std.proofs.Math.Bool.{and-true}
+use Rattle.std.proofs.Common.{[], ◌&&◌, ◌∙◌, ◌∷◌, ◌≡◌, ◌≢◌, Err, List, None, Some, ap, arith, bytes_eq, codes, drop, false, length, refl, ℕ}
+use Rattle.base.proofs.Exports.{and-true}
 use Rattle.csv.specs.Records.{field_at}
 use Rattle.csv_records.specs.Texts.{field_or_empty, is_heading}
 use Rattle.net_file.specs.declared.net.Net.{Net}

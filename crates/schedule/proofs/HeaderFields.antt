@@ -1,12 +1,8 @@
 -- Each field of a header that is read has the bits that it has in a packet.
-use Rattle.std.proofs.Common.{ℕ, ◌≡◌, ◌+◌, ◌*◌, ◌^◌, ◌≤◌, ◌&&◌, Bool, true, false, cond, Option, Some, None, List, [], ◌∷◌, refl, arith}
-use Rattle.std.specs.Prelude.{bytes_eq, codes, nat_le}
-use Rattle.std.specs.Str.Parse.{digits_value}
-use Rattle.std.proofs.lemmas.Bool.Decides.{nat_tests}
-use Rattle.five_tuple.specs.Header.{IsHeader}
-use Rattle.five_tuple.specs.Texts.{address_from, address_of, address_of_parts, fields_from, is_number, number_up_to, packet_fields_of, parts_round, proto_number_of}
+use Rattle.std.proofs.Common.{[], ◌&&◌, ◌*◌, ◌+◌, ◌^◌, ◌∷◌, ◌≡◌, ◌≤◌, Bool, List, None, Option, Some, arith, bytes_eq, codes, cond, false, nat_le, refl, true, ℕ}
+use Rattle.base.proofs.Exports.{digits_value, nat_tests}
+use Rattle.five_tuple.specs.Exports.{IsHeader, address_from, address_of, address_of_parts, fields_from, header_of, is_number, number_up_to, packet_fields_of, parts_round, proto_number_of}
 use Rattle.five_tuple.specs.declared.header.Fields.{Fields}
-use Rattle.five_tuple.specs.HeaderNumbers.{header_of}
 
 checked : (number : Bool) (most value n : ℕ) → cond (number && nat_le value most) (Some value) None
     ≡ Some n → n ≤ most

@@ -1,8 +1,6 @@
 -- Kinds and their keywords.
-use Rattle.std.proofs.Common.{ℕ, ◌≡◌, Some, List, refl, sym}
-use Rattle.std.specs.Prelude.{bytes_eq}
-use Rattle.std.proofs.lemmas.Slice.Eq.{bytes_eq-Decides}
-use Rattle.base.proofs.ListsFound.{found_passes}
+use Rattle.std.proofs.Common.{◌≡◌, List, Some, bytes_eq, refl, sym, ℕ}
+use Rattle.base.proofs.Exports.{bytes_eq-Decides, found_passes}
 use Rattle.schedule.specs.Kinds.{kind_of, keyword_of}
 use Rattle.schedule.specs.declared.kind.Kind.{Kind}
 use Rattle.schedule.specs.declared.kind.Kind.TheVariants as kind

@@ -1,17 +1,10 @@
 -- The definition of load cases, draw by draw.
-use Rattle.std.proofs.Common.{◌≡◌, ℕ, zero, suc, ◌+◌, ◌*◌, ◌<◌, ◌≤◌, ◌^◌, ◌/◌, List, [], ◌∷◌, ◌++◌, length, refl, sym, ap, ◌∙◌, ◌==◌, true≢false, Bool, true, false, cond, All, take, take_all, nat_lt, length-append, add-one, ltb-true, ltb-false, ne_eqb, arith}
-use Rattle.std.specs.Prelude.{slice_index_or}
-use Rattle.std.proofs.lemmas.List.{take-append-le}
-use Rattle.std.proofs.lemmas.Nat.{mod_below}
-use Rattle.std.proofs.Math.ListN.{get_or-append}
-use Rattle.std.proofs.Math.Seq.{get_or-append_seam}
-use Rattle.std.proofs.lemmas.List.Elements.{All-append, All-cons, All-nil}
-use Rattle.std.proofs.lemmas.List.Folds.{list_any-append}
-use Rattle.five_tuple.specs.Header.{IsHeader}
-use Rattle.policy_rules.specs.Applied.{has_priority}
-use Rattle.policy_rules.specs.Repeats.{IsFirstRepeat}
+use Rattle.std.proofs.Common.{[], ◌*◌, ◌++◌, ◌+◌, ◌/◌, ◌<◌, ◌==◌, ◌^◌, ◌∙◌, ◌∷◌, ◌≡◌, ◌≤◌, All, Bool, List, add-one, ap, arith, cond, false, length, length-append, ltb-false, ltb-true, nat_lt, ne_eqb, refl, slice_index_or, suc, sym, take, take_all, true, true≢false, zero, ℕ}
+use Rattle.base.proofs.Exports.{All-append, All-cons, All-nil, get_or-append, get_or-append_seam, list_any-append, mod_below, take-append-le}
+use Rattle.five_tuple.specs.Exports.{IsHeader}
+use Rattle.policy_rules.specs.Exports.{IsFirstRepeat, has_priority}
 use Rattle.policy_rules.specs.declared.policy.Action.TheVariants.{Drop, Out}
-use Rattle.steps.specs.Steps.{IsEvent}
+use Rattle.steps.specs.Exports.{IsEvent}
 use Rattle.schedule.specs.Case.{IsPlayable, NamesPort, action_at, address_at, state_after, draw_below, change_events, drop_draw, group_at, groups_from, header_drawn, packet_drawn, load_case, load_net, next_drawn, row_at, row_ends, rows_drawn}
 use Rattle.schedule.proofs.CaseNetworks.{load_net_sound, port_owned}
 use Rattle.policy_rules.specs.declared.policy.Row.{Row}

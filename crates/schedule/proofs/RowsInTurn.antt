@@ -1,7 +1,6 @@
 -- Rows that are read one after another.
-use Rattle.std.proofs.Common.{ℕ, ◌+◌, Result, Ok, Err, List, ◌++◌, length}
-use Rattle.std.specs.Prelude.{slice_get}
-use Rattle.std.specs.Option.{option_map_or}
+use Rattle.std.proofs.Common.{◌++◌, ◌+◌, Err, List, Ok, Result, length, slice_get, ℕ}
+use Rattle.base.proofs.Exports.{option_map_or}
 use Rattle.net_file.specs.declared.net.Net.{Net}
 use Rattle.steps.specs.declared.step.Event.{Event}
 use Rattle.base.specs.declared.row.InRow.{InRow}

@@ -1,26 +1,16 @@
 -- The events of a text are such as the network can be asked for, and few.
-use Rattle.std.proofs.Common.{ℕ, suc, ◌≡◌, ◌+◌, ◌≤◌, Bool, true, false, cond, Option, Some, None, Result, Ok, Err, List, [], ◌∷◌, length, refl, subst, option_map, arith}
-use Rattle.std.specs.Prelude.{bytes_eq, nat_le, nat_lt, ok_or, slice_get}
-use Rattle.std.specs.List.{AllByRecursion, cons_option}
-use Rattle.std.specs.Option.{option_map_or}
-use Rattle.std.specs.Result.{result_err, result_ok}
-use Rattle.std.proofs.lemmas.Bool.Decides.{nat_tests}
-use Rattle.std.proofs.lemmas.List.Elements.{All-from_recursion}
-use Rattle.std.proofs.lemmas.List.Quantifiers.{position-Some}
+use Rattle.std.proofs.Common.{[], ◌+◌, ◌∷◌, ◌≡◌, ◌≤◌, Bool, Err, List, None, Ok, Option, Result, Some, arith, bytes_eq, cond, false, length, nat_le, nat_lt, ok_or, option_map, refl, slice_get, subst, suc, true, ℕ}
+use Rattle.base.proofs.Exports.{All-from_recursion, AllByRecursion, cons_option, nat_tests, option_map_or, position-Some, result_err, result_ok, some_of_ok_or}
 use Rattle.csv_records.specs.Texts.{is_heading}
-use Rattle.five_tuple.specs.Header.{IsHeader}
-use Rattle.five_tuple.specs.Texts.{number_up_to, packet_fields_of}
+use Rattle.five_tuple.specs.Exports.{IsHeader, header_of, number_up_to, packet_fields_of}
 use Rattle.five_tuple.specs.declared.header.Fields.{Fields}
 use Rattle.five_tuple.specs.declared.header.Header.{Header}
-use Rattle.five_tuple.specs.HeaderNumbers.{header_of}
-use Rattle.net_file.specs.Joins.{are_linked}
-use Rattle.net_file.specs.Refusals.{require, with_value}
+use Rattle.net_file.specs.Exports.{are_linked, require, switch_number, with_value}
 use Rattle.net_file.specs.declared.net.LinkRow.{LinkRow}
 use Rattle.net_file.specs.declared.net.Net.{Net}
 use Rattle.net_file.specs.declared.net.SwitchRow.{SwitchRow}
-use Rattle.net_file.specs.Owners.{switch_number}
 use Rattle.net_file.proofs.SoundNetworks.{require_ok, with_value_ok}
-use Rattle.steps.specs.Steps.{HasLink, HasSwitch, IsEvent, IsStep}
+use Rattle.steps.specs.Exports.{HasLink, HasSwitch, IsEvent, IsStep}
 use Rattle.steps.specs.declared.step.Event.{Event}
 use Rattle.steps.specs.declared.step.Event.TheVariants.{One, Flush, Drain}
 use Rattle.steps.specs.declared.step.Step.{Step}
@@ -28,7 +18,6 @@ use Rattle.steps.specs.declared.step.Step.TheVariants as step
 use Rattle.schedule.specs.Kinds.{kind_of}
 use Rattle.schedule.specs.Reading.{AreSoundEvents, events_in, events_of, events_under_heading, no_schedule_heading, refused_row, refusals_from}
 use Rattle.base.specs.declared.row.InRow.{InRow}
-use Rattle.base.proofs.OptionsMade.{some_of_ok_or}
 use Rattle.schedule.specs.Rows.{event_of, event_with, file_in, header_read, link_in, number_read, schedule_heading, switch_in}
 use Rattle.schedule.specs.declared.error.ScheduleRefusal.{ScheduleRefusal}
 use Rattle.schedule.specs.declared.error.ScheduleRefusal.TheVariants as why

@@ -1,23 +1,20 @@
 -- The load case of a number: a ring of eight switches with two more links, two policies, and a
 -- schedule of packets with an update and a failed link in its middle. The policies and the packets
 -- are drawn from a linear congruential generator, whose state starts at the number.
-use Rattle.std.specs.Prelude.{⊤, ℕ, IsTrue, is_some, zero, suc, ◌≤◌, ◌+◌, ◌*◌, ◌/◌, ◌%◌, ◌^◌, ◌||◌, ◌==◌, if◌then◌else◌, List, [], ◌∷◌, ◌++◌, length, map, All}
-use Rattle.std.specs.List.{range_with_len}
-use Rattle.five_tuple.specs.HeaderNumbers.{header_of}
-use Rattle.five_tuple.specs.Texts.{block_round}
+use Rattle.std.specs.Prelude.{[], if◌then◌else◌, ◌%◌, ◌*◌, ◌++◌, ◌+◌, ◌/◌, ◌==◌, ◌^◌, ◌||◌, ◌∷◌, ◌≤◌, All, IsTrue, List, is_some, length, map, suc, zero, ℕ, ⊤}
+use Rattle.base.specs.Exports.{range_with_len}
+use Rattle.five_tuple.specs.Exports.{block_round, header_of}
 use Rattle.five_tuple.specs.declared.header.Header.{Header}
 use Rattle.five_tuple.specs.declared.matching.Proto.TheVariants.{Is}
 use Rattle.schedule.specs.declared.case.Case.{Case}
-use Rattle.net_file.specs.Net.{IsNet}
+use Rattle.net_file.specs.Exports.{IsNet, owner_of}
 use Rattle.net_file.specs.declared.net.LinkRow.{LinkRow}
 use Rattle.net_file.specs.declared.net.Net.{Net}
 use Rattle.net_file.specs.declared.net.SwitchRow.{SwitchRow}
-use Rattle.net_file.specs.Joins.{owner_of}
 use Rattle.policy_rules.specs.declared.policy.Action.{Action}
 use Rattle.policy_rules.specs.declared.policy.Action.TheVariants.{Drop, Out}
 use Rattle.policy_rules.specs.declared.policy.Row.{Row}
-use Rattle.steps.specs.Steps.{IsEvent}
-use Rattle.steps.specs.Limits.{max_events}
+use Rattle.steps.specs.Exports.{IsEvent, max_events}
 use Rattle.steps.specs.declared.step.Event.{Event}
 use Rattle.steps.specs.declared.step.Event.TheVariants.{Drain, Flush, One}
 use Rattle.steps.specs.declared.step.Step.{Step}

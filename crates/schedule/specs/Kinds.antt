@@ -1,5 +1,5 @@
 -- The kinds of a schedule's rows, each named by a keyword.
-use Rattle.std.specs.Prelude.{ℕ, ◌≡◌, Option, Some, List, [], ◌∷◌, find, codes, bytes_eq}
+use Rattle.std.specs.Prelude.{[], ◌∷◌, ◌≡◌, List, Option, Some, bytes_eq, codes, find, ℕ}
 use Rattle.schedule.specs.declared.kind.Kind.{Kind}
 use Rattle.schedule.specs.declared.kind.Kind.TheVariants as kind
 

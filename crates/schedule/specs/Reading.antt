@@ -1,12 +1,9 @@
 -- The events that a text states, as CSV records: a heading, and a record for each event.
-use Rattle.std.specs.Prelude.{ℕ, ◌≡◌, ◌≤◌, nat_lt, if◌then◌else◌, Option, Some, option_map, Result, Ok, Err, List, [], ◌∷◌, All, filter_map, length, slice_get}
-use Rattle.std.specs.List.{enumerate_from}
-use Rattle.std.specs.Option.{option_map_or}
-use Rattle.std.specs.Result.{result_err, result_ok}
+use Rattle.std.specs.Prelude.{[], if◌then◌else◌, ◌∷◌, ◌≡◌, ◌≤◌, All, Err, List, Ok, Option, Result, Some, filter_map, length, nat_lt, option_map, slice_get, ℕ}
+use Rattle.base.specs.Exports.{enumerate_from, option_map_or, result_err, result_ok}
 use Rattle.csv_records.specs.Texts.{is_heading, records_of}
 use Rattle.net_file.specs.declared.net.Net.{Net}
-use Rattle.steps.specs.Steps.{IsEvent}
-use Rattle.steps.specs.Limits.{max_events}
+use Rattle.steps.specs.Exports.{IsEvent, max_events}
 use Rattle.steps.specs.declared.step.Event.{Event}
 use Rattle.base.specs.declared.row.InRow.{InRow}
 use Rattle.schedule.specs.Rows.{event_of, schedule_heading}

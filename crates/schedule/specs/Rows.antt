@@ -1,15 +1,12 @@
 -- The event that a row states, for a network and this many policy files: a keyword for its kind,
 -- and the fields of that kind.
-use Rattle.std.specs.Prelude.{ℕ, nat_le, option_map, ok_or, Result, Ok, Err, List, [], ◌∷◌, codes}
-use Rattle.five_tuple.specs.HeaderNumbers.{header_of}
-use Rattle.five_tuple.specs.Texts.{number_up_to, packet_fields_of}
+use Rattle.std.specs.Prelude.{[], ◌∷◌, Err, List, Ok, Result, codes, nat_le, ok_or, option_map, ℕ}
+use Rattle.five_tuple.specs.Exports.{header_of, number_up_to, packet_fields_of}
 use Rattle.five_tuple.specs.declared.header.Header.{Header}
-use Rattle.net_file.specs.Joins.{are_linked}
-use Rattle.net_file.specs.Refusals.{require, with_value}
+use Rattle.net_file.specs.Exports.{are_linked, require, switch_number, with_value}
 use Rattle.net_file.specs.declared.net.LinkRow.{LinkRow}
 use Rattle.net_file.specs.declared.net.Net.{Net}
-use Rattle.net_file.specs.Owners.{switch_number}
-use Rattle.steps.specs.Steps.{max_number}
+use Rattle.steps.specs.Exports.{max_number}
 use Rattle.steps.specs.declared.step.Event.{Event}
 use Rattle.steps.specs.declared.step.Event.TheVariants.{One, Flush, Drain}
 use Rattle.steps.specs.declared.step.Step.TheVariants as step

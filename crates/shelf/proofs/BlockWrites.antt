@@ -1,9 +1,8 @@
 -- Of a text that is written in blocks.
-use Rattle.std.proofs.Common.{ℕ, ◌≡◌, ◌+◌, Option, Result, Ok, Err, OnErr, List, ◌++◌, length, take, drop, ap, ◌∙◌, sym, arith}
-use Rattle.std.proofs.Math.Seq.{drop-append_seam, take-add, take-append_seam}
-use Rattle.std.proofs.lemmas.List.{length-append, length-drop, take-append-drop, take-append-le}
-use Rattle.shelf.specs.Sink.{with_gained, GainedPart}
-use Rattle.shelf.specs.SinkWrites.{gained-gained, IsGathered}
+use Rattle.std.proofs.Common.{◌++◌, ◌+◌, ◌∙◌, ◌≡◌, Err, List, Ok, OnErr, Option, Result, ap, arith, drop, length, length-append, length-drop, sym, take, take-add, take-append-drop, ℕ}
+use Rattle.std.proofs.Math.Seq.{drop-append_seam, take-append_seam}
+use Rattle.std.proofs.lemmas.List.{take-append-le}
+use Rattle.shelf.specs.Exports.{GainedPart, IsGathered, gained-gained, with_gained}
 
 -- what waited was written, so that all is
 pub all_written : (text : List ℕ) (before now later : Option (List ℕ)) (waiting : List ℕ)

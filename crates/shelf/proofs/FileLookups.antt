@@ -1,9 +1,6 @@
 -- A look-up among files in memory is one among the files that contracts see.
-use Rattle.std.proofs.Common.{◌≡◌, ℕ, List, [], ◌∷◌, String, Vec, string_bytes, refl, find, arith}
-use Rattle.std.specs.Option.{option_map}
-use Rattle.std.specs.Global.{Global}
-use Rattle.std.specs.Str.{bytes_eq}
-use Rattle.shelf.specs.Shelf.{files_of, file_named}
+use Rattle.std.proofs.Common.{[], ◌∷◌, ◌≡◌, Global, List, String, Vec, arith, bytes_eq, find, option_map, refl, string_bytes, ℕ}
+use Rattle.shelf.specs.Exports.{file_named, files_of}
 
 pub file_named_kept : (files : List (String Global × Vec ℕ Global)) (name : List ℕ)
     → file_named (files_of files) name

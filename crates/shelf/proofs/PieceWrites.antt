@@ -1,9 +1,6 @@
 -- What a sink has gained after one more write of a piece.
-use Rattle.std.proofs.Common.{◌≡◌, ℕ, ◌+◌, ◌≤◌, Option, List, ◌++◌, length, take, drop, ap, sym, ◌∙◌, arith}
-use Rattle.std.proofs.lemmas.List.{take-take, length-take}
-use Rattle.std.proofs.Math.Seq.{take-add}
-use Rattle.shelf.specs.Sink.{with_gained}
-use Rattle.shelf.specs.SinkWrites.{gained-gained}
+use Rattle.std.proofs.Common.{◌++◌, ◌+◌, ◌∙◌, ◌≡◌, ◌≤◌, List, Option, ap, arith, drop, length, length-take, sym, take, take-add, take-take, ℕ}
+use Rattle.shelf.specs.Exports.{gained-gained, with_gained}
 
 -- the first bytes, and then the first of a piece that begins behind them
 pub gained_more : (before : Option (List ℕ)) (bytes : List ℕ) (written rest most taken : ℕ)

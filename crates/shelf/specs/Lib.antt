@@ -3,3 +3,4 @@ pub mod Shelf
 pub mod Sink
 pub mod SinkWrites
 pub mod Streams
+pub mod Exports

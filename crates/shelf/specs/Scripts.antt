@@ -1,5 +1,5 @@
 -- Faults that are planned beforehand, and counts of many calls.
-use Rattle.std.specs.Prelude.{ℕ, Bool, if◌then◌else◌, List, Contains, zero, suc}
+use Rattle.std.specs.Prelude.{if◌then◌else◌, Bool, Contains, List, suc, zero, ℕ}
 use Rattle.shelf.specs.Sink.{next_count}
 
 -- Faults that were planned beforehand: the numbers of the calls that are to fail, counted from 1,

@@ -1,8 +1,6 @@
 -- What is in a source of whole files, and what a read of it may return.
-use Rattle.std.specs.Prelude.{⊤, ◌≡◌, ◌<◌, ◌≤◌, ℕ, Bool, true, false, List, length, map, find, Option, Some, None, IsSomeAnd, Result, Ok, Err, string_bytes, String, Vec}
+use Rattle.std.specs.Prelude.{◌<◌, ◌≡◌, ◌≤◌, Bool, Err, IsSomeAnd, List, None, Ok, Option, Result, Some, String, Vec, bytes_eq, false, find, length, map, option_map, string_bytes, true, ℕ, ⊤}
 use Rattle.std.specs.Global.{Global}
-use Rattle.std.specs.Option.{option_map}
-use Rattle.std.specs.Str.{bytes_eq}
 use Rattle.shelf.specs.declared.source.ShelfError.{ShelfError}
 use Rattle.shelf.specs.declared.source.ShelfError.TheVariants.{Failed, NoMemory}
 use Rattle.shelf.specs.Scripts.{CallScript, counted_up}

@@ -1,6 +1,6 @@
 -- First tier. What contracts see of a sink of bytes, and counts of faults: numbers of 64 bits that
 -- never fall and stop at their greatest value.
-use Rattle.std.specs.Prelude.{◌≡◌, ◌<◌, ℕ, List, ◌++◌, length, take, Option, Some, None, ◌≤◌, ◌+◌, ◌-◌, ◌^◌, min}
+use Rattle.std.specs.Prelude.{◌++◌, ◌+◌, ◌-◌, ◌<◌, ◌^◌, ◌≡◌, ◌≤◌, List, None, Option, Some, length, min, take, ℕ}
 
 -- one more, or the greatest value
 abbrev pub next_count : ℕ → ℕ

@@ -1,6 +1,6 @@
 -- What a write to a sink of bytes may return, and sinks whose faults are planned beforehand.
-use Rattle.std.specs.Prelude.{⊤, ◌≡◌, ◌≢◌, ◌≤◌, ℕ, Bool, IsTrue, true, false, ◌&&◌, ◌==◌, not, List, ◌++◌, length, take, drop, Option, Some, None, Result, Ok, Err, OnOk, OnErr, IsErrOf}
-use Rattle.std.proofs.Common.{refl, ap, append_assoc}
+use Rattle.std.specs.Prelude.{◌&&◌, ◌++◌, ◌==◌, ◌≡◌, ◌≢◌, ◌≤◌, Bool, Err, IsErrOf, IsTrue, List, None, Ok, OnErr, OnOk, Option, Result, Some, drop, false, length, not, refl, take, true, ℕ, ⊤}
+use Rattle.std.proofs.Common.{ap, append_assoc}
 use Rattle.shelf.specs.declared.output.SinkError.{SinkError}
 use Rattle.shelf.specs.declared.output.SinkError.TheVariants.{Failed, NoMemory}
 use Rattle.shelf.specs.Scripts.{CallScript}

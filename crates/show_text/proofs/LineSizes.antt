@@ -1,17 +1,15 @@
 -- Each line of a plan or of tables is short.
-use Rattle.std.proofs.Common.{ℕ, ◌^◌, ◌<◌, ◌≤◌, List, ◌∷◌, [], ◌++◌, length, arith}
-use Rattle.std.specs.Prelude.{codes, decimal}
-use Rattle.std.proofs.lemmas.Fmt.{length-decimal-le}
+use Rattle.std.proofs.Common.{[], ◌++◌, ◌<◌, ◌^◌, ◌∷◌, ◌≤◌, List, arith, codes, decimal, length, ℕ}
+use Rattle.base.proofs.Exports.{length-decimal-le}
 use Rattle.lines.proofs.PrintedLengths.{IsWithin, action_within, all_of, name_within, names_within, number, joined_within, rule_within, widened, with_text, word_within}
 use Rattle.lines.specs.Sizes.{IsAction, IsNumber, IsRule}
-use Rattle.net_file.specs.Laws.{NameLaws}
-use Rattle.net_file.specs.Net.{IsNet, name_of}
+use Rattle.net_file.specs.Exports.{IsNet, NameLaws, name_of}
 use Rattle.net_file.specs.declared.net.Net.{Net}
 use Rattle.policy_rules.specs.declared.rules.Partition.{Partition}
 use Rattle.policy_rules.specs.declared.rules.Rule.{Rule}
 use Rattle.show_text.specs.Text.{with_line_feed, part_text, region_text, row_line, rule_text_of, targets_text}
 use Rattle.switch_table.specs.declared.tables.PartRow.{PartRow}
-use Rattle.ternary.specs.Word.{WordValue}
+use Rattle.ternary.specs.Exports.{WordValue}
 
 fits : {m : ℕ} {text : List ℕ} → IsWithin m text → m < 2048 → length (with_line_feed text) ≤ 2048
 fits is small =

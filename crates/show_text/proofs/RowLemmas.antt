@@ -1,8 +1,6 @@
 -- The lines of rows, one more at a time.
-use Rattle.std.proofs.Common.{◌≡◌, ℕ, ◌+◌, ◌<◌, List, [], ◌∷◌, ◌++◌, length, take, get_or, ◌∙◌, ap, arith, length-take}
-use Rattle.std.specs.List.{enumerate_from, flat_map}
-use Rattle.std.proofs.lemmas.Grind.{common_steps, flat_map-append, take_at_read}
-use Rattle.base.proofs.ListsJoined.{enumerate_push}
+use Rattle.std.proofs.Common.{[], ◌++◌, ◌+◌, ◌<◌, ◌∙◌, ◌∷◌, ◌≡◌, List, ap, arith, flat_map, get_or, length, length-take, take, ℕ}
+use Rattle.base.proofs.Exports.{common_steps, enumerate_from, enumerate_push, flat_map-append, take_at_read}
 use Rattle.net_file.specs.declared.net.Net.{Net}
 use Rattle.switch_table.specs.declared.tables.PartRow.{PartRow}
 use Rattle.show_text.specs.Text.{row_line}

@@ -1,17 +1,16 @@
 -- The texts of plans and of tables, one fact a line.
-use Rattle.std.specs.Prelude.{ℕ, List, [], ◌∷◌, ◌++◌, length, codes, decimal}
-use Rattle.std.specs.List.{flat_map, enumerate_from}
-use Rattle.net_file.specs.Net.{name_of, names_text}
+use Rattle.std.specs.Prelude.{[], ◌++◌, ◌∷◌, List, codes, decimal, flat_map, length, ℕ}
+use Rattle.base.specs.Exports.{enumerate_from}
+use Rattle.net_file.specs.Exports.{name_of, names_text}
 use Rattle.net_file.specs.declared.net.Net.{Net}
 use Rattle.partition.specs.Plan.{Hosted}
-use Rattle.policy_rules.specs.Policy.{action_text, rule_text}
-use Rattle.policy_rules.specs.RuleList.{word_total}
+use Rattle.policy_rules.specs.Exports.{action_text, rule_text, word_total}
 use Rattle.policy_rules.specs.declared.policy.Row.{Row}
 use Rattle.policy_rules.specs.declared.rules.Partition.{Partition}
 use Rattle.policy_rules.specs.declared.rules.Rule.{Rule}
 use Rattle.switch_table.specs.declared.tables.PartRow.{PartRow}
 use Rattle.switch_table.specs.declared.tables.Tables.{Tables}
-use Rattle.ternary.specs.Word.{WordValue, word_text}
+use Rattle.ternary.specs.Exports.{WordValue, word_text}
 
 -- a line with its line feed
 abbrev pub with_line_feed : List ℕ → List ℕ

@@ -1,8 +1,8 @@
 -- First tier. The steps that a network may take: they name switches and links that it has, and
 -- policy files that exist.
-use Rattle.std.specs.Prelude.{⊤, ℕ, ◌<◌, ◌≤◌, length, IsTrue}
-use Rattle.five_tuple.specs.Header.{IsHeader}
-use Rattle.net_file.specs.Joins.{are_linked}
+use Rattle.std.specs.Prelude.{◌<◌, ◌≤◌, IsTrue, length, ℕ, ⊤}
+use Rattle.five_tuple.specs.Exports.{IsHeader}
+use Rattle.net_file.specs.Exports.{are_linked}
 use Rattle.net_file.specs.declared.net.Net.{Net}
 use Rattle.steps.specs.declared.step.Event.{Event}
 use Rattle.steps.specs.declared.step.Event.TheVariants.{One, Flush, Drain}

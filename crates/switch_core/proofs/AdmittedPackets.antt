@@ -1,13 +1,8 @@
 -- What is said of a packet before a route is taken, by the switch that counted the call.
-use Rattle.std.proofs.Common.{ℕ, ◌≡◌, ◌∙◌, Option, Some, None, true, false, List, option_map, refl, ap, sym, subst}
-use Rattle.failover.specs.Links.{no_links}
+use Rattle.std.proofs.Common.{◌∙◌, ◌≡◌, List, None, Option, Some, ap, false, option_map, refl, subst, sym, true, ℕ}
+use Rattle.failover.specs.Exports.{no_links}
 use Rattle.five_tuple.specs.declared.header.Header.{Header}
-use Rattle.switch_core.specs.Answers.{Answer, Answered, Arrival, entered_with, entry_of}
-use Rattle.switch_core.specs.Answering.{admitted, enter_answer, incoming_packet, looked_up}
-use Rattle.switch_core.specs.Deciding.{packet_with}
-use Rattle.switch_core.specs.Ends.{Site, are_isolated, cause_of, leave_by, next_of, set_out}
-use Rattle.switch_core.specs.State.{SwitchValue, call_counted, serves}
-use Rattle.switch_core.specs.Forwarding.{IsByLookup, answer_of}
+use Rattle.switch_core.specs.Exports.{Answer, Answered, Arrival, IsByLookup, Site, SwitchValue, admitted, answer_of, are_isolated, call_counted, cause_of, enter_answer, entered_with, entry_of, incoming_packet, leave_by, looked_up, next_of, packet_with, serves, set_out}
 use Rattle.switch_core.specs.declared.tunnel_calls.Entered.{Entered}
 use Rattle.switch_core.specs.declared.tunnel_calls.Packet.{Packet}
 use Rattle.switch_core.specs.declared.forwarding.Forwarding.{Forwarding}

@@ -1,8 +1,7 @@
 -- A route to one switch is the route to any targets of which it is the first.
-use Rattle.std.proofs.Common.{ℕ, ◌≡◌, ◌<◌, List, [], ◌∷◌, Option, Some, None, length, get_or, arith}
+use Rattle.std.proofs.Common.{[], ◌<◌, ◌∷◌, ◌≡◌, List, None, Option, Some, arith, get_or, length, ℕ}
 use Rattle.failover.specs.declared.advert.Advert.{Advert}
-use Rattle.failover.specs.Links.{known_links}
-use Rattle.failover.specs.Routes.{first_route, route_of, route_to}
+use Rattle.failover.specs.Exports.{first_route, known_links, route_of, route_to}
 
 pub to_any : (adverts : List (Option Advert)) (from near : ℕ) (targets down route : List ℕ) (d : ℕ)
     → 0 < length targets

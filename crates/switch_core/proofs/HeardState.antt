@@ -1,15 +1,12 @@
 -- What a switch holds once a message was heard: tables by their version, a stamp, adverts.
-use Rattle.std.proofs.Common.{◌≡◌, ◌∙◌, ℕ, Bool, true, false, not, ◌&&◌, ◌||◌, ◌==◌, cond, nat_lt, nat_le, max, Option, Some, None, is_some, List, [], ◌∷◌, ◌++◌, find, filter, refl, ap, sym, arith, eqb-true}
-use Rattle.std.specs.Option.{option_or}
-use Rattle.std.proofs.lemmas.Bool.Decides.{nat_tests}
-use Rattle.std.proofs.lemmas.List.Folds.{find-append}
+use Rattle.std.proofs.Common.{[], ◌&&◌, ◌++◌, ◌==◌, ◌||◌, ◌∙◌, ◌∷◌, ◌≡◌, Bool, List, None, Option, Some, ap, arith, cond, eqb-true, false, filter, find, is_some, max, nat_le, nat_lt, not, refl, sym, true, ℕ}
+use Rattle.base.proofs.Exports.{find-append, nat_tests, option_or}
 use Rattle.failover.specs.declared.advert.Advert.{Advert}
-use Rattle.failover.specs.Adverts.{after_hearing, is_news}
+use Rattle.failover.specs.Exports.{after_hearing, is_news}
 use Rattle.failover.proofs.HeldAdverts.{after_no_news}
 use Rattle.switch_table.specs.declared.tables.Tables.{Tables}
-use Rattle.switch_core.specs.Hearing.{collected_to, with_heard, with_installed, is_news_here, raised_to, stamped_with}
-use Rattle.switch_core.specs.State.{SwitchValue, held_tables, holds_version}
-use Rattle.ternary.specs.Word.{WordValue}
+use Rattle.switch_core.specs.Exports.{SwitchValue, collected_to, held_tables, holds_version, is_news_here, raised_to, stamped_with, with_heard, with_installed}
+use Rattle.ternary.specs.Exports.{WordValue}
 
 -- ---- tables
 

@@ -1,19 +1,14 @@
 -- Where a packet goes that was decided.
-use Rattle.std.proofs.Common.{ℕ, ◌≡◌, ◌≢◌, ◌∙◌, ◌↔◌, ◌==◌, Bool, true, false, cond, Option, Some, None, [], ◌∷◌, refl, ap, sym, arith, eqb-true, eq-eqb}
-use Rattle.std.specs.Option.{MatchOption}
-use Rattle.std.specs.Prelude.{Result, Ok, Err}
-use Rattle.std.proofs.lemmas.Bool.Decides.{nat_tests}
-use Rattle.base.proofs.OptionsMade.{MatchOption-weaker}
+use Rattle.std.proofs.Common.{[], ◌==◌, ◌↔◌, ◌∙◌, ◌∷◌, ◌≡◌, ◌≢◌, Bool, Err, MatchOption, None, Ok, Option, Result, Some, ap, arith, cond, eq-eqb, eqb-true, false, refl, sym, true, ℕ}
+use Rattle.base.proofs.Exports.{MatchOption-weaker, nat_tests}
 use Rattle.policy_rules.specs.declared.packet.Cause.{Cause}
 use Rattle.policy_rules.specs.declared.packet.Cause.TheVariants.{NoRoute}
 use Rattle.policy_rules.specs.declared.packet.Leg.TheVariants.{Exit as ExitLeg}
 use Rattle.policy_rules.specs.declared.policy.Action.{Action}
 use Rattle.policy_rules.specs.declared.policy.Action.TheVariants.{Drop, Out as OutBy}
-use Rattle.net_file.specs.Owners.{port_owner}
-use Rattle.tunnel.specs.Tunnel.{TunnelValue}
-use Rattle.switch_core.specs.AnswerLaws.{route_known, setting_out}
-use Rattle.switch_core.specs.Ends.{Site, cause_of, exit_by, leave_by, next_of, set_out}
-use Rattle.switch_core.specs.State.{SwitchValue}
+use Rattle.net_file.specs.Exports.{port_owner}
+use Rattle.tunnel.specs.Exports.{TunnelValue}
+use Rattle.switch_core.specs.Exports.{Site, SwitchValue, cause_of, exit_by, leave_by, next_of, route_known, set_out, setting_out}
 use Rattle.switch_core.specs.declared.tunnel_calls.Next.{Next}
 use Rattle.switch_core.specs.declared.tunnel_calls.Next.TheVariants.{Dropped, Exit, Out, Stuck}
 use Rattle.switch_core.specs.declared.tunnel_calls.Packet.{Packet}

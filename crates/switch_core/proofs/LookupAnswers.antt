@@ -1,32 +1,20 @@
 -- What a switch answers to a packet by a lookup, and by a rule of its own.
-use Rattle.std.proofs.Common.{ℕ, ◌≡◌, ◌∙◌, ◌==◌, Bool, true, false, cond, Option, Some, None, is_some, unwrap_or, option_map, List, slice_get, refl, ap, sym, subst, eqb-true, eq-eqb}
-use Rattle.std.specs.Bool.{IsTrue}
-use Rattle.std.specs.Option.{IsSomeAnd, MatchOption, ok_or, option_and_then}
-use Rattle.std.specs.Prelude.{Result, Ok, Err}
-use Rattle.std.proofs.lemmas.List.Elements.{All-contains}
-use Rattle.std.proofs.lemmas.List.Quantifiers.{position-Some}
-use Rattle.std.proofs.lemmas.Option.{slice_get-get_or}
-use Rattle.base.proofs.ListsFound.{find-position, find-there}
-use Rattle.base.proofs.OptionsMade.{MatchOption-weaker}
-use Rattle.five_tuple.specs.Header.{number_of}
+use Rattle.std.proofs.Common.{◌==◌, ◌∙◌, ◌≡◌, Bool, Err, IsSomeAnd, IsTrue, List, MatchOption, None, Ok, Option, Result, Some, ap, cond, eq-eqb, eqb-true, false, is_some, ok_or, option_and_then, option_map, refl, slice_get, subst, sym, true, unwrap_or, ℕ}
+use Rattle.base.proofs.Exports.{All-contains, MatchOption-weaker, find-position, find-there, position-Some, slice_get-get_or}
+use Rattle.five_tuple.specs.Exports.{number_of}
 use Rattle.five_tuple.specs.declared.header.Header.{Header}
-use Rattle.policy_rules.specs.Rules.{is_held}
+use Rattle.policy_rules.specs.Exports.{is_held}
 use Rattle.policy_rules.specs.declared.packet.Cause.{Cause}
 use Rattle.policy_rules.specs.declared.packet.Leg.{Leg}
 use Rattle.policy_rules.specs.declared.packet.Leg.TheVariants.{Seek as SeekLeg}
 use Rattle.policy_rules.specs.declared.rules.Partition.{Partition}
-use Rattle.tunnel.specs.Tunnel.{TunnelValue}
-use Rattle.switch_table.specs.Tables.{AreSoundTables}
+use Rattle.tunnel.specs.Exports.{TunnelValue}
+use Rattle.switch_table.specs.Exports.{AreSoundTables}
 use Rattle.switch_table.specs.declared.cache.CacheEntry.{CacheEntry}
 use Rattle.switch_table.specs.declared.search.Found.{Found}
 use Rattle.switch_table.specs.declared.search.Found.TheVariants.{Cached, Authority, Redirect}
 use Rattle.switch_table.specs.declared.tables.Tables.{Tables}
-use Rattle.switch_core.specs.AnswerLaws.{IsRightAnswer, IsDecidedIn, IsReady, lookup_by_stamp, route_known, setting_out}
-use Rattle.switch_core.specs.Answering.{IsUncached, admitted, answer_by, decided_at, incoming_packet, looked_up, seek_by}
-use Rattle.switch_core.specs.Deciding.{IsFirstHit, IsFound, by_entry, rule_for_cache, no_part, no_rule, own_part, part_numbered, rule_in}
-use Rattle.switch_core.specs.Ends.{Site, cause_of, next_of, set_out}
-use Rattle.switch_core.specs.State.{IsSwitch, SwitchValue, held_tables, holds_version, no_tables, serves, stamp_tables}
-use Rattle.switch_core.specs.Answers.{Answer, Decided, Seek, Stuck}
+use Rattle.switch_core.specs.Exports.{Answer, Decided, IsDecidedIn, IsFirstHit, IsFound, IsReady, IsRightAnswer, IsSwitch, IsUncached, Seek, Site, Stuck, SwitchValue, admitted, answer_by, by_entry, cause_of, decided_at, held_tables, holds_version, incoming_packet, looked_up, lookup_by_stamp, next_of, no_part, no_rule, no_tables, own_part, part_numbered, route_known, rule_for_cache, rule_in, seek_by, serves, set_out, setting_out, stamp_tables}
 use Rattle.switch_core.specs.declared.tunnel_calls.Packet.{Packet}
 use Rattle.switch_core.proofs.OwnTables.{lookup_is_found}
 

@@ -1,19 +1,11 @@
 -- A body for each neighbour below a number.
-use Rattle.std.proofs.Common.{◌≡◌, ◌∙◌, sym, ℕ, zero, suc, ◌+◌, ◌-◌, ◌*◌, ◌^◌, ◌<◌, ◌≤◌, ◌==◌, Bool, true, false, cond, List, [], ◌∷◌, ◌++◌, map, filter, inl, inr, ap, arith, append-nil, eq-zero-or-pos}
-use Rattle.std.specs.Int.{leading_zeros, trailing_zeros, w64}
-use Rattle.std.specs.Int.Count.{count_leading_zeros}
-use Rattle.std.specs.List.{range_with_len}
-use Rattle.std.proofs.lemmas.Nat.{leading_length}
-use Rattle.std.proofs.lemmas.Nat.Bits.{bit_at_above}
-use Rattle.std.proofs.lemmas.List.{map-append}
-use Rattle.base.specs.Masks.{has, switches}
-use Rattle.base.specs.ComputedMasks.{least_in}
-use Rattle.base.proofs.CallerLemmas.{has-zero, least_below}
-use Rattle.base.proofs.ListsOfRanges.{filter_more}
+use Rattle.std.proofs.Common.{[], ◌*◌, ◌++◌, ◌+◌, ◌-◌, ◌<◌, ◌==◌, ◌^◌, ◌∙◌, ◌∷◌, ◌≡◌, ◌≤◌, Bool, List, ap, append-nil, arith, cond, eq-zero-or-pos, false, filter, inl, inr, map, suc, sym, true, w64, zero, ℕ}
+use Rattle.base.proofs.Exports.{bit_at_above, count_leading_zeros, filter_more, has-zero, leading_length, leading_zeros, least_below, map-append, range_with_len, trailing_zeros}
+use Rattle.base.specs.Exports.{has, least_in, switches}
 use Rattle.ctrl_msg.specs.declared.message.Body.{Body}
 use Rattle.ctrl_msg.specs.declared.message.Message.{Message}
 use Rattle.ctrl_msg.specs.declared.message.Place.TheVariants.{Switch}
-use Rattle.switch_core.specs.Hearing.{flood}
+use Rattle.switch_core.specs.Exports.{flood}
 
 abbrev for_switch : Body → ℕ → Message
 for_switch body other = record { to = Switch other; body = body }

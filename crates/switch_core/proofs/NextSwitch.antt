@@ -1,15 +1,11 @@
 -- Where a packet on its way goes on, by the next switch of its route.
-use Rattle.std.proofs.Common.{ℕ, ◌≡◌, ◌≢◌, ◌+◌, ◌<◌, ◌∙◌, Bool, true, false, Option, Some, None, List, if◌then◌else◌, refl, ap, sym, subst}
-use Rattle.std.specs.List.{slice_get}
-use Rattle.std.proofs.lemmas.Option.{get_or_from_slice_get, slice_get_within}
-use Rattle.base.specs.Masks.{has}
-use Rattle.failover.specs.RouteList.{IsRouteList}
-use Rattle.tunnel.specs.Moves.{marked_down, next, route_from_here}
-use Rattle.tunnel.specs.Tunnel.{TunnelValue}
+use Rattle.std.proofs.Common.{if◌then◌else◌, ◌+◌, ◌<◌, ◌∙◌, ◌≡◌, ◌≢◌, Bool, List, None, Option, Some, ap, false, refl, slice_get, subst, sym, true, ℕ}
+use Rattle.base.proofs.Exports.{get_or_from_slice_get, slice_get_within}
+use Rattle.base.specs.Exports.{has}
+use Rattle.failover.specs.Exports.{IsRouteList}
+use Rattle.tunnel.specs.Exports.{TunnelValue, marked_down, next, route_from_here}
 use Rattle.tunnel.proofs.OnwardSwitch.{next_is_other}
-use Rattle.switch_core.specs.Ends.{are_isolated, cause_of}
-use Rattle.switch_core.specs.Moving.{hop_answer, hopped_to, link_found_down, moved_along, onward_to, rerouted_here}
-use Rattle.switch_core.specs.State.{SwitchValue, call_counted}
+use Rattle.switch_core.specs.Exports.{SwitchValue, are_isolated, call_counted, cause_of, hop_answer, hopped_to, link_found_down, moved_along, onward_to, rerouted_here}
 use Rattle.switch_core.specs.declared.packet.Onward.TheVariants.{AtEnd, Next, LinkDown}
 
 -- the next switch is another, and below 64

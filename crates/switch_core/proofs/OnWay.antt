@@ -1,26 +1,14 @@
 -- What becomes of a packet on its way, by the next link of its route.
-use Rattle.std.proofs.Common.{ℕ, ◌≡◌, ◌∙◌, ◌+◌, ◌<◌, ◌↔◌, ◌&&◌, Bool, true, false, cond, Option, Some, None, List, [], ◌∷◌, length, map, set, slice_get, refl, ap, sym, subst, inl, inr, arith, get_or-set_same, length-set}
-use Rattle.std.specs.List.{slice_index}
-use Rattle.std.proofs.lemmas.Bool.{cases_lt}
-use Rattle.std.proofs.lemmas.List.{get_or_past}
-use Rattle.std.specs.Bool.{IsTrue, IsFalse}
-use Rattle.std.specs.Option.{MatchOption}
-use Rattle.std.proofs.lemmas.Option.{get_or_from_slice_get}
+use Rattle.std.proofs.Common.{[], ◌&&◌, ◌+◌, ◌<◌, ◌↔◌, ◌∙◌, ◌∷◌, ◌≡◌, Bool, IsFalse, IsTrue, List, MatchOption, None, Option, Some, ap, arith, cond, false, get_or-set_same, inl, inr, length, length-set, map, refl, set, slice_get, slice_index, subst, sym, true, ℕ}
+use Rattle.base.proofs.Exports.{cases_lt, get_or_from_slice_get, get_or_past, has-zero}
 use Rattle.policy_rules.specs.declared.packet.Cause.{Cause}
-use Rattle.base.proofs.CallerLemmas.{has-zero}
 use Rattle.failover.proofs.KnownLinkRows.{has_known}
 use Rattle.failover.proofs.RouteSearch.{known_route_is_route}
-use Rattle.failover.specs.Links.{is_link, known_links, neighbours_named, named_links, IsPath}
-use Rattle.base.specs.Masks.{has}
-use Rattle.failover.specs.Paths.{IsRoute}
-use Rattle.failover.specs.Routes.{route_of}
+use Rattle.failover.specs.Exports.{IsPath, IsRoute, is_link, known_links, named_links, neighbours_named, route_of}
+use Rattle.base.specs.Exports.{has}
 use Rattle.failover.specs.declared.advert.Advert.{Advert}
-use Rattle.tunnel.specs.Moves.{here, marked_down, next, on_route, route_from_here}
-use Rattle.tunnel.specs.Tunnel.{TunnelValue}
-use Rattle.switch_core.specs.AnswerLaws.{IsSamePacket, down_with, route_around}
-use Rattle.switch_core.specs.Ends.{cause_of}
-use Rattle.switch_core.specs.Moving.{Moved, StandsAt, link_found_down, hop_answer, hopped_to, move_answer, moved_along, rerouted_here}
-use Rattle.switch_core.specs.State.{SwitchValue}
+use Rattle.tunnel.specs.Exports.{TunnelValue, here, marked_down, next, on_route, route_from_here}
+use Rattle.switch_core.specs.Exports.{IsSamePacket, Moved, StandsAt, SwitchValue, cause_of, down_with, hop_answer, hopped_to, link_found_down, move_answer, moved_along, rerouted_here, route_around}
 use Rattle.switch_core.specs.declared.tunnel_calls.HopEnd.TheVariants.{Arrive, Move, Stuck}
 
 -- ---- a link that is found down

@@ -1,9 +1,8 @@
 -- The relations of the laws allow one answer.
-use Rattle.std.proofs.Common.{ℕ, ◌≡◌, ◌≢◌, ◌∙◌, ◌==◌, Bool, true, false, cond, Option, Some, None, is_some, List, [], ◌∷◌, position, slice_get, refl, ap, sym, eqb-true, eq-eqb}
-use Rattle.std.specs.Bool.{IsTrue}
-use Rattle.five_tuple.specs.Header.{number_of}
+use Rattle.std.proofs.Common.{[], ◌==◌, ◌∙◌, ◌∷◌, ◌≡◌, ◌≢◌, Bool, IsTrue, List, None, Option, Some, ap, cond, eq-eqb, eqb-true, false, is_some, position, refl, slice_get, sym, true, ℕ}
+use Rattle.five_tuple.specs.Exports.{number_of}
 use Rattle.five_tuple.specs.declared.header.Header.{Header}
-use Rattle.policy_rules.specs.Rules.{first_rule, is_held}
+use Rattle.policy_rules.specs.Exports.{first_rule, is_held}
 use Rattle.policy_rules.specs.declared.packet.Cause.TheVariants.{NoRoute}
 use Rattle.policy_rules.specs.declared.packet.Leg.{Leg}
 use Rattle.policy_rules.specs.declared.packet.Leg.TheVariants.{Seek as SeekLeg, Exit as ExitLeg}
@@ -11,23 +10,16 @@ use Rattle.policy_rules.specs.declared.policy.Action.{Action}
 use Rattle.policy_rules.specs.declared.policy.Action.TheVariants.{Drop, Out as OutBy}
 use Rattle.policy_rules.specs.declared.rules.Partition.{Partition}
 use Rattle.policy_rules.specs.declared.rules.Rule.{Rule}
-use Rattle.net_file.specs.Owners.{port_owner}
-use Rattle.base.specs.Masks.{has}
-use Rattle.base.proofs.OptionsMade.{MatchOption-same}
+use Rattle.net_file.specs.Exports.{port_owner}
+use Rattle.base.specs.Exports.{has}
+use Rattle.base.proofs.Exports.{MatchOption-same}
 use Rattle.cache_maker.specs.Independent.{widen}
-use Rattle.tunnel.specs.Moves.{next}
-use Rattle.tunnel.specs.Tunnel.{TunnelValue}
+use Rattle.tunnel.specs.Exports.{TunnelValue, next}
 use Rattle.switch_table.specs.declared.search.Found.{Found}
 use Rattle.switch_table.specs.declared.search.Found.TheVariants.{Cached, Authority, Redirect}
 use Rattle.switch_table.specs.declared.tables.Tables.{Tables}
 use Rattle.ctrl_msg.specs.declared.message.Body.TheVariants.{CacheRule}
-use Rattle.switch_core.specs.AnswerLaws.{IsRightAnswer, IsArrival, IsArriving, IsDecidedIn, IsEntry, IsHop, IsReady, IsNextOf, OwnRule, down_with, lookup_by_stamp, route_known, setting_out, route_around}
-use Rattle.switch_core.specs.Answering.{arrive_answer, enter_answer, looked_up, packet_of}
-use Rattle.switch_core.specs.Deciding.{by_rule, own_part}
-use Rattle.switch_core.specs.Ends.{Site, cause_of, next_of}
-use Rattle.switch_core.specs.Moving.{Moved, link_found_down, hop_answer}
-use Rattle.switch_core.specs.State.{SwitchValue, held_tables, serves, stamp_tables}
-use Rattle.switch_core.specs.Answers.{Answer, Decided, Seek, Stuck, arrived_with, entered_with}
+use Rattle.switch_core.specs.Exports.{Answer, Decided, IsArrival, IsArriving, IsDecidedIn, IsEntry, IsHop, IsNextOf, IsReady, IsRightAnswer, Moved, OwnRule, Seek, Site, Stuck, SwitchValue, arrive_answer, arrived_with, by_rule, cause_of, down_with, enter_answer, entered_with, held_tables, hop_answer, link_found_down, looked_up, lookup_by_stamp, next_of, own_part, packet_of, route_around, route_known, serves, setting_out, stamp_tables}
 use Rattle.switch_core.specs.declared.tunnel_calls.Arrived.{Arrived}
 use Rattle.switch_core.specs.declared.tunnel_calls.Entered.{Entered}
 use Rattle.switch_core.specs.declared.tunnel_calls.HopEnd.TheVariants as hop

@@ -1,15 +1,11 @@
 -- The own advert of a switch among those that it holds: its newest, so that the next one is news.
-use Rattle.std.proofs.Common.{◌≡◌, ◌≢◌, ◌∙◌, ℕ, ◌+◌, ◌<◌, Bool, true, false, not, ◌&&◌, ◌||◌, ◌==◌, nat_lt, Option, Some, None, List, length, set, refl, sym, subst, inl, inr, arith, get_or-set_same, length-set}
-use Rattle.std.specs.Option.{option_map_or}
-use Rattle.std.proofs.lemmas.Bool.{cases_lt}
-use Rattle.std.proofs.lemmas.Bool.Decides.{nat_tests}
-use Rattle.std.proofs.lemmas.List.{get_or_past, get_or-replicate}
+use Rattle.std.proofs.Common.{◌&&◌, ◌+◌, ◌<◌, ◌==◌, ◌||◌, ◌∙◌, ◌≡◌, ◌≢◌, Bool, List, None, Option, Some, arith, false, get_or-set_same, inl, inr, length, length-set, nat_lt, not, refl, set, subst, sym, true, ℕ}
+use Rattle.base.proofs.Exports.{cases_lt, get_or-replicate, get_or_past, nat_tests, option_map_or}
 use Rattle.failover.specs.declared.advert.Advert.{Advert}
-use Rattle.failover.specs.Adverts.{held_advert, is_newer, is_news, after_hearing, no_adverts}
+use Rattle.failover.specs.Exports.{after_hearing, held_advert, is_newer, is_news, no_adverts}
 use Rattle.failover.proofs.HeldAdverts.{held_others}
 use Rattle.failover.proofs.NewestAdvert.{not_newer}
-use Rattle.switch_core.specs.Hearing.{is_news_here}
-use Rattle.switch_core.specs.State.{HasOwnUpTo, SwitchValue, own_advert}
+use Rattle.switch_core.specs.Exports.{HasOwnUpTo, SwitchValue, is_news_here, own_advert}
 
 -- ---- by the numbers alone
 

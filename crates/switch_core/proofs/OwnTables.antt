@@ -1,27 +1,17 @@
 -- What a lookup in sound tables finds, and a partition of its own by the number.
-use Rattle.std.proofs.Common.{ℕ, suc, ◌≡◌, ◌≢◌, ◌∙◌, ◌-◌, ◌==◌, Bool, true, false, cond, Option, Some, None, IsSome, List, [], ◌∷◌, find, position, unwrap_or, slice_get, get_or, refl, ap, sym, subst, inl, inr, arith, AllPairs, Contains, eqb-true}
-use Rattle.std.specs.Bool.{IsTrue}
-use Rattle.std.specs.Option.{IsSomeAnd, option_and_then, option_map_or}
-use Rattle.std.proofs.lemmas.Bool.{cases_lt}
-use Rattle.std.proofs.lemmas.Bool.Decides.{nat_tests}
-use Rattle.std.proofs.lemmas.List.Elements.{All-contains}
-use Rattle.std.proofs.lemmas.Option.{same_Some}
-use Rattle.base.proofs.ListsFound.{find-position, find-there}
-use Rattle.five_tuple.specs.Header.{IsHeader, number_of}
+use Rattle.std.proofs.Common.{[], ◌-◌, ◌==◌, ◌∙◌, ◌∷◌, ◌≡◌, ◌≢◌, AllPairs, Bool, Contains, IsSome, IsSomeAnd, IsTrue, List, None, Option, Some, ap, arith, cond, eqb-true, false, find, get_or, inl, inr, option_and_then, position, refl, slice_get, subst, suc, sym, true, unwrap_or, ℕ}
+use Rattle.base.proofs.Exports.{All-contains, cases_lt, find-position, find-there, nat_tests, option_map_or, same_Some}
+use Rattle.five_tuple.specs.Exports.{IsHeader, number_of}
 use Rattle.five_tuple.specs.declared.header.Header.{Header}
-use Rattle.policy_rules.specs.Partitions.{LastCovers}
-use Rattle.policy_rules.specs.Rules.{first_rule, is_held}
+use Rattle.policy_rules.specs.Exports.{LastCovers, first_rule, is_held, is_in}
 use Rattle.policy_rules.specs.declared.rules.Partition.{Partition}
 use Rattle.policy_rules.specs.declared.rules.Rule.{Rule}
-use Rattle.policy_rules.specs.Hosted.{is_in}
 use Rattle.switch_table.proofs.TableLemmas.{decides_all}
-use Rattle.switch_table.specs.Cache.{first_entry}
-use Rattle.switch_table.specs.Lookup.{authority_of, redirect_of, lookup_of, table_lookup}
-use Rattle.switch_table.specs.Tables.{AreSoundTables}
+use Rattle.switch_table.specs.Exports.{AreSoundTables, authority_of, first_entry, lookup_of, redirect_of, table_lookup}
 use Rattle.switch_table.specs.declared.cache.CacheEntry.{CacheEntry}
 use Rattle.switch_table.specs.declared.tables.Tables.{Tables}
 use Rattle.switch_table.specs.declared.search.Found.TheVariants.{Cached}
-use Rattle.switch_core.specs.Deciding.{IsFirstHit, IsFound, place_of_first, no_part, own_part, part_numbered}
+use Rattle.switch_core.specs.Exports.{IsFirstHit, IsFound, no_part, own_part, part_numbered, place_of_first}
 
 -- ---- a switch's own partitions
 

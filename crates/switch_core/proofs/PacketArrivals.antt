@@ -1,19 +1,13 @@
 -- What a switch answers as a packet enters and as it arrives.
-use Rattle.std.proofs.Common.{ℕ, ◌≡◌, ◌∙◌, ◌↔◌, Bool, true, false, cond, Option, Some, None, is_some, unwrap_or, refl, ap, subst}
-use Rattle.std.specs.Bool.{IsTrue, IsFalse}
-use Rattle.std.specs.Option.{IfSome, IsSomeAnd, option_map_or}
-use Rattle.policy_rules.specs.Hosted.{is_in}
+use Rattle.std.proofs.Common.{◌↔◌, ◌∙◌, ◌≡◌, Bool, IfSome, IsFalse, IsSomeAnd, IsTrue, None, Option, Some, ap, cond, false, is_some, refl, subst, true, unwrap_or, ℕ}
+use Rattle.base.proofs.Exports.{option_map_or}
+use Rattle.policy_rules.specs.Exports.{is_in}
 use Rattle.policy_rules.specs.declared.packet.Leg.{Leg}
 use Rattle.policy_rules.specs.declared.packet.Leg.TheVariants.{Seek, Exit}
 use Rattle.policy_rules.specs.declared.rules.Partition.{Partition}
-use Rattle.tunnel.specs.Tunnel.{TunnelValue}
+use Rattle.tunnel.specs.Exports.{TunnelValue}
 use Rattle.switch_table.specs.declared.tables.Tables.{Tables}
-use Rattle.switch_core.specs.AnswerLaws.{IsRightAnswer, IsArriving, IsDecidedIn, IsEntry}
-use Rattle.switch_core.specs.Answering.{IsAtAuthority, admitted, arrive_answer, arrived_on, decided_in, enter_answer, looked_up, packet_of, received}
-use Rattle.switch_core.specs.Deciding.{IsFirstHit, place_of_first, no_part, own_part, part_numbered}
-use Rattle.switch_core.specs.Ends.{Site}
-use Rattle.switch_core.specs.State.{SwitchValue, held_tables, holds_version, serves}
-use Rattle.switch_core.specs.Answers.{Answer, Answered, Decided, Seek as SeekBy, Stuck, arrival_of, arrived_with, entered_with, entry_of}
+use Rattle.switch_core.specs.Exports.{Answer, Answered, Decided, IsArriving, IsAtAuthority, IsDecidedIn, IsEntry, IsFirstHit, IsRightAnswer, Seek as SeekBy, Site, Stuck, SwitchValue, admitted, arrival_of, arrive_answer, arrived_on, arrived_with, decided_in, enter_answer, entered_with, entry_of, held_tables, holds_version, looked_up, no_part, own_part, packet_of, part_numbered, place_of_first, received, serves}
 use Rattle.switch_core.specs.declared.tunnel_calls.Arrived.TheVariants as arrival
 use Rattle.switch_core.specs.declared.tunnel_calls.Entered.TheVariants as entry
 use Rattle.switch_core.specs.declared.tunnel_calls.Packet.{Packet}

@@ -1,36 +1,21 @@
 -- By which rules a switch decides, and what it sends to caches.
-use Rattle.std.proofs.Common.{ℕ, ◌≡◌, ◌≢◌, ◌∙◌, ◌↔◌, ◌==◌, Bool, true, false, cond, Option, Some, None, is_some, List, [], ◌∷◌, All, filter, map, option_map, find, refl, ap, sym, subst, inl, inr, eqb-true, eq-eqb}
-use Rattle.std.specs.Bool.{IsTrue}
-use Rattle.std.specs.Option.{IsSome, MatchOption, option_map_or}
-use Rattle.std.specs.Prelude.{⊤}
-use Rattle.std.proofs.lemmas.List.Elements.{All-cons, All-contains, All-head, All-tail}
-use Rattle.base.proofs.ListsFound.{find-there}
-use Rattle.five_tuple.specs.Header.{IsHeader, number_of}
+use Rattle.std.proofs.Common.{[], ◌==◌, ◌↔◌, ◌∙◌, ◌∷◌, ◌≡◌, ◌≢◌, All, Bool, IsSome, IsTrue, List, MatchOption, None, Option, Some, ap, cond, eq-eqb, eqb-true, false, filter, find, inl, inr, is_some, map, option_map, refl, subst, sym, true, ℕ}
+use Rattle.base.proofs.Exports.{All-cons, All-contains, All-head, All-tail, find-there, option_map_or, ⊤}
+use Rattle.five_tuple.specs.Exports.{IsHeader, number_of}
 use Rattle.five_tuple.specs.declared.header.Header.{Header}
-use Rattle.policy_rules.specs.Partitions.{AreSoundPartitions}
-use Rattle.policy_rules.specs.Scan.{scan}
-use Rattle.policy_rules.specs.RuleList.{hit_of_rule}
-use Rattle.policy_rules.specs.Rules.{first_rule}
+use Rattle.policy_rules.specs.Exports.{AreSoundPartitions, Hosted, first_rule, hit_of_rule, is_in, scan}
 use Rattle.policy_rules.specs.declared.packet.Leg.{Leg}
 use Rattle.policy_rules.specs.declared.packet.Leg.TheVariants.{Seek as SeekLeg, Exit as ExitLeg}
 use Rattle.policy_rules.specs.declared.policy.Row.{Row}
 use Rattle.policy_rules.specs.declared.rules.Partition.{Partition}
-use Rattle.policy_rules.specs.Hosted.{Hosted, is_in}
-use Rattle.tunnel.specs.Tunnel.{TunnelValue}
-use Rattle.switch_table.specs.Cache.{first_entry}
-use Rattle.switch_table.specs.Lookup.{authority_of, redirect_of, table_lookup}
-use Rattle.switch_table.specs.Tables.{has_target, part_of, tables_of}
+use Rattle.tunnel.specs.Exports.{TunnelValue}
+use Rattle.switch_table.specs.Exports.{authority_of, first_entry, has_target, part_of, redirect_of, table_lookup, tables_of}
 use Rattle.switch_table.specs.declared.cache.CacheEntry.{CacheEntry}
 use Rattle.switch_table.specs.declared.search.Found.{Found}
 use Rattle.switch_table.specs.declared.search.Found.TheVariants.{Cached, Authority, Redirect}
 use Rattle.switch_table.specs.declared.tables.Tables.{Tables}
 use Rattle.ctrl_msg.specs.declared.message.Body.{Body}
-use Rattle.switch_core.specs.AnswerLaws.{IsRightAnswer, IsArriving, IsByOwnRule, IsDecidedIn, IsDecision, IsReady, lookup_by_stamp, route_known, rule_to_cache, setting_out}
-use Rattle.switch_core.specs.Answering.{admitted, arrive_answer, enter_answer, looked_up, packet_of}
-use Rattle.switch_core.specs.Deciding.{by_entry, by_rule, own_part}
-use Rattle.switch_core.specs.Ends.{Site, cause_of, next_of}
-use Rattle.switch_core.specs.State.{SwitchValue, held_tables, stamp_tables}
-use Rattle.switch_core.specs.Answers.{Answer, Decided, Seek, Stuck, arrived_with, entered_with, entry_of}
+use Rattle.switch_core.specs.Exports.{Answer, Decided, IsArriving, IsByOwnRule, IsDecidedIn, IsDecision, IsReady, IsRightAnswer, Seek, Site, Stuck, SwitchValue, admitted, arrive_answer, arrived_with, by_entry, by_rule, cause_of, enter_answer, entered_with, entry_of, held_tables, looked_up, lookup_by_stamp, next_of, own_part, packet_of, route_known, rule_to_cache, setting_out, stamp_tables}
 use Rattle.switch_core.specs.declared.tunnel_calls.Arrived.TheVariants as arrival
 use Rattle.switch_core.specs.declared.deciding.Decision.{Decision}
 use Rattle.switch_core.specs.declared.tunnel_calls.Entered.TheVariants as entry

@@ -1,30 +1,19 @@
 -- The laws of one switch.
-use Rattle.std.proofs.Common.{◌≡◌, ◌∙◌, ℕ, ◌<◌, ◌≤◌, ◌↔◌, Bool, true, false, ◌&&◌, cond, Option, Some, None, option_map, List, [], ◌∷◌, ◌++◌, filter, refl, sym, subst, arith, All, nat_lt, max}
-use Rattle.std.specs.Bool.{IsTrue}
-use Rattle.std.specs.List.{list_all, slice_index}
-use Rattle.std.specs.Option.{ok_or}
-use Rattle.std.specs.Result.{IsErr}
-use Rattle.std.proofs.lemmas.Bool.Decides.{nat_tests}
-use Rattle.std.proofs.lemmas.List.Sums.{AllPass-from_list_all, list_all-from_AllPass}
+use Rattle.std.proofs.Common.{[], ◌&&◌, ◌++◌, ◌<◌, ◌↔◌, ◌∙◌, ◌∷◌, ◌≡◌, ◌≤◌, All, Bool, IsErr, IsTrue, List, None, Option, Some, arith, cond, false, filter, max, nat_lt, ok_or, option_map, refl, slice_index, subst, sym, true, ℕ}
+use Rattle.base.proofs.Exports.{AllPass-from_list_all, list_all, list_all-from_AllPass, nat_tests}
 use Rattle.failover.specs.declared.advert.Advert.{Advert}
-use Rattle.failover.specs.Adverts.{after_hearing, first_advert, first_adverts, is_newer}
-use Rattle.failover.specs.Isolated.{is_isolated}
-use Rattle.failover.specs.Routes.{route_of}
+use Rattle.failover.specs.Exports.{after_hearing, first_advert, first_adverts, is_isolated, is_newer, route_of}
 use Rattle.failover.proofs.HeldAdverts.{held-first}
 use Rattle.policy_rules.specs.declared.packet.Leg.{Leg}
 use Rattle.policy_rules.specs.declared.packet.Cause.{Cause}
 use Rattle.policy_rules.specs.declared.packet.Cause.TheVariants.{NoAuthority, NoRoute}
 use Rattle.ctrl_msg.specs.declared.message.Body.{Body}
 use Rattle.ctrl_msg.specs.declared.message.Body.TheVariants.{Install, OpenAt, Stamp, Collect, CacheRule, Advertise}
-use Rattle.switch_table.specs.Cache.{CacheValue, after_raise}
+use Rattle.switch_table.specs.Exports.{CacheValue, after_carry, after_raise}
 use Rattle.switch_table.specs.declared.tables.Tables.{Tables}
 use Rattle.switch_core.specs.declared.tunnel_calls.Packet.{Packet}
-use Rattle.switch_core.specs.Ends.{are_isolated, cause_of, is_seek, set_out}
-use Rattle.switch_core.specs.Hearing.{after_body, collected_to, with_message, with_heard, with_installed, obeys, raised_to, stamped_with}
-use Rattle.switch_core.specs.Laws.{IsHeard}
-use Rattle.switch_core.specs.State.{HasOwnUpTo, SwitchValue, own_advert}
-use Rattle.switch_table.specs.Carried.{after_carry}
-use Rattle.ternary.specs.Word.{WordValue}
+use Rattle.switch_core.specs.Exports.{HasOwnUpTo, IsHeard, SwitchValue, after_body, are_isolated, cause_of, collected_to, is_seek, obeys, own_advert, raised_to, set_out, stamped_with, with_heard, with_installed, with_message}
+use Rattle.ternary.specs.Exports.{WordValue}
 
 -- ---- packets
 

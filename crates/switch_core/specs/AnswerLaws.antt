@@ -1,12 +1,10 @@
 -- What a switch returns for packets, as relations in terms of lookups, rules, routes and tunnels:
 -- `x_laws` of the crate ensures that each call's result is in its relation, and that nothing else
 -- is.
-use Rattle.std.specs.Prelude.{ℕ, ◌≡◌, ◌≢◌, ◌+◌, ◌↔◌, ◌⊎◌, ◌==◌, if◌then◌else◌, Bool, true, false, Option, Some, None, List, [], ◌∷◌, map, slice_get, IsTrue, IsFalse, IsSome, MatchOption}
-use Rattle.five_tuple.specs.Header.{IsHeader, number_of}
+use Rattle.std.specs.Prelude.{[], if◌then◌else◌, ◌+◌, ◌==◌, ◌↔◌, ◌∷◌, ◌≡◌, ◌≢◌, ◌⊎◌, Bool, IsFalse, IsSome, IsTrue, List, MatchOption, None, Option, Some, false, map, slice_get, true, ℕ}
+use Rattle.five_tuple.specs.Exports.{IsHeader, number_of}
 use Rattle.five_tuple.specs.declared.header.Header.{Header}
-use Rattle.policy_rules.specs.Partitions.{AreSoundPartitions}
-use Rattle.policy_rules.specs.Scan.{scan}
-use Rattle.policy_rules.specs.Rules.{first_rule}
+use Rattle.policy_rules.specs.Exports.{AreSoundPartitions, Hosted, first_rule, scan}
 use Rattle.policy_rules.specs.declared.packet.Cause.TheVariants.{NoRoute}
 use Rattle.policy_rules.specs.declared.packet.How.{How}
 use Rattle.policy_rules.specs.declared.packet.How.TheVariants.{Authority as ByAuthority}
@@ -17,17 +15,12 @@ use Rattle.policy_rules.specs.declared.policy.Action.TheVariants.{Drop, Out as O
 use Rattle.policy_rules.specs.declared.policy.Row.{Row}
 use Rattle.policy_rules.specs.declared.rules.Partition.{Partition}
 use Rattle.policy_rules.specs.declared.rules.Rule.{Rule}
-use Rattle.policy_rules.specs.Hosted.{Hosted}
-use Rattle.net_file.specs.Owners.{port_owner}
-use Rattle.failover.specs.Links.{with_link}
-use Rattle.base.specs.Masks.{has}
-use Rattle.failover.specs.Routes.{route_of}
-use Rattle.tunnel.specs.Moves.{here, next, tunnel_begun}
-use Rattle.tunnel.specs.Tunnel.{TunnelValue}
+use Rattle.net_file.specs.Exports.{port_owner}
+use Rattle.failover.specs.Exports.{route_of, with_link}
+use Rattle.base.specs.Exports.{has}
+use Rattle.tunnel.specs.Exports.{TunnelValue, here, next, tunnel_begun}
 use Rattle.cache_maker.specs.Independent.{widen}
-use Rattle.switch_table.specs.Cache.{first_entry}
-use Rattle.switch_table.specs.Lookup.{lookup_of}
-use Rattle.switch_table.specs.Tables.{part_of, tables_of}
+use Rattle.switch_table.specs.Exports.{first_entry, lookup_of, part_of, tables_of}
 use Rattle.switch_table.specs.declared.cache.CacheEntry.{CacheEntry}
 use Rattle.switch_table.specs.declared.search.Found.{Found}
 use Rattle.switch_table.specs.declared.search.Found.TheVariants.{Cached, Authority, Redirect}

@@ -2,17 +2,17 @@
 -- functions: both by the result of one lookup (Yu, Rexford, Freedman and Wang, "Scalable
 -- Flow-Based Networking with DIFANE", SIGCOMM 2010). What they say are the relations of
 -- `AnswerLaws`, which allow no other result.
-use Rattle.std.specs.Prelude.{⊤, ℕ, ◌≡◌, Option, Some, None, if◌then◌else◌, IsSomeAnd, IsTrue, IfSome, Result, Ok, Err}
-use Rattle.std.specs.Option.{option_map_or}
+use Rattle.std.specs.Prelude.{if◌then◌else◌, ◌≡◌, Err, IfSome, IsSomeAnd, IsTrue, None, Ok, Option, Result, Some, ℕ, ⊤}
+use Rattle.base.specs.Exports.{option_map_or}
 use Rattle.five_tuple.specs.declared.header.Header.{Header}
-use Rattle.policy_rules.specs.Hosted.{is_in}
+use Rattle.policy_rules.specs.Exports.{is_in}
 use Rattle.policy_rules.specs.declared.packet.Leg.{Leg}
 use Rattle.policy_rules.specs.declared.packet.Leg.TheVariants.{Seek as SeekLeg, Exit as ExitLeg}
 use Rattle.policy_rules.specs.declared.packet.Cause.{Cause}
 use Rattle.policy_rules.specs.declared.rules.Partition.{Partition}
-use Rattle.failover.specs.Links.{no_links}
-use Rattle.tunnel.specs.Tunnel.{TunnelValue}
-use Rattle.switch_table.specs.Lookup.{lookup_of}
+use Rattle.failover.specs.Exports.{no_links}
+use Rattle.tunnel.specs.Exports.{TunnelValue}
+use Rattle.switch_table.specs.Exports.{lookup_of}
 use Rattle.switch_table.specs.declared.tables.Tables.{Tables}
 use Rattle.switch_table.specs.declared.search.Found.{Found}
 use Rattle.switch_table.specs.declared.search.Found.TheVariants.{Cached, Authority, Redirect}

@@ -1,5 +1,5 @@
 -- What becomes of a packet at a switch, and how the calls return it.
-use Rattle.std.specs.Prelude.{ℕ, Option, Some, None}
+use Rattle.std.specs.Prelude.{None, Option, Some, ℕ}
 use Rattle.ctrl_msg.specs.declared.message.Body.{Body}
 use Rattle.policy_rules.specs.declared.packet.Cause.{Cause}
 use Rattle.policy_rules.specs.declared.packet.Leg.{Leg}
@@ -9,7 +9,7 @@ use Rattle.switch_core.specs.declared.deciding.Decision.{Decision}
 use Rattle.switch_core.specs.declared.tunnel_calls.Entered.{Entered}
 use Rattle.switch_core.specs.declared.tunnel_calls.Entered.TheVariants as entered
 use Rattle.switch_core.specs.declared.tunnel_calls.Next.{Next}
-use Rattle.tunnel.specs.Tunnel.{TunnelValue}
+use Rattle.tunnel.specs.Exports.{TunnelValue}
 
 -- of a packet whose header was looked up: it is decided, with a rule for the cache of the switch
 -- where it entered, unless that is this one; or it is sent to an authority switch of its

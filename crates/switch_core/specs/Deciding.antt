@@ -1,12 +1,11 @@
 -- By which rule a switch decides a packet, and the rule that it sends to the cache of the switch
 -- where the packet entered (Yu, Rexford, Freedman and Wang, "Scalable Flow-Based Networking with
 -- DIFANE", SIGCOMM 2010).
-use Rattle.std.specs.Prelude.{⊤, ℕ, ◌≡◌, ◌==◌, if◌then◌else◌, Option, Some, None, unwrap_or, List, [], find, position, slice_index_or, IsTrue, IsSomeAnd}
-use Rattle.five_tuple.specs.Header.{number_of}
+use Rattle.std.specs.Prelude.{[], if◌then◌else◌, ◌==◌, ◌≡◌, IsSomeAnd, IsTrue, List, None, Option, Some, find, position, slice_index_or, unwrap_or, ℕ, ⊤}
+use Rattle.five_tuple.specs.Exports.{number_of}
 use Rattle.five_tuple.specs.declared.header.Header.{Header}
-use Rattle.ternary.specs.Word.{holds}
-use Rattle.ternary.specs.Meets.{any_word}
-use Rattle.policy_rules.specs.Rules.{is_held}
+use Rattle.ternary.specs.Exports.{any_word, holds}
+use Rattle.policy_rules.specs.Exports.{is_held}
 use Rattle.policy_rules.specs.declared.policy.Action.TheVariants.{Drop}
 use Rattle.policy_rules.specs.declared.packet.How.TheVariants.{Cached, Authority}
 use Rattle.policy_rules.specs.declared.rules.Partition.{Partition}

@@ -1,8 +1,7 @@
 -- Where a packet moves once it is decided, and why it is stuck: both rules in one place. What the
 -- first one says is the relation `IsNextOf`, which allows no other way.
-use Rattle.std.specs.Prelude.{ℕ, Bool, true, false, ◌&&◌, ◌==◌, if◌then◌else◌, Option, Some, None, option_map, Result, Ok, Err, List, [], ◌∷◌}
-use Rattle.std.specs.List.{list_all}
-use Rattle.std.specs.Option.{ok_or}
+use Rattle.std.specs.Prelude.{[], if◌then◌else◌, ◌&&◌, ◌==◌, ◌∷◌, Bool, Err, List, None, Ok, Option, Result, Some, false, ok_or, option_map, true, ℕ}
+use Rattle.base.specs.Exports.{list_all}
 use Rattle.policy_rules.specs.declared.policy.Action.{Action}
 use Rattle.policy_rules.specs.declared.policy.Action.TheVariants.{Drop, Out as OutBy}
 use Rattle.policy_rules.specs.declared.packet.Leg.{Leg}
@@ -10,11 +9,9 @@ use Rattle.policy_rules.specs.declared.packet.Leg.TheVariants.{Seek as SeekLeg, 
 use Rattle.policy_rules.specs.declared.packet.Cause.{Cause}
 use Rattle.policy_rules.specs.declared.packet.Cause.TheVariants.{NoAuthority, NoRoute}
 use Rattle.net_file.specs.declared.ports.Ports.{Ports}
-use Rattle.net_file.specs.Owners.{port_owner}
-use Rattle.failover.specs.Isolated.{is_isolated}
-use Rattle.failover.specs.Routes.{route_of}
-use Rattle.tunnel.specs.Tunnel.{TunnelValue}
-use Rattle.tunnel.specs.Moves.{tunnel_begun}
+use Rattle.net_file.specs.Exports.{port_owner}
+use Rattle.failover.specs.Exports.{is_isolated, route_of}
+use Rattle.tunnel.specs.Exports.{TunnelValue, tunnel_begun}
 use Rattle.switch_core.specs.declared.tunnel_calls.Next.{Next}
 use Rattle.switch_core.specs.declared.tunnel_calls.Next.TheVariants.{Dropped, Out, Exit, Stuck}
 use Rattle.switch_core.specs.declared.tunnel_calls.Packet.{Packet}

@@ -1,8 +1,8 @@
 -- What becomes of a packet at a switch, before a route is taken.
-use Rattle.std.specs.Prelude.{⊤, Option, option_map}
+use Rattle.std.specs.Prelude.{Option, option_map, ⊤}
 use Rattle.ctrl_msg.specs.declared.message.Body.{Body}
 use Rattle.ctrl_msg.specs.declared.message.Body.TheVariants.{CacheRule}
-use Rattle.ternary.specs.Word.{WordValue}
+use Rattle.ternary.specs.Exports.{WordValue}
 use Rattle.switch_core.specs.Answering.{seek_by}
 use Rattle.switch_core.specs.Ends.{Site, next_of, set_out}
 use Rattle.switch_core.specs.State.{SwitchValue}

@@ -1,23 +1,19 @@
 -- What a message does at a switch, and what the switch sends in reply. Policies change in two
 -- phases (Reitblatt, Foster, Rexford, Schlesinger and Walker, "Abstractions for Network Update",
 -- SIGCOMM 2012); adverts are flooded as in OSPF (RFC 2328, section 13).
-use Rattle.std.specs.Prelude.{⊤, ℕ, Bool, true, not, ◌&&◌, ◌||◌, ◌==◌, max, nat_le, nat_lt, if◌then◌else◌, Option, Some, None, List, [], ◌∷◌, ◌++◌, filter, map}
-use Rattle.std.specs.Option.{option_map_or}
-use Rattle.failover.specs.Adverts.{after_hearing, is_news}
-use Rattle.base.specs.Masks.{has, switches}
+use Rattle.std.specs.Prelude.{[], if◌then◌else◌, ◌&&◌, ◌++◌, ◌==◌, ◌||◌, ◌∷◌, Bool, List, None, Option, Some, filter, map, max, nat_le, nat_lt, not, true, ℕ, ⊤}
+use Rattle.base.specs.Exports.{has, option_map_or, switches}
+use Rattle.failover.specs.Exports.{after_hearing, is_news}
 use Rattle.failover.specs.declared.advert.Advert.{Advert}
-use Rattle.switch_table.specs.Cache.{after_accept, after_raise}
-use Rattle.switch_table.specs.Carried.{after_carry}
-use Rattle.switch_table.specs.Tables.{AreSoundTables}
+use Rattle.switch_table.specs.Exports.{AreSoundTables, after_accept, after_carry, after_raise}
 use Rattle.switch_table.specs.declared.cache.CacheEntry.{CacheEntry}
 use Rattle.switch_table.specs.declared.tables.Tables.{Tables}
-use Rattle.ternary.specs.Word.{WordValue}
-use Rattle.ctrl_msg.specs.Bodies.{body_boot}
+use Rattle.ternary.specs.Exports.{WordValue}
+use Rattle.ctrl_msg.specs.Exports.{body_boot, is_for_controller, to_controller}
 use Rattle.ctrl_msg.specs.declared.message.Body.{Body}
 use Rattle.ctrl_msg.specs.declared.message.Body.TheVariants.{Install, OpenAt, Stamp, Collect, CacheRule, Advertise, Installed, Stamped}
 use Rattle.ctrl_msg.specs.declared.message.Message.{Message}
 use Rattle.ctrl_msg.specs.declared.message.Place.TheVariants.{Switch}
-use Rattle.ctrl_msg.specs.Kinds.{is_for_controller, to_controller}
 use Rattle.switch_core.specs.State.{SwitchValue, holds_version}
 
 -- tables that arrive are sound

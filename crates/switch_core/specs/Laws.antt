@@ -1,10 +1,8 @@
 -- The laws of one switch: `switch_laws` of the crate ensures the record.
-use Rattle.std.specs.Prelude.{ℕ, ◌≡◌, ◌<◌, ◌≤◌, ◌↔◌, max, nat_lt, false, ◌&&◌, ◌==◌, if◌then◌else◌, Some, None, List, All, IsTrue, IsErr}
-use Rattle.std.specs.Option.{option_or}
-use Rattle.failover.specs.Adverts.{after_hearing, first_adverts}
+use Rattle.std.specs.Prelude.{if◌then◌else◌, ◌&&◌, ◌<◌, ◌==◌, ◌↔◌, ◌≡◌, ◌≤◌, All, IsErr, IsTrue, List, None, Some, false, max, nat_lt, ℕ}
+use Rattle.base.specs.Exports.{option_or}
+use Rattle.failover.specs.Exports.{after_hearing, first_adverts, is_isolated, route_of}
 use Rattle.failover.specs.declared.advert.Advert.{Advert}
-use Rattle.failover.specs.Isolated.{is_isolated}
-use Rattle.failover.specs.Routes.{route_of}
 use Rattle.policy_rules.specs.declared.packet.Leg.{Leg}
 use Rattle.policy_rules.specs.declared.packet.Cause.TheVariants.{NoAuthority}
 use Rattle.ctrl_msg.specs.declared.message.Body.{Body}
@@ -13,7 +11,7 @@ use Rattle.switch_core.specs.declared.tunnel_calls.Packet.{Packet}
 use Rattle.switch_core.specs.Ends.{cause_of, is_seek, set_out}
 use Rattle.switch_core.specs.Hearing.{collected_to, with_message, with_heard, with_installed, obeys, raised_to, stamped_with}
 use Rattle.switch_core.specs.State.{HasOwnUpTo, SwitchValue, held_tables}
-use Rattle.ternary.specs.Word.{WordValue}
+use Rattle.ternary.specs.Exports.{WordValue}
 
 -- all that a message may change, and that a stamp and a collect mark never fall within a boot
 pub record IsHeard (before after : SwitchValue) : Type 0 where

@@ -1,8 +1,8 @@
 -- What becomes of a switch when its links change, an entry's time is up, it crashes, or it boots.
-use Rattle.std.specs.Prelude.{ℕ, ◌+◌, true, false, Some, [], slice_set}
-use Rattle.failover.specs.Adverts.{no_adverts}
+use Rattle.std.specs.Prelude.{[], ◌+◌, Some, false, slice_set, true, ℕ}
+use Rattle.failover.specs.Exports.{no_adverts}
 use Rattle.failover.specs.declared.advert.Advert.{Advert}
-use Rattle.switch_table.specs.Cache.{after_clear, after_expire}
+use Rattle.switch_table.specs.Exports.{after_clear, after_expire}
 use Rattle.switch_core.specs.State.{SwitchValue, own_advert}
 
 -- its next own advert, of these neighbours

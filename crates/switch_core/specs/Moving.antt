@@ -1,9 +1,8 @@
 -- What becomes of a packet that is on its way at a switch, as a function. What it says is the
 -- relation `IsHop`, which allows nothing else.
-use Rattle.std.specs.Prelude.{ℕ, ◌≡◌, Option, Some, None, if◌then◌else◌, List, slice_get}
-use Rattle.base.specs.Masks.{has}
-use Rattle.tunnel.specs.Tunnel.{TunnelValue}
-use Rattle.tunnel.specs.Moves.{next, advanced_tunnel, marked_down, on_route, route_from_here}
+use Rattle.std.specs.Prelude.{if◌then◌else◌, ◌≡◌, List, None, Option, Some, slice_get, ℕ}
+use Rattle.base.specs.Exports.{has}
+use Rattle.tunnel.specs.Exports.{TunnelValue, advanced_tunnel, marked_down, next, on_route, route_from_here}
 use Rattle.switch_core.specs.declared.tunnel_calls.HopEnd.{HopEnd}
 use Rattle.switch_core.specs.declared.tunnel_calls.HopEnd.TheVariants.{Arrive, Move, Stuck}
 use Rattle.switch_core.specs.declared.packet.Onward.{Onward}

@@ -1,8 +1,7 @@
 -- The routes that a switch keeps: each is the one by its adverts.
-use Rattle.std.specs.Prelude.{◌≡◌, Option, Some, List, [], ◌∷◌}
+use Rattle.std.specs.Prelude.{[], ◌∷◌, ◌≡◌, List, Option, Some}
 use Rattle.failover.specs.declared.advert.Advert.{Advert}
-use Rattle.failover.specs.Links.{no_links}
-use Rattle.failover.specs.Routes.{route_of}
+use Rattle.failover.specs.Exports.{no_links, route_of}
 use Rattle.switch_core.specs.declared.routes.KeptRoute.{KeptRoute}
 
 -- the way is the route by these adverts, with no link found down

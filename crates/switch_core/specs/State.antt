@@ -2,11 +2,10 @@
 -- authority rules and partition rules (Yu, Rexford, Freedman and Wang, "Scalable Flow-Based
 -- Networking with DIFANE", SIGCOMM 2010), by the versions of a two-phase update (Reitblatt, Foster,
 -- Rexford, Schlesinger and Walker, "Abstractions for Network Update", SIGCOMM 2012).
-use Rattle.std.specs.Prelude.{ℕ, ◌≡◌, ◌+◌, ◌-◌, ◌^◌, ◌<◌, min, Bool, true, ◌&&◌, ◌==◌, Option, Some, is_some, unwrap_or, List, [], ◌∷◌, find, All, IsFalse}
-use Rattle.failover.specs.Adverts.{held_advert, is_newer}
+use Rattle.std.specs.Prelude.{[], ◌&&◌, ◌+◌, ◌-◌, ◌<◌, ◌==◌, ◌^◌, ◌∷◌, ◌≡◌, All, Bool, IsFalse, List, Option, Some, find, is_some, min, true, unwrap_or, ℕ}
+use Rattle.failover.specs.Exports.{held_advert, is_newer}
 use Rattle.failover.specs.declared.advert.Advert.{Advert}
-use Rattle.switch_table.specs.Cache.{CacheValue}
-use Rattle.switch_table.specs.Tables.{AreSoundTables}
+use Rattle.switch_table.specs.Exports.{AreSoundTables, CacheValue}
 use Rattle.switch_table.specs.declared.tables.Tables.{Tables}
 use Rattle.switch_core.specs.declared.switch.Switch.TheInside.{Inside}
 

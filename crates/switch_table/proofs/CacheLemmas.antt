@@ -1,12 +1,7 @@
 -- What each call keeps of a cache.
-use Rattle.std.proofs.Common.{ℕ, zero, suc, ◌≡◌, ◌+◌, ◌<◌, ◌≤◌, Bool, true, false, cond, leb, ◌||◌, nat_lt, List, [], ◌∷◌, ◌++◌, length, remove, drop, length-append, refl, ap, sym, subst, inl, inr, arith}
-use Rattle.std.specs.List.{list_any}
-use Rattle.std.proofs.lemmas.Bool.{cases_lt, lt-ltb, le-ltb}
-use Rattle.std.proofs.lemmas.List.Edits.{length-remove}
-use Rattle.std.proofs.lemmas.List.Kept.{AllPairs-filter}
-use Rattle.std.proofs.lemmas.List.Quantifiers.{all_pairs_remove}
-use Rattle.std.proofs.lemmas.List.Sums.{length-filter, count_by-le-length}
-use Rattle.switch_table.specs.Cache.{CacheValue, HaveDistinctKeys, IsCache, same_key, newest_entries, after_accept, after_expire, after_raise, after_clear}
+use Rattle.std.proofs.Common.{[], ◌++◌, ◌+◌, ◌<◌, ◌||◌, ◌∷◌, ◌≡◌, ◌≤◌, Bool, List, ap, arith, cond, drop, false, inl, inr, le-ltb, leb, length, length-append, lt-ltb, nat_lt, refl, remove, subst, suc, sym, true, zero, ℕ}
+use Rattle.base.proofs.Exports.{AllPairs-filter, all_pairs_remove, cases_lt, count_by-le-length, length-filter, length-remove, list_any}
+use Rattle.switch_table.specs.Exports.{CacheValue, HaveDistinctKeys, IsCache, after_accept, after_clear, after_expire, after_raise, newest_entries, same_key}
 use Rattle.switch_table.specs.declared.cache.CacheEntry.{CacheEntry}
 use Rattle.switch_table.proofs.PairLemmas.{none_distinct, push_distinct, rest_distinct}
 

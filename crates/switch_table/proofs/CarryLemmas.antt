@@ -1,19 +1,9 @@
 -- What a cache keeps as it goes over to a version.
-use Rattle.std.proofs.Common.{ℕ, ◌≡◌, ◌∙◌, ◌+◌, ◌≤◌, Bool, true, false, cond, leb, eqb, not, ◌&&◌, ◌||◌, ◌⊎◌, Option, Some, None, IfSome, List, [], ◌∷◌, ◌++◌, append-nil, length, map, filter, filter_map, get_or, refl, ap, sym, subst, inl, inr, arith, All, AllPairs, Any, Contains}
-use Rattle.std.specs.List.{cons_option, list_any}
-use Rattle.std.proofs.lemmas.Bool.{eq-eqb, eqb-true, false_from_ne_true, le-leb, leb-true}
-use Rattle.std.proofs.lemmas.List.{get_or_default, map-append}
-use Rattle.std.proofs.lemmas.List.Elements.{All-contains_itself, All-weaker, filter_map-append}
-use Rattle.std.proofs.lemmas.List.Folds.{Any-from_list_any, list_any-from_Any}
-use Rattle.base.proofs.ListLemmas.{length-filter_map}
-use Rattle.base.proofs.ListsOfAll.{All-filter_map, AllPairs-filter_map, Contains-filter_map}
-use Rattle.ternary.specs.Meets.{any_word}
-use Rattle.ternary.specs.Word.{WordValue}
+use Rattle.std.proofs.Common.{[], ◌&&◌, ◌++◌, ◌+◌, ◌||◌, ◌∙◌, ◌∷◌, ◌≡◌, ◌≤◌, ◌⊎◌, All, AllPairs, Any, Bool, Contains, IfSome, List, None, Option, Some, ap, append-nil, arith, cond, eq-eqb, eqb, eqb-true, false, filter, filter_map, get_or, inl, inr, le-leb, leb, leb-true, length, map, not, refl, subst, sym, true, ℕ}
+use Rattle.base.proofs.Exports.{All-contains_itself, All-filter_map, All-weaker, AllPairs-filter_map, Any-from_list_any, Contains-filter_map, cons_option, false_from_ne_true, filter_map-append, get_or_default, length-filter_map, list_any, list_any-from_Any, map-append}
+use Rattle.ternary.specs.Exports.{WordValue, any_word}
 use Rattle.ternary.proofs.CallerLemmas.{any_covers, meets_cover}
-use Rattle.switch_table.specs.Cache.{CacheValue, HaveDistinctKeys, IsCache, after_raise, same_key}
-use Rattle.switch_table.specs.CacheLaws.{WasCarried}
-use Rattle.switch_table.specs.Carried.{after_carry, all_touched, carried_entry, is_carried, meets_any, under}
-use Rattle.switch_table.specs.Keys.{Pair, has_key, key_of, pair_of}
+use Rattle.switch_table.specs.Exports.{CacheValue, HaveDistinctKeys, IsCache, Pair, WasCarried, after_carry, after_raise, all_touched, carried_entry, has_key, is_carried, key_of, meets_any, pair_of, same_key, under}
 use Rattle.switch_table.specs.declared.cache.CacheEntry.{CacheEntry}
 use Rattle.switch_table.proofs.PairLemmas.{apart-sym, has_key_of_pairs, none_before, same_key_from, same_key_parts}
 

@@ -1,19 +1,11 @@
 -- The first entry that holds a header, by the keys of its masks.
-use Rattle.std.proofs.Common.{arith, ℕ, ◌≡◌, ◌∙◌, ◌+◌, Bool, true, false, Option, Some, cond, eqb, ◌&&◌, List, [], ◌∷◌, find, option_map, refl, ap, sym}
-use Rattle.std.specs.List.{list_any}
-use Rattle.std.specs.Int.Bits.{bit_and}
-use Rattle.std.proofs.lemmas.Bool.{eqb-true}
-use Rattle.std.proofs.lemmas.List.Elements.{All-head, All-tail}
-use Rattle.std.proofs.Math.Bool.{and-false, and_assoc as and_joined}
-use Rattle.ternary.specs.Word.{WordValue, holds}
-use Rattle.switch_table.specs.Cache.{first_entry}
-use Rattle.switch_table.specs.Keys.{Pair, kept_entries, kept_entry, equal_keys, is_hit, key_of, key_under}
-use Rattle.switch_table.specs.Masks.{HasMaskIn}
-use Rattle.switch_table.specs.Pairs.{AreMasked, HaveVersions}
+use Rattle.std.proofs.Common.{[], ◌&&◌, ◌+◌, ◌∙◌, ◌∷◌, ◌≡◌, Bool, List, Option, Some, ap, arith, bit_and, cond, eqb, eqb-true, false, find, option_map, refl, sym, true, ℕ}
+use Rattle.base.proofs.Exports.{All-head, All-tail, and-false, list_any, list_any-both, nat_tests}
+use Rattle.std.proofs.Math.Bool.{and_assoc as and_joined}
+use Rattle.ternary.specs.Exports.{WordValue, holds}
+use Rattle.switch_table.specs.Exports.{AreMasked, HasMaskIn, HaveVersions, Pair, equal_keys, first_entry, is_hit, kept_entries, kept_entry, key_of, key_under}
 use Rattle.switch_table.specs.declared.cache.CacheEntry.{CacheEntry}
 use Rattle.switch_table.proofs.PairLemmas.{HasVersion, key_of_entry}
-use Rattle.std.proofs.lemmas.Bool.Decides.{nat_tests}
-use Rattle.base.proofs.ListsOfAny.{list_any-both}
 
 abbrev pub holds_of : ℕ → ℕ → CacheEntry → Bool
 holds_of version header entry = eqb entry.version version && holds entry.word header

@@ -1,15 +1,8 @@
 -- Counts of live places by blocks of 64: what they sum up to, what a place that comes or dies
 -- makes of them, and where the place stands that has so many live ones before it.
-use Rattle.std.proofs.Common.{ℕ, suc, zero, ◌≡◌, ◌∙◌, ◌+◌, ◌-◌, ◌*◌, ◌/◌, ◌%◌, ◌^◌, ◌<◌, ◌≤◌, Bool, true, false, cond, List, [], ◌∷◌, ◌++◌, length, length-append, length-drop, length-set, get_or, get_or-drop, get_or-take, get_or-set_same, get_or-set_other, take, drop, set, min, replicate, take_all, refl, ap, sym, subst, inl, inr, arith}
-use Rattle.std.specs.List.{sum}
-use Rattle.std.proofs.Math.Nat.{mod-eq_of_lt, mul-le-mul_left}
-use Rattle.std.proofs.Math.Seq.{take-set-lt}
-use Rattle.std.proofs.lemmas.Bool.{cases_eq, cases_lt}
-use Rattle.std.proofs.lemmas.List.{drop-append-le, drop-replicate, drop-set-add, drop-set-lt, drop-take, drop_all, get_or_append_left, get_or_push, get_or_read, length-replicate, length-take, take-append-le, take-replicate, take-set-le, take-take, take_min}
-use Rattle.std.proofs.lemmas.List.Folds.{sum_by-replicate}
-use Rattle.std.proofs.lemmas.List.Sums.{count_by-le-length, sum_by-set, sum_by-take-drop, sum_by_more, sum_by_push}
-use Rattle.std.proofs.lemmas.Nat.{div-add-mod', mod-mul-add, mod_below}
-use Rattle.switch_table.specs.Live.{AreBlocks, count_set}
+use Rattle.std.proofs.Common.{[], ◌%◌, ◌*◌, ◌++◌, ◌+◌, ◌-◌, ◌/◌, ◌<◌, ◌^◌, ◌∙◌, ◌∷◌, ◌≡◌, ◌≤◌, Bool, List, ap, arith, cond, div-add-mod', drop, drop-set-lt, false, get_or, get_or-drop, get_or-set_other, get_or-set_same, get_or-take, inl, inr, length, length-append, length-drop, length-set, length-take, min, mod-eq_of_lt, mul-le-mul_left, refl, replicate, set, subst, suc, sum, sym, take, take-take, take_all, true, zero, ℕ}
+use Rattle.base.proofs.Exports.{cases_eq, cases_lt, count_by-le-length, drop-append-le, drop-replicate, drop-set-add, drop-take, drop_all, get_or_append_left, get_or_push, get_or_read, length-replicate, mod-mul-add, mod_below, sum_by-replicate, sum_by-set, sum_by-take-drop, sum_by_more, sum_by_push, take-append-le, take-replicate, take-set-le, take-set-lt, take_min}
+use Rattle.switch_table.specs.Exports.{AreBlocks, count_set}
 
 -- how much a flag counts
 abbrev one_if : Bool → ℕ

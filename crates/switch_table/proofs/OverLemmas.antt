@@ -1,15 +1,8 @@
 -- What a carry leaves where no entry is of the version or a later one: the shift falls by one.
-use Rattle.std.proofs.Common.{ℕ, ◌≡◌, ◌∙◌, ◌+◌, ◌-◌, ◌<◌, ◌≤◌, ◌^◌, Bool, true, false, cond, leb, eqb, not, ◌&&◌, ◌||◌, Option, Some, None, IfSome, List, [], ◌∷◌, filter, filter_map, refl, ap, arith, All}
-use Rattle.std.specs.List.{cons_option, list_any}
-use Rattle.std.proofs.lemmas.Bool.{and_parts, eq-eqb, eqb-true, false_from_ne_true, le-leb, leb-true}
-use Rattle.std.proofs.lemmas.List.Elements.{All-head, All-tail, All-weaker, filter_passes}
-use Rattle.base.proofs.ListsOfAll.{All-filter_map}
-use Rattle.ternary.specs.Word.{WordValue}
-use Rattle.switch_table.specs.Cache.{same_key}
-use Rattle.switch_table.specs.Carried.{carried_entry, is_carried, meets_any, under}
-use Rattle.switch_table.specs.Keys.{Pair, kept_entries, kept_entry, is_carried_key}
-use Rattle.switch_table.specs.Masks.{HasMaskOf}
-use Rattle.switch_table.specs.Pairs.{AreMasked, AreUpTo, HaveVersions}
+use Rattle.std.proofs.Common.{[], ◌&&◌, ◌+◌, ◌-◌, ◌<◌, ◌^◌, ◌||◌, ◌∙◌, ◌∷◌, ◌≡◌, ◌≤◌, All, Bool, IfSome, List, None, Option, Some, ap, arith, cond, eq-eqb, eqb, eqb-true, false, filter, filter_map, le-leb, leb, leb-true, not, refl, true, ℕ}
+use Rattle.base.proofs.Exports.{All-filter_map, All-head, All-tail, All-weaker, and_parts, cons_option, false_from_ne_true, filter_passes, list_any}
+use Rattle.ternary.specs.Exports.{WordValue}
+use Rattle.switch_table.specs.Exports.{AreMasked, AreUpTo, HasMaskOf, HaveVersions, Pair, carried_entry, is_carried, is_carried_key, kept_entries, kept_entry, meets_any, same_key, under}
 use Rattle.switch_table.specs.declared.cache.CacheEntry.{CacheEntry}
 use Rattle.switch_table.proofs.PairLemmas.{HasVersion, same_key_parts}
 

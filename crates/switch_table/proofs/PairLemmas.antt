@@ -1,24 +1,9 @@
 -- Cache entries as pairs, whose keys add a shift to versions: what a push, a removal and a filter
 -- make of them, and that no two have one key.
-use Rattle.std.proofs.Common.{ℕ, zero, suc, ◌≡◌, ◌∙◌, ◌+◌, ◌-◌, ◌<◌, ◌≤◌, ◌^◌, Bool, true, false, cond, Option, leb, ◌&&◌, ◌||◌, eqb, List, [], ◌∷◌, ◌++◌, length, length-append, map, filter, remove, drop, get_or, refl, ap, sym, subst, arith, All}
-use Rattle.std.specs.List.{AllByRecursion, IsDistinct, list_any}
-use Rattle.std.specs.Map.{keys_of}
-use Rattle.std.proofs.Math.Seq.{get_or-append_seam}
-use Rattle.std.proofs.lemmas.Bool.{and_parts, and_from, eqb-true, eq-eqb, false≢true, false_from_ne_true, le-leb, leb-true}
-use Rattle.std.proofs.lemmas.List.{get_or_default, map-append}
-use Rattle.std.proofs.lemmas.List.Elements.{All-cons, All-filter, All-head, All-nil, All-push, All-tail, All-weaker}
-use Rattle.std.proofs.lemmas.List.Folds.{list_any-from_Any}
-use Rattle.std.proofs.lemmas.List.Kept.{AllPairs-cons}
-use Rattle.std.proofs.lemmas.List.Quantifiers.{all_pairs_push}
-use Rattle.std.proofs.lemmas.List.Sums.{length-filter, count_by-le-length}
-use Rattle.base.proofs.ListsByPlace.{map-remove}
-use Rattle.base.proofs.ListsOfAll.{All-remove}
-use Rattle.ternary.specs.Meets.{word_eq}
-use Rattle.ternary.specs.Word.{WordValue}
-use Rattle.switch_table.specs.Cache.{HaveDistinctKeys, same_key}
-use Rattle.switch_table.specs.Keys.{HaveOwnKeys, Pair, kept_entries, kept_entry, equal_keys, has_key, key_of, pair_of}
-use Rattle.switch_table.specs.Masks.{HasMaskOf}
-use Rattle.switch_table.specs.Pairs.{AreMasked, AreUpTo, HaveVersions, HoldsEntries}
+use Rattle.std.proofs.Common.{[], ◌&&◌, ◌++◌, ◌+◌, ◌-◌, ◌<◌, ◌^◌, ◌||◌, ◌∙◌, ◌∷◌, ◌≡◌, ◌≤◌, All, Bool, List, Option, ap, arith, cond, drop, eq-eqb, eqb, eqb-true, false, filter, get_or, le-leb, leb, leb-true, length, length-append, map, refl, remove, subst, suc, sym, true, zero, ℕ}
+use Rattle.base.proofs.Exports.{All-cons, All-filter, All-head, All-nil, All-push, All-remove, All-tail, All-weaker, AllByRecursion, AllPairs-cons, IsDistinct, all_pairs_push, and_from, and_parts, count_by-le-length, false_from_ne_true, false≢true, get_or-append_seam, get_or_default, keys_of, length-filter, list_any, list_any-from_Any, map-append, map-remove}
+use Rattle.ternary.specs.Exports.{WordValue, word_eq}
+use Rattle.switch_table.specs.Exports.{AreMasked, AreUpTo, HasMaskOf, HaveDistinctKeys, HaveOwnKeys, HaveVersions, HoldsEntries, Pair, equal_keys, has_key, kept_entries, kept_entry, key_of, pair_of, same_key}
 use Rattle.switch_table.specs.declared.cache.CacheEntry.{CacheEntry}
 
 -- ---- keys of entries

@@ -1,16 +1,8 @@
 -- Where the first live slot stands whose key has a header's bits under one of some masks.
-use Rattle.std.proofs.Common.{ℕ, suc, ◌≡◌, ◌∙◌, ◌+◌, ◌<◌, ◌^◌, Bool, true, false, Option, Some, None, cond, min, not, ◌&&◌, ◌||◌, option_map, find, List, [], ◌∷◌, length, get_or, take, refl, ap, slice_get, sym, subst, arith}
-use Rattle.std.specs.List.{AllByRecursion, IsDistinct, cons_option, position_or_len}
-use Rattle.std.specs.Map.{keys_of}
-use Rattle.std.specs.Int.Bits.{bit_and, and_self}
-use Rattle.std.proofs.lemmas.Nat.{and_assoc}
-use Rattle.std.proofs.lemmas.List.Folds.{find_at, list_any_more}
-use Rattle.std.proofs.lemmas.Option.{same_Some}
-use Rattle.base.proofs.ListsFound.{none_both, place_both, place_either}
-use Rattle.ternary.specs.Word.{WordValue}
-use Rattle.ternary.specs.WordBits.{IsWord}
-use Rattle.switch_table.specs.Keys.{Pair, equal_keys, is_hit, key_under}
-use Rattle.switch_table.specs.Slots.{SlotPair, is_live, live_pairs}
+use Rattle.std.proofs.Common.{[], ◌&&◌, ◌+◌, ◌<◌, ◌^◌, ◌||◌, ◌∙◌, ◌∷◌, ◌≡◌, Bool, List, None, Option, Some, ap, arith, bit_and, cond, false, find, get_or, length, min, not, option_map, refl, slice_get, subst, suc, sym, take, true, ℕ}
+use Rattle.base.proofs.Exports.{AllByRecursion, IsDistinct, and_assoc, and_self, cons_option, find_at, keys_of, list_any_more, none_both, place_both, place_either, position_or_len, same_Some}
+use Rattle.ternary.specs.Exports.{IsWord, WordValue}
+use Rattle.switch_table.specs.Exports.{Pair, SlotPair, equal_keys, is_hit, is_live, key_under, live_pairs}
 use Rattle.switch_table.specs.declared.key.CacheKey.{CacheKey}
 use Rattle.switch_table.proofs.SlotPushLemmas.{equal_keys_same}
 

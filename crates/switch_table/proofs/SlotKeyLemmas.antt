@@ -1,11 +1,8 @@
 -- The keys of slots: those of versions, and those of the places of dead slots.
-use Rattle.std.proofs.Common.{ℕ, zero, suc, ◌≡◌, ◌≢◌, ◌∙◌, ◌+◌, ◌-◌, ◌<◌, ◌^◌, Bool, true, false, cond, ◌&&◌, Some, None, List, [], ◌∷◌, ◌++◌, filter, set, slice_get, refl, ap, sym, subst, arith, inl, inr}
-use Rattle.std.specs.Map.{lookup}
-use Rattle.std.proofs.lemmas.Bool.{false≢true, ne_eqb}
-use Rattle.std.proofs.lemmas.Option.{none-some, same_Some}
-use Rattle.ternary.specs.Meets.{word_eq}
-use Rattle.switch_table.specs.Keys.{equal_keys}
-use Rattle.switch_table.specs.Slots.{AreNamed, IsNamed, SlotPair, is_live, killed}
+use Rattle.std.proofs.Common.{[], ◌&&◌, ◌++◌, ◌+◌, ◌-◌, ◌<◌, ◌^◌, ◌∙◌, ◌∷◌, ◌≡◌, ◌≢◌, Bool, List, None, Some, ap, arith, cond, false, filter, inl, inr, ne_eqb, refl, set, slice_get, subst, suc, sym, true, zero, ℕ}
+use Rattle.base.proofs.Exports.{false≢true, lookup, none-some, same_Some}
+use Rattle.ternary.specs.Exports.{word_eq}
+use Rattle.switch_table.specs.Exports.{AreNamed, IsNamed, SlotPair, equal_keys, is_live, killed}
 use Rattle.switch_table.specs.declared.key.CacheKey.{CacheKey}
 
 named_at : (n : ℕ) (slots : List SlotPair) (at : ℕ) (slot : SlotPair) → AreNamed n slots →

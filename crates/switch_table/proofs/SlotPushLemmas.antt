@@ -1,19 +1,9 @@
 -- Live slots among dead ones: their counts and keys, and what a push, a new key and a sweep leave.
-use Rattle.std.proofs.Common.{ℕ, zero, suc, ◌≡◌, ◌∙◌, ◌+◌, ◌<◌, ◌≤◌, ◌^◌, Bool, true, false, cond, not, eqb, ◌||◌, Option, Some, None, List, [], ◌∷◌, ◌++◌, length, length-append, get_or, filter, take, set, replicate, slice_get, option_map, IfSome, IsFalse, refl, ap, sym, subst, arith, All}
-use Rattle.std.specs.List.{AllByRecursion, IsDistinct, cons_option, position, position_or_len, swap_remove}
-use Rattle.std.specs.Map.{keys_of, lookup, values_of}
-use Rattle.std.proofs.lemmas.Bool.{and_from, and_parts, eq-eqb, eqb-true}
-use Rattle.std.proofs.lemmas.List.{get_or-map, get_or_append_left, length-map, length-take-le, length_push, map_push, take-append-le, take-map}
-use Rattle.std.proofs.lemmas.List.Elements.{filter_map-append}
-use Rattle.std.proofs.lemmas.List.Sums.{count_by-le-length, length-filter}
-use Rattle.std.proofs.lemmas.Option.{get_or_from_slice_get, none-some, same_Some, slice_get-get_or, slice_get-map, slice_get_within}
-use Rattle.base.proofs.ListsByPlace.{put_last}
+use Rattle.std.proofs.Common.{[], ◌++◌, ◌+◌, ◌<◌, ◌^◌, ◌||◌, ◌∙◌, ◌∷◌, ◌≡◌, ◌≤◌, All, Bool, IfSome, IsFalse, List, None, Option, Some, ap, arith, cond, eq-eqb, eqb, eqb-true, false, filter, get_or, length, length-append, length-take-le, not, option_map, position, refl, replicate, set, slice_get, subst, suc, swap_remove, sym, take, true, zero, ℕ}
+use Rattle.base.proofs.Exports.{AllByRecursion, IsDistinct, and_from, and_parts, cons_option, count_by-le-length, filter_map-append, get_or-map, get_or_append_left, get_or_from_slice_get, keys_of, length-filter, length-map, length_push, lookup, map_push, none-some, position_or_len, put_last, same_Some, slice_get-get_or, slice_get-map, slice_get_within, take-append-le, take-map, values_of}
 use Rattle.indexmap.proofs.MapLemmas.{Found-position}
-use Rattle.ternary.specs.Meets.{word_eq}
-use Rattle.ternary.specs.Word.{WordValue}
-use Rattle.switch_table.specs.Keys.{HaveOwnKeys, Pair, equal_keys, has_key}
-use Rattle.switch_table.specs.Live.{AreCounts, CountPlaces, count_set}
-use Rattle.switch_table.specs.Slots.{AreNamed, AreSlots, SlotPair, flags_of, is_live, live_pair, live_pairs}
+use Rattle.ternary.specs.Exports.{WordValue, word_eq}
+use Rattle.switch_table.specs.Exports.{AreCounts, AreNamed, AreSlots, CountPlaces, HaveOwnKeys, Pair, SlotPair, count_set, equal_keys, flags_of, has_key, is_live, live_pair, live_pairs}
 use Rattle.switch_table.specs.declared.key.CacheKey.{CacheKey}
 use Rattle.switch_table.specs.declared.key.Learnt.{Learnt}
 use Rattle.switch_table.specs.declared.key.Slot.{Slot}

@@ -1,17 +1,8 @@
 -- Where the live slots stand, and what is left once one of them is dead or only some are kept.
-use Rattle.std.proofs.Common.{ℕ, zero, suc, ◌≡◌, ◌∙◌, ◌+◌, ◌*◌, ◌<◌, ◌≤◌, Bool, true, false, cond, ◌&&◌, ◌⊎◌, Option, Some, None, option_map, List, [], ◌∷◌, length, length-set, filter, map, get_or, take, drop, set, remove, replicate, refl, ap, slice_get, sym, subst, inl, inr, arith, All}
-use Rattle.std.specs.Bool.{IsFalse}
-use Rattle.std.specs.List.{cons_option}
-use Rattle.std.specs.Map.{values_of}
-use Rattle.std.proofs.lemmas.Bool.{and_parts}
-use Rattle.std.proofs.lemmas.List.{take-map}
-use Rattle.std.proofs.lemmas.List.Elements.{All-cons, All-head, All-nil, All-tail}
-use Rattle.std.proofs.lemmas.List.Sums.{sum_by-cons, sum_by-take-drop, sum_by-take-le}
-use Rattle.std.proofs.lemmas.Option.{none-some, same_Some, slice_get-get_or, slice_get-map, slice_get_within}
+use Rattle.std.proofs.Common.{[], ◌&&◌, ◌*◌, ◌+◌, ◌<◌, ◌∙◌, ◌∷◌, ◌≡◌, ◌≤◌, ◌⊎◌, All, Bool, IsFalse, List, None, Option, Some, ap, arith, cond, drop, false, filter, get_or, inl, inr, length, length-set, map, option_map, refl, remove, replicate, set, slice_get, subst, suc, sym, take, true, zero, ℕ}
+use Rattle.base.proofs.Exports.{All-cons, All-head, All-nil, All-tail, and_parts, cons_option, none-some, same_Some, slice_get-get_or, slice_get-map, slice_get_within, sum_by-cons, sum_by-take-drop, sum_by-take-le, take-map, values_of}
 use Rattle.indexmap.specs.Layout.{set_value_at}
-use Rattle.switch_table.specs.Keys.{Pair}
-use Rattle.switch_table.specs.Live.{AreCounts, IsNthSet, count_set}
-use Rattle.switch_table.specs.Slots.{AreNamed, AreSlots, SlotPair, flags_of, is_live, killed, live_pair, live_pairs}
+use Rattle.switch_table.specs.Exports.{AreCounts, AreNamed, AreSlots, IsNthSet, Pair, SlotPair, count_set, flags_of, is_live, killed, live_pair, live_pairs}
 use Rattle.switch_table.specs.declared.key.CacheKey.{CacheKey}
 use Rattle.switch_table.specs.declared.key.Slot.{Slot}
 use Rattle.switch_table.specs.declared.live.LiveCounts.{LiveCounts}

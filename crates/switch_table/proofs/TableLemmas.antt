@@ -1,30 +1,14 @@
 -- Plans and their tables: where a header lies, and where its rules stand.
-use Rattle.std.proofs.Common.{ℕ, ◌≡◌, ◌≢◌, ◌∙◌, ◌^◌, ◌<◌, Bool, true, false, cond, eqb, Option, Some, None, IsSome, List, [], length, map, filter, find, position, unwrap_or, slice_get, get_or, option_map, refl, ap, sym, subst, arith, All, AllPairs, Contains, count_by}
-use Rattle.std.specs.List.{list_any}
-use Rattle.std.specs.Option.{IfSome, option_map_or, option_and_then}
-use Rattle.std.proofs.lemmas.Bool.{eq-eqb}
-use Rattle.std.proofs.lemmas.List.{length-map, get_or-map, get_or_default}
-use Rattle.std.proofs.lemmas.List.Folds.{list_any-from_Any}
-use Rattle.std.proofs.lemmas.List.Elements.{All-map, All-filter, All-weaker, All-contains, All-contains_itself}
-use Rattle.std.proofs.lemmas.List.Kept.{AllPairs-filter}
-use Rattle.std.proofs.lemmas.List.Quantifiers.{position-Some}
-use Rattle.std.proofs.lemmas.Option.{slice_get-get_or, slice_get-map}
-use Rattle.base.proofs.ListsFiltered.{count_by-map}
-use Rattle.base.proofs.ListsFound.{find-filter, find-map, find-position, find-there, find_ends, position-map, some_from_count}
-use Rattle.base.proofs.ListsOfAll.{AllPairs-map, Contains-map}
-use Rattle.five_tuple.specs.Header.{IsHeader, number_of}
+use Rattle.std.proofs.Common.{[], ◌<◌, ◌^◌, ◌∙◌, ◌≡◌, ◌≢◌, All, AllPairs, Bool, Contains, IfSome, IsSome, List, None, Option, Some, ap, arith, cond, count_by, eq-eqb, eqb, false, filter, find, get_or, length, map, option_and_then, option_map, position, refl, slice_get, subst, sym, true, unwrap_or, ℕ}
+use Rattle.base.proofs.Exports.{All-contains, All-contains_itself, All-filter, All-map, All-weaker, AllPairs-filter, AllPairs-map, Contains-map, count_by-map, find-filter, find-map, find-position, find-there, find_ends, get_or-map, get_or_default, length-map, list_any, list_any-from_Any, option_map_or, position-Some, position-map, slice_get-get_or, slice_get-map, some_from_count}
+use Rattle.five_tuple.specs.Exports.{IsHeader, number_of}
 use Rattle.five_tuple.specs.declared.header.Header.{Header}
 use Rattle.ternary.proofs.CallerLemmas.{covers_held}
-use Rattle.policy_rules.specs.Partitions.{ArePartsNumbered, AreSoundPartitions, LastCovers}
-use Rattle.policy_rules.specs.Scan.{scan}
-use Rattle.policy_rules.specs.RuleList.{hit_of_rule}
-use Rattle.policy_rules.specs.Rules.{first_rule, is_held}
+use Rattle.policy_rules.specs.Exports.{ArePartsNumbered, AreSoundPartitions, LastCovers, first_rule, hit_of_rule, is_held, is_in, scan}
 use Rattle.policy_rules.specs.declared.policy.Row.{Row}
 use Rattle.policy_rules.specs.declared.rules.Partition.{Partition}
 use Rattle.policy_rules.specs.declared.rules.Rule.{Rule}
-use Rattle.policy_rules.specs.Hosted.{is_in}
-use Rattle.switch_table.specs.Tables.{AreSoundTables, DecidesAll, Hosted, part_of, row_of, row_has, has_target, tables_of}
-use Rattle.switch_table.specs.Lookup.{AllDecide, FindsFirstMatch, LeadsToFirstMatch, authority_of, redirect_of, lookup_in, plan_lookup, table_lookup}
+use Rattle.switch_table.specs.Exports.{AllDecide, AreSoundTables, DecidesAll, FindsFirstMatch, Hosted, LeadsToFirstMatch, authority_of, has_target, lookup_in, part_of, plan_lookup, redirect_of, row_has, row_of, table_lookup, tables_of}
 use Rattle.switch_table.specs.declared.tables.PartRow.{PartRow}
 use Rattle.switch_table.specs.declared.tables.Tables.{Tables}
 use Rattle.switch_table.specs.declared.search.Found.{Found}

@@ -1,9 +1,8 @@
 -- Caches of a switch's rules: a list of entries, no two of one version and word, in the order in
 -- which they came.
-use Rattle.std.specs.Prelude.{ℕ, ◌≤◌, Bool, ◌&&◌, ◌||◌, ◌==◌, nat_lt, nat_le, if◌then◌else◌, Option, List, [], ◌∷◌, ◌++◌, length, drop, filter, remove, find, AllPairs, IsFalse}
-use Rattle.std.specs.List.{list_any}
-use Rattle.ternary.specs.Word.{holds}
-use Rattle.ternary.specs.Meets.{word_eq}
+use Rattle.std.specs.Prelude.{[], if◌then◌else◌, ◌&&◌, ◌++◌, ◌==◌, ◌||◌, ◌∷◌, ◌≤◌, AllPairs, Bool, IsFalse, List, Option, drop, filter, find, length, nat_le, nat_lt, remove, ℕ}
+use Rattle.base.specs.Exports.{list_any}
+use Rattle.ternary.specs.Exports.{holds, word_eq}
 use Rattle.switch_table.specs.declared.cache.CacheEntry.{CacheEntry}
 
 -- the entries in order, and how many there may be

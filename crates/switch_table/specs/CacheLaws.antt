@@ -1,6 +1,6 @@
 -- The laws of caches: `cache_laws` and `carry_laws` of the crate ensure the records.
-use Rattle.std.specs.Prelude.{ℕ, ◌≡◌, ◌≤◌, ◌+◌, ◌⊎◌, IsFalse, List, [], All, Any, Contains}
-use Rattle.ternary.specs.Word.{WordValue}
+use Rattle.std.specs.Prelude.{[], ◌+◌, ◌≡◌, ◌≤◌, ◌⊎◌, All, Any, Contains, IsFalse, List, ℕ}
+use Rattle.ternary.specs.Exports.{WordValue}
 use Rattle.switch_table.specs.Cache.{CacheValue, IsCache, after_accept, after_expire, after_raise, after_clear}
 use Rattle.switch_table.specs.Carried.{after_carry, all_touched, meets_any, under}
 use Rattle.switch_table.specs.declared.cache.CacheEntry.{CacheEntry}

@@ -1,9 +1,8 @@
 -- Cache entries that outlive a change of the policy: those that meet no touched word are carried
 -- to the version that it makes.
-use Rattle.std.specs.Prelude.{ℕ, ◌+◌, Bool, not, ◌&&◌, ◌==◌, nat_le, nat_lt, if◌then◌else◌, Option, Some, None, List, [], ◌∷◌, length, filter_map}
-use Rattle.std.specs.List.{list_any}
-use Rattle.ternary.specs.Word.{WordValue}
-use Rattle.ternary.specs.Meets.{any_word, meets}
+use Rattle.std.specs.Prelude.{[], if◌then◌else◌, ◌&&◌, ◌+◌, ◌==◌, ◌∷◌, Bool, List, None, Option, Some, filter_map, length, nat_le, nat_lt, not, ℕ}
+use Rattle.base.specs.Exports.{list_any}
+use Rattle.ternary.specs.Exports.{WordValue, any_word, meets}
 use Rattle.switch_table.specs.Cache.{CacheValue, same_key}
 use Rattle.switch_table.specs.declared.cache.CacheEntry.{CacheEntry}
 

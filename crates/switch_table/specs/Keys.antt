@@ -1,9 +1,7 @@
 -- Cache entries as a map has them: what was learnt, under a key.
-use Rattle.std.specs.Prelude.{ℕ, ◌+◌, ◌-◌, Bool, not, ◌&&◌, ◌==◌, List, map, bit_and}
-use Rattle.std.specs.List.{IsDistinct, list_any}
-use Rattle.std.specs.Map.{keys_of}
-use Rattle.ternary.specs.Meets.{word_eq}
-use Rattle.ternary.specs.Word.{WordValue}
+use Rattle.std.specs.Prelude.{◌&&◌, ◌+◌, ◌-◌, ◌==◌, Bool, List, bit_and, map, not, ℕ}
+use Rattle.base.specs.Exports.{IsDistinct, keys_of, list_any}
+use Rattle.ternary.specs.Exports.{WordValue, word_eq}
 use Rattle.switch_table.specs.Carried.{meets_any}
 use Rattle.switch_table.specs.declared.cache.CacheEntry.{CacheEntry}
 use Rattle.switch_table.specs.declared.key.CacheKey.{CacheKey}

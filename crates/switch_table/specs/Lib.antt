@@ -9,3 +9,4 @@ pub mod Pairs
 pub mod Slots
 pub mod Tables
 pub mod Lookup
+pub mod Exports

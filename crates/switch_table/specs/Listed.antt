@@ -1,6 +1,6 @@
 -- The words of a list of what a change touches, as it is stored.
 use Rattle.std.specs.Prelude.{List}
-use Rattle.ternary.specs.Word.{WordValue}
+use Rattle.ternary.specs.Exports.{WordValue}
 use Rattle.switch_table.specs.declared.touched.Listed.{Listed}
 use Rattle.switch_table.specs.declared.touched.Listed.TheVariants.{Words, All}
 

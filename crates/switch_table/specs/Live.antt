@@ -1,5 +1,5 @@
 -- How many flags of a list are set, by blocks of places.
-use Rattle.std.specs.Prelude.{ℕ, ◌*◌, ◌≡◌, ◌<◌, ◌≤◌, Bool, true, List, Some, length, take, drop, count_by, slice_get, slice_index_or}
+use Rattle.std.specs.Prelude.{◌*◌, ◌<◌, ◌≡◌, ◌≤◌, Bool, List, Some, count_by, drop, length, slice_get, slice_index_or, take, true, ℕ}
 use Rattle.switch_table.specs.declared.live.LiveCounts.{LiveCounts}
 
 abbrev pub count_set : List Bool → ℕ

@@ -1,18 +1,14 @@
 -- What the tables and the cache of a switch say about a header: cached rules first, then authority
 -- rules, then partition rules (Yu, Rexford, Freedman and Wang, "Scalable Flow-Based Networking
 -- with DIFANE", SIGCOMM 2010).
-use Rattle.std.specs.Prelude.{ℕ, ◌≡◌, ◌^◌, ◌<◌, if◌then◌else◌, Option, Some, List, [], length, map, All, find, position, unwrap_or, option_map, option_and_then, slice_get}
-use Rattle.std.specs.Option.{option_map_or}
-use Rattle.five_tuple.specs.Header.{IsHeader, number_of}
+use Rattle.std.specs.Prelude.{[], if◌then◌else◌, ◌<◌, ◌^◌, ◌≡◌, All, List, Option, Some, find, length, map, option_and_then, option_map, position, slice_get, unwrap_or, ℕ}
+use Rattle.base.specs.Exports.{option_map_or}
+use Rattle.five_tuple.specs.Exports.{IsHeader, number_of}
 use Rattle.five_tuple.specs.declared.header.Header.{Header}
-use Rattle.policy_rules.specs.Partitions.{AreSoundPartitions, LastCovers}
-use Rattle.policy_rules.specs.Scan.{scan}
-use Rattle.policy_rules.specs.RuleList.{hit_of_rule}
-use Rattle.policy_rules.specs.Rules.{is_held}
+use Rattle.policy_rules.specs.Exports.{AreSoundPartitions, LastCovers, hit_of_rule, is_held, is_in, scan}
 use Rattle.policy_rules.specs.declared.policy.Row.{Row}
 use Rattle.policy_rules.specs.declared.rules.Partition.{Partition}
 use Rattle.policy_rules.specs.declared.rules.Rule.{Rule}
-use Rattle.policy_rules.specs.Hosted.{is_in}
 use Rattle.switch_table.specs.Cache.{first_entry}
 use Rattle.switch_table.specs.Tables.{AreSoundTables, DecidesAll, Hosted, has_target, part_of, row_has, tables_of}
 use Rattle.switch_table.specs.declared.cache.CacheEntry.{CacheEntry}

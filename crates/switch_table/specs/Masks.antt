@@ -1,8 +1,7 @@
 -- The masks of the entries of a cache.
-use Rattle.std.specs.Prelude.{◌==◌, Option, List, IfSome, IsTrue}
-use Rattle.std.specs.List.{list_any}
-use Rattle.ternary.specs.Word.{WordValue}
-use Rattle.ternary.specs.WordBits.{IsWord}
+use Rattle.std.specs.Prelude.{◌==◌, IfSome, IsTrue, List, Option}
+use Rattle.base.specs.Exports.{list_any}
+use Rattle.ternary.specs.Exports.{IsWord, WordValue}
 
 -- one of these words has the word's mask
 pub record HasMaskIn (words : List WordValue) (word : WordValue) : Type 0 where

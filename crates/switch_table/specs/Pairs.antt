@@ -1,6 +1,6 @@
 -- Cache entries as a cache has them: as pairs, whose keys have a shift added to the versions.
-use Rattle.std.specs.Prelude.{ℕ, ◌+◌, ◌≤◌, ◌<◌, ◌^◌, Option, List, length, All}
-use Rattle.ternary.specs.Word.{WordValue}
+use Rattle.std.specs.Prelude.{◌+◌, ◌<◌, ◌^◌, ◌≤◌, All, List, Option, length, ℕ}
+use Rattle.ternary.specs.Exports.{WordValue}
 use Rattle.switch_table.specs.Keys.{Pair, kept_entries}
 use Rattle.switch_table.specs.Masks.{HasMaskOf}
 use Rattle.switch_table.specs.declared.cache.CacheEntry.{CacheEntry}

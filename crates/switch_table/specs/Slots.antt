@@ -1,5 +1,5 @@
 -- Pairs of a cache among dead ones: the slots of a map.
-use Rattle.std.specs.Prelude.{⊤, ℕ, suc, ◌≡◌, ◌+◌, ◌-◌, ◌<◌, ◌≤◌, ◌^◌, ◌⊎◌, Bool, false, if◌then◌else◌, Option, Some, None, List, [], ◌∷◌, length, map, take, filter_map, All, IsFalse}
+use Rattle.std.specs.Prelude.{[], if◌then◌else◌, ◌+◌, ◌-◌, ◌<◌, ◌^◌, ◌∷◌, ◌≡◌, ◌≤◌, ◌⊎◌, All, Bool, IsFalse, List, None, Option, Some, false, filter_map, length, map, suc, take, ℕ, ⊤}
 use Rattle.switch_table.specs.Keys.{Pair}
 use Rattle.switch_table.specs.Live.{AreCounts}
 use Rattle.switch_table.specs.declared.key.CacheKey.{CacheKey}

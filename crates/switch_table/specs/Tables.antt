@@ -1,16 +1,14 @@
 -- The tables of a switch for one version of a policy: partition rules for all headers, authority
 -- rules for its own partitions (Yu, Rexford, Freedman and Wang, "Scalable Flow-Based Networking
 -- with DIFANE", SIGCOMM 2010).
-use Rattle.std.specs.Prelude.{ℕ, ◌≡◌, ◌≢◌, ◌^◌, ◌<◌, Bool, Some, List, length, map, filter, All, AllPairs, IsSome, IsTrue, nat_eq, count_by, slice_get}
-use Rattle.std.specs.List.{list_any}
-use Rattle.five_tuple.specs.Header.{IsHeader, number_of}
+use Rattle.std.specs.Prelude.{◌<◌, ◌^◌, ◌≡◌, ◌≢◌, All, AllPairs, Bool, IsSome, IsTrue, List, Some, count_by, filter, length, map, nat_eq, slice_get, ℕ}
+use Rattle.base.specs.Exports.{list_any}
+use Rattle.five_tuple.specs.Exports.{IsHeader, number_of}
 use Rattle.five_tuple.specs.declared.header.Header.{Header}
-use Rattle.ternary.specs.Word.{holds}
+use Rattle.ternary.specs.Exports.{holds}
 pub use Rattle.policy_rules.specs.Hosted.{Hosted}
-use Rattle.policy_rules.specs.Partitions.{LastCovers}
-use Rattle.policy_rules.specs.Rules.{first_rule}
+use Rattle.policy_rules.specs.Exports.{LastCovers, first_rule, is_in}
 use Rattle.policy_rules.specs.declared.rules.Partition.{Partition}
-use Rattle.policy_rules.specs.Hosted.{is_in}
 use Rattle.switch_table.specs.declared.tables.PartRow.{PartRow}
 use Rattle.switch_table.specs.declared.tables.Tables.{Tables}
 

@@ -1,29 +1,21 @@
 -- The tables that tests use are sound: one region has all headers, and one rule decides them.
-use Rattle.std.proofs.Common.{◌≡◌, ◌<◌, ◌^◌, ◌==◌, ◌∙◌, ℕ, Bool, true, false, cond, Option, Some, None, is_some, List, [], ◌∷◌, length, map, slice_get, refl, ap, sym, arith, get_or, eq-eqb, eqb-true, lit<}
-use Rattle.std.specs.Bool.{IsTrue}
-use Rattle.std.specs.Option.{IfSome, IsSomeAnd}
-use Rattle.std.proofs.lemmas.Option.{slice_get-get_or}
-use Rattle.base.proofs.ListsOfAll.{All-one}
-use Rattle.five_tuple.specs.Header.{number_of}
+use Rattle.std.proofs.Common.{[], ◌<◌, ◌==◌, ◌^◌, ◌∙◌, ◌∷◌, ◌≡◌, Bool, IfSome, IsSomeAnd, IsTrue, List, None, Option, Some, ap, arith, cond, eq-eqb, eqb-true, false, get_or, is_some, length, lit<, map, refl, slice_get, sym, true, ℕ}
+use Rattle.base.proofs.Exports.{All-one, slice_get-get_or}
+use Rattle.five_tuple.specs.Exports.{number_of}
 use Rattle.five_tuple.specs.declared.header.Header.{Header}
-use Rattle.ternary.specs.Word.{holds}
-use Rattle.ternary.specs.Meets.{any_word}
+use Rattle.ternary.specs.Exports.{any_word, holds}
 use Rattle.ternary.proofs.CallerLemmas.{any_holds, covers_reflexive}
-use Rattle.policy_rules.specs.Partitions.{LastCovers}
+use Rattle.policy_rules.specs.Exports.{LastCovers, is_in}
 use Rattle.policy_rules.specs.declared.packet.Leg.TheVariants.{Seek}
 use Rattle.policy_rules.specs.declared.policy.Action.TheVariants.{Out}
 use Rattle.policy_rules.specs.declared.rules.Partition.{Partition}
 use Rattle.policy_rules.specs.declared.rules.Rule.{Rule}
-use Rattle.policy_rules.specs.Hosted.{is_in}
 use Rattle.failover.specs.declared.advert.Advert.{Advert}
-use Rattle.switch_table.specs.Tables.{AreSoundTables}
+use Rattle.switch_table.specs.Exports.{AreSoundTables}
 use Rattle.switch_table.specs.declared.tables.PartRow.{PartRow}
 use Rattle.switch_table.specs.declared.tables.Tables.{Tables}
-use Rattle.switch_core.specs.Answering.{CanLookUp, IsAtAuthority}
-use Rattle.switch_core.specs.Deciding.{own_part}
-use Rattle.switch_core.specs.Moving.{StandsAt}
-use Rattle.switch_core.specs.State.{SwitchValue, new_switch, held_tables, holds_version}
-use Rattle.tunnel.specs.Tunnel.{IsOnRoute}
+use Rattle.switch_core.specs.Exports.{CanLookUp, IsAtAuthority, StandsAt, SwitchValue, held_tables, holds_version, new_switch, own_part}
+use Rattle.tunnel.specs.Exports.{IsOnRoute}
 
 abbrev pub whole_row : PartRow
 whole_row = record { region = any_word; targets = 1 ∷ [] }

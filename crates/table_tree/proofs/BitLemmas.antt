@@ -1,15 +1,13 @@
 -- Masks as sets of bits.
-use Rattle.std.proofs.Common.{◌≡◌, ℕ, ◌+◌, ◌-◌, ◌^◌, ◌<◌, min, max, Bool, true, false, ◌&&◌, ◌||◌, bit_and, bit_or, length, take, get_or, List, sym, ◌∙◌, ap, inl, inr, arith, ◌↔◌}
-use Rattle.std.specs.Bool.{◌==◌}
+use Rattle.std.proofs.Common.{◌&&◌, ◌+◌, ◌-◌, ◌<◌, ◌==◌, ◌^◌, ◌||◌, ◌↔◌, ◌∙◌, ◌≡◌, Bool, List, ap, arith, bit_and, bit_or, eqb-true, false, get_or, inl, inr, length, max, min, sym, take, true, ℕ}
 use Rattle.std.specs.Int.{w128, bit_at, trailing_zeros}
-use Rattle.std.proofs.lemmas.Bool.{cases_lt, cases_Bool, eqb-true}
+use Rattle.std.proofs.lemmas.Bool.{cases_lt, cases_Bool}
 use Rattle.std.proofs.lemmas.Bool.Decides.{nat_tests}
 use Rattle.std.proofs.lemmas.List.Folds.{list_all_more, list_any_more}
 use Rattle.std.proofs.lemmas.Nat.Bits.{bit_at-lt, bit_at-zero, bit_at_and, bit_at_or, bit_at_ones, bit_at-trailing_zeros}
-use Rattle.ternary.specs.Word.{WordValue}
-use Rattle.ternary.specs.Meets.{is_fixed_of}
+use Rattle.ternary.specs.Exports.{WordValue, is_fixed_of}
 use Rattle.ternary.proofs.CallerLemmas.{both_set}
-use Rattle.cut_tree.specs.Cuts.{IsFreeBit}
+use Rattle.cut_tree.specs.Exports.{IsFreeBit}
 use Rattle.table_tree.specs.Cutting.{IsLowest, IsLeastFree, NoneFree}
 use Rattle.table_tree.specs.Regions.{all_fix, some_fix}
 use Rattle.table_tree.specs.declared.node.Candidate.{Candidate}

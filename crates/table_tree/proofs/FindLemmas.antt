@@ -1,28 +1,22 @@
 -- Where a finder's tree leads.
-use Rattle.std.proofs.Common.{◌≡◌, ℕ, ◌+◌, ◌^◌, ◌<◌, Bool, true, false, Option, Some, None, IsSome, List, [], ◌∷◌, length, find, position, unwrap_or, slice_get, get_or, map, count_by, refl, sym, ◌∙◌, ap, subst, inl, inr, arith}
-use Rattle.std.specs.Bool.{IsTrue, ◌==◌}
+use Rattle.std.proofs.Common.{[], ◌+◌, ◌<◌, ◌==◌, ◌^◌, ◌∙◌, ◌∷◌, ◌≡◌, Bool, IfSome, IsSome, IsSomeAnd, IsTrue, List, None, Option, Some, ap, arith, count_by, eq-eqb, eqb-true, false, find, get_or, inl, inr, length, map, option_and_then, option_map, position, refl, slice_get, subst, sym, true, unwrap_or, ℕ}
 use Rattle.std.specs.List.{position_from}
 use Rattle.std.proofs.lemmas.Iterator.Adapters.{position_from-zero}
-use Rattle.std.specs.Option.{IfSome, IsSomeAnd, option_and_then, option_map, option_map_or}
-use Rattle.std.proofs.lemmas.Bool.{cases_Bool, both_ways, eqb-true, eq-eqb}
+use Rattle.std.specs.Option.{option_map_or}
+use Rattle.std.proofs.lemmas.Bool.{cases_Bool, both_ways}
 use Rattle.std.proofs.lemmas.List.{length-map}
 use Rattle.std.proofs.lemmas.List.Elements.{All-nil, All-cons, All-contains, All-weaker}
 use Rattle.std.proofs.lemmas.List.Quantifiers.{position-Some}
 use Rattle.std.proofs.lemmas.Option.{same_Some, slice_get-get_or, slice_get-map}
 use Rattle.std.proofs.lemmas.Bool.Decides.{same_from_decides}
 use Rattle.policy_rules.proofs.CallerLemmas.{count_by-map, find-position, find-there, find_agree, found_from_count, one_place, there_at}
-use Rattle.five_tuple.specs.Header.{IsHeader, number_of}
-use Rattle.five_tuple.specs.Laws.{HeaderLaws}
+use Rattle.five_tuple.specs.Exports.{HeaderLaws, IsHeader, number_of}
 use Rattle.five_tuple.specs.declared.header.Header.{Header}
-use Rattle.ternary.specs.Laws.{HoldsLaws, MeetLaws}
-use Rattle.ternary.specs.Word.{WordValue, holds}
-use Rattle.ternary.specs.Meets.{any_word, fix_of}
+use Rattle.ternary.specs.Exports.{HoldsLaws, MeetLaws, WordValue, any_word, fix_of, holds}
 use Rattle.ternary.proofs.CallerLemmas.{any_holds}
-use Rattle.policy_rules.specs.Hosted.{is_in}
-use Rattle.policy_rules.specs.Rules.{is_held}
+use Rattle.policy_rules.specs.Exports.{is_held, is_in}
 use Rattle.policy_rules.specs.declared.rules.Partition.{Partition}
-use Rattle.switch_table.specs.Tables.{AreSoundTables, row_has}
-use Rattle.switch_table.specs.Lookup.{authority_of, redirect_of, table_lookup}
+use Rattle.switch_table.specs.Exports.{AreSoundTables, authority_of, redirect_of, row_has, table_lookup}
 use Rattle.switch_table.specs.declared.search.Found.TheVariants.{Authority, Redirect}
 use Rattle.switch_table.specs.declared.tables.PartRow.{PartRow}
 use Rattle.switch_table.specs.declared.tables.Tables.{Tables}

@@ -1,12 +1,10 @@
 -- Down a tree of bits.
-use Rattle.std.proofs.Common.{◌≡◌, ℕ, Bool, true, false, ◌&&◌, refl, ◌∙◌, ap, inl, inr, arith}
-use Rattle.std.specs.Bool.{IsTrue, IsFalse, ◌==◌}
+use Rattle.std.proofs.Common.{◌&&◌, ◌==◌, ◌∙◌, ◌≡◌, Bool, IsFalse, IsTrue, ap, arith, eq-eqb, eqb-true, false, inl, inr, refl, true, ℕ}
 use Rattle.std.specs.Int.{bit_at, from_bool}
-use Rattle.std.proofs.lemmas.Bool.{cases_Bool, eqb-true, eq-eqb}
+use Rattle.std.proofs.lemmas.Bool.{cases_Bool}
 use Rattle.std.proofs.lemmas.Bool.Decides.{nat_tests}
 use Rattle.std.proofs.lemmas.Nat.Bits.{bit_at-lt}
-use Rattle.ternary.specs.Word.{WordValue, holds}
-use Rattle.ternary.specs.Meets.{fix_of, is_fixed_of}
+use Rattle.ternary.specs.Exports.{WordValue, fix_of, holds, is_fixed_of}
 use Rattle.ternary.proofs.CallerLemmas.{fix_holds}
 use Rattle.table_tree.specs.LookupTrees.{LookupTree, Sides, leaf_at, lookup_tree_of}
 use Rattle.table_tree.specs.declared.bit_tree.BitTree.{BitTree, End, Cut'}

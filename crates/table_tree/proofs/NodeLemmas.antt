@@ -1,25 +1,17 @@
 -- The regions at a node.
-use Rattle.std.proofs.Common.{◌≡◌, ℕ, ◌+◌, ◌^◌, ◌<◌, Bool, true, false, cond, ◌||◌, Option, Some, None, IsSome, List, [], ◌∷◌, ◌++◌, length, get_or, drop, append_assoc, filter, find, count_by, All, refl, sym, ◌∙◌, ap, subst, inl, inr, arith}
-use Rattle.std.specs.Bool.{IsTrue, IsFalse, ◌==◌}
+use Rattle.std.proofs.Common.{[], ◌++◌, ◌+◌, ◌<◌, ◌==◌, ◌^◌, ◌||◌, ◌∙◌, ◌∷◌, ◌≡◌, All, Bool, IsFalse, IsSome, IsTrue, List, None, Option, Some, ap, append_assoc, arith, cond, count_by, drop, eqb-true, false, filter, find, get_or, inl, inr, is_some, length, refl, subst, sym, true, ℕ}
 use Rattle.std.specs.Int.{bit_at}
-use Rattle.std.specs.Option.{is_some}
-use Rattle.std.proofs.lemmas.Bool.{cases_eq, cases_lt, cases_Bool, both_ways, eqb-true, and_parts}
+use Rattle.std.proofs.lemmas.Bool.{cases_eq, cases_lt, cases_Bool, both_ways, and_parts}
 use Rattle.policy_rules.proofs.CallerLemmas.{count_by-cons, count-filter-le, at_item, find_kept, found_from_count}
 use Rattle.std.proofs.lemmas.List.Elements.{All-nil, All-cons, All-head, All-tail, All-filter, filter_passes}
 use Rattle.std.proofs.lemmas.Nat.Bits.{bit_at_above}
-use Rattle.five_tuple.specs.Header.{IsHeader}
-use Rattle.five_tuple.specs.Laws.{HeaderLaws}
+use Rattle.five_tuple.specs.Exports.{HeaderLaws, IsHeader, header_numbered}
 use Rattle.five_tuple.specs.declared.header.Header.{Header}
-use Rattle.five_tuple.specs.HeaderNumbers.{header_numbered}
-use Rattle.ternary.specs.Laws.{HoldsLaws, MeetLaws}
-use Rattle.ternary.specs.Word.{WordValue, holds}
-use Rattle.ternary.specs.WordBits.{IsWord}
-use Rattle.ternary.specs.Meets.{any_word, fix_of, is_fixed_of, meets, meet_of}
+use Rattle.ternary.specs.Exports.{HoldsLaws, IsWord, MeetLaws, WordValue, any_word, fix_of, holds, is_fixed_of, meet_of, meets}
 use Rattle.ternary.proofs.CallerLemmas.{any_covers, fix_holds, fix_word, free_bits_shorter, meet_is_some, meet_both, meet_word, meets_cover, held_meets}
-use Rattle.switch_table.specs.Tables.{row_has}
+use Rattle.switch_table.specs.Exports.{row_has}
 use Rattle.switch_table.specs.declared.tables.PartRow.{PartRow}
-use Rattle.cut_tree.specs.Cuts.{IsFreeBit}
-use Rattle.cut_tree.specs.DefinedTree.{free_count}
+use Rattle.cut_tree.specs.Exports.{IsFreeBit, free_count}
 use Rattle.table_tree.specs.Cutting.{NoneFree}
 use Rattle.table_tree.specs.Regions.{AreNodeCandidates, AreRegions, IsCutBit, has_number, candidate_meets, candidates_of_side, some_fix, candidates_from, candidates_of}
 use Rattle.table_tree.specs.declared.node.Candidate.{Candidate}

@@ -1,27 +1,23 @@
 -- Where a rule tree leads.
-use Rattle.std.proofs.Common.{◌≡◌, ℕ, zero, suc, ◌+◌, ◌-◌, ◌*◌, ◌<◌, ◌≤◌, Bool, true, false, cond, ◌&&◌, Option, Some, None, List, [], ◌∷◌, length, find, position, slice_get, map, All, Vec, refl, sym, ◌∙◌, ap, subst, inl, inr, arith}
-use Rattle.std.specs.Bool.{IsTrue}
+use Rattle.std.proofs.Common.{[], ◌&&◌, ◌*◌, ◌+◌, ◌-◌, ◌<◌, ◌∙◌, ◌∷◌, ◌≡◌, ◌≤◌, All, Bool, Global, IsTrue, List, None, Option, Some, Vec, ap, arith, cond, false, find, inl, inr, le-ltb, length, map, option_map, position, refl, slice_get, subst, suc, sym, true, zero, ℕ}
 use Rattle.std.specs.List.{position_from}
 use Rattle.std.proofs.lemmas.Iterator.Adapters.{position_from-zero}
-use Rattle.std.specs.Option.{option_map, option_map_or}
-use Rattle.std.proofs.lemmas.Bool.{cases_Bool, le-ltb}
+use Rattle.std.specs.Option.{option_map_or}
+use Rattle.std.proofs.lemmas.Bool.{cases_Bool}
 use Rattle.std.proofs.lemmas.Bool.Decides.{nat_tests}
 use Rattle.std.proofs.lemmas.List.Elements.{All-nil, All-cons, All-head, All-tail, All-same}
 use Rattle.std.proofs.Math.Bool.{and-true}
 use Rattle.policy_rules.proofs.CallerLemmas.{find-map, find_agree}
-use Rattle.ternary.specs.Word.{WordValue, holds}
-use Rattle.ternary.specs.Meets.{covers_of, fix_of, meeting_word, meets}
+use Rattle.ternary.specs.Exports.{WordValue, covers_of, fix_of, holds, meeting_word, meets}
 use Rattle.ternary.proofs.CallerLemmas.{meet_both, met_joined}
-use Rattle.policy_rules.specs.Rules.{is_held}
+use Rattle.policy_rules.specs.Exports.{is_held}
 use Rattle.policy_rules.specs.declared.rules.Rule.{Rule}
-use Rattle.cut_tree.specs.Cuts.{IsFreeBit, least_below, side_of}
-use Rattle.cut_tree.specs.Narrow.{narrow, narrowed_rule}
+use Rattle.cut_tree.specs.Exports.{IsFreeBit, least_below, narrow, narrowed_rule, side_of}
 use Rattle.cut_tree.specs.declared.choice.Cost.{Cost}
 use Rattle.cut_tree.proofs.CallerLemmas.{narrow_first}
 use Rattle.cut_tree.proofs.CutLemmas.{least_cuts}
 use Rattle.cut_tree.proofs.NarrowLemmas.{narrow_apart, narrow_covered, narrow_more, narrow_none}
 use Rattle.table_tree.specs.Ruling.{is_held_at, if_pays, tree_by_cut, paying_cut, is_worth_cutting, ranked_by_place, rule_shape, rule_tree, rule_tree_within}
-use Rattle.std.specs.Global.{Global}
 use Rattle.table_tree.specs.LookupTrees.{LookupTree, Leaf, Sides, leaf_at, lookup_tree_of}
 use Rattle.table_tree.specs.declared.bit_tree.BitTree.{BitTree}
 use Rattle.table_tree.proofs.LookupLemmas.{down, seen_at}

@@ -1,8 +1,8 @@
 -- Bits of masks, and the least free bit of a region that passes a test.
-use Rattle.std.specs.Prelude.{ℕ, ◌≡◌, ◌<◌, ◌≤◌, Bool, IsTrue, IsFalse}
+use Rattle.std.specs.Prelude.{◌<◌, ◌≡◌, ◌≤◌, Bool, IsFalse, IsTrue, ℕ}
 use Rattle.std.specs.Int.{bit_at}
-use Rattle.ternary.specs.Word.{WordValue}
-use Rattle.cut_tree.specs.Cuts.{IsFreeBit}
+use Rattle.ternary.specs.Exports.{WordValue}
+use Rattle.cut_tree.specs.Exports.{IsFreeBit}
 
 -- of the bits of n, k is the lowest
 pub record IsLowest (n k : ℕ) : Type 0 where

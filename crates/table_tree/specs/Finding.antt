@@ -1,10 +1,9 @@
 -- A decision tree that finds the partition rule of a header: the tree is that of Yu, Rexford,
 -- Freedman and Wang, "Scalable Flow-Based Networking with DIFANE", SIGCOMM 2010; the order of the
 -- bits is this project's own.
-use Rattle.std.specs.Prelude.{ℕ, ◌≡◌, ◌≢◌, ◌⊎◌, ◌<◌, true, false, List, All, length, map}
-use Rattle.ternary.specs.Word.{WordValue}
-use Rattle.ternary.specs.Meets.{any_word, fix_of}
-use Rattle.switch_table.specs.Tables.{AreSoundTables}
+use Rattle.std.specs.Prelude.{◌<◌, ◌≡◌, ◌≢◌, ◌⊎◌, All, List, false, length, map, true, ℕ}
+use Rattle.ternary.specs.Exports.{WordValue, any_word, fix_of}
+use Rattle.switch_table.specs.Exports.{AreSoundTables}
 use Rattle.switch_table.specs.declared.tables.PartRow.{PartRow}
 use Rattle.switch_table.specs.declared.tables.Tables.{Tables}
 use Rattle.policy_rules.specs.declared.rules.Partition.{Partition}

@@ -1,5 +1,5 @@
 -- A decision tree over the bits of a header number, apart from the memory that it is in.
-use Rattle.std.specs.Prelude.{ℕ, ◌==◌, if◌then◌else◌}
+use Rattle.std.specs.Prelude.{if◌then◌else◌, ◌==◌, ℕ}
 use Rattle.std.specs.Int.{bit_at}
 use Rattle.table_tree.specs.declared.bit_tree.BitTree.{BitTree, End, Cut'}
 

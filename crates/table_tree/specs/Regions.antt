@@ -1,9 +1,7 @@
 -- The regions of partition rules, each with its place in the list.
-use Rattle.std.specs.Prelude.{ℕ, ◌+◌, ◌≤◌, ◌<◌, ◌^◌, ◌⊎◌, Bool, IsTrue, IsSome, List, [], ◌∷◌, All, filter, find, count_by}
+use Rattle.std.specs.Prelude.{[], ◌+◌, ◌<◌, ◌^◌, ◌∷◌, ◌≤◌, ◌⊎◌, All, Bool, IsSome, IsTrue, List, count_by, filter, find, ℕ}
 use Rattle.std.specs.List.{list_all, list_any}
-use Rattle.ternary.specs.Word.{WordValue, holds}
-use Rattle.ternary.specs.WordBits.{IsWord}
-use Rattle.ternary.specs.Meets.{fix_of, is_fixed_of, meets}
+use Rattle.ternary.specs.Exports.{IsWord, WordValue, fix_of, holds, is_fixed_of, meets}
 use Rattle.switch_table.specs.declared.tables.PartRow.{PartRow}
 use Rattle.table_tree.specs.Cutting.{IsLeastFree, NoneFree}
 use Rattle.table_tree.specs.declared.node.Candidate.{Candidate}

@@ -1,14 +1,12 @@
 -- A decision tree that finds the first rule of a header: a list of rules is cut as in Yu, Rexford,
 -- Freedman and Wang, "Scalable Flow-Based Networking with DIFANE", SIGCOMM 2010; when a cut pays
 -- is this project's own rule.
-use Rattle.std.specs.Prelude.{ℕ, zero, suc, ◌+◌, ◌*◌, ◌&&◌, if◌then◌else◌, nat_lt, nat_le, Bool, true, false, Option, Some, None, List, [], ◌∷◌, length, map, slice_get, Vec}
+use Rattle.std.specs.Prelude.{[], if◌then◌else◌, ◌&&◌, ◌*◌, ◌+◌, ◌∷◌, Bool, List, None, Option, Some, Vec, false, length, map, nat_le, nat_lt, slice_get, suc, true, zero, ℕ}
 use Rattle.std.specs.Option.{option_map_or}
-use Rattle.ternary.specs.Word.{WordValue, holds}
-use Rattle.ternary.specs.Meets.{fix_of}
+use Rattle.ternary.specs.Exports.{WordValue, fix_of, holds}
 use Rattle.policy_rules.specs.declared.rules.Partition.{Partition}
 use Rattle.policy_rules.specs.declared.rules.Rule.{Rule}
-use Rattle.cut_tree.specs.Cuts.{least_below, side_of}
-use Rattle.cut_tree.specs.Narrow.{narrow}
+use Rattle.cut_tree.specs.Exports.{least_below, narrow, side_of}
 use Rattle.cut_tree.specs.declared.choice.Cost.{Cost}
 use Rattle.std.specs.Global.{Global}
 use Rattle.table_tree.specs.LookupTrees.{LookupTree, Leaf, Sides, lookup_tree_of}

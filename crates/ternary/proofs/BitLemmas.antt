@@ -1,12 +1,11 @@
 -- Numbers bit by bit: masks, one bit set or cleared, and equality.
-use Rattle.std.proofs.Common.{◌≡◌, ◌≢◌, ℕ, ◌+◌, ◌-◌, ◌*◌, ◌%◌, ◌^◌, ◌<◌, ◌≤◌, min, max, Bool, true, false, ◌⊎◌, sym, ◌∙◌, ap, subst, arith, inl, inr}
+use Rattle.std.proofs.Common.{◌%◌, ◌*◌, ◌+◌, ◌-◌, ◌<◌, ◌^◌, ◌∙◌, ◌≡◌, ◌≢◌, ◌≤◌, ◌⊎◌, Bool, ap, arith, bit_and, bit_or, bit_xor, false, inl, inr, max, min, mod-eq_of_lt, subst, sym, true, ℕ}
 use Rattle.std.specs.Int.{bit_at, from_bool, w128}
-use Rattle.std.specs.Int.Bits.{bit_and, bit_or, bit_xor, xor_add_and, and_le_l, and_self, and_comm, or_comm, or_lt}
-use Rattle.std.proofs.Math.Nat.{mod-eq_of_lt}
+use Rattle.std.specs.Int.Bits.{xor_add_and, and_le_l, and_self, and_comm, or_comm, or_lt}
 use Rattle.std.proofs.lemmas.Nat.{and_assoc, pow_below}
 use Rattle.std.proofs.lemmas.Nat.Bits.{bit_at_and, bit_at_or, bit_at_xor, bit_at-lt, bit_at-zero, bit_at-pow_same, bit_at-pow_other, bit_at_above, bit_at_clear_same, bit_at_clear_other, and_pow, same_from_bits, same_from_bits_below}
 use Rattle.std.proofs.lemmas.Bool.{cases_eq, cases_lt}
-use Rattle.ternary.specs.Meets.{without_bit, with_bit}
+use Rattle.ternary.specs.Exports.{with_bit, without_bit}
 
 -- ---- one digit
 

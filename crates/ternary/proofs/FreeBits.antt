@@ -1,7 +1,6 @@
 -- The list of a word's free bits.
-use Rattle.std.proofs.Common.{◌≡◌, ◌≢◌, ℕ, zero, suc, ◌+◌, ◌<◌, ◌≤◌, Bool, true, false, cond, ◌&&◌, not, List, [], ◌∷◌, refl, sym, ◌∙◌, ap, subst, arith, inl, inr, ◌↔◌, length}
-use Rattle.std.specs.Bool.{IsTrue, IsFalse, ◌==◌}
-use Rattle.std.specs.List.{All, Contains, filter, range_with_len}
+use Rattle.std.proofs.Common.{[], ◌&&◌, ◌+◌, ◌<◌, ◌==◌, ◌↔◌, ◌∙◌, ◌∷◌, ◌≡◌, ◌≢◌, ◌≤◌, All, Bool, Contains, IsFalse, IsTrue, List, ap, arith, cond, false, filter, inl, inr, length, not, refl, subst, suc, sym, true, zero, ℕ}
+use Rattle.std.specs.List.{range_with_len}
 use Rattle.std.specs.List.Sorted.{IsStrictlyIncreasing}
 use Rattle.std.proofs.lemmas.Bool.{cases_eq, cond_both, cond-true, eq-eqb, ne_eqb, both_ways, and_right, not-true}
 use Rattle.std.proofs.lemmas.List.Elements.{All-nil, All-cons, All-weaker, All-contains, filter_agree}
@@ -9,8 +8,7 @@ use Rattle.std.proofs.lemmas.List.FromFn.{length-range_with_len, get_or-range_wi
 use Rattle.std.proofs.lemmas.List.Kept.{IsStrictlyIncreasing-filter}
 use Rattle.std.proofs.lemmas.Nat.Bits.{bit_at-zero, bit_at_ones}
 use Rattle.std.proofs.Math.Bool.{and-true}
-use Rattle.ternary.specs.Word.{WordValue}
-use Rattle.ternary.specs.Meets.{any_word, exact_word, is_fixed_of, fix_of, free_bits}
+use Rattle.ternary.specs.Exports.{WordValue, any_word, exact_word, fix_of, free_bits, is_fixed_of}
 use Rattle.ternary.proofs.WordLemmas.{is_fixed_decides, fix_fixed, fix_other}
 
 -- ---- words of no fixed bit, and of no free bit

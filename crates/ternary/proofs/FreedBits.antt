@@ -1,13 +1,10 @@
 -- A freed bit against another word.
-use Rattle.std.proofs.Common.{◌↔◌, ◌≡◌, ◌≢◌, ℕ, ◌^◌, Bool, ◌&&◌, not, sym, ◌∙◌, inl, inr}
-use Rattle.std.specs.Bool.{Decides, IsTrue, IsFalse, ◌==◌}
+use Rattle.std.proofs.Common.{◌&&◌, ◌==◌, ◌^◌, ◌↔◌, ◌∙◌, ◌≡◌, ◌≢◌, Bool, Decides, IsFalse, IsTrue, inl, inr, not, sym, ℕ}
 use Rattle.std.specs.Int.{bit_at, from_bool}
 use Rattle.std.specs.Int.Bits.{bit_or}
 use Rattle.std.proofs.lemmas.Bool.Decides.{same_from_decides, Decides-like, Decides-and, Decides-not, Decides-eqb}
 use Rattle.std.proofs.lemmas.Nat.Bits.{same_from_bits}
-use Rattle.ternary.specs.Word.{WordValue}
-use Rattle.ternary.specs.WordBits.{IsWord}
-use Rattle.ternary.specs.Meets.{meets, covers_of, is_fixed_of, agrees_at, includes_at, fix_of, free_of, with_bit, without_bit}
+use Rattle.ternary.specs.Exports.{IsWord, WordValue, agrees_at, covers_of, fix_of, free_of, includes_at, is_fixed_of, meets, with_bit, without_bit}
 use Rattle.ternary.proofs.BitLemmas.{of_part, not_set, by_place, digit_cases, with_bit-same, with_bit-other, without_bit-same, without_bit-other, without_bit-unset, or_pow-same, or_pow-other}
 use Rattle.ternary.proofs.WordLemmas.{same_word, meets_decides, covers_decides, is_fixed_decides, free_bit, implies_decides}
 

@@ -1,12 +1,10 @@
 -- What `{:010x}` and `{:016x}` write of the parts of a number is what `hex_digits` has of the
 -- whole.
-use Rattle.std.proofs.Common.{◌≡◌, ℕ, zero, suc, ◌+◌, ◌-◌, ◌*◌, ◌/◌, ◌%◌, ◌^◌, ◌<◌, ◌≤◌, false, List, [], ◌∷◌, ◌++◌, append_assoc, length, length-append, refl, sym, ◌∙◌, ap, subst, arith, inl, inr}
-use Rattle.std.specs.Prelude.{◌==◌, bit_and, replicate}
+use Rattle.std.proofs.Common.{[], ◌%◌, ◌*◌, ◌++◌, ◌+◌, ◌-◌, ◌/◌, ◌<◌, ◌==◌, ◌^◌, ◌∙◌, ◌∷◌, ◌≡◌, ◌≤◌, List, ap, append-nil, append_assoc, arith, bit_and, eq-eqb, false, inl, inr, length, length-append, ne_eqb, pow-add, refl, replicate, shr-shr, subst, suc, sym, zero, ℕ}
 use Rattle.std.specs.Fmt.{char_count, digit_glyph, digits, digits_onto, padded_integral, format_spec}
-use Rattle.std.proofs.lemmas.Bool.{cases_eq, cond-true, cond-false, eq-eqb, ne_eqb}
-use Rattle.std.proofs.lemmas.List.{append-nil}
-use Rattle.std.proofs.lemmas.Nat.{and_mask, mod-pow-add, pow-add, shr-shr}
-use Rattle.ternary.specs.Word.{hex_digits}
+use Rattle.std.proofs.lemmas.Bool.{cases_eq, cond-true, cond-false}
+use Rattle.std.proofs.lemmas.Nat.{and_mask, mod-pow-add}
+use Rattle.ternary.specs.Exports.{hex_digits}
 
 -- the lowest digit of n
 abbrev last_digit : ℕ → List ℕ

@@ -1,18 +1,13 @@
 -- What holds of all words.
-use Rattle.std.proofs.Common.{◌≡◌, ◌≢◌, ℕ, ◌-◌, ◌*◌, ◌/◌, ◌%◌, ◌^◌, ◌<◌, Bool, true, false, cond, ◌&&◌, ◌||◌, not, ◌⊎◌, refl, sym, ◌∙◌, ap, subst, arith, inl, inr, ◌↔◌, Option, Some, None, IsNone}
-use Rattle.std.specs.Bool.{Decides, IsTrue, IsFalse, ◌==◌}
-use Rattle.std.specs.Option.{option_and_then, is_some}
+use Rattle.std.proofs.Common.{◌%◌, ◌&&◌, ◌*◌, ◌-◌, ◌/◌, ◌<◌, ◌==◌, ◌^◌, ◌||◌, ◌↔◌, ◌∙◌, ◌≡◌, ◌≢◌, ◌⊎◌, Bool, Decides, IsFalse, IsNone, IsTrue, None, Option, Some, ap, arith, cond, eqb-true, false, inl, inr, is_some, mod-eq_of_lt, not, option_and_then, refl, subst, sym, true, ℕ}
 use Rattle.std.specs.Int.{bit_at, from_bool}
 use Rattle.std.specs.Int.Bits.{bit_and, bit_or, and_self, or_comm, or_lt}
-use Rattle.std.proofs.Math.Nat.{mod-eq_of_lt}
-use Rattle.std.proofs.lemmas.Bool.{eqb-true, eq-eqb, cases_Bool, and_parts, and_from, cond-true, cond-false, both_ways, false_from_ne_true, ne_eqb, or_left as either_left, or_right as either_right}
+use Rattle.std.proofs.lemmas.Bool.{eq-eqb, cases_Bool, and_parts, and_from, cond-true, cond-false, both_ways, false_from_ne_true, ne_eqb, or_left as either_left, or_right as either_right}
 use Rattle.std.proofs.lemmas.Bool.Decides.{same_from_decides, Decides-like, Decides-and, Decides-or, Decides-eqb}
 use Rattle.std.proofs.lemmas.Nat.{and_assoc, and_le_r, and_mask, pow_below}
 use Rattle.std.proofs.lemmas.Nat.Bits.{bit_at-zero, bit_at_ones, shr_and_one, same_from_bits_below}
 use Rattle.std.proofs.lemmas.Option.{cond_some}
-use Rattle.ternary.specs.Word.{WordValue, fixed_value, holds}
-use Rattle.ternary.specs.WordBits.{IsWord}
-use Rattle.ternary.specs.Meets.{AgreesOnMask, AgreesOnBoth, IsFixedIn, Includes, AreDisjoint, IsMeet, any_word, exact_word, meets, meeting_word, meet_of, covers_of, is_fixed_of, admits, fix_of, free_of, with_bit, without_bit, word_eq}
+use Rattle.ternary.specs.Exports.{AgreesOnBoth, AgreesOnMask, AreDisjoint, Includes, IsFixedIn, IsMeet, IsWord, WordValue, admits, any_word, covers_of, exact_word, fix_of, fixed_value, free_of, holds, is_fixed_of, meet_of, meeting_word, meets, with_bit, without_bit, word_eq}
 use Rattle.ternary.proofs.BitLemmas.{masked, unmasked, part, of_part, both_set, left_set, right_set, or_assoc, absorbed, same_set, set_below, not_set, by_place, digit_cases, with_bit-same, with_bit-other, with_bit-lt, without_bit-same, without_bit-other, without_bit-le, without_bit-unset, shifted, shifted_one, masked_out, or_pow-same, or_pow-other, masked_sum-left, masked_sum-right, or_left, or_right, or_from}
 
 -- words of the same value and mask are equal

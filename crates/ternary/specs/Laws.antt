@@ -1,7 +1,6 @@
 -- The laws of words: `x_laws` of the crate ensures the record of each.
-use Rattle.std.specs.Prelude.{◌≡◌, ◌≢◌, ℕ, ◌+◌, ◌^◌, ◌<◌, Bool, true, false, not, ◌&&◌, ◌||◌, ◌==◌, ◌↔◌, Some, None, IsTrue, IsFalse, is_some, length, [], Contains, filter}
+use Rattle.std.specs.Prelude.{[], ◌&&◌, ◌+◌, ◌<◌, ◌==◌, ◌^◌, ◌||◌, ◌↔◌, ◌≡◌, ◌≢◌, Bool, Contains, IsFalse, IsTrue, None, Some, false, filter, is_some, length, not, option_and_then, true, ℕ}
 use Rattle.std.specs.Int.{bit_at, from_bool}
-use Rattle.std.specs.Option.{option_and_then}
 use Rattle.std.specs.List.Sorted.{IsStrictlyIncreasing}
 use Rattle.ternary.specs.Word.{WordValue, holds}
 use Rattle.ternary.specs.WordBits.{IsWord}

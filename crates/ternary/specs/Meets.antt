@@ -1,5 +1,5 @@
 -- How words meet, include each other and are cut at a bit.
-use Rattle.std.specs.Prelude.{◌≡◌, ℕ, ◌-◌, ◌*◌, ◌^◌, ◌<◌, Bool, not, ◌&&◌, ◌||◌, ◌==◌, if◌then◌else◌, bit_and, bit_or, Option, Some, None, IsTrue, List, filter}
+use Rattle.std.specs.Prelude.{if◌then◌else◌, ◌&&◌, ◌*◌, ◌-◌, ◌<◌, ◌==◌, ◌^◌, ◌||◌, ◌≡◌, Bool, IsTrue, List, None, Option, Some, bit_and, bit_or, filter, not, ℕ}
 use Rattle.std.specs.Int.{bit_at, from_bool}
 use Rattle.std.specs.List.{range_with_len}
 use Rattle.ternary.specs.Word.{WordValue, fixed_value, holds}

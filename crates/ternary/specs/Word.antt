@@ -1,7 +1,7 @@
 -- First tier. Words with free bits over header numbers of 104 bits: the wildcard expressions of
 -- Kazemian, Varghese and McKeown, "Header Space Analysis: Static Checking for Networks", each kept
 -- as a value and a mask.
-use Rattle.std.specs.Prelude.{◌≡◌, ℕ, zero, suc, ◌/◌, ◌%◌, ◌^◌, ◌<◌, Bool, false, ◌==◌, bit_and, List, [], ◌∷◌, ◌++◌}
+use Rattle.std.specs.Prelude.{[], ◌%◌, ◌++◌, ◌/◌, ◌<◌, ◌==◌, ◌^◌, ◌∷◌, ◌≡◌, Bool, List, bit_and, false, suc, zero, ℕ}
 use Rattle.std.specs.Fmt.{digit_glyph}
 
 -- a word as a pair: the bits of the mask are fixed, the others are free

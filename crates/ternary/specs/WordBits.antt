@@ -1,6 +1,6 @@
 -- Which pairs of a value and a mask are words: the value is within the mask, and the mask within
 -- the 104 bits of a header.
-use Rattle.std.specs.Prelude.{◌≡◌, ◌^◌, ◌<◌}
+use Rattle.std.specs.Prelude.{◌<◌, ◌^◌, ◌≡◌}
 use Rattle.ternary.specs.Word.{WordValue, fixed_value}
 
 -- no bit of the value is outside the mask, and no bit of the mask is beyond the 104 of a header

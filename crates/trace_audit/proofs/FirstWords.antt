@@ -1,15 +1,7 @@
 -- A word at the beginning of a text, with a blank after it.
-use Rattle.std.proofs.Common.{◌≡◌, ◌≢◌, ◌∙◌, ◌+◌, ◌<◌, ◌==◌, ◌++◌, ℕ, List, [], ◌∷◌, length, get_or, take, drop, ap, arith, refl, sym, suc, true, false, not, drop-cons}
-use Rattle.std.specs.Prelude.{Option, None, Some, MatchBool, is_some}
-use Rattle.std.specs.Borrow.{Bor}
-use Rattle.std.specs.List.{All, join_with_byte}
-use Rattle.std.proofs.lemmas.Bool.{false_from_ne_true, not-true}
-use Rattle.std.proofs.lemmas.List.{take-append-drop}
-use Rattle.std.proofs.lemmas.List.Elements.{All-weaker}
-use Rattle.std.proofs.lemmas.List.Splits.{join_with_byte-slice_split, slice_split_at}
-use Rattle.std.proofs.lemmas.List.Sums.{AllPass-from_list_all}
-use Rattle.std.proofs.lemmas.Slice.Eq.{bytes_eq-Decides}
-use Rattle.trace_audit.specs.Told.{IsWordTaken, begins_with, has_no_blank, words_left, words_of}
+use Rattle.std.proofs.Common.{[], ◌++◌, ◌+◌, ◌<◌, ◌==◌, ◌∙◌, ◌∷◌, ◌≡◌, ◌≢◌, All, Bor, List, MatchBool, None, Option, Some, ap, arith, drop, drop-cons, false, get_or, is_some, length, not, refl, suc, sym, take, take-append-drop, true, ℕ}
+use Rattle.base.proofs.Exports.{All-weaker, AllPass-from_list_all, bytes_eq-Decides, false_from_ne_true, join_with_byte, join_with_byte-slice_split, not-true, slice_split_at}
+use Rattle.trace_audit.specs.Exports.{IsWordTaken, begins_with, has_no_blank, words_left, words_of}
 use Rattle.trace_audit.proofs.TraceLines.{first_part}
 
 pub word_before : (word text : List ℕ) → has_no_blank word ≡ true → length word < length text

@@ -1,28 +1,10 @@
 -- An index of a policy's rows: how it grows, and that what it finds is the first match.
-use Rattle.std.proofs.Common.{◌≡◌, ◌≢◌, ◌∙◌, ℕ, suc, zero, ◌+◌, ◌*◌, ◌/◌, ◌-◌, ◌^◌, ◌<◌, ◌≤◌, ◌&&◌, ◌==◌, cond, not, Bool, true, false, ltb, Option, Some, None, MatchOption, List, [], ◌∷◌, ◌++◌, length, get_or, set, take, replicate, filter, slice_get, All, Contains, refl, sym, ap, subst, inl, inr, arith}
-use Rattle.std.specs.List.{position_or_len}
-use Rattle.std.specs.Option.{option_map_or}
-use Rattle.std.proofs.lemmas.Bool.{and_cases, and_parts, both_ways, cases_eq, cases_lt, cond_both, eq-eqb, eqb-true, false≢true, ltb-false, ltb-true, true≢false}
-use Rattle.std.proofs.lemmas.List.{length-replicate, length-set, length_push, take_more}
-use Rattle.std.proofs.lemmas.List.Folds.{position_or_len_push}
-use Rattle.std.proofs.lemmas.List.Sums.{passes_at_first, prefix_len-le-length}
-use Rattle.std.proofs.lemmas.List.Elements.{All-filter, All-head, All-push, Contains-append_right, filter_passes}
-use Rattle.std.proofs.lemmas.Nat.{shr_split}
-use Rattle.std.proofs.lemmas.Option.{get_or_from_slice_get, same_Some, slice_get-get_or, slice_get_read, slice_get_within}
-use Rattle.base.proofs.ListsByPlace.{get_push_at, get_push_left, get_replicate, get_set_other, get_set_same, one_item}
-use Rattle.base.proofs.ListsOfAll.{contains_at}
-use Rattle.five_tuple.specs.Header.{AddressBlock, fields_of, prefix_matches, proto_matches, range_matches}
-use Rattle.five_tuple.specs.SoundFields.{IsAddressBlock}
-use Rattle.five_tuple.specs.Texts.{block_round}
-use Rattle.five_tuple.specs.declared.header.Fields.{Fields}
-use Rattle.five_tuple.specs.declared.header.Header.{Header}
-use Rattle.policy_rules.specs.Policy.{IsFirstMatch, row_matches}
-use Rattle.policy_rules.specs.Scan.{hit_of}
-use Rattle.policy_rules.specs.SoundPolicies.{IsPolicy, IsSoundRow}
-use Rattle.policy_rules.specs.declared.policy.Action.{Action}
-use Rattle.policy_rules.specs.declared.policy.Hit.{Hit}
-use Rattle.policy_rules.specs.declared.policy.Row.{Row}
-use Rattle.trace_audit.specs.Index.{AreShapesOf, HasShape, IsBest, IsBetter, IsIndexOf, IsIndexUpTo, IsLastBefore, IsMatchIn, IsNoHigher, IsSoundShape, LackSlot, Notes, better_of, is_shape, shape_of_row, shape_place, slot_of, slot_of_row}
+use Rattle.std.proofs.Common.{[], ◌&&◌, ◌*◌, ◌++◌, ◌+◌, ◌-◌, ◌/◌, ◌<◌, ◌==◌, ◌^◌, ◌∙◌, ◌∷◌, ◌≡◌, ◌≢◌, ◌≤◌, All, Bool, Contains, List, MatchOption, None, Option, Some, ap, arith, cond, eq-eqb, eqb-true, false, filter, get_or, inl, inr, length, length-set, ltb, ltb-false, ltb-true, not, refl, replicate, set, slice_get, subst, suc, sym, take, true, true≢false, zero, ℕ}
+use Rattle.base.proofs.Exports.{All-filter, All-head, All-push, Contains-append_right, and_cases, and_parts, both_ways, cases_eq, cases_lt, cond_both, contains_at, false≢true, filter_passes, get_or_from_slice_get, get_push_at, get_push_left, get_replicate, get_set_other, get_set_same, length-replicate, length_push, one_item, option_map_or, passes_at_first, position_or_len, position_or_len_push, prefix_len-le-length, same_Some, shr_split, slice_get-get_or, slice_get_read, slice_get_within, take_more}
+use Rattle.five_tuple.specs.Exports.{AddressBlock, IsAddressBlock, block_round, fields_of, prefix_matches, proto_matches, range_matches}
+use Rattle.update_machine.specs.Exports.{Action, Fields, Header, Hit, Row}
+use Rattle.policy_rules.specs.Exports.{IsFirstMatch, IsPolicy, IsSoundRow, hit_of, row_matches}
+use Rattle.trace_audit.specs.Exports.{AreShapesOf, HasShape, IsBest, IsBetter, IsIndexOf, IsIndexUpTo, IsLastBefore, IsMatchIn, IsNoHigher, IsSoundShape, LackSlot, Notes, better_of, is_shape, shape_of_row, shape_place, slot_of, slot_of_row}
 use Rattle.trace_audit.specs.declared.index.Index.{Index}
 use Rattle.trace_audit.specs.declared.index.Shape.{Shape}
 

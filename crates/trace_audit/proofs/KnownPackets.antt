@@ -1,20 +1,11 @@
 -- What a reader's state says of the lines before it, and so of each packet's decision.
-use Rattle.std.specs.Prelude.{⊤}
-use Rattle.std.proofs.Common.{◌≡◌, ℕ, ◌≤◌, ◌<◌, ◌+◌, ◌-◌, ◌==◌, inl, inr, Bool, true, false, cond, Option, Some, None, option_map, option_to_list, List, [], ◌∷◌, ◌++◌, All, Contains, length, slice_get, refl, sym, ap, subst, ◌∙◌, append-nil, append_assoc, arith}
-use Rattle.std.proofs.lemmas.Bool.{eq-eqb, eqb-true, eqb-false}
-use Rattle.std.proofs.lemmas.List.Elements.{All-cons, All-contains, All-nil, All-push, All-tail, All-weaker, Contains-append_left, Contains-append_right, Contains-push}
-use Rattle.five_tuple.specs.declared.header.Header.{Header}
-use Rattle.policy_rules.specs.declared.file.PolicyFile.{PolicyFile}
-use Rattle.policy_rules.specs.declared.policy.Action.{Action}
+use Rattle.base.proofs.Exports.{All-cons, All-contains, All-nil, All-push, All-tail, All-weaker, Contains-append_left, Contains-append_right, Contains-push, eqb-false, ⊤}
+use Rattle.std.proofs.Common.{[], ◌++◌, ◌+◌, ◌-◌, ◌<◌, ◌==◌, ◌∙◌, ◌∷◌, ◌≡◌, ◌≤◌, All, Bool, Contains, List, None, Option, Some, ap, append-nil, append_assoc, arith, cond, eq-eqb, eqb-true, false, inl, inr, length, option_map, option_to_list, refl, slice_get, subst, sym, true, ℕ}
+use Rattle.update_machine.specs.Exports.{Action, Dropped, End, Ends, Header, Hit, LeftBy, Lost, Machine, PolicyFile, Row, Stuck, with_packet}
 use Rattle.policy_rules.specs.declared.policy.Action.TheVariants as action
-use Rattle.policy_rules.specs.declared.policy.Hit.{Hit}
-use Rattle.policy_rules.specs.declared.policy.Row.{Row}
-use Rattle.update_machine.specs.Machine.{End, Ends, Dropped, LeftBy, Lost, Stuck, Machine, Packet, with_packet}
-use Rattle.trace_audit.specs.Decided.{AreJustified, DecidesOther, EntersOther, HasDecision, HasEntered, IsBetween, IsDecidedOnce, IsJustified, IsMark, IsWaiting, RetiresUpTo, all_told, policies_from, policies_told, policies_with, with_told}
-use Rattle.trace_audit.specs.Reading.{AreGood, Follows, TraceLine, Open, ReadsAll, TraceState, Whole, first_state, latest_policy, made_policy}
-use Rattle.trace_audit.specs.Told.{Told}
+use Rattle.update_machine.specs.Machine.{Packet}
+use Rattle.trace_audit.specs.Exports.{AreGood, AreJustified, DecidesOther, EntersOther, Follows, HasDecision, HasEntered, IsAuditVerdict, IsBetween, IsDecidedOnce, IsJustified, IsMark, IsWaiting, Open, ReadsAll, RetiresUpTo, Told, TraceLine, TraceState, Whole, all_told, first_state, latest_policy, made_policy, policies_from, policies_told, policies_with, with_told}
 use Rattle.trace_audit.specs.Told as told
-use Rattle.trace_audit.specs.Verdicts.{IsAuditVerdict}
 use Rattle.trace_audit.specs.declared.trace.Verdict.{Verdict}
 use Rattle.trace_audit.specs.declared.trace.Verdict.TheVariants.{Yes, No}
 

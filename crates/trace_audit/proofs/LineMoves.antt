@@ -1,14 +1,10 @@
 -- Moves of the machine that a line may tell, and such that it may not.
-use Rattle.std.proofs.Common.{◌≡◌, ℕ, Option, Some, true, List, length, ltb, get_or, slice_get, refl, ap, subst, ◌∙◌}
-use Rattle.std.proofs.lemmas.Bool.{ltb-true}
-use Rattle.std.proofs.lemmas.Option.{slice_get_read}
-use Rattle.base.proofs.OptionsMade.{same_some}
-use Rattle.policy_rules.specs.Policy.{IsFirstMatch}
-use Rattle.policy_rules.specs.declared.policy.Hit.{Hit}
-use Rattle.policy_rules.specs.declared.policy.Row.{Row}
-use Rattle.update_machine.specs.Machine.{Decides, Machine, Packet, submitted_policy}
-use Rattle.trace_audit.specs.Reading.{IsPrinted}
-use Rattle.trace_audit.specs.Seen.{packets_seen, with_one}
+use Rattle.std.proofs.Common.{◌∙◌, ◌≡◌, List, Option, Some, ap, get_or, length, ltb, ltb-true, refl, slice_get, subst, true, ℕ}
+use Rattle.base.proofs.Exports.{same_some, slice_get_read}
+use Rattle.policy_rules.specs.Exports.{IsFirstMatch}
+use Rattle.update_machine.specs.Exports.{Decides, Hit, Machine, Row, submitted_policy}
+use Rattle.update_machine.specs.Machine.{Packet}
+use Rattle.trace_audit.specs.Exports.{IsPrinted, packets_seen, with_one}
 use Rattle.trace_audit.specs.declared.auditor.Auditor.{Auditor}
 
 -- what is known, but for the packets

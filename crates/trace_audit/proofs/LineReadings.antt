@@ -1,25 +1,12 @@
 -- Readings of lines: those of some lines and of more, and that there is only one.
-use Rattle.std.proofs.Common.{◌≡◌, ℕ, ◌-◌, ◌==◌, Bool, true, false, cond, Option, Some, None, List, [], ◌∷◌, ◌++◌, ◌∙◌, length, refl, sym, ap, subst}
-use Rattle.std.specs.List.{All, slice_get}
-use Rattle.std.specs.Prelude.{IfSome, Ok, Err, Result, option_to_list}
-use Rattle.std.specs.Result.{result_ok}
-use Rattle.std.proofs.lemmas.List.Elements.{All-cons, All-nil, All-push}
-use Rattle.std.proofs.lemmas.Option.{slice_get_within, get_or_from_slice_get}
-use Rattle.base.proofs.ListsOfAll.{IfSome-at_place}
-use Rattle.base.proofs.OptionsMade.{same_some}
-use Rattle.five_tuple.specs.declared.header.Header.{Header}
-use Rattle.policy_rules.specs.Policy.{IsPolicy}
-use Rattle.policy_rules.specs.PolicyFiles.{IsPolicyFile}
-use Rattle.policy_rules.specs.declared.applying.Inapplicable.{Inapplicable}
-use Rattle.policy_rules.specs.declared.file.PolicyFile.{PolicyFile}
+use Rattle.std.proofs.Common.{[], ◌++◌, ◌-◌, ◌==◌, ◌∙◌, ◌∷◌, ◌≡◌, All, Bool, Err, IfSome, List, None, Ok, Option, Result, Some, ap, cond, false, length, option_to_list, refl, slice_get, subst, sym, true, ℕ}
+use Rattle.base.proofs.Exports.{All-cons, All-nil, All-push, IfSome-at_place, get_or_from_slice_get, result_ok, same_some, slice_get_within}
+use Rattle.update_machine.specs.Exports.{Decides, End, Ends, Enters, Header, Hit, Inapplicable, Machine, PolicyFile, Row, Submits, made_by, with_packet}
+use Rattle.policy_rules.specs.Exports.{IsPolicy, IsPolicyFile}
 use Rattle.policy_rules.specs.declared.file.PolicyFile.TheVariants as file_of
-use Rattle.policy_rules.specs.declared.policy.Hit.{Hit}
-use Rattle.policy_rules.specs.declared.policy.Row.{Row}
 use Rattle.policy_rules.proofs.CallerLemmas.{IsPolicy-applied, first_match-only}
-use Rattle.update_machine.specs.Machine.{End, Machine, Packet, Decides, Ends, Enters, Submits, with_packet}
-use Rattle.update_machine.specs.Setting.{made_by}
-use Rattle.trace_audit.specs.Reading.{Follows, TraceLine, Whole, Open, ReadsLine, ReadsAll, TraceState, numbered_file, first_state, latest_policy, made_policy}
-use Rattle.trace_audit.specs.Told.{Told}
+use Rattle.update_machine.specs.Machine.{Packet}
+use Rattle.trace_audit.specs.Exports.{Follows, Open, ReadsAll, ReadsLine, Told, TraceLine, TraceState, Whole, first_state, latest_policy, made_policy, numbered_file}
 use Rattle.trace_audit.specs.Told as told
 
 -- ---- some lines and more

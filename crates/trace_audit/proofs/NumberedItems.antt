@@ -1,12 +1,7 @@
 -- Items by their numbers, in a run or among others, when one is put in.
-use Rattle.std.proofs.Common.{◌≡◌, ◌∙◌, ℕ, ◌-◌, ◌<◌, ◌≤◌, ◌==◌, leb, Option, Some, None, option_map, List, [], ◌∷◌, ◌++◌, length, set, slice_get, sym, ap, inl, inr, arith}
-use Rattle.std.specs.Prelude.{if◌then◌else◌}
-use Rattle.std.proofs.lemmas.Bool.{cases_eq, cases_lt, cond-false, cond-true, eq-eqb, le-leb, lt-leb, ne_eqb}
-use Rattle.std.proofs.lemmas.List.{length_push}
-use Rattle.std.proofs.lemmas.Option.{slice_get_past}
-use Rattle.std.proofs.Math.Path.{fun_ext}
-use Rattle.base.proofs.ListsByPlace.{get_push_at, get_push_left, get_set_other, get_set_same}
-use Rattle.trace_audit.specs.Seen.{run_get}
+use Rattle.std.proofs.Common.{[], if◌then◌else◌, ◌++◌, ◌-◌, ◌<◌, ◌==◌, ◌∙◌, ◌∷◌, ◌≡◌, ◌≤◌, List, None, Option, Some, ap, arith, eq-eqb, inl, inr, le-leb, leb, length, ne_eqb, option_map, set, slice_get, sym, ℕ}
+use Rattle.base.proofs.Exports.{cases_eq, cases_lt, cond-false, cond-true, fun_ext, get_push_at, get_push_left, get_set_other, get_set_same, length_push, lt-leb, slice_get_past}
+use Rattle.trace_audit.specs.Exports.{run_get}
 
 -- by their numbers, the items that are seen: one is put in, and no other changes
 pub seen_put : {A B : Type 0} (seen : A → B) (old new : ℕ → Option A) (number : ℕ) (item : A)

@@ -1,10 +1,8 @@
 -- What files make of policies, by how it was made.
-use Rattle.std.proofs.Common.{◌≡◌, ℕ, IfOk, Option, Some, None, Result, Ok, Err, List, sym, ap, subst}
-use Rattle.std.specs.Result.{result_ok}
-use Rattle.policy_rules.specs.declared.file.PolicyFile.{PolicyFile}
-use Rattle.policy_rules.specs.declared.policy.Row.{Row}
-use Rattle.update_machine.specs.Setting.{made_by}
-use Rattle.trace_audit.specs.Reading.{numbered_file, made_policy}
+use Rattle.std.proofs.Common.{◌≡◌, Err, IfOk, List, None, Ok, Option, Result, Some, ap, subst, sym, ℕ}
+use Rattle.base.proofs.Exports.{result_ok}
+use Rattle.update_machine.specs.Exports.{PolicyFile, Row, made_by}
+use Rattle.trace_audit.specs.Exports.{made_policy, numbered_file}
 
 -- of the file of a number
 pub policy_of : {E : Type 0} (files : List PolicyFile) (file : ℕ) (given : Option PolicyFile)

@@ -1,13 +1,9 @@
 -- Lines of a trace: taken one at a time, and what they say.
-use Rattle.std.proofs.Common.{◌≡◌, ℕ, ◌<◌, ◌==◌, Bool, true, false, IfOk, Option, Some, None, Result, Ok, Err, List, [], ◌∷◌, length, refl, ap, subst, cond, ◌∙◌, arith}
-use Rattle.std.specs.Prelude.{codes}
-use Rattle.std.specs.List.{onto_first}
-use Rattle.std.proofs.lemmas.List.Splits.{length-slice_split}
-use Rattle.five_tuple.specs.Texts.{parts_round}
-use Rattle.policy_rules.specs.declared.file.PolicyFile.{PolicyFile}
-use Rattle.trace_audit.specs.Reading.{Follows, Whole, Open, TraceState, lines_of, lines_of_parts, open_line}
-use Rattle.trace_audit.specs.Seen.{IsLineRead, IsTaken}
-use Rattle.trace_audit.specs.Told.{Told, begins_with, decided_told, indented_told, is_row_number, item_told, silent_told, told_by_words, told_of}
+use Rattle.std.proofs.Common.{[], ◌<◌, ◌==◌, ◌∙◌, ◌∷◌, ◌≡◌, Bool, Err, IfOk, List, None, Ok, Option, Result, Some, ap, arith, codes, cond, false, length, refl, subst, true, ℕ}
+use Rattle.base.proofs.Exports.{length-slice_split, onto_first}
+use Rattle.five_tuple.specs.Exports.{parts_round}
+use Rattle.update_machine.specs.Exports.{PolicyFile}
+use Rattle.trace_audit.specs.Exports.{Follows, IsLineRead, IsTaken, Open, Told, TraceState, Whole, begins_with, decided_told, indented_told, is_row_number, item_told, lines_of, lines_of_parts, open_line, silent_told, told_by_words, told_of}
 
 -- ---- parts
 

@@ -1,21 +1,10 @@
 -- A good trace is a run: each good line is a move of the machine, or none.
-use Rattle.std.proofs.Common.{◌≡◌, None, List, [], ◌∷◌, ◌++◌, refl, sym, ap, subst}
-use Rattle.five_tuple.specs.HeaderNumbers.{header_of}
-use Rattle.policy_rules.specs.declared.file.PolicyFile.{PolicyFile}
-use Rattle.policy_rules.specs.declared.packet.Cause.TheVariants.{NoRoute}
-use Rattle.policy_rules.specs.declared.packet.How.TheVariants.{Cached}
-use Rattle.policy_rules.specs.declared.packet.Leaving.{Leaving}
-use Rattle.policy_rules.specs.declared.packet.Leg.TheVariants.{Exit}
-use Rattle.journal.specs.declared.item.Item.{Item}
+use Rattle.std.proofs.Common.{[], ◌++◌, ◌∷◌, ◌≡◌, List, None, ap, refl, subst, sym}
+use Rattle.five_tuple.specs.Exports.{header_of}
+use Rattle.update_machine.specs.Exports.{Cached, Dropped, Exit, Item, Leaving, LeftBy, Lost, Machine, NoRoute, PolicyFile, Runs, Setting, Stuck, Submits}
 use Rattle.journal.specs.declared.item.Item.TheVariants as item
-use Rattle.update_machine.specs.Machine.{Dropped, LeftBy, Lost, Machine, Runs, Stuck, Submits}
-use Rattle.update_machine.specs.Setting.{Setting}
-use Rattle.trace_audit.specs.Decided.{all_told}
-use Rattle.trace_audit.specs.Reading.{AreGood, Follows, TraceLine, TraceState, first_state, latest_policy, made_policy}
-use Rattle.trace_audit.specs.Run.{AreItems, AreItemsOf, AreRun}
-use Rattle.trace_audit.specs.Told.{Told}
+use Rattle.trace_audit.specs.Exports.{AreGood, AreItems, AreItemsOf, AreRun, Follows, IsAuditVerdict, Told, TraceLine, TraceState, all_told, first_state, latest_policy, made_policy}
 use Rattle.trace_audit.specs.Told as told
-use Rattle.trace_audit.specs.Verdicts.{IsAuditVerdict}
 use Rattle.trace_audit.specs.declared.trace.Verdict.{Verdict}
 use Rattle.trace_audit.specs.declared.trace.Verdict.TheVariants.{Yes, No}
 use Rattle.trace_audit.proofs.KnownPackets.{FollowsAll, IsKnown, IsWaitingIf, after_told, known_first, reads_told}

@@ -1,12 +1,8 @@
 -- What is said of a whole trace, as far as it was read.
-use Rattle.std.proofs.Common.{◌≡◌, ℕ, ◌+◌, ◌-◌, ◌==◌, true, false, ◌↔◌, min, List, [], ◌∷◌, ◌++◌, length, take, drop, refl, sym, ap, subst, ◌∙◌, append-nil, append_assoc, length-append, arith}
-use Rattle.std.specs.List.{All}
-use Rattle.std.proofs.lemmas.Bool.{eqb-true}
-use Rattle.std.proofs.lemmas.List.{take-append-drop, take_at}
-use Rattle.policy_rules.specs.PolicyFiles.{IsPolicyFile}
-use Rattle.policy_rules.specs.declared.file.PolicyFile.{PolicyFile}
-use Rattle.trace_audit.specs.Reading.{AreGood, TraceLine, ReadsAll, ReadsLine, TraceState, first_state, lines_of}
-use Rattle.trace_audit.specs.Verdicts.{IsFirstBad, IsAuditVerdict}
+use Rattle.std.proofs.Common.{[], ◌++◌, ◌+◌, ◌-◌, ◌==◌, ◌↔◌, ◌∙◌, ◌∷◌, ◌≡◌, All, List, ap, append-nil, append_assoc, arith, drop, eqb-true, false, length, length-append, min, refl, subst, sym, take, take-append-drop, take_at, true, ℕ}
+use Rattle.policy_rules.specs.Exports.{IsPolicyFile}
+use Rattle.update_machine.specs.Exports.{PolicyFile}
+use Rattle.trace_audit.specs.Exports.{AreGood, IsAuditVerdict, IsFirstBad, ReadsAll, ReadsLine, TraceLine, TraceState, first_state, lines_of}
 use Rattle.trace_audit.specs.declared.trace.Verdict.{Verdict}
 use Rattle.trace_audit.specs.declared.trace.Verdict.TheVariants.{Yes, No}
 use Rattle.trace_audit.proofs.LineReadings.{first_sound, reads_join, reads_one, reads_split}

@@ -1,13 +1,8 @@
 -- What the lines of a trace say about a packet's decision, in the order of the lines.
-use Rattle.std.specs.Prelude.{⊤, ℕ, ◌≡◌, ◌≢◌, ◌⊎◌, ◌+◌, ◌-◌, ◌<◌, ◌≤◌, ◌==◌, if◌then◌else◌, Option, Some, None, option_to_list, List, [], ◌∷◌, ◌++◌, All, Contains, length, slice_get}
-use Rattle.five_tuple.specs.declared.header.Header.{Header}
-use Rattle.policy_rules.specs.Policy.{IsFirstMatch}
-use Rattle.policy_rules.specs.declared.file.PolicyFile.{PolicyFile}
-use Rattle.policy_rules.specs.declared.policy.Action.{Action}
+use Rattle.std.specs.Prelude.{[], if◌then◌else◌, ◌++◌, ◌+◌, ◌-◌, ◌<◌, ◌==◌, ◌∷◌, ◌≡◌, ◌≢◌, ◌≤◌, ◌⊎◌, All, Contains, List, None, Option, Some, length, option_to_list, slice_get, ℕ, ⊤}
+use Rattle.update_machine.specs.Exports.{Action, Dropped, End, Header, Hit, LeftBy, PolicyFile, Row}
+use Rattle.policy_rules.specs.Exports.{IsFirstMatch}
 use Rattle.policy_rules.specs.declared.policy.Action.TheVariants as action
-use Rattle.policy_rules.specs.declared.policy.Hit.{Hit}
-use Rattle.policy_rules.specs.declared.policy.Row.{Row}
-use Rattle.update_machine.specs.Machine.{End, Dropped, LeftBy}
 use Rattle.trace_audit.specs.Reading.{IsPrinted, TraceLine, Open, Whole, latest_policy, made_policy}
 use Rattle.trace_audit.specs.Told.{Told, told_of}
 use Rattle.trace_audit.specs.Told as told

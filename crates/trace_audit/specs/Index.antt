@@ -1,14 +1,9 @@
 -- An index of a policy's rows: which of them are in one slot, and which are looked at for a
 -- header.
-use Rattle.std.specs.Prelude.{ℕ, ◌≡◌, ◌≢◌, ◌+◌, ◌*◌, ◌/◌, ◌%◌, ◌^◌, ◌<◌, ◌≤◌, ◌==◌, ◌&&◌, Bool, nat_lt, true, if◌then◌else◌, Option, Some, None, MatchOption, List, All, Contains, length, slice_get}
-use Rattle.std.specs.List.{position_or_len}
-use Rattle.std.specs.Option.{option_map_or}
-use Rattle.five_tuple.specs.declared.header.Fields.{Fields}
-use Rattle.policy_rules.specs.Policy.{row_matches}
-use Rattle.policy_rules.specs.Scan.{hit_of}
-use Rattle.policy_rules.specs.declared.policy.Action.TheVariants.{Drop}
-use Rattle.policy_rules.specs.declared.policy.Hit.{Hit}
-use Rattle.policy_rules.specs.declared.policy.Row.{Row}
+use Rattle.std.specs.Prelude.{if◌then◌else◌, ◌%◌, ◌&&◌, ◌*◌, ◌+◌, ◌/◌, ◌<◌, ◌==◌, ◌^◌, ◌≡◌, ◌≢◌, ◌≤◌, All, Bool, Contains, List, MatchOption, None, Option, Some, length, nat_lt, slice_get, true, ℕ}
+use Rattle.base.specs.Exports.{option_map_or, position_or_len}
+use Rattle.update_machine.specs.Exports.{Drop, Fields, Hit, Row}
+use Rattle.policy_rules.specs.Exports.{hit_of, row_matches}
 use Rattle.trace_audit.specs.declared.index.Index.{Index}
 use Rattle.trace_audit.specs.declared.index.Shape.{Shape}
 

@@ -5,3 +5,4 @@ pub mod Run
 pub mod Decided
 pub mod Index
 pub mod Seen
+pub mod Exports

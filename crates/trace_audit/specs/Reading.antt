@@ -1,16 +1,10 @@
 -- How a trace is read: each line may be a move of the abstract machine, and is good if the machine
 -- may take that move.
-use Rattle.std.specs.Prelude.{ℕ, ◌≡◌, ◌-◌, ◌≤◌, ◌==◌, if◌then◌else◌, Option, Some, None, option_to_list, List, [], ◌∷◌, length, slice_get}
-use Rattle.std.specs.Result.{result_ok}
-use Rattle.five_tuple.specs.Texts.{parts_round}
-use Rattle.five_tuple.specs.declared.header.Header.{Header}
-use Rattle.policy_rules.specs.Policy.{action_text, rule_text}
-use Rattle.policy_rules.specs.declared.file.PolicyFile.{PolicyFile}
-use Rattle.policy_rules.specs.declared.policy.Hit.{Hit}
-use Rattle.policy_rules.specs.declared.policy.Row.{Row}
-use Rattle.update_machine.specs.Machine.{Machine, Decides, Ends, Enters, Retires, Submits}
-use Rattle.update_machine.specs.Marks.{most_versions}
-use Rattle.update_machine.specs.Setting.{made_by}
+use Rattle.std.specs.Prelude.{[], if◌then◌else◌, ◌-◌, ◌==◌, ◌∷◌, ◌≡◌, ◌≤◌, List, None, Option, Some, length, option_to_list, slice_get, ℕ}
+use Rattle.base.specs.Exports.{result_ok}
+use Rattle.five_tuple.specs.Exports.{parts_round}
+use Rattle.update_machine.specs.Exports.{Decides, Ends, Enters, Header, Hit, Machine, PolicyFile, Retires, Row, Submits, made_by, most_versions}
+use Rattle.policy_rules.specs.Exports.{action_text, rule_text}
 use Rattle.trace_audit.specs.Told.{Told, told_of}
 use Rattle.trace_audit.specs.Told as told
 

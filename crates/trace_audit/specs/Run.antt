@@ -1,16 +1,7 @@
 -- The moves that the lines of a trace state, as items of a journal.
-use Rattle.std.specs.Prelude.{ℕ, ◌≡◌, List, [], ◌∷◌, ◌++◌}
-use Rattle.five_tuple.specs.declared.header.Header.{Header}
-use Rattle.policy_rules.specs.declared.file.PolicyFile.{PolicyFile}
-use Rattle.policy_rules.specs.declared.packet.Cause.{Cause}
-use Rattle.policy_rules.specs.declared.packet.How.{How}
-use Rattle.policy_rules.specs.declared.packet.Leaving.{Leaving}
-use Rattle.policy_rules.specs.declared.packet.Leg.{Leg}
-use Rattle.policy_rules.specs.declared.policy.Hit.{Hit}
-use Rattle.journal.specs.declared.item.Item.{Item}
+use Rattle.std.specs.Prelude.{[], ◌++◌, ◌∷◌, ◌≡◌, List, ℕ}
+use Rattle.update_machine.specs.Exports.{Cause, Dropped, Header, Hit, How, IsRun, Item, Leaving, LeftBy, Leg, Lost, PolicyFile, Setting, Stuck}
 use Rattle.journal.specs.declared.item.Item.TheVariants as item
-use Rattle.update_machine.specs.Machine.{Dropped, IsRun, LeftBy, Lost, Stuck}
-use Rattle.update_machine.specs.Setting.{Setting}
 use Rattle.trace_audit.specs.Decided.{IsWaiting, all_told}
 use Rattle.trace_audit.specs.Reading.{IsPrinted, TraceLine}
 use Rattle.trace_audit.specs.Told.{Told}

@@ -1,14 +1,9 @@
 -- How contracts see the code's values, and what its parts say about them.
-use Rattle.std.specs.Prelude.{ℕ, ◌-◌, ◌==◌, nat_le, if◌then◌else◌, Bool, MatchBool, Option, Some, None, option_map, List, slice_get}
-use Rattle.std.specs.BTreeMap.{get}
-use Rattle.std.specs.Option.{option_or}
-use Rattle.std.specs.Ordering.{nat_cmp}
-use Rattle.five_tuple.specs.HeaderNumbers.{header_of}
-use Rattle.policy_rules.specs.declared.file.PolicyFile.{PolicyFile}
-use Rattle.policy_rules.specs.declared.policy.Action.{Action}
-use Rattle.policy_rules.specs.declared.policy.Action.TheVariants.{Drop, Out}
-use Rattle.policy_rules.specs.declared.policy.Hit.{Hit}
-use Rattle.update_machine.specs.Machine.{End, Dropped, LeftBy, Lost, Stuck, Packet}
+use Rattle.std.specs.Prelude.{if◌then◌else◌, ◌-◌, ◌==◌, Bool, List, MatchBool, None, Option, Some, nat_le, option_map, slice_get, ℕ}
+use Rattle.base.specs.Exports.{get, nat_cmp, option_or}
+use Rattle.five_tuple.specs.Exports.{header_of}
+use Rattle.update_machine.specs.Exports.{Action, Drop, Dropped, End, Hit, LeftBy, Lost, Out, PolicyFile, Stuck}
+use Rattle.update_machine.specs.Machine.{Packet}
 use Rattle.trace_audit.specs.Reading.{Follows, TraceLine, ReadsLine, TraceState}
 use Rattle.trace_audit.specs.Told.{Told}
 use Rattle.trace_audit.specs.Told as told

@@ -1,16 +1,11 @@
 -- What a line of a printed trace says, by its first words. A line is cut at each single blank, so
 -- that two blanks make an empty word. A number is decimal, without sign or leading zero.
-use Rattle.std.specs.Prelude.{ℕ, ◌≡◌, ◌==◌, ◌&&◌, ◌||◌, ◌⊎◌, nat_le, not, if◌then◌else◌, Bool, false, MatchOption, Option, Some, None, option_map, List, [], ◌∷◌, take, drop, codes, bytes_eq}
-use Rattle.std.specs.List.{list_all, list_any}
-use Rattle.std.specs.Option.{option_map_or}
-use Rattle.std.specs.Borrow.{Bor}
-use Rattle.five_tuple.specs.HeaderNumbers.{header_of}
-use Rattle.five_tuple.specs.Texts.{number_up_to, packet_fields_of, parts_round}
-use Rattle.five_tuple.specs.declared.header.Header.{Header}
-use Rattle.net_file.specs.Net.{is_name}
-use Rattle.steps.specs.Limits.{max_events}
-use Rattle.steps.specs.Steps.{max_number}
-use Rattle.update_machine.specs.Machine.{End, Dropped, LeftBy, Lost, Stuck}
+use Rattle.std.specs.Prelude.{[], if◌then◌else◌, ◌&&◌, ◌==◌, ◌||◌, ◌∷◌, ◌≡◌, ◌⊎◌, Bool, List, MatchOption, None, Option, Some, bytes_eq, codes, drop, false, nat_le, not, option_map, take, ℕ}
+use Rattle.base.specs.Exports.{Bor, list_all, list_any, option_map_or}
+use Rattle.five_tuple.specs.Exports.{header_of, number_up_to, packet_fields_of, parts_round}
+use Rattle.update_machine.specs.Exports.{Dropped, End, Header, LeftBy, Lost, Stuck}
+use Rattle.net_file.specs.Exports.{is_name}
+use Rattle.steps.specs.Exports.{max_events, max_number}
 
 pub data Told : Type 0 where
   -- a row of a schedule, with its header if it is a packet's

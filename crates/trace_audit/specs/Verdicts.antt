@@ -1,6 +1,6 @@
 -- The verdict on a trace as a whole.
-use Rattle.std.specs.Prelude.{ℕ, ◌≡◌, ◌-◌, ◌≤◌, min, List, length, take}
-use Rattle.policy_rules.specs.declared.file.PolicyFile.{PolicyFile}
+use Rattle.std.specs.Prelude.{◌-◌, ◌≡◌, ◌≤◌, List, length, min, take, ℕ}
+use Rattle.update_machine.specs.Exports.{PolicyFile}
 use Rattle.trace_audit.specs.Reading.{AreGood, TraceLine}
 use Rattle.trace_audit.specs.declared.trace.Verdict.{Verdict}
 use Rattle.trace_audit.specs.declared.trace.Verdict.TheVariants.{Yes, No}

@@ -1,35 +1,16 @@
 -- Each line of a journal's text is good, behind those before it: the machine takes what the journal
 -- says, and each packet's row is followed by its entry.
-use Rattle.std.proofs.Common.{ℕ, ◌≡◌, ◌+◌, ◌-◌, ◌<◌, ◌≤◌, ◌==◌, Bool, true, false, cond, Option, Some, None, List, [], ◌∷◌, ◌++◌, length, length-append, refl, sym, ap, subst, ◌∙◌, append_assoc, arith}
-use Rattle.std.specs.Prelude.{⊤, All, map, slice_get}
-use Rattle.std.specs.Result.{result_ok}
-use Rattle.std.proofs.lemmas.Bool.{eqb-true}
-use Rattle.std.proofs.lemmas.List.Elements.{All-head, All-tail}
-use Rattle.std.proofs.lemmas.List.Sums.{sum_by-cons}
-use Rattle.std.proofs.lemmas.Option.{slice_get_within}
-use Rattle.five_tuple.specs.declared.header.Header.{Header}
-use Rattle.net_file.specs.Laws.{PortLaws}
-use Rattle.net_file.specs.Net.{IsNet}
-use Rattle.net_file.specs.declared.net.Net.{Net}
-use Rattle.policy_rules.specs.declared.file.PolicyFile.{PolicyFile}
-use Rattle.policy_rules.specs.declared.policy.Row.{Row}
-use Rattle.journal.specs.declared.item.Item.{Item}
+use Rattle.std.proofs.Common.{[], ◌++◌, ◌+◌, ◌-◌, ◌<◌, ◌==◌, ◌∙◌, ◌∷◌, ◌≡◌, ◌≤◌, All, Bool, List, None, Option, Some, ap, append_assoc, arith, cond, eqb-true, false, length, length-append, map, refl, slice_get, subst, sym, true, ℕ}
+use Rattle.base.proofs.Exports.{All-head, All-tail, result_ok, slice_get_within, sum_by-cons, ⊤}
+use Rattle.update_machine.specs.Exports.{HasCause, HaveCauses, Header, Item, Machine, Net, Packet, PolicyFile, Row, Runs, Setting, Step, Takes, count_of, is_packet, is_submission, made_by, next_packet}
+use Rattle.net_file.specs.Exports.{IsNet, PortLaws}
 use Rattle.journal.specs.declared.item.Item.TheVariants as item
 use Rattle.journal_text.specs.Lines.{item_line}
-use Rattle.packet_laws.specs.Entries.{EachEnters, IsEntryOf, StepRow, gives_row, step_rows_in}
-use Rattle.steps.specs.Limits.{max_events}
-use Rattle.steps.specs.Steps.{HasSwitch, max_number}
-use Rattle.steps.specs.declared.step.Step.{Step}
-use Rattle.steps.specs.declared.step.Step.TheVariants.{Packet}
-use Rattle.update_machine.proofs.CallerLemmas.{count_of_append}
-use Rattle.update_machine.specs.Causes.{HasCause, HaveCauses}
-use Rattle.update_machine.specs.Folds.{count_of}
-use Rattle.update_machine.specs.Machine.{Machine, Runs, Takes}
+use Rattle.packet_laws.specs.Exports.{EachEnters, IsEntryOf, StepRow, gives_row, step_rows_in}
+use Rattle.steps.specs.Exports.{HasSwitch, max_events, max_number}
+use Rattle.update_machine.proofs.Exports.{count_of_append}
 use Rattle.update_machine.specs.Machine as machine
-use Rattle.update_machine.specs.Packets.{is_packet, next_packet}
-use Rattle.update_machine.specs.Setting.{Setting, made_by}
-use Rattle.update_machine.specs.Versions.{is_submission}
-use Rattle.trace_audit.specs.Reading.{Follows, TraceLine, ReadsAll, TraceState, Whole}
+use Rattle.trace_audit.specs.Exports.{Follows, ReadsAll, TraceLine, TraceState, Whole}
 use Rattle.trace_texts.proofs.ToldItems.{IsReadable, TextLaws, line_told, told_item}
 
 -- what is pending behind an item

@@ -1,25 +1,12 @@
 -- Texts of one line and of one word: what lines are made of has no line feed in it, and what words
 -- are made of has no blank either.
-use Rattle.std.proofs.Common.{ℕ, zero, suc, ◌≡◌, ◌≢◌, ◌+◌, ◌/◌, ◌%◌, ◌<◌, ◌≤◌, ◌==◌, ◌^◌, ◌&&◌, Bool, true, false, not, List, [], ◌∷◌, ◌++◌, length, get_or, refl, subst, inl, inr, arith}
-use Rattle.std.specs.Prelude.{◌⊎◌, Option, Some, None, codes, decimal, if◌then◌else◌, nat_lt, slice_get}
-use Rattle.std.specs.Fmt.{digit_glyph, digits, digits_onto}
-use Rattle.std.specs.List.{All, list_all}
-use Rattle.std.proofs.lemmas.Bool.{and_parts, cond_both, eqb-false, ltb-true, ne_eqb, not-true}
-use Rattle.std.proofs.lemmas.List.Elements.{All-append, All-cons, All-get_or, All-nil, All-weaker}
-use Rattle.std.proofs.lemmas.List.Splits.{slice_split_at, slice_split_none}
-use Rattle.std.proofs.lemmas.List.Sums.{AllPass-from_list_all}
-use Rattle.std.proofs.lemmas.Option.{slice_get_cases}
-use Rattle.five_tuple.specs.declared.header.Fields.{Fields}
-use Rattle.five_tuple.specs.Printing.{address_text, fields_text, proto_number_text}
-use Rattle.five_tuple.specs.Texts.{parts_round}
-use Rattle.net_file.specs.Laws.{IsPlainByte, NameLaws}
-use Rattle.net_file.specs.Net.{IsNet, IsSwitchRow, is_name, name_of, names_text}
-use Rattle.net_file.specs.declared.net.Net.{Net}
-use Rattle.net_file.specs.declared.net.SwitchRow.{SwitchRow}
-use Rattle.policy_rules.specs.Policy.{action_text, rule_text}
-use Rattle.policy_rules.specs.declared.policy.Action.{Action}
-use Rattle.policy_rules.specs.declared.policy.Action.TheVariants.{Drop, Out}
-use Rattle.ternary.specs.Word.{WordValue, hex_digits, word_text}
+use Rattle.std.proofs.Common.{[], if◌then◌else◌, ◌%◌, ◌&&◌, ◌++◌, ◌+◌, ◌/◌, ◌<◌, ◌==◌, ◌^◌, ◌∷◌, ◌≡◌, ◌≢◌, ◌≤◌, ◌⊎◌, All, Bool, List, None, Option, Some, arith, codes, decimal, false, get_or, inl, inr, length, ltb-true, nat_lt, ne_eqb, not, refl, slice_get, subst, suc, true, zero, ℕ}
+use Rattle.base.proofs.Exports.{All-append, All-cons, All-get_or, All-nil, All-weaker, AllPass-from_list_all, and_parts, cond_both, digit_glyph, digits, digits_onto, eqb-false, list_all, not-true, slice_get_cases, slice_split_at, slice_split_none}
+use Rattle.update_machine.specs.Exports.{Action, Drop, Fields, Net, Out, SwitchRow}
+use Rattle.five_tuple.specs.Exports.{address_text, fields_text, parts_round, proto_number_text}
+use Rattle.net_file.specs.Exports.{IsNet, IsPlainByte, IsSwitchRow, NameLaws, is_name, name_of, names_text}
+use Rattle.policy_rules.specs.Exports.{action_text, rule_text}
+use Rattle.ternary.specs.Exports.{WordValue, hex_digits, word_text}
 
 abbrev IsLineByte : ℕ → Type 0
 IsLineByte byte = byte ≢ 10

@@ -1,27 +1,12 @@
 -- The line of an item has no line feed in it.
-use Rattle.std.proofs.Common.{ℕ, ◌≡◌, ◌==◌, Bool, true, false, List, ◌++◌, refl}
-use Rattle.std.specs.Prelude.{Option, codes, filter, min, max, not}
-use Rattle.std.specs.List.{list_all}
-use Rattle.std.proofs.lemmas.Bool.{cond_both}
-use Rattle.base.specs.Masks.{has, switches}
-use Rattle.ctrl_msg.specs.declared.message.Body.{Body}
-use Rattle.ctrl_msg.specs.declared.message.Body.TheVariants.{Install, OpenAt, Stamp, Collect, CacheRule, Advertise, Hello, Installed, Stamped}
-use Rattle.ctrl_msg.specs.declared.message.Place.{Place}
+use Rattle.std.proofs.Common.{◌++◌, ◌==◌, ◌≡◌, Bool, List, Option, false, filter, max, min, not, refl, true, ℕ}
+use Rattle.base.proofs.Exports.{codes, cond_both, list_all}
+use Rattle.base.specs.Exports.{has, switches}
+use Rattle.update_machine.specs.Exports.{Action, Advert, Advertise, Authority, Body, CacheRule, Cached, Cause, Collect, Confirm, Crash, Deliver, Expire, Forget, Hello, Hop, How, Install, Installed, Item, LinkDown, LinkUp, Lose, Net, NoAuthority, NoRoute, OpenAt, Packet, Place, Resend, Restart, Stamp, Stamped, Step, Update}
 use Rattle.ctrl_msg.specs.declared.message.Place.TheVariants as receiver
-use Rattle.failover.specs.declared.advert.Advert.{Advert}
-use Rattle.net_file.specs.Laws.{NameLaws}
-use Rattle.net_file.specs.Net.{IsNet, names_text}
-use Rattle.net_file.specs.declared.net.Net.{Net}
-use Rattle.policy_rules.specs.declared.packet.Cause.{Cause}
-use Rattle.policy_rules.specs.declared.packet.Cause.TheVariants.{NoAuthority, NoRoute}
-use Rattle.policy_rules.specs.declared.packet.How.{How}
-use Rattle.policy_rules.specs.declared.packet.How.TheVariants.{Cached, Authority}
-use Rattle.policy_rules.specs.declared.policy.Action.{Action}
-use Rattle.journal.specs.declared.item.Item.{Item}
+use Rattle.net_file.specs.Exports.{IsNet, NameLaws, names_text}
 use Rattle.journal.specs.declared.item.Item.TheVariants as item
 use Rattle.journal_text.specs.Lines.{advert_text, body_text, boot_text, cause_text, how_text, item_line, mask_text, with_name, with_number, packet_at, pair_text, receiver_text, ruled_text, state_text, step_text, two_text, version_text, via_text}
-use Rattle.steps.specs.declared.step.Step.{Step}
-use Rattle.steps.specs.declared.step.Step.TheVariants.{Packet, Hop, Lose, Deliver, Forget, Expire, Update, LinkDown, LinkUp, Crash, Restart, Confirm, Resend}
 use Rattle.trace_texts.proofs.LinePieces.{IsOneLine, action_word, bits_line, fields_line, joined, name_line, names_line, number_line, rule_word, tested, word_line}
 
 -- a text behind another one, its bytes tested one by one

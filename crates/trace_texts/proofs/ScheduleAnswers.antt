@@ -1,33 +1,15 @@
 -- The text of a journal that answers a schedule: what is known at its beginning.
-use Rattle.std.proofs.Common.{ℕ, ◌≡◌, ◌+◌, ◌-◌, ◌≤◌, Option, Some, None, List, [], ◌∷◌, ◌++◌, length, length-append, sym, ap, subst, ◌∙◌, take, append-nil, arith}
-use Rattle.std.specs.Prelude.{All, get_or, map}
-use Rattle.std.specs.Result.{result_ok}
-use Rattle.std.proofs.lemmas.List.{length-take}
-use Rattle.std.proofs.lemmas.List.Elements.{All-append, All-cons, All-head, All-nil, All-tail, All-take}
-use Rattle.base.proofs.OptionsMade.{length-option_to_list}
-use Rattle.control_laws.specs.Always.{AreEvents, HoldsAlways, HoldsReached}
-use Rattle.control_laws.specs.Planned.{VersionsArePlanned}
-use Rattle.journal.specs.declared.item.Item.{Item}
+use Rattle.std.proofs.Common.{[], ◌++◌, ◌+◌, ◌-◌, ◌∙◌, ◌∷◌, ◌≡◌, ◌≤◌, All, List, None, Option, Some, ap, append-nil, arith, get_or, length, length-append, length-take, map, subst, sym, take, ℕ}
+use Rattle.base.proofs.Exports.{All-append, All-cons, All-head, All-nil, All-tail, All-take, length-option_to_list, result_ok}
+use Rattle.control_laws.specs.Exports.{AreEvents, HoldsAlways, HoldsReached, VersionsArePlanned}
+use Rattle.update_machine.specs.Exports.{Answers, BeginsAnswer, Deliver, Drain, Event, Flush, HasCause, HaveCauses, Hop, IsPlay, IsRun, IsSetting, Item, Net, One, Packet, Setting, Step, count_of, first_machine, is_submission, policy_by, version_count}
 use Rattle.journal_text.specs.Lines.{item_line, journal_text}
-use Rattle.net_file.specs.Laws.{PortLaws}
-use Rattle.net_file.specs.declared.net.Net.{Net}
-use Rattle.packet_laws.proofs.StepsOfPlays.{play_begins}
-use Rattle.packet_laws.specs.Entries.{AreEntered, StepRow, event_row, rows_played, step_row, step_rows, step_rows_in}
-use Rattle.steps.specs.Limits.{max_events}
-use Rattle.steps.specs.Steps.{IsEvent, IsStep}
-use Rattle.steps.specs.declared.step.Event.{Event}
-use Rattle.steps.specs.declared.step.Event.TheVariants.{One, Flush, Drain}
-use Rattle.steps.specs.declared.step.Step.{Step}
-use Rattle.steps.specs.declared.step.Step.TheVariants.{Packet, Hop, Deliver}
-use Rattle.trace_audit.specs.Reading.{ReadsAll, Whole, first_state, lines_of}
-use Rattle.update_machine.specs.Causes.{HasCause, HaveCauses}
-use Rattle.update_machine.specs.Folds.{count_of}
-use Rattle.update_machine.proofs.CallerLemmas.{answers_so_far, begins_itself}
-use Rattle.update_machine.specs.Answers.{Answers, BeginsAnswer}
-use Rattle.update_machine.specs.Full.{IsPlay}
-use Rattle.update_machine.specs.Machine.{IsRun, first_machine}
-use Rattle.update_machine.specs.Setting.{IsSetting, Setting, policy_by}
-use Rattle.update_machine.specs.Versions.{is_submission, version_count}
+use Rattle.net_file.specs.Exports.{PortLaws}
+use Rattle.packet_laws.proofs.Exports.{play_begins}
+use Rattle.packet_laws.specs.Exports.{AreEntered, StepRow, event_row, rows_played, step_row, step_rows, step_rows_in}
+use Rattle.steps.specs.Exports.{IsEvent, IsStep, max_events}
+use Rattle.trace_audit.specs.Exports.{ReadsAll, Whole, first_state, lines_of}
+use Rattle.update_machine.proofs.Exports.{answers_so_far, begins_itself}
 use Rattle.trace_texts.specs.Texts.{IsAnsweredTo, TextsAreGood, with_line_feeds}
 use Rattle.trace_texts.proofs.WholeLines.{last_read, lines_each, none_behind}
 use Rattle.trace_texts.proofs.OneLine.{item_one_line}

@@ -1,32 +1,14 @@
 -- What the line of an item tells: printing and reading are inverse.
-use Rattle.std.proofs.Common.{ℕ, ◌≡◌, ◌^◌, ◌<◌, ◌≤◌, ◌==◌, ◌||◌, Bool, true, false, cond, Option, Some, None, option_map, List, [], ◌∷◌, ◌++◌, length, refl, sym, ap, ◌∙◌, append_assoc, arith}
-use Rattle.std.specs.Prelude.{⊤, bytes_eq, codes, decimal, nat_le}
-use Rattle.std.specs.List.{onto_first}
-use Rattle.std.specs.Option.{option_map_or}
-use Rattle.std.proofs.lemmas.Bool.{le-leb}
-use Rattle.std.proofs.lemmas.List.Splits.{length-slice_split}
-use Rattle.five_tuple.specs.Header.{IsHeader}
-use Rattle.five_tuple.specs.HeaderNumbers.{header_of}
-use Rattle.five_tuple.specs.Printing.{address_text, fields_text, proto_number_text}
-use Rattle.five_tuple.specs.Texts.{address_of, fields_from, number_up_to, packet_fields_of, parts_round, proto_number_of}
-use Rattle.five_tuple.specs.declared.header.Fields.{Fields}
-use Rattle.five_tuple.specs.declared.header.Header.{Header}
-use Rattle.net_file.specs.Laws.{NameLaws}
-use Rattle.net_file.specs.Net.{IsNet, is_name, name_of}
-use Rattle.net_file.specs.declared.net.Net.{Net}
-use Rattle.policy_rules.specs.Policy.{action_text, rule_text}
-use Rattle.policy_rules.specs.declared.packet.How.{How}
-use Rattle.policy_rules.specs.declared.packet.How.TheVariants.{Cached, Authority}
-use Rattle.policy_rules.specs.declared.policy.Action.{Action}
-use Rattle.journal.specs.declared.item.Item.{Item}
+use Rattle.std.proofs.Common.{[], ◌++◌, ◌<◌, ◌==◌, ◌^◌, ◌||◌, ◌∙◌, ◌∷◌, ◌≡◌, ◌≤◌, Bool, List, None, Option, Some, ap, append_assoc, arith, bytes_eq, cond, false, le-leb, length, nat_le, option_map, refl, sym, true, ℕ}
+use Rattle.base.proofs.Exports.{codes, decimal, length-slice_split, onto_first, option_map_or, ⊤}
+use Rattle.five_tuple.specs.Exports.{IsHeader, address_of, address_text, fields_from, fields_text, header_of, number_up_to, packet_fields_of, parts_round, proto_number_of, proto_number_text}
+use Rattle.update_machine.specs.Exports.{Action, Authority, Cached, Dropped, Fields, Header, How, Item, LeftBy, Lost, Net, Packet, Step, Stuck}
+use Rattle.net_file.specs.Exports.{IsNet, NameLaws, is_name, name_of}
+use Rattle.policy_rules.specs.Exports.{action_text, rule_text}
 use Rattle.journal.specs.declared.item.Item.TheVariants as item
 use Rattle.journal_text.specs.Lines.{body_text, cause_text, how_text, item_line, packet_at, receiver_text, ruled_text, state_text, step_text, two_text, via_text, with_name, with_number}
-use Rattle.steps.specs.Limits.{max_events}
-use Rattle.steps.specs.Steps.{HasSwitch, max_number}
-use Rattle.steps.specs.declared.step.Step.{Step}
-use Rattle.steps.specs.declared.step.Step.TheVariants.{Packet}
-use Rattle.update_machine.specs.Machine.{Dropped, LeftBy, Lost, Stuck}
-use Rattle.trace_audit.specs.Told.{Told, any_told, is_row_number, item_told, number_of_word, packet_row_told, pair_told, row_told, told_by_words, told_of, words_of}
+use Rattle.steps.specs.Exports.{HasSwitch, max_events, max_number}
+use Rattle.trace_audit.specs.Exports.{Told, any_told, is_row_number, item_told, number_of_word, packet_row_told, pair_told, row_told, told_by_words, told_of, words_of}
 use Rattle.trace_audit.specs.Told as told
 use Rattle.trace_texts.proofs.LinePieces.{action_word, address_word, first_word, name_is, name_word, number_word, one_word, proto_word, row_parts, row_word, rule_word}
 

@@ -1,13 +1,9 @@
 -- The lines of a text that is put together of whole lines.
-use Rattle.std.proofs.Common.{ℕ, ◌≡◌, ◌<◌, ◌==◌, List, [], ◌∷◌, ◌++◌, length, refl, ap, ◌∙◌, append-nil, append_assoc, inl, inr, arith}
-use Rattle.std.specs.Prelude.{All, Some, map}
-use Rattle.std.specs.List.{flat_map}
-use Rattle.std.proofs.lemmas.List.Elements.{All-head, All-tail}
-use Rattle.std.proofs.lemmas.List.Splits.{length-slice_split}
-use Rattle.five_tuple.specs.Texts.{parts_round}
-use Rattle.policy_rules.specs.declared.file.PolicyFile.{PolicyFile}
-use Rattle.trace_audit.specs.Reading.{TraceLine, ReadsAll, TraceState, Whole, lines_of, lines_of_parts}
-use Rattle.trace_audit.specs.Told.{told_of}
+use Rattle.std.proofs.Common.{[], ◌++◌, ◌<◌, ◌==◌, ◌∙◌, ◌∷◌, ◌≡◌, All, List, Some, ap, append-nil, append_assoc, arith, flat_map, inl, inr, length, map, refl, ℕ}
+use Rattle.base.proofs.Exports.{All-head, All-tail, length-slice_split}
+use Rattle.five_tuple.specs.Exports.{parts_round}
+use Rattle.update_machine.specs.Exports.{PolicyFile}
+use Rattle.trace_audit.specs.Exports.{ReadsAll, TraceLine, TraceState, Whole, lines_of, lines_of_parts, told_of}
 use Rattle.trace_audit.specs.Told as told
 use Rattle.trace_texts.specs.Texts.{IsLastLine}
 use Rattle.trace_texts.proofs.LinePieces.{IsOneLine, first_line}

@@ -1,16 +1,10 @@
 -- The text of a journal that answers a schedule, and the lines that may follow it.
-use Rattle.std.specs.Prelude.{ℕ, ◌≡◌, ◌≢◌, ◌≤◌, ◌⊎◌, Option, None, Some, List, ◌∷◌, [], ◌++◌, All, codes, length}
-use Rattle.std.specs.List.{flat_map}
-use Rattle.control_laws.specs.Always.{AreEvents}
-use Rattle.journal.specs.declared.item.Item.{Item}
+use Rattle.std.specs.Prelude.{[], ◌++◌, ◌∷◌, ◌≡◌, ◌≢◌, ◌≤◌, ◌⊎◌, All, List, None, Option, Some, codes, flat_map, length, ℕ}
+use Rattle.control_laws.specs.Exports.{AreEvents}
+use Rattle.update_machine.specs.Exports.{Answers, Event, IsSetting, Item, Setting, StopsFull}
 use Rattle.journal_text.specs.Lines.{journal_text}
-use Rattle.steps.specs.Limits.{max_events}
-use Rattle.steps.specs.Steps.{max_number}
-use Rattle.steps.specs.declared.step.Event.{Event}
-use Rattle.trace_audit.specs.Reading.{AreGood, lines_of}
-use Rattle.update_machine.specs.Answers.{Answers}
-use Rattle.update_machine.specs.Full.{StopsFull}
-use Rattle.update_machine.specs.Setting.{IsSetting, Setting}
+use Rattle.steps.specs.Exports.{max_events, max_number}
+use Rattle.trace_audit.specs.Exports.{AreGood, lines_of}
 
 -- the line of a meter, or that of whether the network is quiet
 pub record IsLastLine (line : List ℕ) : Type 0 where

@@ -1,10 +1,7 @@
 -- The marks of blocks: which masks have a bit.
-use Rattle.std.proofs.Common.{ℕ, ◌≡◌, ◌+◌, ◌-◌, ◌*◌, ◌/◌, ◌%◌, ◌^◌, ◌<◌, ◌≤◌, ◌==◌, ◌⊎◌, inl, inr, Bool, true, false, not, List, [], refl, ap, sym, ◌∙◌, length, arith, eqb-true}
-use Rattle.std.proofs.lemmas.Bool.{cases_lt}
-use Rattle.std.proofs.lemmas.List.{get_or_past}
-use Rattle.base.specs.Masks.{has}
-use Rattle.base.specs.ComputedMasks.{least_in}
-use Rattle.base.proofs.CallerLemmas.{has-zero, has_least, least_below, least_lt, some_of}
+use Rattle.std.proofs.Common.{[], ◌%◌, ◌*◌, ◌+◌, ◌-◌, ◌/◌, ◌<◌, ◌==◌, ◌^◌, ◌∙◌, ◌≡◌, ◌≤◌, ◌⊎◌, Bool, List, ap, arith, eqb-true, false, inl, inr, length, not, refl, sym, true, ℕ}
+use Rattle.base.proofs.Exports.{cases_lt, get_or_past, has-zero, has_least, least_below, least_lt, some_of}
+use Rattle.base.specs.Exports.{has, least_in}
 use Rattle.travelling.specs.SwitchIndex.{AreLevels, AreOfBlocks, IsLeastMarked, IsNoneMarked, has_marks, is_marked, mask_at}
 
 pub no_levels : AreLevels [] [] []

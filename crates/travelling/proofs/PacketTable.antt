@@ -1,5 +1,5 @@
 -- The table of the packets on their way.
-use Rattle.std.proofs.Common.{ℕ, zero, suc, ◌≡◌, None, [], ◌∷◌, ◌++◌, refl}
+use Rattle.std.proofs.Common.{[], ◌++◌, ◌∷◌, ◌≡◌, None, refl, suc, zero, ℕ}
 use Rattle.travelling.specs.Travelling.{Flights, flight}
 
 -- an empty slot behind the others says nothing

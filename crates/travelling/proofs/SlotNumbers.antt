@@ -1,9 +1,6 @@
 -- The numbers of slots that pass a test.
-use Rattle.std.proofs.Common.{ℕ, zero, suc, ◌≡◌, ◌+◌, ◌<◌, ◌≤◌, Bool, false, cond, None, List, [], ◌∷◌, ◌++◌, refl, ap, sym, ◌∙◌, length, filter, append-nil, append_assoc, arith}
-use Rattle.std.specs.List.{range_with_len}
-use Rattle.std.proofs.lemmas.List.{get_or_past}
-use Rattle.std.proofs.lemmas.List.Elements.{filter-append}
-use Rattle.base.proofs.ListsOfRanges.{filter_more, range_more}
+use Rattle.std.proofs.Common.{[], ◌++◌, ◌+◌, ◌<◌, ◌∙◌, ◌∷◌, ◌≡◌, ◌≤◌, Bool, List, None, ap, append-nil, append_assoc, arith, cond, false, filter, length, refl, suc, sym, zero, ℕ}
+use Rattle.base.proofs.Exports.{filter-append, filter_more, get_or_past, range_more, range_with_len}
 use Rattle.travelling.specs.Travelling.{Flights, stands_at, flight}
 
 -- none between passes

@@ -1,17 +1,8 @@
 -- The masks of where packets stand.
-use Rattle.std.proofs.Common.{ℕ, zero, suc, ◌≡◌, ◌≢◌, ◌+◌, ◌-◌, ◌*◌, ◌/◌, ◌%◌, ◌^◌, ◌<◌, ◌≤◌, ◌==◌, ◌&&◌, ◌⊎◌, inl, inr, Bool, true, false, not, None, List, [], ◌∷◌, ◌++◌, refl, ap, sym, subst, ◌∙◌, length, get_or, set, max, arith, eqb-true, eq-eqb, get_or-set_same, get_or-set_other}
+use Rattle.std.proofs.Common.{[], ◌%◌, ◌&&◌, ◌*◌, ◌++◌, ◌+◌, ◌-◌, ◌/◌, ◌<◌, ◌==◌, ◌^◌, ◌∙◌, ◌∷◌, ◌≡◌, ◌≢◌, ◌≤◌, ◌⊎◌, Bool, IsSomeAnd, List, None, ap, arith, bit_xor, eq-eqb, eqb-true, false, get_or, get_or-set_other, get_or-set_same, inl, inr, is_some, length, max, not, refl, set, shr-shr, subst, suc, sym, true, zero, ℕ}
 use mathlib.Core.Bool.{beq}
-use Rattle.std.specs.Prelude.{IsSomeAnd, is_some}
-use Rattle.std.specs.Int.{bit_at}
-use Rattle.std.specs.Int.Bits.{bit_xor}
-use Rattle.std.proofs.lemmas.Bool.{cases_lt}
-use Rattle.std.proofs.lemmas.Bool.Decides.{nat_tests}
-use Rattle.std.proofs.lemmas.List.{get_or_past}
-use Rattle.std.proofs.lemmas.Nat.{shr_le, shr-shr}
-use Rattle.std.proofs.lemmas.Nat.Bits.{bit_at_xor, bit_at-lt, bit_at-pow_same}
-use Rattle.base.specs.Masks.{has}
-use Rattle.base.specs.ComputedMasks.{least_in}
-use Rattle.base.proofs.CallerLemmas.{has-zero, has_above, has_least, least_below, has-xor_other}
+use Rattle.base.proofs.Exports.{bit_at, bit_at-lt, bit_at-pow_same, bit_at_xor, cases_lt, get_or_past, has-xor_other, has-zero, has_above, has_least, least_below, nat_tests, shr_le}
+use Rattle.base.specs.Exports.{has, least_in}
 use Rattle.travelling.specs.SwitchIndex.{flipped_if, has_marks, is_marked}
 use Rattle.travelling.specs.Travelling.{Flight, AreMarked, Flights, stands_at, flight}
 

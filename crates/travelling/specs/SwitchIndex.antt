@@ -1,7 +1,7 @@
 -- Where packets are, as masks: bit i % 64 of the mask of i / 64 and a switch says that packet i is
 -- at the switch. Masks of the same form say which of these masks have a bit.
-use Rattle.std.specs.Prelude.{ℕ, ◌≡◌, ◌+◌, ◌*◌, ◌/◌, ◌%◌, ◌<◌, ◌≤◌, ◌==◌, Bool, true, false, not, if◌then◌else◌, Option, List, MatchOption, length, slice_index_or}
-use Rattle.base.specs.Masks.{has}
+use Rattle.std.specs.Prelude.{if◌then◌else◌, ◌%◌, ◌*◌, ◌+◌, ◌/◌, ◌<◌, ◌==◌, ◌≡◌, ◌≤◌, Bool, List, MatchOption, Option, false, length, not, slice_index_or, true, ℕ}
+use Rattle.base.specs.Exports.{has}
 
 -- the mask of the numbers of this block of 64 at the switch
 abbrev pub mask_at : List ℕ → ℕ → ℕ → ℕ

@@ -1,11 +1,10 @@
 -- The packets on their way, by their numbers.
-use Rattle.std.specs.Prelude.{ℕ, ◌≡◌, ◌+◌, ◌<◌, ◌≤◌, ◌==◌, Bool, true, false, if◌then◌else◌, Option, Some, None, List, IsSome, MatchOption, filter, length, slice_index_or, unwrap_or}
-use Rattle.std.specs.List.{range_with_len}
-use Rattle.failover.specs.Links.{no_links, with_link}
+use Rattle.std.specs.Prelude.{if◌then◌else◌, ◌+◌, ◌<◌, ◌==◌, ◌≡◌, ◌≤◌, Bool, IsSome, List, MatchOption, None, Option, Some, false, filter, length, slice_index_or, true, unwrap_or, ℕ}
+use Rattle.base.specs.Exports.{range_with_len}
+use Rattle.failover.specs.Exports.{no_links, with_link}
 use Rattle.five_tuple.specs.declared.header.Header.{Header}
 use Rattle.policy_rules.specs.declared.packet.Leg.{Leg}
-use Rattle.tunnel.specs.Moves.{tunnel_begun, here}
-use Rattle.tunnel.specs.Tunnel.{TunnelValue}
+use Rattle.tunnel.specs.Exports.{TunnelValue, here, tunnel_begun}
 use Rattle.travelling.specs.SwitchIndex.{is_marked}
 use Rattle.travelling.specs.declared.stored_flight.StoredFlight.TheInside.{Inside}
 use Rattle.travelling.specs.declared.standing.Standing as standing

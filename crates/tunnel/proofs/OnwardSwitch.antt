@@ -1,11 +1,10 @@
 -- The switch after the one where a packet stands.
-use Rattle.std.proofs.Common.{◌≡◌, ◌≢◌, ℕ, ◌+◌, ◌<◌, ◌≤◌, ◌⊎◌, ◌↔◌, ◌==◌, false, Option, Some, None, IsSome, IfSome, List, length, get_or, nat_eq, refl, sym, ◌∙◌, subst, arith, inl, inr}
-use Rattle.std.specs.List.{slice_get}
+use Rattle.std.proofs.Common.{◌+◌, ◌<◌, ◌==◌, ◌↔◌, ◌∙◌, ◌≡◌, ◌≢◌, ◌≤◌, ◌⊎◌, IfSome, IsSome, List, None, Option, Some, arith, false, get_or, inl, inr, length, nat_eq, refl, slice_get, subst, sym, ℕ}
 use Rattle.std.proofs.lemmas.Bool.{cases_lt}
 use Rattle.std.proofs.lemmas.Bool.Decides.{nat_tests}
 use Rattle.std.proofs.lemmas.Map.Keys.{apart_from_distinct}
 use Rattle.std.proofs.lemmas.Option.{slice_get-get_or, slice_get_past}
-use Rattle.tunnel.specs.Tunnel.{IsOnRoute}
+use Rattle.tunnel.specs.Exports.{IsOnRoute}
 
 next_cases : (route : List ℕ) (place : ℕ) →
     ((place + 1 < length route) × (slice_get route (place + 1) ≡ Some (get_or route (place + 1) 0)))

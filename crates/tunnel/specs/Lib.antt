@@ -1,2 +1,3 @@
 pub mod Tunnel
 pub mod Moves
+pub mod Exports

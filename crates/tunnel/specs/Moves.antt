@@ -1,10 +1,9 @@
 -- What becomes of a packet on its way: its place, and the links that it finds down.
-use Rattle.std.specs.Prelude.{ℕ, ◌+◌, Option, Some, None, List, slice_get, slice_index}
+use Rattle.std.specs.Prelude.{◌+◌, List, None, Option, Some, slice_get, slice_index, ℕ}
 use Rattle.five_tuple.specs.declared.header.Header.{Header}
 use Rattle.policy_rules.specs.declared.packet.Leg.{Leg}
 use Rattle.failover.specs.declared.advert.Advert.{Advert}
-use Rattle.failover.specs.Links.{with_link}
-use Rattle.failover.specs.Routes.{route_of}
+use Rattle.failover.specs.Exports.{route_of, with_link}
 use Rattle.tunnel.specs.Tunnel.{TunnelValue}
 
 -- at the beginning of its route

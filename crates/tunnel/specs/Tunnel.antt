@@ -1,6 +1,6 @@
 -- A packet on its way, as contracts see it.
-use Rattle.std.specs.Prelude.{ℕ, ◌<◌, List, length}
-use Rattle.failover.specs.RouteList.{IsRouteList}
+use Rattle.std.specs.Prelude.{◌<◌, List, length, ℕ}
+use Rattle.failover.specs.Exports.{IsRouteList}
 use Rattle.tunnel.specs.declared.packet_tunnel.Tunnel.TheInside.{Inside}
 
 -- the packet, its leg and the targets of the leg, the route to one of them, the place on the route,

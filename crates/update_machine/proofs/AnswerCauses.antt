@@ -1,12 +1,6 @@
 -- Whatever causes each piece has, an answer has, and so has each beginning of one.
-use Rattle.std.proofs.Common.{ℕ, zero, suc, List, [], ◌∷◌, ◌++◌, take, sym, subst}
-use Rattle.journal.specs.declared.item.Item.{Item}
-use Rattle.steps.specs.declared.step.Event.{Event}
-use Rattle.steps.specs.declared.step.Step.{Step}
-use Rattle.update_machine.specs.Answers.{BeginsAnswer, StepOfRow, after_steps}
-use Rattle.update_machine.specs.Causes.{HaveCauses}
-use Rattle.update_machine.specs.Pieces.{piece}
-use Rattle.update_machine.specs.Setting.{Setting}
+use Rattle.std.proofs.Common.{[], ◌++◌, ◌∷◌, List, subst, suc, sym, take, zero, ℕ}
+use Rattle.update_machine.specs.Exports.{BeginsAnswer, Event, HaveCauses, Item, Setting, Step, StepOfRow, after_steps, piece}
 use Rattle.update_machine.proofs.CauseLemmas.{have_append}
 
 -- the first items have their causes

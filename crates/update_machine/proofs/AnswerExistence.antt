@@ -1,13 +1,6 @@
 -- There is an answer exactly where each event has its steps.
-use Rattle.std.proofs.Common.{ℕ, zero, suc, ◌≡◌, ◌+◌, ◌<◌, Option, Some, None, List, [], ◌∷◌, ◌++◌, length, map, refl, ap, sym, subst, ◌∙◌, arith, append_assoc, append-nil}
-use Rattle.std.specs.Prelude.{◌↔◌}
-use Rattle.journal.specs.declared.item.Item.{Item}
-use Rattle.steps.specs.declared.step.Event.{Event}
-use Rattle.steps.specs.declared.step.Event.TheVariants.{One}
-use Rattle.steps.specs.declared.step.Step.{Step}
-use Rattle.update_machine.specs.Answers.{Answers, AreAll, AreAnswered, AreSteps, AreStepsOf, HasSteps, HaveSteps, StepOfRow, after_steps}
-use Rattle.update_machine.specs.Pieces.{piece}
-use Rattle.update_machine.specs.Setting.{Setting}
+use Rattle.std.proofs.Common.{[], ◌++◌, ◌+◌, ◌<◌, ◌↔◌, ◌∙◌, ◌∷◌, ◌≡◌, List, None, Option, Some, ap, append-nil, append_assoc, arith, length, map, refl, subst, suc, sym, zero, ℕ}
+use Rattle.update_machine.specs.Exports.{Answers, AreAll, AreAnswered, AreSteps, AreStepsOf, Event, HasSteps, HaveSteps, Item, One, Setting, Step, StepOfRow, after_steps, piece}
 use Rattle.update_machine.proofs.OneAnswer.{one_answer}
 
 -- steps behind steps write behind what these wrote

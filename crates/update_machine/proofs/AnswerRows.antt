@@ -1,11 +1,7 @@
 -- Answers, computed: what a drain and a flush stand for, and how often switches were called.
-use Rattle.std.proofs.Common.{◌≡◌, List, [], ◌∷◌, refl}
-use Rattle.steps.specs.declared.step.Event.{Event}
-use Rattle.steps.specs.declared.step.Event.TheVariants.{One, Flush, Drain}
+use Rattle.std.proofs.Common.{[], ◌∷◌, ◌≡◌, List, refl}
+use Rattle.update_machine.specs.Exports.{Answers, Drain, Event, Flush, Item, One, StepOfRow, handled_count}
 use Rattle.steps.specs.declared.step.Step.TheVariants as step
-use Rattle.journal.specs.declared.item.Item.{Item}
-use Rattle.update_machine.specs.Answers.{Answers, StepOfRow}
-use Rattle.update_machine.specs.Handled.{handled_count}
 use Rattle.update_machine.proofs.ComputedSteps.{left_by}
 use Rattle.update_machine.proofs.ExampleNetworks.{at, one, shielded}
 

@@ -1,7 +1,7 @@
 -- A cache rule, computed: an authority decides a packet, and its ingress the next one until the
 -- rule times out.
-use Rattle.std.proofs.Common.{◌≡◌, Some, [], ◌∷◌, refl}
-use Rattle.policy_rules.specs.declared.policy.Action.TheVariants.{Out}
+use Rattle.std.proofs.Common.{[], ◌∷◌, ◌≡◌, Some, refl}
+use Rattle.update_machine.specs.Exports.{Out}
 use Rattle.policy_rules.specs.declared.packet.How.TheVariants as how
 use Rattle.ctrl_msg.specs.declared.message.Body.TheVariants as body
 use Rattle.steps.specs.declared.step.Step.TheVariants as step

@@ -1,28 +1,12 @@
 -- What caches and lookups are said to be, on journals of few items.
-use Rattle.std.proofs.Common.{ℕ, ◌≡◌, Some, List, [], ◌∷◌, ◌++◌, refl}
-use Rattle.std.specs.Prelude.{Ok}
-use Rattle.ctrl_msg.specs.declared.message.Body.TheVariants.{CacheRule, Stamp}
-use Rattle.five_tuple.specs.Cover.{cover_of}
-use Rattle.five_tuple.specs.declared.matching.Proto.TheVariants.{Is}
-use Rattle.policy_rules.specs.Words.{word_of_row}
-use Rattle.policy_rules.specs.declared.amendment.Edit.TheVariants.{Add}
-use Rattle.policy_rules.specs.declared.file.PolicyFile.TheVariants.{Whole, Change}
-use Rattle.policy_rules.specs.declared.policy.Action.TheVariants.{Drop, Out}
-use Rattle.policy_rules.specs.declared.policy.Row.{Row}
-use Rattle.switch_table.specs.Cache.{same_key}
-use Rattle.switch_table.specs.Carried.{all_touched}
-use Rattle.switch_table.specs.declared.cache.CacheEntry.{CacheEntry}
-use Rattle.switch_table.specs.declared.search.Found.TheVariants.{Authority, Cached, Redirect}
-use Rattle.ternary.specs.Meets.{meets}
-use Rattle.ternary.specs.Word.{WordValue, holds}
-use Rattle.journal.specs.declared.item.Item.{Item}
+use Rattle.std.proofs.Common.{[], ◌++◌, ◌∷◌, ◌≡◌, List, Ok, Some, refl, ℕ}
+use Rattle.update_machine.specs.Exports.{Add, CacheEntry, CacheRule, Change, Drop, Is, Item, Out, Redirect, Row, Setting, Stamp, Whole, boot_of, cache_of, file_of, heard, is_up, lookup_at, message_of, plan_at, policy_in, raised_from, stamp_of, touched_by}
+use Rattle.five_tuple.specs.Exports.{cover_of}
+use Rattle.policy_rules.specs.Exports.{word_of_row}
+use Rattle.switch_table.specs.Exports.{all_touched, same_key}
+use Rattle.switch_table.specs.declared.search.Found.TheVariants.{Authority, Cached}
+use Rattle.ternary.specs.Exports.{WordValue, holds, meets}
 use Rattle.journal.specs.declared.item.Item.TheVariants as item
-use Rattle.update_machine.specs.Boots.{boot_of, heard, is_up}
-use Rattle.update_machine.specs.Caches.{cache_of, lookup_at, raised_from}
-use Rattle.update_machine.specs.Setting.{Setting, file_of, policy_in}
-use Rattle.update_machine.specs.Touched.{touched_by}
-use Rattle.update_machine.specs.Versions.{stamp_of, plan_at}
-use Rattle.update_machine.specs.Links.{message_of}
 use Rattle.update_machine.proofs.ExampleNetworks.{all_dropped, all_to, any_word, by_action, cached as apart, denied, on, one, out_or_drop, plan_p, to, two_switches, web}
 
 -- a and b; the plan of the first policy is on b, that of the second on a

@@ -1,22 +1,16 @@
 -- A whole day of a small campus, computed: cache rules, a link that fails, an update.
-use Rattle.std.proofs.Common.{◌≡◌, Some, None, [], ◌∷◌, ◌++◌, refl, false}
-use Rattle.policy_rules.specs.declared.policy.Action.TheVariants.{Drop, Out}
-use Rattle.policy_rules.specs.declared.rules.Rule.{Rule}
+use Rattle.std.proofs.Common.{[], ◌++◌, ◌∷◌, ◌≡◌, List, None, Ok, Some, codes, false, refl, ℕ}
+use Rattle.update_machine.specs.Exports.{Drop, Header, Net, Out, Rule, Setting}
 use Rattle.policy_rules.specs.declared.packet.How.TheVariants as how
-use Rattle.switch_table.specs.Carried.{all_touched}
+use Rattle.switch_table.specs.Exports.{all_touched}
 use Rattle.ctrl_msg.specs.declared.message.Body.TheVariants as body
 use Rattle.steps.specs.declared.step.Step.TheVariants as step
 use Rattle.journal.specs.declared.item.Item.TheVariants as item
 use Rattle.update_machine.proofs.ComputedSteps.{left_by}
 use Rattle.update_machine.proofs.ExampleNetworks.{advert, answered, any_word, at, by_action, delivered, leaving, link, on, out_or_drop, rule, switch, tables_of, to}
-use Rattle.std.proofs.Common.{ℕ, List}
-use Rattle.std.specs.Prelude.{Ok, codes}
-use Rattle.five_tuple.specs.HeaderNumbers.{header_of}
-use Rattle.five_tuple.specs.declared.header.Header.{Header}
-use Rattle.ternary.specs.Word.{WordValue}
-use Rattle.net_file.specs.declared.net.Net.{Net}
+use Rattle.five_tuple.specs.Exports.{header_of}
+use Rattle.ternary.specs.Exports.{WordValue}
 use Rattle.partition.specs.Plan.{Hosted}
-use Rattle.update_machine.specs.Setting.{Setting}
 
 abbrev header_1 : Header
 header_1 =

@@ -1,9 +1,7 @@
 -- Causes of items, for any table of causes.
-use Rattle.std.specs.Prelude.{⊤}
-use Rattle.std.proofs.Common.{List, [], ◌∷◌, ◌++◌, sym, subst, append_assoc, append-nil}
-use Rattle.journal.specs.declared.item.Item.{Item}
-use Rattle.update_machine.specs.Causes.{HaveCauses}
-use Rattle.update_machine.specs.Moves.{in_turn, items_then}
+use Rattle.base.proofs.Exports.{⊤}
+use Rattle.std.proofs.Common.{[], ◌++◌, ◌∷◌, List, append-nil, append_assoc, subst, sym}
+use Rattle.update_machine.specs.Exports.{HaveCauses, Item, in_turn, items_then}
 
 -- causes go on by causes
 pub have_append : (cause : List Item → Item → Type 0) (before xs ys : List Item)

@@ -1,22 +1,14 @@
 -- The causes of packets' ends and of what fails, computed.
-use Rattle.std.proofs.Common.{ℕ, ◌≡◌, Bool, false, true, nat_le, inl, inr, List, [], ◌∷◌, refl, subst, arith}
-use Rattle.std.specs.Prelude.{⊤, IsTrue, take}
-use Rattle.std.proofs.lemmas.Bool.{cases_eq, leb-true}
-use Rattle.std.proofs.lemmas.Bool.Decides.{nat_tests}
-use Rattle.std.proofs.lemmas.List.Elements.{All-from_recursion}
-use Rattle.policy_rules.specs.declared.policy.Action.TheVariants.{Out}
+use Rattle.std.proofs.Common.{[], ◌∷◌, ◌≡◌, Bool, IsTrue, List, arith, false, inl, inr, leb-true, nat_le, refl, subst, take, true, ℕ}
+use Rattle.base.proofs.Exports.{All-from_recursion, cases_eq, nat_tests, ⊤}
+use Rattle.update_machine.specs.Exports.{AreTargets, HasCause, HaveCauses, Item, Leads, Out, claim_of, decision_of, file_of, header_in, is_link_up, is_open, message_of, policy_in, present_step, serves, standing}
 use Rattle.policy_rules.specs.declared.packet.Leg.TheVariants as leg
 use Rattle.steps.specs.declared.step.Step.TheVariants as step
-use Rattle.journal.specs.declared.item.Item.{Item}
 use Rattle.journal.specs.declared.item.Item.TheVariants as item
-use Rattle.update_machine.specs.Causes.{AreTargets, HasCause, HaveCauses, Leads, is_open, present_step}
 use Rattle.update_machine.proofs.EnclosedWalks.{ends_within}
 use Rattle.update_machine.proofs.ExampleNetworks.{all_dropped, all_to, any_word, on, one, open_net, ring}
 use Rattle.update_machine.proofs.LinkRows.{round}
-use Rattle.update_machine.specs.Links.{claim_of, is_link_up, serves, message_of}
-use Rattle.update_machine.specs.Setting.{file_of, policy_in}
-use Rattle.update_machine.specs.Packets.{header_in, standing, decision_of}
-use Rattle.ternary.specs.Word.{holds}
+use Rattle.ternary.specs.Exports.{holds}
 
 -- an item that needs no cause, and those behind it
 free : {causes : Type 0} → causes → ⊤ × causes

@@ -1,19 +1,9 @@
 -- What changes make of versions' policies, on journals of few items.
-use Rattle.std.proofs.Common.{◌≡◌, Option, Some, None, List, [], ◌∷◌, refl, ap, sym, ◌∙◌, arith}
-use Rattle.std.specs.Prelude.{Ok, Err, length, slice_get}
-use Rattle.std.specs.Option.{option_map_or}
-use Rattle.policy_rules.specs.Applied.{applied}
-use Rattle.policy_rules.specs.declared.amendment.Edit.TheVariants.{Remove, Add}
-use Rattle.policy_rules.specs.declared.applying.Inapplicable.TheVariants.{Taken}
-use Rattle.policy_rules.specs.declared.file.PolicyFile.TheVariants.{Whole, Change}
-use Rattle.policy_rules.specs.declared.policy.Action.TheVariants.{Drop, Out}
-use Rattle.policy_rules.specs.declared.policy.Row.{Row}
+use Rattle.std.proofs.Common.{[], ◌∙◌, ◌∷◌, ◌≡◌, Err, List, None, Ok, Option, Some, ap, arith, length, refl, slice_get, sym}
+use Rattle.base.proofs.Exports.{option_map_or}
+use Rattle.policy_rules.specs.Exports.{applied}
+use Rattle.update_machine.specs.Exports.{Add, Change, Drop, Machine, Out, Remove, Row, Setting, Taken, Takes, Whole, file_of, first_machine, next_policy, policy_in, retired_mark, update_code, version_count}
 use Rattle.journal.specs.declared.item.Item.TheVariants as item
-use Rattle.update_machine.specs.Machine.{Machine, Takes, first_machine}
-use Rattle.update_machine.specs.Marks.{retired_mark}
-use Rattle.update_machine.specs.Pieces.{update_code}
-use Rattle.update_machine.specs.Setting.{Setting, file_of, policy_in}
-use Rattle.update_machine.specs.Versions.{next_policy, version_count}
 use Rattle.update_machine.proofs.ExampleNetworks.{all_to, by_action, plan_p, plan_q, two_switches}
 
 -- `100,any,any,any,any,any,out:2` and `50,any,any,any,any,any,drop`

@@ -1,34 +1,11 @@
 -- What a journal without items says.
-use Rattle.std.proofs.Common.{ℕ, ◌≡◌, ◌<◌, ◌≤◌, Bool, true, false, Some, None, List, [], ◌∷◌, refl, ap, sym, ◌∙◌, ◌==◌, arith, rules}
-use Rattle.std.specs.Prelude.{filter, length, map, nat_lt, slice_index, slice_index_or, slice_set, ◌&&◌}
-use Rattle.std.proofs.lemmas.Bool.Decides.{nat_tests}
-use Rattle.std.proofs.lemmas.List.{set-get_or}
-use Rattle.std.proofs.lemmas.List.FromFn.{get_or-map-range_with_len}
-use Rattle.std.proofs.Math.Bool.{or-false}
-use Rattle.failover.specs.Adverts.{first_advert, first_adverts, first_of}
+use Rattle.std.proofs.Common.{[], ◌&&◌, ◌<◌, ◌==◌, ◌∙◌, ◌∷◌, ◌≡◌, ◌≤◌, Bool, List, None, Some, ap, arith, false, filter, length, map, nat_lt, refl, rules, slice_index, slice_index_or, slice_set, sym, true, ℕ}
+use Rattle.base.proofs.Exports.{get_or-map-range_with_len, nat_tests, or-false, set-get_or}
+use Rattle.failover.specs.Exports.{first_advert, first_adverts, first_of}
 use Rattle.failover.proofs.HeldAdverts.{held-first}
-use Rattle.five_tuple.specs.declared.header.Header.{Header}
-use Rattle.net_file.specs.Owners.{links_of}
-use Rattle.switch_table.specs.Lookup.{table_lookup}
-use Rattle.net_file.specs.declared.net.LinkRow.{LinkRow}
-use Rattle.update_machine.specs.Adverts.{adverts_known, own_advert, own_seq}
-use Rattle.update_machine.specs.Boots.{boot_of, heard, is_up}
-use Rattle.update_machine.specs.Caches.{cache_of, lookup_at}
-use Rattle.update_machine.specs.Handled.{handled_count}
-use Rattle.update_machine.specs.Laws.{MessageStarts, PacketStarts, StartLaws}
-use Rattle.update_machine.specs.Links.{is_link_up, is_usable, serves, message_of}
-use Rattle.update_machine.specs.Marks.{acked_stamp, controller_heard, current_mark, has_acked, is_member, is_over, known_boot, opened_at, retired_mark}
-use Rattle.update_machine.specs.Messages.{is_deliverable, is_forgotten, next_message, next_waiting, was_delivered}
-use Rattle.update_machine.specs.Packets.{decision_of, header_in, next_packet, standing}
-use Rattle.update_machine.specs.Sendings.{sendings}
-use Rattle.update_machine.specs.Setting.{Setting, file_of}
-use Rattle.update_machine.specs.SwitchNumbers.{switches_of}
-use Rattle.update_machine.specs.Steps.{steps_in}
-use Rattle.update_machine.specs.Versions.{holds_version, stamp_of, tables_at, version_count}
-use Rattle.update_machine.specs.Causes.{present_step}
-use Rattle.update_machine.specs.Travels.{ingress_of, leg_of, next_travelling, travels}
-use Rattle.update_machine.specs.PacketRoutes.{found_down, next_switch, route_in, route_place}
-use Rattle.update_machine.specs.LinkMasks.{near}
+use Rattle.update_machine.specs.Exports.{Header, LinkRow, MessageStarts, PacketStarts, Setting, StartLaws, acked_stamp, adverts_known, boot_of, cache_of, controller_heard, current_mark, decision_of, file_of, found_down, handled_count, has_acked, header_in, heard, holds_version, ingress_of, is_deliverable, is_forgotten, is_link_up, is_member, is_over, is_up, is_usable, known_boot, leg_of, lookup_at, message_of, near, next_message, next_packet, next_switch, next_travelling, next_waiting, opened_at, own_advert, own_seq, present_step, retired_mark, route_in, route_place, sendings, serves, stamp_of, standing, steps_in, switches_of, tables_at, travels, version_count, was_delivered}
+use Rattle.net_file.specs.Exports.{links_of}
+use Rattle.switch_table.specs.Exports.{table_lookup}
 
 all_usable : (links : List LinkRow) → filter (is_usable []) links ≡ links
 unfolding is_link_up serves

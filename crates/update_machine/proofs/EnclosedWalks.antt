@@ -1,7 +1,6 @@
 -- A way keeps within switches that no link leads out of.
-use Rattle.std.proofs.Common.{ℕ, Bool, List, [], ◌∷◌, subst}
-use Rattle.std.specs.Prelude.{IsTrue}
-use Rattle.update_machine.specs.Causes.{Leads}
+use Rattle.std.proofs.Common.{[], ◌∷◌, Bool, IsTrue, List, subst, ℕ}
+use Rattle.update_machine.specs.Exports.{Leads}
 
 pub ends_within : (joined : ℕ → ℕ → Bool) (within : ℕ → Bool)
     → ((one two : ℕ) → IsTrue (within one) → IsTrue (joined one two) → IsTrue (within two))

@@ -1,18 +1,8 @@
 -- What the steps of events are: whatever holds of each single one of them, of each delivery and of
 -- each hop.
-use Rattle.std.specs.Prelude.{⊤, All, option_map}
-use Rattle.std.specs.List.{AllByRecursion}
-use Rattle.std.proofs.Common.{ℕ, suc, ◌≡◌, ◌+◌, Option, Some, None, List, [], ◌∷◌, ◌++◌, sym, subst, arith, inl, inr}
-use Rattle.journal.specs.declared.item.Item.{Item}
-use Rattle.steps.specs.declared.step.Event.{Event}
-use Rattle.steps.specs.declared.step.Event.TheVariants.{One, Flush, Drain}
-use Rattle.steps.specs.declared.step.Step.{Step}
-use Rattle.steps.specs.declared.step.Step.TheVariants.{Deliver, Hop}
-use Rattle.update_machine.specs.Answers.{AreAll, AreFirstSteps, AreFirstStepsOf, AreSome, AreStepsOf, StepOfRow, after_steps, next_delivery, next_hop}
-use Rattle.update_machine.specs.Messages.{next_waiting}
-use Rattle.update_machine.specs.Travels.{next_travelling}
-use Rattle.update_machine.specs.Pieces.{piece}
-use Rattle.update_machine.specs.Setting.{Setting}
+use Rattle.base.proofs.Exports.{AllByRecursion, ⊤}
+use Rattle.std.proofs.Common.{[], ◌++◌, ◌+◌, ◌∷◌, ◌≡◌, All, List, None, Option, Some, arith, inl, inr, option_map, subst, suc, sym, ℕ}
+use Rattle.update_machine.specs.Exports.{AreAll, AreFirstSteps, AreFirstStepsOf, AreSome, AreStepsOf, Deliver, Drain, Event, Flush, Hop, Item, One, Setting, Step, StepOfRow, after_steps, next_delivery, next_hop, next_travelling, next_waiting, piece}
 
 -- a kind of steps that has each delivery and each hop
 pub record HasNexts (Is : Step → Type 0) : Type 0 where

@@ -1,32 +1,13 @@
 -- Small networks, policies and messages on which the definitions are tried.
-use Rattle.std.proofs.Common.{ℕ, Some, None, List, [], ◌∷◌, ◌++◌, Option, ◌-◌, ◌^◌}
-use Rattle.std.specs.Prelude.{Ok, Err, Result, codes, replicate}
-use Rattle.five_tuple.specs.HeaderNumbers.{header_of}
-use Rattle.five_tuple.specs.declared.header.Header.{Header}
-use Rattle.five_tuple.specs.declared.matching.Proto.TheVariants.{Any}
-use Rattle.ternary.specs.Word.{WordValue}
-use Rattle.net_file.specs.declared.net.Net.{Net}
-use Rattle.net_file.specs.declared.net.LinkRow.{LinkRow}
-use Rattle.net_file.specs.declared.net.SwitchRow.{SwitchRow}
+use Rattle.std.proofs.Common.{[], ◌++◌, ◌-◌, ◌^◌, ◌∷◌, Err, List, None, Ok, Option, Result, Some, codes, replicate, ℕ}
+use Rattle.five_tuple.specs.Exports.{header_of}
+use Rattle.update_machine.specs.Exports.{Action, Advertise, Any, Body, Drop, Header, Hello, Install, Installed, Item, Leaving, LinkRow, Message, Net, OpenAt, Out, PolicyFile, Row, Rule, Setting, Step, StepOfRow, SwitchRow, Whole}
+use Rattle.ternary.specs.Exports.{WordValue}
 use Rattle.partition.specs.Plan.{Hosted}
-use Rattle.policy_rules.specs.declared.rules.Rule.{Rule}
-use Rattle.policy_rules.specs.declared.packet.Leaving.{Leaving}
-use Rattle.policy_rules.specs.declared.file.PolicyFile.{PolicyFile}
-use Rattle.policy_rules.specs.declared.file.PolicyFile.TheVariants.{Whole}
-use Rattle.policy_rules.specs.declared.policy.Action.{Action}
-use Rattle.policy_rules.specs.declared.policy.Action.TheVariants.{Drop, Out}
-use Rattle.policy_rules.specs.declared.policy.Row.{Row}
-use Rattle.policy_rules.specs.Hosted.{NoPlan, TooManyLeaves}
-use Rattle.ctrl_msg.specs.declared.message.Body.{Body}
-use Rattle.ctrl_msg.specs.declared.message.Body.TheVariants.{Advertise, Hello, Install, Installed, OpenAt}
-use Rattle.ctrl_msg.specs.declared.message.Message.{Message}
+use Rattle.policy_rules.specs.Exports.{NoPlan, TooManyLeaves}
 use Rattle.ctrl_msg.specs.declared.message.Place.TheVariants as receiver
-use Rattle.journal.specs.declared.item.Item.{Item}
 use Rattle.journal.specs.declared.item.Item.TheVariants as item
-use Rattle.steps.specs.declared.step.Step.{Step}
 use Rattle.steps.specs.declared.step.Step.TheVariants as step
-use Rattle.update_machine.specs.Setting.{Setting}
-use Rattle.update_machine.specs.Answers.{StepOfRow}
 pub use Rattle.switch_table.specs.Tables.{tables_of}
 
 -- ---- steps and messages

@@ -1,18 +1,11 @@
 -- The versions of the open network, where the second one is submitted with the second file: what
 -- trials cite, here and above.
-use Rattle.std.proofs.Common.{◌≡◌, Option, Some, List, [], ◌∷◌, ◌++◌, refl, ap, sym, subst, ◌∙◌}
-use Rattle.std.specs.Prelude.{Ok, Result, option_and_then, unwrap_or}
-use Rattle.std.specs.Result.{result_ok}
-use Rattle.std.specs.Option.{option_map_or, option_or}
+use Rattle.std.proofs.Common.{[], ◌++◌, ◌∙◌, ◌∷◌, ◌≡◌, List, Ok, Option, Result, Some, ap, option_and_then, refl, subst, sym, unwrap_or}
+use Rattle.base.proofs.Exports.{option_map_or, option_or, result_ok}
 use Rattle.partition.specs.Plan.{Hosted}
-use Rattle.policy_rules.specs.Hosted.{NoPlan}
-use Rattle.policy_rules.specs.declared.policy.Row.{Row}
-use Rattle.policy_rules.specs.declared.policy.Action.TheVariants.{Drop, Out}
-use Rattle.journal.specs.declared.item.Item.{Item}
+use Rattle.policy_rules.specs.Exports.{NoPlan}
+use Rattle.update_machine.specs.Exports.{Drop, HasPlan, IsPlanOf, Item, NoneConcern, Out, Row, concerns_policies, file_of, hosted_in, plan_at, policy_at, policy_by, policy_in}
 use Rattle.journal.specs.declared.item.Item.TheVariants as item
-use Rattle.update_machine.specs.Concerns.{NoneConcern, concerns_policies}
-use Rattle.update_machine.specs.Setting.{IsPlanOf, file_of, policy_by, policy_in}
-use Rattle.update_machine.specs.Versions.{HasPlan, hosted_in, plan_at, policy_at}
 use Rattle.update_machine.proofs.ExampleNetworks.{all_to, open_net, plan_p, plan_q}
 use Rattle.update_machine.proofs.VersionPolicies.{file_append}
 use Rattle.update_machine.proofs.SilentLinks.{policies_keep}

@@ -1,12 +1,6 @@
 -- Of two lists of first steps of the same events, one begins the other.
-use Rattle.std.proofs.Common.{ℕ, ◌≡◌, ◌+◌, ◌⊎◌, inl, inr, Option, Some, None, List, [], ◌∷◌, ◌++◌, length, refl, ap, sym, subst, ◌∙◌, arith, append_assoc, append-nil, length-append}
-use Rattle.journal.specs.declared.item.Item.{Item}
-use Rattle.steps.specs.declared.step.Event.{Event}
-use Rattle.steps.specs.declared.step.Event.TheVariants.{One, Flush, Drain}
-use Rattle.steps.specs.declared.step.Step.{Step}
-use Rattle.update_machine.specs.Answers.{AnswersSoFar, AreAll, AreFirstSteps, AreFirstStepsOf, AreSome, AreSteps, AreStepsOf, StepOfRow, after_steps, next_delivery, next_hop}
-use Rattle.update_machine.specs.Pieces.{piece}
-use Rattle.update_machine.specs.Setting.{Setting}
+use Rattle.std.proofs.Common.{[], ◌++◌, ◌+◌, ◌∙◌, ◌∷◌, ◌≡◌, ◌⊎◌, List, None, Option, Some, ap, append-nil, append_assoc, arith, inl, inr, length, length-append, refl, subst, sym, ℕ}
+use Rattle.update_machine.specs.Exports.{AnswersSoFar, AreAll, AreFirstSteps, AreFirstStepsOf, AreSome, AreSteps, AreStepsOf, Drain, Event, Flush, Item, One, Setting, Step, StepOfRow, after_steps, next_delivery, next_hop, piece}
 use Rattle.update_machine.proofs.OneAnswer.{event_same, same_next, same_onward}
 
 -- the second list is the first, and then these

@@ -1,12 +1,7 @@
 -- What a journal says once more items stand behind it, one law for each of the folds.
-use Rattle.std.proofs.Common.{◌≡◌, ◌+◌, Bool, Option, List, [], ◌∷◌, ◌++◌, refl, ap, ◌∙◌, sym, append_assoc, append-nil}
-use Rattle.std.specs.Option.{option_or}
-use Rattle.std.proofs.lemmas.List.Concat.{flat_map-append}
-use Rattle.std.proofs.lemmas.List.Sums.{sum_by-append}
-use Rattle.base.proofs.OptionsMade.{option_or-assoc, option_or-none}
-use Rattle.journal.specs.declared.item.Item.{Item}
-use Rattle.update_machine.specs.Folds.{all_given, count_of, folded_value, folded_from, last_given}
-use Rattle.update_machine.specs.Setting.{first_given}
+use Rattle.std.proofs.Common.{[], ◌++◌, ◌+◌, ◌∙◌, ◌∷◌, ◌≡◌, Bool, List, Option, ap, append-nil, append_assoc, refl, sym}
+use Rattle.base.proofs.Exports.{flat_map-append, option_or, option_or-assoc, option_or-none, sum_by-append}
+use Rattle.update_machine.specs.Exports.{Item, all_given, count_of, first_given, folded_from, folded_value, last_given}
 
 -- the last that was told in two parts is that of the second, or else that of the first
 pub last_given_append : {X : Type 0} (tells : Item → Option X) (before items : List Item)

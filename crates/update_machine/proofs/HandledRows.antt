@@ -1,15 +1,10 @@
 -- How often switches were called, computed.
-use Rattle.std.proofs.Common.{◌≡◌, Some, List, [], ◌∷◌, refl, false}
-use Rattle.policy_rules.specs.declared.policy.Action.TheVariants.{Drop}
+use Rattle.std.proofs.Common.{[], ◌∷◌, ◌≡◌, List, Some, false, refl}
+use Rattle.update_machine.specs.Exports.{Drop, Item, handled_count, standing, steps_in, travels}
 use Rattle.policy_rules.specs.declared.packet.How.TheVariants as how
 use Rattle.ctrl_msg.specs.declared.message.Body.TheVariants as body
 use Rattle.steps.specs.declared.step.Step.TheVariants as step
-use Rattle.journal.specs.declared.item.Item.{Item}
 use Rattle.journal.specs.declared.item.Item.TheVariants as item
-use Rattle.update_machine.specs.Handled.{handled_count}
-use Rattle.update_machine.specs.Packets.{standing}
-use Rattle.update_machine.specs.Steps.{steps_in}
-use Rattle.update_machine.specs.Travels.{travels}
 use Rattle.update_machine.proofs.ComputedSteps.{left_by}
 use Rattle.update_machine.proofs.ExampleNetworks.{advert, any_word, at, one, line_of_three, to}
 use Rattle.update_machine.proofs.LinkRows.{round}

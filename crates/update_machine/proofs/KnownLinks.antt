@@ -1,32 +1,14 @@
 -- What a switch knows of the network's links, by the laws of adverts and routes.
-use Rattle.std.proofs.Common.{ℕ, ◌≡◌, ◌≢◌, ◌<◌, ◌≤◌, Bool, true, false, Option, Some, None, List, [], ◌∷◌, ◌++◌, inl, inr, refl, ap, sym, subst, ◌∙◌, arith, length, set, get_or-set_other, get_or-set_same, length-set, set-set}
-use Rattle.std.specs.Prelude.{◌↔◌, ◌==◌, IsTrue, if◌then◌else◌, map, option_to_list, slice_index, unwrap_or}
-use Rattle.std.specs.List.{AllByRecursion}
-use Rattle.std.proofs.lemmas.List.{map-set}
-use Rattle.std.proofs.lemmas.Bool.Decides.{nat_tests}
-use Rattle.failover.specs.Adverts.{after_hearing, after_hearing_all, first_adverts, held_advert, no_adverts}
-use Rattle.failover.specs.Links.{is_link, known_links, links_at, neighbours_named, named_links, IsPath, IsReachable, LinksLead}
-use Rattle.failover.specs.Paths.{IsIsolated, IsRoute}
-use Rattle.failover.specs.declared.advert.Advert.{Advert}
-use Rattle.failover.specs.Newest.{AreByOrigin, IsNewest}
+use Rattle.std.proofs.Common.{[], if◌then◌else◌, ◌++◌, ◌<◌, ◌==◌, ◌↔◌, ◌∙◌, ◌∷◌, ◌≡◌, ◌≢◌, ◌≤◌, Bool, IsTrue, List, None, Option, Some, ap, arith, false, get_or-set_other, get_or-set_same, inl, inr, length, length-set, map, option_to_list, refl, set, set-set, slice_index, subst, sym, true, unwrap_or, ℕ}
+use Rattle.base.proofs.Exports.{AllByRecursion, map-set, nat_tests}
+use Rattle.failover.specs.Exports.{AreByOrigin, IsIsolated, IsNewest, IsPath, IsReachable, IsRoute, LinksLead, after_hearing, after_hearing_all, first_adverts, held_advert, is_link, known_links, links_at, named_links, neighbours_named, no_adverts}
+use Rattle.update_machine.specs.Exports.{Advert, Exit, Item, KnownLinkLaws, Out, Setting, advert_known, adverts_begun, adverts_heard, adverts_known, adverts_of_others, end_items, found_down, is_cut_off, is_in_first_boot, leaving_item, leg_items, links_known, near, no_switch, own_advert, own_if_sent, owner, route_from, stuck_on, switches_of, takes_route}
 use Rattle.failover.proofs.HeldAdverts.{by_origin-first, by_origin-hearing, by_origin-none}
 use Rattle.failover.proofs.NewestAdvert.{held_newest}
 use Rattle.failover.proofs.KnownLinkRows.{has_known, isolated_tells}
 use Rattle.failover.proofs.RouteSearch.{known_route_is_route}
-use Rattle.base.specs.Masks.{has, switches}
-use Rattle.net_file.specs.Joins.{owner_of}
-use Rattle.net_file.specs.Owners.{links_of}
-use Rattle.policy_rules.specs.declared.packet.Leg.TheVariants.{Exit}
-use Rattle.policy_rules.specs.declared.policy.Action.TheVariants.{Out}
-use Rattle.journal.specs.declared.item.Item.{Item}
-use Rattle.update_machine.specs.Adverts.{advert_known, adverts_known, is_cut_off, own_advert, own_if_sent, route_from}
-use Rattle.update_machine.specs.Boots.{is_in_first_boot}
-use Rattle.update_machine.specs.Laws.{KnownLinkLaws}
-use Rattle.update_machine.specs.LinkMasks.{near, adverts_begun, adverts_heard, adverts_of_others, links_known}
-use Rattle.update_machine.specs.Moves.{end_items, leaving_item, leg_items, stuck_on, takes_route}
-use Rattle.update_machine.specs.PacketRoutes.{found_down, no_switch, owner}
-use Rattle.update_machine.specs.Setting.{Setting}
-use Rattle.update_machine.specs.SwitchNumbers.{switches_of}
+use Rattle.base.specs.Exports.{has, switches}
+use Rattle.net_file.specs.Exports.{links_of, owner_of}
 
 begun_by_origin : (setting : Setting) (journal : List Item) (s : ℕ)
     → AreByOrigin (adverts_begun setting journal s)

@@ -1,10 +1,8 @@
 -- What switches can use and know of failing links, computed.
-use Rattle.std.proofs.Common.{ℕ, ◌≡◌, true, false, List, [], ◌∷◌, ◌++◌, map, refl}
-use Rattle.std.specs.List.{list_any}
-use Rattle.journal.specs.declared.item.Item.{Item}
+use Rattle.std.proofs.Common.{[], ◌++◌, ◌∷◌, ◌≡◌, List, false, map, refl, true, ℕ}
+use Rattle.base.proofs.Exports.{list_any}
+use Rattle.update_machine.specs.Exports.{Item, can_use, claim_of, finds_down, is_link_up, knows_link, message_of, serves}
 use Rattle.journal.specs.declared.item.Item.TheVariants as item
-use Rattle.update_machine.specs.Causes.{finds_down}
-use Rattle.update_machine.specs.Links.{can_use, claim_of, is_link_up, knows_link, message_of, serves}
 use Rattle.update_machine.proofs.ExampleNetworks.{advert, ring, to}
 use Rattle.update_machine.proofs.LinkRows.{round}
 

@@ -49,3 +49,4 @@ mod SomePlay
 mod UsableClaims
 pub mod ExampleVersions
 pub mod CallerLemmas
+pub mod Exports

@@ -1,10 +1,10 @@
 -- Failing links, computed.
-use Rattle.std.proofs.Common.{◌≡◌, List, [], ◌∷◌, refl, false}
-use Rattle.failover.specs.Links.{no_links, with_link}
+use Rattle.std.proofs.Common.{[], ◌∷◌, ◌≡◌, List, false, refl}
+use Rattle.failover.specs.Exports.{no_links, with_link}
 use Rattle.policy_rules.specs.declared.packet.Cause.TheVariants as cause
 use Rattle.policy_rules.specs.declared.packet.Leg.TheVariants as leg
 use Rattle.steps.specs.declared.step.Step.TheVariants as step
-use Rattle.journal.specs.declared.item.Item.{Item}
+use Rattle.update_machine.specs.Exports.{Item}
 use Rattle.journal.specs.declared.item.Item.TheVariants as item
 use Rattle.update_machine.proofs.ComputedSteps.{left_by}
 use Rattle.update_machine.proofs.ExampleNetworks.{advert, at, one, open_net, ring, to}

@@ -1,16 +1,8 @@
 -- The policies of the machine are those of the versions.
-use Rattle.std.proofs.Common.{ℕ, ◌≡◌, ◌≢◌, zero, suc, ◌+◌, ◌-◌, ◌<◌, ◌≤◌, Option, Some, None, List, [], ◌∷◌, ◌++◌, length, length-append, refl, ap, sym, subst, ◌∙◌, arith, inl, inr, ◌⊎◌}
-use Rattle.std.specs.Prelude.{Ok, option_to_list, slice_get, unwrap_or}
-use Rattle.std.specs.Result.{result_ok}
-use Rattle.std.proofs.lemmas.Bool.{cases_eq}
-use Rattle.policy_rules.specs.declared.policy.Row.{Row}
-use Rattle.journal.specs.declared.item.Item.{Item}
+use Rattle.std.proofs.Common.{[], ◌++◌, ◌+◌, ◌-◌, ◌<◌, ◌∙◌, ◌∷◌, ◌≡◌, ◌≢◌, ◌≤◌, ◌⊎◌, List, None, Ok, Option, Some, ap, arith, inl, inr, length, length-append, option_to_list, refl, slice_get, subst, suc, sym, unwrap_or, zero, ℕ}
+use Rattle.base.proofs.Exports.{cases_eq, result_ok}
+use Rattle.update_machine.specs.Exports.{IsSetting, Item, Machine, PoliciesKeep, Row, Setting, Takes, VersionsAreNumbered, first_machine, made_by, next_policy, policy_at, policy_by, policy_in, submitted_policy, version_count}
 use Rattle.journal.specs.declared.item.Item.TheVariants as item
-use Rattle.update_machine.specs.Laws.{PoliciesKeep}
-use Rattle.update_machine.specs.Machine.{Machine, Takes, first_machine, submitted_policy}
-use Rattle.update_machine.specs.Numbers.{VersionsAreNumbered}
-use Rattle.update_machine.specs.Setting.{IsSetting, Setting, made_by, policy_by, policy_in}
-use Rattle.update_machine.specs.Versions.{next_policy, policy_at, version_count}
 use Rattle.update_machine.proofs.VersionPolicies.{count_above, count_submitted, first_in, next_policy_in, policy_in_stays}
 
 -- as many as there are versions, and of each its own

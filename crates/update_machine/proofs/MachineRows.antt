@@ -1,16 +1,12 @@
 -- A run of the abstract machine, computed.
-use Rattle.std.proofs.Common.{◌≡◌, ap, sym, ◌∙◌, Some, None, [], ◌∷◌, refl, arith}
-use Rattle.std.specs.Prelude.{◌≤◌}
-use Rattle.std.proofs.lemmas.List.Elements.{All-from_recursion}
-use Rattle.std.proofs.lemmas.Option.{same_Some}
-use Rattle.policy_rules.specs.Policy.{IsFirstMatch}
-use Rattle.policy_rules.specs.declared.policy.Action.{Action}
-use Rattle.policy_rules.specs.declared.policy.Action.TheVariants.{Drop, Out}
-use Rattle.policy_rules.specs.declared.policy.Row.{Row}
+use Rattle.std.proofs.Common.{[], ◌∙◌, ◌∷◌, ◌≡◌, ◌≤◌, None, Some, ap, arith, refl, sym}
+use Rattle.base.proofs.Exports.{All-from_recursion, same_Some}
+use Rattle.policy_rules.specs.Exports.{IsFirstMatch}
+use Rattle.update_machine.specs.Exports.{Action, Decides, Drop, IsRun, Machine, Out, Row}
 use Rattle.steps.specs.declared.step.Step.TheVariants as step
 use Rattle.policy_rules.specs.declared.packet.How.TheVariants as how
 use Rattle.journal.specs.declared.item.Item.TheVariants as item
-use Rattle.update_machine.specs.Machine.{Decides, IsRun, Machine, Packet}
+use Rattle.update_machine.specs.Machine.{Packet}
 use Rattle.update_machine.proofs.ExampleNetworks.{all_to, leaving, one, open_net}
 
 first_match_of : (action : Action)

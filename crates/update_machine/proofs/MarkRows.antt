@@ -1,17 +1,10 @@
 -- The rule of the marks, computed.
-use Rattle.std.proofs.Common.{ℕ, ◌≡◌, ◌<◌, ◌≤◌, ◌++◌, ◌∙◌, true≢false, inl, inr, List, [], ◌∷◌, refl, sym, subst, false, arith}
-use Rattle.std.specs.Prelude.{All, IsTrue, IsFalse}
-use Rattle.std.specs.List.{AllByRecursion}
-use Rattle.std.proofs.lemmas.List.Elements.{All-from_recursion, All-weaker}
+use Rattle.std.proofs.Common.{[], ◌++◌, ◌<◌, ◌∙◌, ◌∷◌, ◌≡◌, ◌≤◌, All, IsFalse, IsTrue, List, arith, false, inl, inr, refl, subst, sym, true≢false, ℕ}
+use Rattle.base.proofs.Exports.{All-from_recursion, All-weaker, AllByRecursion}
 use Rattle.ctrl_msg.specs.declared.message.Body.TheVariants as body
-use Rattle.journal.specs.declared.item.Item.{Item}
+use Rattle.update_machine.specs.Exports.{AreSettled, Item, MayRise, acked_stamp, all_acked, controller_heard, current_mark, has_acked, is_joining, is_member, is_over, known_boot, message_of, next_current, next_retired, opened_at, retired_mark, switches_of, version_count}
 use Rattle.journal.specs.declared.item.Item.TheVariants as item
-use Rattle.update_machine.specs.Marks.{AreSettled, MayRise, all_acked, is_joining}
-use Rattle.update_machine.specs.SwitchNumbers.{switches_of}
 use Rattle.update_machine.proofs.ExampleNetworks.{open_net, plan_q, tables_of, to, to_controller}
-use Rattle.update_machine.specs.Marks.{controller_heard, known_boot, is_over, opened_at, is_member, has_acked, acked_stamp, current_mark, retired_mark, next_current, next_retired}
-use Rattle.update_machine.specs.Links.{message_of}
-use Rattle.update_machine.specs.Versions.{version_count}
 
 -- no switch is joining, so none that is acknowledged current
 none_joins : (journal : List Item)

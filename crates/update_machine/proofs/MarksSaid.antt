@@ -1,12 +1,7 @@
 -- What the controller is said to know, on journals of few items.
-use Rattle.std.proofs.Common.{ℕ, ◌≡◌, Some, List, [], ◌∷◌, ◌++◌, refl, true, false}
-use Rattle.ctrl_msg.specs.declared.message.Body.{Body}
-use Rattle.ctrl_msg.specs.declared.message.Body.TheVariants.{Hello, Installed, OpenAt, Stamped}
-use Rattle.journal.specs.declared.item.Item.{Item}
+use Rattle.std.proofs.Common.{[], ◌++◌, ◌∷◌, ◌≡◌, List, Some, false, refl, true, ℕ}
+use Rattle.update_machine.specs.Exports.{Body, Hello, Installed, Item, OpenAt, Stamped, acked_stamp, controller_heard, current_mark, has_acked, is_joining, is_member, is_over, known_boot, message_of, next_current, next_retired, opened_at, version_count}
 use Rattle.journal.specs.declared.item.Item.TheVariants as item
-use Rattle.update_machine.specs.Marks.{acked_stamp, controller_heard, current_mark, has_acked, is_joining, is_member, is_over, known_boot, next_current, next_retired, opened_at}
-use Rattle.update_machine.specs.Links.{message_of}
-use Rattle.update_machine.specs.Versions.{version_count}
 use Rattle.update_machine.proofs.ExampleNetworks.{open_net, to, to_controller}
 
 -- the controller is told this

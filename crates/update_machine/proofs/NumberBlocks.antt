@@ -1,27 +1,11 @@
 -- Each block of a piece takes the next numbers.
-use Rattle.std.proofs.Common.{ℕ, ◌≡◌, ◌+◌, Option, Some, None, List, [], ◌∷◌, ◌++◌, refl, ap, sym, ◌∙◌, arith, ◌≤◌}
-use Rattle.ctrl_msg.specs.declared.message.Message.{Message}
-use Rattle.ctrl_msg.specs.declared.message.Body.{Body}
+use Rattle.std.proofs.Common.{[], ◌++◌, ◌+◌, ◌∙◌, ◌∷◌, ◌≡◌, ◌≤◌, List, None, Option, Some, ap, arith, refl, sym, ℕ}
+use Rattle.update_machine.specs.Exports.{Action, AuthorityRule, Body, Exit, Found, HaveCauses, Item, Leg, Message, Seek, Setting, TakesNext, after_hello, arrive_by, arrive_items, authority_items, authority_rule, cache_items, controller_items, current_items, delivery_items, end_items, found_items, go_on, header_at, in_turn, installs_to, installs_to_all, is_sending, leg_items, leg_of, link_changes, lookup_at, lookup_items, move_items, next_message, open_items, reroute_by, reroute_items, retired_items, send_items, sent_from, settling, stamp_of, submitted_items, switch_items}
 use Rattle.ctrl_msg.specs.declared.message.Body.TheVariants as body
 use Rattle.policy_rules.specs.declared.packet.How.TheVariants as how
-use Rattle.policy_rules.specs.declared.packet.Leg.{Leg}
-use Rattle.policy_rules.specs.declared.packet.Leg.TheVariants.{Seek, Exit}
-use Rattle.policy_rules.specs.declared.policy.Action.{Action}
 use Rattle.policy_rules.specs.declared.policy.Action.TheVariants as action
-use Rattle.switch_table.specs.declared.search.Found.{Found}
 use Rattle.switch_table.specs.declared.search.Found.TheVariants as found
-use Rattle.journal.specs.declared.item.Item.{Item}
 use Rattle.journal.specs.declared.item.Item.TheVariants as item
-use Rattle.update_machine.specs.Causes.{HaveCauses}
-use Rattle.update_machine.specs.Messages.{is_sending, next_message, send_items, sent_from}
-use Rattle.update_machine.specs.Moves.{AuthorityRule, arrive_by, arrive_items, authority_items, authority_rule, cache_items, end_items, found_items, go_on, header_at, in_turn, leg_items, lookup_items, move_items, reroute_by, reroute_items}
-use Rattle.update_machine.specs.Numbers.{TakesNext}
-use Rattle.update_machine.specs.Caches.{lookup_at}
-use Rattle.update_machine.specs.Travels.{leg_of}
-use Rattle.update_machine.specs.Versions.{stamp_of}
-use Rattle.update_machine.specs.Setting.{Setting}
-use Rattle.update_machine.specs.Settling.{current_items, installs_to, installs_to_all, open_items, retired_items, settling, submitted_items}
-use Rattle.update_machine.specs.Deliveries.{after_hello, controller_items, delivery_items, link_changes, switch_items}
 use Rattle.update_machine.proofs.CauseLemmas.{have_first, have_in_turn, have_put}
 use Rattle.update_machine.proofs.FoldLemmas.{count_of_append}
 

@@ -1,17 +1,7 @@
 -- Each piece takes the next numbers, so packets and messages are numbered without a gap.
-use Rattle.std.proofs.Common.{ℕ, ◌≡◌, List, [], ◌∷◌, ◌++◌, sym, arith, map}
-use Rattle.ctrl_msg.specs.declared.message.Message.{Message}
-use Rattle.five_tuple.specs.declared.header.Header.{Header}
-use Rattle.journal.specs.declared.item.Item.{Item}
+use Rattle.std.proofs.Common.{[], ◌++◌, ◌∷◌, ◌≡◌, List, arith, map, sym, ℕ}
+use Rattle.update_machine.specs.Exports.{Confirm, Crash, Deliver, Expire, Forget, Header, Hop, Item, LinkDown, LinkUp, Lose, Message, Packet, Resend, Restart, Setting, Step, TakesNext, Update, confirm_items, crash_items, deliver_items, expire_items, forget_items, hop_items, is_packet, items_then, link_changes, link_items, lose_items, next_packet, packet_items, piece, resend_items, restart_items, sends_or_nothing, step_items, update_items}
 use Rattle.journal.specs.declared.item.Item.TheVariants as item
-use Rattle.steps.specs.declared.step.Step.{Step}
-use Rattle.steps.specs.declared.step.Step.TheVariants.{Packet, Hop, Lose, Deliver, Forget, Expire, Update, LinkDown, LinkUp, Crash, Restart, Confirm, Resend}
-use Rattle.update_machine.specs.Numbers.{TakesNext}
-use Rattle.update_machine.specs.Packets.{is_packet, next_packet}
-use Rattle.update_machine.specs.Pieces.{confirm_items, crash_items, deliver_items, expire_items, forget_items, hop_items, link_items, lose_items, packet_items, piece, resend_items, restart_items, sends_or_nothing, step_items, update_items}
-use Rattle.update_machine.specs.Deliveries.{link_changes}
-use Rattle.update_machine.specs.Moves.{items_then}
-use Rattle.update_machine.specs.Setting.{Setting}
 use Rattle.update_machine.proofs.CauseLemmas.{have_first, have_put}
 use Rattle.update_machine.proofs.FoldLemmas.{count_of_append}
 use Rattle.update_machine.proofs.NumberBlocks.{Next, delivery_next, links_next, lookup_next, move_next, sends_next, settling_next, submitted_next}

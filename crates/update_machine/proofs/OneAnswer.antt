@@ -1,13 +1,7 @@
 -- There is one answer to the events of a schedule.
-use Rattle.std.proofs.Common.{ℕ, ◌≡◌, ◌+◌, Option, Some, None, List, [], ◌∷◌, ◌++◌, refl, ap, sym, subst, ◌∙◌}
-use Rattle.std.proofs.lemmas.Option.{same_Some}
-use Rattle.journal.specs.declared.item.Item.{Item}
-use Rattle.steps.specs.declared.step.Event.{Event}
-use Rattle.steps.specs.declared.step.Event.TheVariants.{One, Flush, Drain}
-use Rattle.steps.specs.declared.step.Step.{Step}
-use Rattle.update_machine.specs.Answers.{Answers, AreAll, AreSteps, AreStepsOf, StepOfRow, after_steps, next_delivery, next_hop}
-use Rattle.update_machine.specs.Pieces.{piece}
-use Rattle.update_machine.specs.Setting.{Setting}
+use Rattle.std.proofs.Common.{[], ◌++◌, ◌+◌, ◌∙◌, ◌∷◌, ◌≡◌, List, None, Option, Some, ap, refl, subst, sym, ℕ}
+use Rattle.base.proofs.Exports.{same_Some}
+use Rattle.update_machine.specs.Exports.{Answers, AreAll, AreSteps, AreStepsOf, Drain, Event, Flush, Item, One, Setting, Step, StepOfRow, after_steps, next_delivery, next_hop, piece}
 
 -- two steps of the row, each of which is the next one
 pub same_next : (next : Option Step) (row : ℕ) (x y : StepOfRow) → x.row ≡ row → y.row ≡ row

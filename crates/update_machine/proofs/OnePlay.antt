@@ -1,15 +1,7 @@
 -- There is one play of the events of a schedule.
-use Rattle.std.proofs.Common.{ℕ, ◌≡◌, ◌≤◌, ◌⊎◌, inl, inr, Option, Some, None, List, [], ◌∷◌, ◌++◌, refl, ap, sym, subst, ◌∙◌, arith, append_assoc}
-use Rattle.std.specs.Prelude.{◌↔◌}
+use Rattle.std.proofs.Common.{[], ◌++◌, ◌↔◌, ◌∙◌, ◌∷◌, ◌≡◌, ◌≤◌, ◌⊎◌, List, None, Option, Some, ap, append_assoc, arith, inl, inr, refl, subst, sym, ℕ}
 use Rattle.policy_rules.proofs.CallerLemmas.{append_not_nil}
-use Rattle.journal.specs.declared.item.Item.{Item}
-use Rattle.steps.specs.declared.step.Event.{Event}
-use Rattle.update_machine.specs.Answers.{StepOfRow, after_steps}
-use Rattle.update_machine.specs.Folds.{count_of}
-use Rattle.update_machine.specs.Full.{AnswersWithRoom, HasRoom, HaveRoom, IsFull, IsPlay, StopsFull, full_at}
-use Rattle.update_machine.specs.Messages.{is_sending, next_message}
-use Rattle.update_machine.specs.Pieces.{piece}
-use Rattle.update_machine.specs.Setting.{Setting}
+use Rattle.update_machine.specs.Exports.{AnswersWithRoom, Event, HasRoom, HaveRoom, IsFull, IsPlay, Item, Setting, StepOfRow, StopsFull, after_steps, count_of, full_at, is_sending, next_message, piece}
 use Rattle.update_machine.proofs.FirstSteps.{Begins, begins_cons, begins_nil, first_begin_all, first_steps_either}
 use Rattle.update_machine.proofs.OneAnswer.{one_answer}
 

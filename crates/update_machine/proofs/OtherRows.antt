@@ -1,6 +1,6 @@
 -- Sending again, and steps that do nothing, computed.
-use Rattle.std.proofs.Common.{◌≡◌, Some, [], ◌∷◌, refl}
-use Rattle.policy_rules.specs.declared.policy.Action.TheVariants.{Drop}
+use Rattle.std.proofs.Common.{[], ◌∷◌, ◌≡◌, Some, refl}
+use Rattle.update_machine.specs.Exports.{Drop}
 use Rattle.policy_rules.specs.declared.packet.How.TheVariants as how
 use Rattle.ctrl_msg.specs.declared.message.Body.TheVariants as body
 use Rattle.steps.specs.declared.step.Step.TheVariants as step

@@ -1,6 +1,6 @@
 -- A switch that is over, computed.
-use Rattle.std.proofs.Common.{◌≡◌, [], ◌∷◌, ◌++◌, refl}
-use Rattle.switch_table.specs.Carried.{all_touched}
+use Rattle.std.proofs.Common.{[], ◌++◌, ◌∷◌, ◌≡◌, refl}
+use Rattle.switch_table.specs.Exports.{all_touched}
 use Rattle.ctrl_msg.specs.declared.message.Body.TheVariants as body
 use Rattle.steps.specs.declared.step.Step.TheVariants as step
 use Rattle.journal.specs.declared.item.Item.TheVariants as item

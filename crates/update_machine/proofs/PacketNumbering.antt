@@ -1,16 +1,8 @@
 -- Items that take the next numbers leave no gap.
-use Rattle.std.proofs.Common.{ℕ, zero, suc, ◌≡◌, ◌+◌, Bool, true, false, List, [], ◌∷◌, ◌++◌, refl, ap, sym, subst, ◌∙◌, arith, append_assoc, append-nil, add-zero}
-use Rattle.std.specs.List.{range_with_len}
-use Rattle.journal.specs.declared.item.Item.{Item}
+use Rattle.std.proofs.Common.{[], ◌++◌, ◌+◌, ◌∙◌, ◌∷◌, ◌≡◌, Bool, List, add-zero, ap, append-nil, append_assoc, arith, false, refl, subst, suc, sym, true, zero, ℕ}
+use Rattle.base.proofs.Exports.{range_with_len}
+use Rattle.update_machine.specs.Exports.{AreNumbered, BeginsAnswer, Event, HaveCauses, Item, Setting, TakesNext, VersionsAreNumbered, all_given, count_of, is_packet, is_sending, message_number, next_message, next_packet, packet_number}
 use Rattle.journal.specs.declared.item.Item.TheVariants as item
-use Rattle.steps.specs.declared.step.Event.{Event}
-use Rattle.update_machine.specs.Answers.{BeginsAnswer}
-use Rattle.update_machine.specs.Causes.{HaveCauses}
-use Rattle.update_machine.specs.Folds.{all_given, count_of}
-use Rattle.update_machine.specs.Messages.{is_sending, next_message}
-use Rattle.update_machine.specs.Numbers.{AreNumbered, TakesNext, VersionsAreNumbered, message_number, packet_number}
-use Rattle.update_machine.specs.Packets.{is_packet, next_packet}
-use Rattle.update_machine.specs.Setting.{Setting}
 use Rattle.update_machine.proofs.AnswerCauses.{begun_has}
 use Rattle.update_machine.proofs.FoldLemmas.{all_given_append, count_of_append}
 use Rattle.update_machine.proofs.NumberPieces.{piece_next}

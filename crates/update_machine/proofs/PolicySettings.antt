@@ -1,27 +1,13 @@
 -- Settings of policies on a network: when they are sound, what their first version and the next one
 -- have, and which code an update has.
-use Rattle.std.proofs.Common.{ℕ, zero, suc, ◌≡◌, ◌≤◌, ◌-◌, ◌==◌, if◌then◌else◌, Bool, true, false, Option, Some, None, List, [], refl, ap, sym, subst, ◌∙◌, arith}
-use Rattle.std.specs.Prelude.{All, IfSome, IsOk, Result, Ok, Err, option_and_then, slice_get, unwrap_or}
-use Rattle.std.specs.Result.{result_ok}
-use Rattle.std.proofs.lemmas.Bool.{ne_eqb}
-use Rattle.std.proofs.lemmas.List.Elements.{All-nil}
-use Rattle.std.proofs.lemmas.Option.{get_or_from_slice_get, slice_get_within}
-use Rattle.net_file.specs.Net.{IsNet}
-use Rattle.net_file.specs.declared.net.Net.{Net}
+use Rattle.std.proofs.Common.{[], if◌then◌else◌, ◌-◌, ◌==◌, ◌∙◌, ◌≡◌, ◌≤◌, All, Bool, Err, IfSome, IsOk, List, None, Ok, Option, Result, Some, ap, arith, false, ne_eqb, option_and_then, refl, slice_get, subst, suc, sym, true, unwrap_or, zero, ℕ}
+use Rattle.base.proofs.Exports.{All-nil, get_or_from_slice_get, result_ok, slice_get_within}
+use Rattle.net_file.specs.Exports.{IsNet}
+use Rattle.update_machine.specs.Exports.{Change, HasPlan, Inapplicable, IsSetting, Item, NamesOwnPort, Net, PolicyFile, Row, Setting, Whole, apply_code, file_at, file_of, hosted_in, made_by, marks_code, next_policy, plan_at, plan_code, policy_at, policy_by, policy_in, rows_code, setting_of, update_code, version_count}
 use Rattle.partition.specs.Plan.{Hosted, IsPlan, plan_of}
 use Rattle.partition.proofs.CallerLemmas.{plan_holds}
-use Rattle.policy_rules.specs.Hosted.{NoPlan}
-use Rattle.policy_rules.specs.Policy.{IsPolicy}
-use Rattle.policy_rules.specs.PolicyFiles.{GivesOnly, IsPolicyFile}
+use Rattle.policy_rules.specs.Exports.{GivesOnly, IsPolicy, IsPolicyFile, NoPlan}
 use Rattle.policy_rules.proofs.CallerLemmas.{All-additions, All-applied, IsPolicy-applied}
-use Rattle.policy_rules.specs.declared.applying.Inapplicable.{Inapplicable}
-use Rattle.policy_rules.specs.declared.file.PolicyFile.{PolicyFile}
-use Rattle.policy_rules.specs.declared.file.PolicyFile.TheVariants.{Whole, Change}
-use Rattle.policy_rules.specs.declared.policy.Row.{Row}
-use Rattle.journal.specs.declared.item.Item.{Item}
-use Rattle.update_machine.specs.Pieces.{apply_code, marks_code, plan_code, rows_code, update_code}
-use Rattle.update_machine.specs.Setting.{IsSetting, NamesOwnPort, Setting, file_at, file_of, made_by, policy_by, policy_in, setting_of}
-use Rattle.update_machine.specs.Versions.{HasPlan, hosted_in, next_policy, plan_at, policy_at, version_count}
 use Rattle.update_machine.proofs.VersionPolicies.{first_is}
 
 -- ---- the first policy

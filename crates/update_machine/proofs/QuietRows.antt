@@ -1,19 +1,10 @@
 -- Quiet networks and others, computed.
-use Rattle.std.proofs.Common.{ℕ, zero, suc, ◌≡◌, ◌∙◌, ◌<◌, ◌⊎◌, ◌++◌, Bool, false, inl, inr, List, [], ◌∷◌, refl, sym, true≢false, arith}
-use Rattle.std.specs.Prelude.{◌||◌, not, IsTrue}
-use Rattle.std.specs.List.{AllByRecursion}
-use Rattle.std.proofs.lemmas.List.Elements.{All-from_recursion}
+use Rattle.std.proofs.Common.{[], ◌++◌, ◌<◌, ◌||◌, ◌∙◌, ◌∷◌, ◌≡◌, ◌⊎◌, Bool, IsTrue, List, arith, false, inl, inr, not, refl, suc, sym, true≢false, zero, ℕ}
+use Rattle.base.proofs.Exports.{All-from_recursion, AllByRecursion}
 use Rattle.ctrl_msg.specs.declared.message.Body.TheVariants as body
-use Rattle.ctrl_msg.specs.declared.message.Message.{Message}
-use Rattle.switch_table.specs.declared.tables.Tables.{Tables}
+use Rattle.update_machine.specs.Exports.{AreReceived, IsQuiet, Item, Message, Tables, boot_of, current_mark, is_up, is_waited_for, switches_of, was_delivered}
 use Rattle.steps.specs.declared.step.Step.TheVariants as step
-use Rattle.journal.specs.declared.item.Item.{Item}
 use Rattle.journal.specs.declared.item.Item.TheVariants as item
-use Rattle.update_machine.specs.Boots.{boot_of, is_up}
-use Rattle.update_machine.specs.Marks.{current_mark}
-use Rattle.update_machine.specs.Messages.{was_delivered}
-use Rattle.update_machine.specs.Quiet.{AreReceived, IsQuiet, is_waited_for}
-use Rattle.update_machine.specs.SwitchNumbers.{switches_of}
 use Rattle.update_machine.proofs.ExampleNetworks.{advert, open_net, plan_q, tables_of, to, to_controller}
 use Rattle.update_machine.proofs.UpdateRows.{updated}
 

@@ -1,15 +1,7 @@
 -- Items that don't concern the controller leave what it knows as it is.
-use Rattle.std.proofs.Common.{ℕ, ◌≡◌, ◌+◌, false, None, List, [], ◌++◌, refl, ap, arith, append-nil}
-use Rattle.std.specs.Prelude.{IsFalse}
-use Rattle.ctrl_msg.specs.declared.message.Body.{Body}
-use Rattle.ctrl_msg.specs.declared.message.Body.TheVariants.{OpenAt}
-use Rattle.journal.specs.declared.item.Item.{Item}
+use Rattle.std.proofs.Common.{[], ◌++◌, ◌+◌, ◌≡◌, IsFalse, List, None, ap, append-nil, arith, false, refl, ℕ}
+use Rattle.update_machine.specs.Exports.{Body, ControllerKeeps, Item, NoneConcern, OpenAt, acked_stamp, all_given, body_to_controller, changes_controller_heard, changes_over, concerns_controller, controller_heard, current_mark, gives_current, gives_retired, has_acked, is_member, is_message_to_controller, is_opening, is_over, is_submission, known_boot, open_in, open_sent, opened_at, retired_mark, version_count}
 use Rattle.journal.specs.declared.item.Item.TheVariants as item
-use Rattle.update_machine.specs.Concerns.{NoneConcern, concerns_controller, is_message_to_controller, is_opening}
-use Rattle.update_machine.specs.Laws.{ControllerKeeps}
-use Rattle.update_machine.specs.Marks.{acked_stamp, changes_over, changes_controller_heard, controller_heard, current_mark, has_acked, is_member, is_over, known_boot, open_in, open_sent, opened_at, retired_mark, body_to_controller, gives_current, gives_retired}
-use Rattle.update_machine.specs.Folds.{all_given}
-use Rattle.update_machine.specs.Versions.{is_submission, version_count}
 use Rattle.update_machine.proofs.SilentItems.{Keeps, Silent, Stays, count_stays, folded_stays, given_stays, last_or_stays}
 
 -- a message for a switch says nothing to the controller

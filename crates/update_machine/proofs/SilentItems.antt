@@ -1,12 +1,7 @@
 -- Items that don't concern what a fold says leave it as it is: for each of the folds.
-use Rattle.std.proofs.Common.{◌≡◌, ◌+◌, Bool, true, false, Option, None, List, [], ◌∷◌, ◌++◌, refl, ap, sym, ◌∙◌, append_assoc, append-nil, add-zero}
-use Rattle.std.specs.Prelude.{◌||◌, IsFalse, unwrap_or}
-use Rattle.std.specs.Option.{option_or}
-use Rattle.base.proofs.OptionsMade.{option_or-none}
-use Rattle.journal.specs.declared.item.Item.{Item}
-use Rattle.update_machine.specs.Concerns.{NoneConcern}
-use Rattle.update_machine.specs.Folds.{all_given, count_of, folded_value, last_given}
-use Rattle.update_machine.specs.Setting.{first_given}
+use Rattle.std.proofs.Common.{[], ◌++◌, ◌+◌, ◌||◌, ◌∙◌, ◌∷◌, ◌≡◌, Bool, IsFalse, List, None, Option, add-zero, ap, append-nil, append_assoc, false, refl, sym, true, unwrap_or}
+use Rattle.base.proofs.Exports.{option_or, option_or-none}
+use Rattle.update_machine.specs.Exports.{Item, NoneConcern, all_given, count_of, first_given, folded_value, last_given}
 use Rattle.update_machine.proofs.FoldLemmas.{all_given_append, count_of_append, first_given_append, folded_append, last_given_append}
 
 -- of items that don't concern it nothing is said, and its value stays as it is

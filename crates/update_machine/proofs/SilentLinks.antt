@@ -1,27 +1,12 @@
 -- Items that don't concern the links leave as they are the adverts that switches tell, and those
 -- that don't concern a switch either, what it knows of the network.
-use Rattle.std.proofs.Common.{arith, ℕ, zero, suc, ◌≡◌, ◌≤◌, Bool, true, false, List, [], ◌∷◌, ◌++◌, refl, ap, ◌∙◌, sym, None, append_assoc}
-use Rattle.std.specs.Prelude.{◌==◌, ◌&&◌, not, IsFalse, Some, option_and_then, unwrap_or, if◌then◌else◌, count_by}
-use Rattle.std.specs.Result.{result_ok}
-use Rattle.std.specs.Option.{option_map_or}
-use Rattle.std.proofs.lemmas.Bool.{eq-eqb}
-use Rattle.five_tuple.specs.declared.header.Header.{Header}
-use Rattle.journal.specs.declared.item.Item.{Item}
+use Rattle.std.proofs.Common.{[], if◌then◌else◌, ◌&&◌, ◌++◌, ◌==◌, ◌∙◌, ◌∷◌, ◌≡◌, ◌≤◌, Bool, IsFalse, List, None, Some, ap, append_assoc, arith, count_by, eq-eqb, false, not, option_and_then, refl, suc, sym, true, unwrap_or, zero, ℕ}
+use Rattle.base.proofs.Exports.{option_map_or, result_ok}
+use Rattle.update_machine.specs.Exports.{Header, Item, KnownKeeps, LinksKeep, NoneConcern, PoliciesKeep, Setting, StepItems, SwitchKeeps, adverts_known, boot_of, cache_of, concerns_known, concerns_links, concerns_lookups, concerns_policies, concerns_switch, concerns_waiting, file_at, file_of, first_given, gives_boot, gives_file, gives_up, gives_waited_for, has_change, heard, held_adverts, hosted_in, is_cut_off, is_submission, is_up, is_waited_for, lookup_at, near, next_policy, own_advert, own_seq, plan_at, policy_at, policy_by, policy_in, route_from, stamp_of, steps_in, touched_by, touched_of, version_count}
 use Rattle.journal.specs.declared.item.Item.TheVariants as item
-use Rattle.update_machine.specs.Adverts.{adverts_known, has_change, held_adverts, is_cut_off, own_advert, own_seq, route_from}
-use Rattle.update_machine.specs.Boots.{boot_of, heard, is_up, gives_boot, gives_up}
-use Rattle.update_machine.specs.Caches.{cache_of, lookup_at}
-use Rattle.update_machine.specs.Concerns.{NoneConcern, concerns_known, concerns_links, concerns_lookups, concerns_policies, concerns_switch, concerns_waiting}
-use Rattle.update_machine.specs.Laws.{KnownKeeps, LinksKeep, PoliciesKeep, SwitchKeeps}
-use Rattle.update_machine.specs.Versions.{is_submission, policy_at, stamp_of, version_count, hosted_in, next_policy, plan_at}
-use Rattle.update_machine.specs.LinkMasks.{near}
-use Rattle.update_machine.specs.Quiet.{is_waited_for, gives_waited_for}
-use Rattle.update_machine.specs.Setting.{Setting, file_of, first_given, gives_file, policy_by, policy_in, file_at}
-use Rattle.update_machine.specs.Steps.{StepItems, steps_in}
 use Rattle.update_machine.proofs.SilentItems.{Silent, Stays, count_stays, fewer, first_stays, last_or_stays, neither_left, neither_right, stays}
 use Rattle.update_machine.proofs.SilentSteps.{weight_stays}
 use Rattle.update_machine.proofs.SilentSwitches.{link_stays, near_stays, switch_keeps}
-use Rattle.update_machine.specs.Touched.{touched_by, touched_of}
 
 -- ---- the number of the own advert
 

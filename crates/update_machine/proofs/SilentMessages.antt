@@ -1,20 +1,10 @@
 -- Items that don't concern a message, all messages, all packets or the steps leave their facts as
 -- they are.
-use Rattle.std.proofs.Common.{ℕ, ◌+◌, ◌≡◌, Bool, false, None, List, [], ◌++◌, refl, ap, ◌∙◌}
-use Rattle.std.specs.Prelude.{nat_lt, find, IsFalse}
-use Rattle.std.specs.List.{range_with_len}
+use Rattle.std.proofs.Common.{[], ◌++◌, ◌+◌, ◌∙◌, ◌≡◌, Bool, IsFalse, List, None, ap, false, find, nat_lt, refl, ℕ}
+use Rattle.base.proofs.Exports.{range_with_len}
 use Rattle.policy_rules.proofs.CallerLemmas.{find_same}
-use Rattle.journal.specs.declared.item.Item.{Item}
+use Rattle.update_machine.specs.Exports.{Item, MessageKeeps, MessagesKeep, NoneConcern, PacketsKeep, changes_sendings, concerns_message, concerns_messages, concerns_packets, concerns_steps, count_of, gives_message, gives_step, gives_travelling, is_deliverable, is_delivery, is_forgetting, is_forgotten, is_packet, is_sending, is_waiting, message_of, next_message, next_packet, next_travelling, next_waiting, present_step, sendings, travels, was_delivered}
 use Rattle.journal.specs.declared.item.Item.TheVariants as item
-use Rattle.update_machine.specs.Concerns.{NoneConcern, concerns_message, concerns_messages, concerns_packets, concerns_steps}
-use Rattle.update_machine.specs.Folds.{count_of}
-use Rattle.update_machine.specs.Laws.{MessageKeeps, MessagesKeep, PacketsKeep}
-use Rattle.update_machine.specs.Messages.{is_deliverable, is_delivery, is_forgetting, is_forgotten, is_sending, is_waiting, next_message, next_waiting, was_delivered}
-use Rattle.update_machine.specs.Packets.{is_packet, next_packet}
-use Rattle.update_machine.specs.Sendings.{changes_sendings, sendings}
-use Rattle.update_machine.specs.Causes.{present_step, gives_step}
-use Rattle.update_machine.specs.Links.{message_of, gives_message}
-use Rattle.update_machine.specs.Travels.{next_travelling, gives_travelling, travels}
 use Rattle.update_machine.proofs.SilentItems.{Keeps, Silent, Stays, count_stays, fewer, folded_stays, last_or_stays, last_stays}
 
 -- ---- a message

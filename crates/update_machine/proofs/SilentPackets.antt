@@ -1,13 +1,8 @@
 -- Items that don't concern a packet leave its facts as they are.
-use Rattle.std.proofs.Common.{ℕ, ◌≡◌, false, None, List, [], ◌++◌, refl}
-use Rattle.failover.specs.Links.{no_links}
-use Rattle.journal.specs.declared.item.Item.{Item}
+use Rattle.std.proofs.Common.{[], ◌++◌, ◌≡◌, List, None, false, refl, ℕ}
+use Rattle.failover.specs.Exports.{no_links}
+use Rattle.update_machine.specs.Exports.{Item, NoneConcern, PacketKeeps, changes_found, changes_hops, changes_leg, concerns_packet, decision_of, found_down, gives_decision, gives_header, gives_ingress, gives_route, gives_standing, gives_travelling, header_in, ingress_of, leg_of, next_switch, route_in, route_place, standing, travels}
 use Rattle.journal.specs.declared.item.Item.TheVariants as item
-use Rattle.update_machine.specs.Concerns.{NoneConcern, concerns_packet}
-use Rattle.update_machine.specs.Laws.{PacketKeeps}
-use Rattle.update_machine.specs.Packets.{decision_of, header_in, standing, gives_decision, gives_header, gives_standing}
-use Rattle.update_machine.specs.Travels.{changes_leg, ingress_of, leg_of, gives_ingress, gives_travelling, travels}
-use Rattle.update_machine.specs.PacketRoutes.{changes_found, changes_hops, found_down, next_switch, route_in, route_place, gives_route}
 use Rattle.update_machine.proofs.SilentItems.{Keeps, Silent, folded_stays, last_or_stays, last_stays}
 
 header_silent : (i : ℕ) → Silent (concerns_packet i) (gives_header i) None

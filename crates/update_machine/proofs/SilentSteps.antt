@@ -1,16 +1,8 @@
 -- What is counted over the steps of a journal stays as it is behind items that don't concern it.
-use Rattle.std.proofs.Common.{ℕ, ◌≡◌, ◌+◌, Bool, true, false, List, [], ◌∷◌, ◌++◌, refl, ap, sym, subst, ◌∙◌, append_assoc, append-nil, sum_by, arith}
-use Rattle.std.specs.Prelude.{⊤, ◌||◌, IsFalse, if◌then◌else◌}
-use Rattle.std.specs.List.{list_any}
-use Rattle.std.proofs.lemmas.List.Sums.{sum_by-cons}
-use Rattle.journal.specs.declared.item.Item.{Item}
+use Rattle.std.proofs.Common.{[], if◌then◌else◌, ◌++◌, ◌+◌, ◌||◌, ◌∙◌, ◌∷◌, ◌≡◌, Bool, IsFalse, List, ap, append-nil, append_assoc, arith, false, refl, subst, sum_by, sym, true, ℕ}
+use Rattle.base.proofs.Exports.{list_any, sum_by-cons, ⊤}
+use Rattle.update_machine.specs.Exports.{Hop, Item, StepItems, changes_steps, concerns_calls, count_of, folded_from, handled_count, hop_calls, is_entry_at, is_move, stays_on_way, steps_in, stuck_at_link, travels_at, with_item}
 use Rattle.journal.specs.declared.item.Item.TheVariants as item
-use Rattle.steps.specs.declared.step.Step.TheVariants.{Hop}
-use Rattle.update_machine.specs.Concerns.{concerns_calls}
-use Rattle.update_machine.specs.Folds.{count_of, folded_from}
-use Rattle.update_machine.specs.Handled.{handled_count, hop_calls, is_entry_at, is_move, stays_on_way, stuck_at_link}
-use Rattle.update_machine.specs.Travels.{travels_at}
-use Rattle.update_machine.specs.Steps.{StepItems, changes_steps, steps_in, with_item}
 use Rattle.update_machine.proofs.FoldLemmas.{folded_append}
 use Rattle.update_machine.proofs.SilentItems.{Silent, Stays, count_stays, stays}
 

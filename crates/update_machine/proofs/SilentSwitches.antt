@@ -1,19 +1,9 @@
 -- Items that don't concern a switch, or the links, leave its facts as they are.
-use Rattle.std.proofs.Common.{ℕ, ◌≡◌, true, None, List, [], ◌++◌, refl, ap, arith}
-use Rattle.std.specs.Prelude.{IsFalse}
-use Rattle.std.proofs.lemmas.List.Elements.{filter_agree}
-use Rattle.net_file.specs.Owners.{links_of}
-use Rattle.net_file.specs.declared.net.LinkRow.{LinkRow}
-use Rattle.journal.specs.declared.item.Item.{Item}
+use Rattle.std.proofs.Common.{[], ◌++◌, ◌≡◌, IsFalse, List, None, ap, arith, refl, true, ℕ}
+use Rattle.base.proofs.Exports.{filter_agree}
+use Rattle.net_file.specs.Exports.{links_of}
+use Rattle.update_machine.specs.Exports.{Item, LinkRow, NoneConcern, Setting, SwitchKeeps, body_to_switch, boot_of, cache_of, changes_cache, changes_heard, concerns_links, concerns_switch, gives_boot, gives_link, gives_serving, gives_up, heard, holds_version, is_link_up, is_message_to, is_up, is_usable, near, serves, stamp_of}
 use Rattle.journal.specs.declared.item.Item.TheVariants as item
-use Rattle.update_machine.specs.Boots.{boot_of, changes_heard, heard, is_up, body_to_switch, gives_boot, gives_up}
-use Rattle.update_machine.specs.Caches.{cache_of, changes_cache}
-use Rattle.update_machine.specs.Concerns.{NoneConcern, concerns_links, concerns_switch, is_message_to}
-use Rattle.update_machine.specs.Laws.{SwitchKeeps}
-use Rattle.update_machine.specs.Links.{is_link_up, is_usable, gives_link, serves, gives_serving}
-use Rattle.update_machine.specs.Setting.{Setting}
-use Rattle.update_machine.specs.Versions.{holds_version, stamp_of}
-use Rattle.update_machine.specs.LinkMasks.{near}
 use Rattle.update_machine.proofs.SilentItems.{Keeps, Silent, Stays, folded_stays, last_or_stays}
 
 boot_silent : (s : ℕ) → Silent (concerns_switch s) (gives_boot s) None

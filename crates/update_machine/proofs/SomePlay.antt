@@ -1,16 +1,8 @@
 -- Where there is an answer there is a play: all of it, or the steps before the first one that would
 -- begin full.
-use Rattle.std.proofs.Common.{ℕ, ◌≡◌, ◌+◌, ◌⊎◌, inl, inr, Option, Some, None, List, [], ◌∷◌, ◌++◌, refl, ap, sym, subst, ◌∙◌, append_assoc}
-use Rattle.std.proofs.lemmas.Bool.{cases_lt}
-use Rattle.journal.specs.declared.item.Item.{Item}
-use Rattle.steps.specs.declared.step.Event.{Event}
-use Rattle.steps.specs.declared.step.Event.TheVariants.{One, Flush, Drain}
-use Rattle.steps.specs.declared.step.Step.{Step}
-use Rattle.update_machine.specs.Answers.{AnswersSoFar, AreAnswered, AreFirstSteps, AreFirstStepsOf, AreSome, BeginsAnswer, StepOfRow, after_steps, next_delivery, next_hop}
-use Rattle.update_machine.specs.Full.{HasPlay, HaveRoom, IsFull, StopsFull, full_at}
-use Rattle.update_machine.specs.Messages.{next_message}
-use Rattle.update_machine.specs.Pieces.{piece}
-use Rattle.update_machine.specs.Setting.{Setting}
+use Rattle.std.proofs.Common.{[], ◌++◌, ◌+◌, ◌∙◌, ◌∷◌, ◌≡◌, ◌⊎◌, List, None, Option, Some, ap, append_assoc, inl, inr, refl, subst, sym, ℕ}
+use Rattle.base.proofs.Exports.{cases_lt}
+use Rattle.update_machine.specs.Exports.{AnswersSoFar, AreAnswered, AreFirstSteps, AreFirstStepsOf, AreSome, BeginsAnswer, Drain, Event, Flush, HasPlay, HaveRoom, IsFull, Item, One, Setting, Step, StepOfRow, StopsFull, after_steps, full_at, next_delivery, next_hop, next_message, piece}
 use Rattle.update_machine.proofs.FirstSteps.{Begins, begins_cons, begins_nil}
 use Rattle.update_machine.proofs.EventSteps.{all_first}
 use Rattle.update_machine.proofs.OnePlay.{nil_front}

@@ -1,21 +1,10 @@
 -- What switches, links and messages are said to be, on journals of few items.
-use Rattle.std.proofs.Common.{ℕ, ◌≡◌, Some, None, List, [], ◌∷◌, ◌++◌, refl, true, false}
-use Rattle.ctrl_msg.specs.declared.message.Body.{Body}
-use Rattle.ctrl_msg.specs.declared.message.Body.TheVariants.{Collect, Install, Stamp}
-use Rattle.failover.specs.Adverts.{after_hearing, first_adverts, is_news}
-use Rattle.base.specs.Masks.{switches}
-use Rattle.base.specs.ComputedMasks.{mask_of, mask_where}
+use Rattle.std.proofs.Common.{[], ◌++◌, ◌∷◌, ◌≡◌, List, None, Some, false, refl, true, ℕ}
+use Rattle.update_machine.specs.Exports.{Body, Collect, Install, Item, Stamp, advert_known, adverts_known, boot_of, heard, holds_version, is_deliverable, is_forgotten, is_link_up, is_up, message_of, near, next_travelling, next_waiting, own_advert, own_seq, serves, stamp_of, steps_in, travels, was_delivered}
+use Rattle.failover.specs.Exports.{after_hearing, first_adverts, is_news}
+use Rattle.base.specs.Exports.{mask_of, mask_where, switches}
 use Rattle.steps.specs.declared.step.Step.TheVariants as step
-use Rattle.journal.specs.declared.item.Item.{Item}
 use Rattle.journal.specs.declared.item.Item.TheVariants as item
-use Rattle.update_machine.specs.Adverts.{advert_known, adverts_known, own_advert, own_seq}
-use Rattle.update_machine.specs.Boots.{boot_of, heard, is_up}
-use Rattle.update_machine.specs.Links.{is_link_up, serves, message_of}
-use Rattle.update_machine.specs.Messages.{is_deliverable, is_forgotten, next_waiting, was_delivered}
-use Rattle.update_machine.specs.Travels.{next_travelling, travels}
-use Rattle.update_machine.specs.Steps.{steps_in}
-use Rattle.update_machine.specs.Versions.{holds_version, stamp_of}
-use Rattle.update_machine.specs.LinkMasks.{near}
 use Rattle.update_machine.proofs.ExampleNetworks.{advert, one, open_net, plan_p, ring, tables_of, to}
 
 -- switch a is told this

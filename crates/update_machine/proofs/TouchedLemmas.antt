@@ -1,33 +1,15 @@
 -- What the change of a version touches: it stays so, and what it doesn't touch is decided as
 -- before.
-use Rattle.std.proofs.Common.{ℕ, zero, suc, ◌≡◌, ◌≤◌, ◌∙◌, ◌||◌, Bool, true, false, if◌then◌else◌, nat_lt, Option, Some, None, Result, Ok, Err, List, [], ◌∷◌, ◌++◌, length, refl, ap, sym, subst, arith, ◌+◌}
-use Rattle.std.specs.Prelude.{All, IsTrue, IsFalse, IfSome, option_and_then}
-use Rattle.std.specs.List.{list_any}
-use Rattle.std.specs.Result.{result_ok}
-use Rattle.std.proofs.lemmas.Bool.Decides.{nat_tests}
-use Rattle.std.proofs.lemmas.List.Elements.{All-cons, All-nil}
-use Rattle.five_tuple.specs.Header.{IsHeader, number_of}
-use Rattle.five_tuple.specs.declared.header.Header.{Header}
-use Rattle.policy_rules.specs.Applied.{applied}
-use Rattle.policy_rules.specs.PolicyFiles.{IsPolicyFile}
-use Rattle.policy_rules.specs.Scan.{scan}
-use Rattle.policy_rules.specs.Touched.{touched_words}
-use Rattle.policy_rules.specs.declared.applying.Inapplicable.{Inapplicable}
-use Rattle.policy_rules.specs.declared.file.PolicyFile.{PolicyFile}
-use Rattle.policy_rules.specs.declared.file.PolicyFile.TheVariants.{Whole, Change}
-use Rattle.policy_rules.specs.declared.policy.Row.{Row}
+use Rattle.std.proofs.Common.{[], if◌then◌else◌, ◌++◌, ◌+◌, ◌||◌, ◌∙◌, ◌∷◌, ◌≡◌, ◌≤◌, All, Bool, Err, IfSome, IsFalse, IsTrue, List, None, Ok, Option, Result, Some, ap, arith, false, length, nat_lt, option_and_then, refl, subst, suc, sym, true, zero, ℕ}
+use Rattle.base.proofs.Exports.{All-cons, All-nil, list_any, nat_tests, result_ok}
+use Rattle.five_tuple.specs.Exports.{IsHeader, number_of}
+use Rattle.update_machine.specs.Exports.{Change, Header, Inapplicable, IsSetting, Item, PolicyFile, Row, Setting, VersionsAreNumbered, Whole, file_at, file_of, made_by, next_touched, policy_at, policy_by, policy_in, touched_by, touched_of, version_count}
+use Rattle.policy_rules.specs.Exports.{IsPolicy, IsPolicyFile, applied, scan, touched_words}
 use Rattle.policy_rules.proofs.CallerLemmas.{scan-apart}
-use Rattle.policy_rules.specs.SoundPolicies.{IsPolicy}
-use Rattle.switch_table.specs.Carried.{all_touched, few_touched, meets_any}
+use Rattle.switch_table.specs.Exports.{all_touched, few_touched, meets_any}
 use Rattle.switch_table.proofs.CarryLemmas.{meets_all}
-use Rattle.ternary.specs.Meets.{meets}
-use Rattle.ternary.specs.Word.{WordValue, holds}
-use Rattle.journal.specs.declared.item.Item.{Item}
+use Rattle.ternary.specs.Exports.{WordValue, holds, meets}
 use Rattle.journal.specs.declared.item.Item.TheVariants as item
-use Rattle.update_machine.specs.Numbers.{VersionsAreNumbered}
-use Rattle.update_machine.specs.Setting.{IsSetting, Setting, file_at, file_of, made_by, policy_by, policy_in}
-use Rattle.update_machine.specs.Touched.{next_touched, touched_by, touched_of}
-use Rattle.update_machine.specs.Versions.{policy_at, version_count}
 use Rattle.update_machine.proofs.VersionPolicies.{file_kept, next_file, of_its_policy, policy_in_stays}
 use Rattle.update_machine.proofs.PolicySettings.{file_is_sound, versions_own}
 

@@ -1,11 +1,10 @@
 -- An update, computed.
-use Rattle.std.proofs.Common.{◌≡◌, Some, List, [], ◌∷◌, ◌++◌, refl}
-use Rattle.policy_rules.specs.declared.policy.Action.TheVariants.{Drop}
+use Rattle.std.proofs.Common.{[], ◌++◌, ◌∷◌, ◌≡◌, List, Some, refl}
+use Rattle.update_machine.specs.Exports.{Drop, Item}
 use Rattle.policy_rules.specs.declared.packet.How.TheVariants as how
-use Rattle.switch_table.specs.Carried.{all_touched}
+use Rattle.switch_table.specs.Exports.{all_touched}
 use Rattle.ctrl_msg.specs.declared.message.Body.TheVariants as body
 use Rattle.steps.specs.declared.step.Step.TheVariants as step
-use Rattle.journal.specs.declared.item.Item.{Item}
 use Rattle.journal.specs.declared.item.Item.TheVariants as item
 use Rattle.update_machine.proofs.ComputedSteps.{left_by}
 use Rattle.update_machine.proofs.ExampleNetworks.{answered, any_word, at, delivered, one, open_net, plan_q, tables_of, to}

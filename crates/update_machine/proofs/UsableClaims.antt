@@ -1,31 +1,16 @@
 -- What switches can use and know of links, what packets found down, and the plans of versions, as
 -- items say it: against the masks, sets and functions that compute them.
-use Rattle.std.proofs.Common.{ℕ, ◌≡◌, ◌^◌, ◌<◌, ◌⊎◌, min, max, Bool, true, false, ◌&&◌, ◌||◌, ◌==◌, Option, Some, None, List, [], ◌∷◌, ◌++◌, length, get_or, set, refl, ap, sym, ◌∙◌, arith, inl, inr, get_or-set_other, get_or-set_same}
-use Rattle.std.specs.Prelude.{Contains, IsFalse, IsTrue, Result, Ok, Err, bit_or}
-use Rattle.std.specs.List.{list_any}
-use Rattle.std.specs.Option.{option_map_or}
-use Rattle.std.proofs.lemmas.Bool.{cases_eq, cases_lt, false_from_ne_true, or_left, or_right}
-use Rattle.std.proofs.lemmas.Bool.Decides.{nat_tests}
-use Rattle.std.proofs.lemmas.List.{set_past}
-use Rattle.failover.specs.Links.{has_link, no_links, with_link}
+use Rattle.std.proofs.Common.{[], ◌&&◌, ◌++◌, ◌<◌, ◌==◌, ◌^◌, ◌||◌, ◌∙◌, ◌∷◌, ◌≡◌, ◌⊎◌, Bool, Contains, Err, IsFalse, IsTrue, List, None, Ok, Option, Result, Some, ap, arith, bit_or, false, get_or, get_or-set_other, get_or-set_same, inl, inr, length, max, min, refl, set, sym, true, ℕ}
+use Rattle.base.proofs.Exports.{any_filtered, any_weaker, cases_eq, cases_lt, false_from_ne_true, has-or, has-pow_other, has_mask, list_any, nat_tests, option_map_or, or_left, or_right, set_past}
+use Rattle.failover.specs.Exports.{has_link, no_links, with_link}
 use Rattle.failover.proofs.LinkBalls.{or_cases}
 use Rattle.failover.proofs.LinkSets.{has_link-none}
-use Rattle.base.specs.Masks.{has}
-use Rattle.base.proofs.CallerLemmas.{has_mask, has-or, has-pow_other}
-use Rattle.base.proofs.ListsOfAny.{any_filtered, any_weaker}
-use Rattle.net_file.specs.Joins.{are_linked, joins}
+use Rattle.base.specs.Exports.{has}
+use Rattle.net_file.specs.Exports.{are_linked, joins}
 use Rattle.partition.specs.Plan.{Hosted}
-use Rattle.policy_rules.specs.declared.policy.Row.{Row}
-use Rattle.policy_rules.specs.Hosted.{NoPlan}
-use Rattle.journal.specs.declared.item.Item.{Item}
+use Rattle.update_machine.specs.Exports.{IsPlanOf, Item, Row, Setting, can_use, changes_found, finds_down, folded_from, found_down, hosted_in, is_usable, near, plan_at, policy_in, usable_links}
+use Rattle.policy_rules.specs.Exports.{NoPlan}
 use Rattle.journal.specs.declared.item.Item.TheVariants as item
-use Rattle.update_machine.specs.Causes.{finds_down}
-use Rattle.update_machine.specs.Folds.{folded_from}
-use Rattle.update_machine.specs.Versions.{hosted_in, plan_at}
-use Rattle.update_machine.specs.LinkMasks.{near, usable_links}
-use Rattle.update_machine.specs.Links.{can_use, is_usable}
-use Rattle.update_machine.specs.Setting.{IsPlanOf, Setting, policy_in}
-use Rattle.update_machine.specs.PacketRoutes.{changes_found, found_down}
 
 -- ---- links that switches can use
 

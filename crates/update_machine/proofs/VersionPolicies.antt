@@ -1,20 +1,11 @@
 -- The files, the policies and the plans of versions: what more items make of them, and how they are
 -- numbered.
-use Rattle.std.proofs.Common.{ℕ, zero, suc, ◌≡◌, ◌+◌, ◌≤◌, ◌==◌, if◌then◌else◌, Bool, true, false, Option, Some, None, List, [], ◌∷◌, ◌++◌, refl, ap, sym, ◌∙◌, arith}
-use Rattle.std.specs.Prelude.{◌↔◌, is_some, option_and_then, slice_get, unwrap_or, Result, Ok, Err, IsFalse, IsOk, IsTrue}
-use Rattle.std.specs.Result.{result_ok}
-use Rattle.std.specs.Option.{option_map_or, option_or}
-use Rattle.std.proofs.lemmas.Bool.{eq-eqb}
-use Rattle.std.proofs.lemmas.Bool.Decides.{nat_tests}
+use Rattle.std.proofs.Common.{[], if◌then◌else◌, ◌++◌, ◌+◌, ◌==◌, ◌↔◌, ◌∙◌, ◌∷◌, ◌≡◌, ◌≤◌, Bool, Err, IsFalse, IsOk, IsTrue, List, None, Ok, Option, Result, Some, ap, arith, eq-eqb, false, is_some, option_and_then, refl, slice_get, suc, sym, true, unwrap_or, zero, ℕ}
+use Rattle.base.proofs.Exports.{nat_tests, option_map_or, option_or, result_ok}
 use Rattle.partition.specs.Plan.{Hosted}
-use Rattle.policy_rules.specs.Hosted.{NoPlan}
-use Rattle.policy_rules.specs.declared.file.PolicyFile.TheVariants.{Whole}
-use Rattle.policy_rules.specs.declared.policy.Row.{Row}
-use Rattle.journal.specs.declared.item.Item.{Item}
+use Rattle.policy_rules.specs.Exports.{NoPlan}
+use Rattle.update_machine.specs.Exports.{HasPlan, IsSetting, Item, Row, Setting, VersionsAreNumbered, Whole, file_at, file_of, first_given, gives_file, hosted_in, is_submission, is_version, made_by, next_policy, plan_at, policy_at, policy_by, policy_in, version_count}
 use Rattle.journal.specs.declared.item.Item.TheVariants as item
-use Rattle.update_machine.specs.Versions.{HasPlan, is_submission, is_version, next_policy, policy_at, version_count, hosted_in, plan_at}
-use Rattle.update_machine.specs.Numbers.{VersionsAreNumbered}
-use Rattle.update_machine.specs.Setting.{IsSetting, Setting, file_at, file_of, first_given, gives_file, made_by, policy_by, policy_in}
 use Rattle.update_machine.proofs.FoldLemmas.{count_of_append, first_given_append}
 use Rattle.update_machine.proofs.SilentLinks.{policies_keep, policy_by_files}
 

@@ -1,24 +1,11 @@
 -- What versions, their policies and their plans are said to be, on journals of few items.
-use Rattle.std.proofs.Common.{◌≡◌, true, Some, None, List, [], ◌∷◌, refl, arith}
-use Rattle.std.specs.Prelude.{Ok, Err, length}
-use Rattle.std.specs.Result.{result_ok}
-use Rattle.std.proofs.lemmas.List.Elements.{All-from_recursion}
-use Rattle.policy_rules.specs.Hosted.{NoRoom}
-use Rattle.policy_rules.specs.declared.applying.Inapplicable.TheVariants.{Absent}
-use Rattle.policy_rules.specs.declared.policy.Action.TheVariants.{Drop, Out}
-use Rattle.steps.specs.Steps.{IsStep}
+use Rattle.std.proofs.Common.{[], ◌∷◌, ◌≡◌, Err, List, None, Ok, Some, arith, length, refl, true}
+use Rattle.base.proofs.Exports.{All-from_recursion, result_ok}
+use Rattle.policy_rules.specs.Exports.{NoRoom}
+use Rattle.update_machine.specs.Exports.{Absent, Drop, HasPlan, IsReached, Item, Machine, Out, Setting, StepOfRow, Submits, VersionsAreNumbered, file_at, file_of, forget_items, is_deliverable, is_version, message_of, next_policy, piece, plan_at, policy_at, policy_by, policy_in, retired_mark, submitted_policy, update_code, version_count}
+use Rattle.steps.specs.Exports.{IsStep}
 use Rattle.steps.specs.declared.step.Step.TheVariants as step
-use Rattle.journal.specs.declared.item.Item.{Item}
 use Rattle.journal.specs.declared.item.Item.TheVariants as item
-use Rattle.update_machine.specs.Answers.{IsReached, StepOfRow}
-use Rattle.update_machine.specs.Machine.{Machine, Submits, submitted_policy}
-use Rattle.update_machine.specs.Marks.{retired_mark}
-use Rattle.update_machine.specs.Messages.{is_deliverable}
-use Rattle.update_machine.specs.Numbers.{VersionsAreNumbered}
-use Rattle.update_machine.specs.Pieces.{forget_items, piece, update_code}
-use Rattle.update_machine.specs.Setting.{Setting, file_at, file_of, policy_by, policy_in}
-use Rattle.update_machine.specs.Versions.{HasPlan, is_version, next_policy, policy_at, version_count, plan_at}
-use Rattle.update_machine.specs.Links.{message_of}
 use Rattle.update_machine.proofs.ExampleNetworks.{all_to, at, by_action, open_net, out_or_drop, plan_p, two_switches, versions}
 
 -- ---- files

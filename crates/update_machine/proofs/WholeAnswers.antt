@@ -1,10 +1,6 @@
 -- An answer answers as far as it goes, and begins itself.
-use Rattle.std.proofs.Common.{ℕ, ◌+◌, inr, List, [], ◌∷◌, length, sym, arith}
-use Rattle.std.proofs.lemmas.List.{take_all}
-use Rattle.journal.specs.declared.item.Item.{Item}
-use Rattle.steps.specs.declared.step.Event.{Event}
-use Rattle.update_machine.specs.Answers.{Answers, AnswersSoFar, AreFirstSteps, AreSteps, BeginsAnswer, StepOfRow, after_steps}
-use Rattle.update_machine.specs.Setting.{Setting}
+use Rattle.std.proofs.Common.{[], ◌+◌, ◌∷◌, List, arith, inr, length, sym, take_all, ℕ}
+use Rattle.update_machine.specs.Exports.{Answers, AnswersSoFar, AreFirstSteps, AreSteps, BeginsAnswer, Event, Item, Setting, StepOfRow, after_steps}
 
 pub all_are_first : (setting : Setting) (row : ℕ) (events : List Event) (before : List Item)
     (steps : List StepOfRow) → AreSteps setting row events before steps

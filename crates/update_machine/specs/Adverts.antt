@@ -1,10 +1,8 @@
 -- What switches say of their own links, and the adverts that they have then (OSPF, RFC 2328,
 -- section 13.1); the routes that they find.
-use Rattle.std.specs.Prelude.{ℕ, ◌+◌, Bool, true, false, not, ◌&&◌, ◌==◌, if◌then◌else◌, Option, Some, None, List, ◌++◌, count_by, filter_map, slice_set}
-use Rattle.failover.specs.Adverts.{held_advert}
-use Rattle.failover.specs.Isolated.{is_isolated}
-use Rattle.base.specs.Masks.{switches}
-use Rattle.failover.specs.Routes.{route_of}
+use Rattle.std.specs.Prelude.{if◌then◌else◌, ◌&&◌, ◌++◌, ◌+◌, ◌==◌, Bool, List, None, Option, Some, count_by, false, filter_map, not, slice_set, true, ℕ}
+use Rattle.failover.specs.Exports.{held_advert, is_isolated, route_of}
+use Rattle.base.specs.Exports.{switches}
 use Rattle.failover.specs.declared.advert.Advert.{Advert}
 use Rattle.journal.specs.declared.item.Item.{Item}
 use Rattle.update_machine.specs.Boots.{boot_of, is_up}

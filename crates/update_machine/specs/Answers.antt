@@ -1,8 +1,8 @@
 -- The answer to a schedule: the pieces of the steps that its events take, one after another. The
 -- notion is our own.
-use Rattle.std.specs.Prelude.{⊤, ℕ, ◌≡◌, ◌+◌, ◌⊎◌, Option, Some, None, option_map, List, [], ◌∷◌, ◌++◌, length, take, All}
+use Rattle.std.specs.Prelude.{[], ◌++◌, ◌+◌, ◌∷◌, ◌≡◌, ◌⊎◌, All, List, None, Option, Some, length, option_map, take, ℕ, ⊤}
 use Rattle.journal.specs.declared.item.Item.{Item}
-use Rattle.steps.specs.Steps.{IsStep}
+use Rattle.steps.specs.Exports.{IsStep}
 use Rattle.steps.specs.declared.step.Event.{Event}
 use Rattle.steps.specs.declared.step.Event.TheVariants.{One, Flush, Drain}
 use Rattle.steps.specs.declared.step.Step.{Step}

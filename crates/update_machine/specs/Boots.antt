@@ -1,9 +1,9 @@
 -- The life of a switch: its boots, whether it is up, and what it heard in its boot. A switch that
 -- restarts has forgotten everything; that is our own, because the papers on DIFANE and on updates
 -- in two phases have no restart. A message is read where it was sent.
-use Rattle.std.specs.Prelude.{ℕ, Bool, true, false, ◌&&◌, ◌==◌, if◌then◌else◌, Option, Some, None, unwrap_or, List, [], ◌∷◌, ◌++◌}
-use Rattle.std.specs.Option.{option_map_or}
-use Rattle.ctrl_msg.specs.Bodies.{body_boot}
+use Rattle.std.specs.Prelude.{[], if◌then◌else◌, ◌&&◌, ◌++◌, ◌==◌, ◌∷◌, Bool, List, None, Option, Some, false, true, unwrap_or, ℕ}
+use Rattle.base.specs.Exports.{option_map_or}
+use Rattle.ctrl_msg.specs.Exports.{body_boot}
 use Rattle.ctrl_msg.specs.declared.message.Body.{Body}
 use Rattle.ctrl_msg.specs.declared.message.Place.{Place}
 use Rattle.journal.specs.declared.item.Item.{Item}

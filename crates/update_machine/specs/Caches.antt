@@ -1,14 +1,12 @@
 -- The cache of a switch, and what it says about a header (Yu, Rexford, Freedman and Wang,
 -- "Scalable Flow-Based Networking with DIFANE", SIGCOMM 2010).
-use Rattle.std.specs.Prelude.{ℕ, ◌==◌, nat_lt, if◌then◌else◌, List, [], ◌∷◌, ◌++◌}
-use Rattle.std.specs.Option.{option_map_or}
+use Rattle.std.specs.Prelude.{[], if◌then◌else◌, ◌++◌, ◌==◌, ◌∷◌, List, nat_lt, ℕ}
+use Rattle.base.specs.Exports.{option_map_or}
 use Rattle.ctrl_msg.specs.declared.message.Body.{Body}
 use Rattle.ctrl_msg.specs.declared.message.Body.TheVariants.{OpenAt, Stamp, CacheRule}
 use Rattle.five_tuple.specs.declared.header.Header.{Header}
-use Rattle.ternary.specs.Word.{WordValue}
-use Rattle.switch_table.specs.Cache.{CacheValue, after_accept, after_clear, after_expire, after_raise}
-use Rattle.switch_table.specs.Carried.{after_carry}
-use Rattle.switch_table.specs.Lookup.{lookup_of}
+use Rattle.ternary.specs.Exports.{WordValue}
+use Rattle.switch_table.specs.Exports.{CacheValue, after_accept, after_carry, after_clear, after_expire, after_raise, lookup_of}
 use Rattle.switch_table.specs.declared.search.Found.{Found}
 use Rattle.journal.specs.declared.item.Item.{Item}
 use Rattle.journal.specs.declared.item.Item.TheVariants as item

@@ -1,9 +1,9 @@
 -- First tier. What a journal says before ends, failures and updates. The notion is our own.
-use Rattle.std.specs.Prelude.{⊤, ℕ, ◌≡◌, ◌⊎◌, Bool, true, false, not, ◌&&◌, ◌||◌, ◌==◌, Option, Some, None, option_to_list, List, [], ◌∷◌, ◌++◌, All, Contains, IsTrue, IsFalse}
-use Rattle.std.specs.List.{list_any}
+use Rattle.std.specs.Prelude.{[], ◌&&◌, ◌++◌, ◌==◌, ◌||◌, ◌∷◌, ◌≡◌, ◌⊎◌, All, Bool, Contains, IsFalse, IsTrue, List, None, Option, Some, false, not, option_to_list, true, ℕ, ⊤}
+use Rattle.base.specs.Exports.{list_any}
 use Rattle.five_tuple.specs.declared.header.Header.{Header}
-use Rattle.net_file.specs.Joins.{are_linked, owner_of}
-use Rattle.policy_rules.specs.Hosted.{Hosted, is_in}
+use Rattle.net_file.specs.Exports.{are_linked, owner_of}
+use Rattle.policy_rules.specs.Exports.{Hosted, is_in}
 use Rattle.policy_rules.specs.declared.packet.Leaving.{Leaving}
 use Rattle.policy_rules.specs.declared.packet.Leg.{Leg}
 use Rattle.policy_rules.specs.declared.packet.Leg.TheVariants.{Seek, Exit}

@@ -1,7 +1,7 @@
 -- Which items concern a switch, a packet, a message, the links, the policies or the controller:
 -- other items don't change what a journal says of them.
-use Rattle.std.specs.Prelude.{ℕ, Bool, true, false, ◌||◌, ◌==◌, List, IsFalse}
-use Rattle.std.specs.Option.{option_map_or}
+use Rattle.std.specs.Prelude.{◌==◌, ◌||◌, Bool, IsFalse, List, false, true, ℕ}
+use Rattle.base.specs.Exports.{option_map_or}
 use Rattle.ctrl_msg.specs.declared.message.Body.{Body}
 use Rattle.ctrl_msg.specs.declared.message.Body.TheVariants.{OpenAt}
 use Rattle.journal.specs.declared.item.Item.{Item}

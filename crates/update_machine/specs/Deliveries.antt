@@ -1,14 +1,13 @@
 -- What a delivery causes, and what switches send when their links change. Adverts that reach all
 -- switches are those of OSPF (RFC 2328, section 13).
-use Rattle.std.specs.Prelude.{ℕ, true, false, not, ◌&&◌, ◌==◌, nat_lt, Bool, Some, None, List, [], ◌∷◌, map, filter}
-use Rattle.std.specs.List.{flat_map}
+use Rattle.std.specs.Prelude.{[], ◌&&◌, ◌==◌, ◌∷◌, Bool, List, None, Some, false, filter, flat_map, map, nat_lt, not, true, ℕ}
 use Rattle.ctrl_msg.specs.declared.message.Body.{Body}
 use Rattle.ctrl_msg.specs.declared.message.Body.TheVariants.{Install, OpenAt, Stamp, Advertise, Hello, Installed, Stamped}
 use Rattle.ctrl_msg.specs.declared.message.Message.{Message}
-use Rattle.ctrl_msg.specs.Kinds.{to_controller}
+use Rattle.ctrl_msg.specs.Exports.{to_controller}
 use Rattle.ctrl_msg.specs.declared.message.Place.TheVariants as receiver
-use Rattle.failover.specs.Adverts.{is_news}
-use Rattle.base.specs.Masks.{has}
+use Rattle.failover.specs.Exports.{is_news}
+use Rattle.base.specs.Exports.{has}
 use Rattle.failover.specs.declared.advert.Advert.{Advert}
 use Rattle.journal.specs.declared.item.Item.{Item}
 use Rattle.journal.specs.declared.item.Item.TheVariants as item

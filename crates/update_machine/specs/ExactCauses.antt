@@ -1,8 +1,8 @@
 -- The causes of what packets find, as the functions that compute their routes say.
-use Rattle.std.specs.Prelude.{ℕ, ◌≡◌, Some, List, find, option_map, All, IsFalse}
-use Rattle.failover.specs.Links.{IsReachable}
-use Rattle.base.specs.Masks.{has}
-use Rattle.policy_rules.specs.Hosted.{is_in}
+use Rattle.std.specs.Prelude.{◌≡◌, All, IsFalse, List, Some, find, option_map, ℕ}
+use Rattle.failover.specs.Exports.{IsReachable}
+use Rattle.base.specs.Exports.{has}
+use Rattle.policy_rules.specs.Exports.{is_in}
 use Rattle.policy_rules.specs.declared.packet.Leg.{Leg}
 use Rattle.policy_rules.specs.declared.packet.Leg.TheVariants.{Seek, Exit}
 use Rattle.policy_rules.specs.declared.policy.Action.TheVariants.{Out}

@@ -1,9 +1,8 @@
 -- First tier. Four ways in which a journal says something: what an item said last, how many items
 -- satisfy a test, what they give one after another, and what becomes of a value when each changes
 -- it. An item that refers back, as a delivery to its message, is read on the journal before it.
-use Rattle.std.specs.Prelude.{ℕ, Bool, Option, None, List, [], ◌∷◌, ◌++◌, count_by}
-use Rattle.std.specs.List.{flat_map}
-use Rattle.std.specs.Option.{option_or}
+use Rattle.std.specs.Prelude.{[], ◌++◌, ◌∷◌, Bool, List, None, Option, count_by, flat_map, ℕ}
+use Rattle.base.specs.Exports.{option_or}
 use Rattle.journal.specs.declared.item.Item.{Item}
 
 -- what the last item that says something says

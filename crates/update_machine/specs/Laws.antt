@@ -1,15 +1,11 @@
 -- The laws of what journals say: each is ensured by a function of the crate that has no body.
-use Rattle.std.specs.Prelude.{ℕ, ◌≡◌, ◌≢◌, ◌<◌, ◌≤◌, ◌↔◌, true, false, ◌==◌, if◌then◌else◌, Some, None, option_to_list, IsTrue, List, [], ◌∷◌, ◌++◌, length, map}
-use Rattle.failover.specs.Adverts.{first_advert, first_adverts, held_advert}
-use Rattle.failover.specs.Links.{no_links}
-use Rattle.failover.specs.Paths.{IsIsolated, IsRoute}
-use Rattle.failover.specs.Newest.{IsNewest}
+use Rattle.std.specs.Prelude.{[], if◌then◌else◌, ◌++◌, ◌<◌, ◌==◌, ◌↔◌, ◌∷◌, ◌≡◌, ◌≢◌, ◌≤◌, IsTrue, List, None, Some, false, length, map, option_to_list, true, ℕ}
+use Rattle.failover.specs.Exports.{IsIsolated, IsNewest, IsRoute, first_advert, first_adverts, held_advert, no_links}
 use Rattle.five_tuple.specs.declared.header.Header.{Header}
-use Rattle.net_file.specs.Joins.{owner_of}
-use Rattle.net_file.specs.Owners.{links_of}
+use Rattle.net_file.specs.Exports.{links_of, owner_of}
 use Rattle.policy_rules.specs.declared.packet.Leg.TheVariants.{Exit}
 use Rattle.policy_rules.specs.declared.policy.Action.TheVariants.{Out}
-use Rattle.switch_table.specs.Lookup.{table_lookup}
+use Rattle.switch_table.specs.Exports.{table_lookup}
 use Rattle.journal.specs.declared.item.Item.{Item}
 use Rattle.update_machine.specs.Adverts.{advert_known, adverts_known, held_adverts, is_cut_off, own_advert, own_if_sent, own_seq, route_from}
 use Rattle.update_machine.specs.Boots.{boot_of, heard, is_up}

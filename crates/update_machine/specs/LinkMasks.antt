@@ -1,7 +1,7 @@
 -- Which links a switch knows, as masks: its own usable ones, and of others those that both ends
 -- name by the newest advert that it heard (RFC 2328, sections 13.1 and 16.1).
-use Rattle.std.specs.Prelude.{ℕ, ◌==◌, if◌then◌else◌, Option, Some, None, List, filter, length, map, filter_map}
-use Rattle.net_file.specs.Owners.{links_of}
+use Rattle.std.specs.Prelude.{if◌then◌else◌, ◌==◌, List, None, Option, Some, filter, filter_map, length, map, ℕ}
+use Rattle.net_file.specs.Exports.{links_of}
 use Rattle.net_file.specs.declared.net.LinkRow.{LinkRow}
 use Rattle.journal.specs.declared.item.Item.{Item}
 use Rattle.update_machine.specs.Boots.{heard, is_in_first_boot}
@@ -10,8 +10,7 @@ use Rattle.update_machine.specs.SwitchNumbers.{switches_of}
 use Rattle.update_machine.specs.Links.{is_usable}
 use Rattle.ctrl_msg.specs.declared.message.Body.{Body}
 use Rattle.ctrl_msg.specs.declared.message.Body.TheVariants.{Advertise}
-use Rattle.failover.specs.Adverts.{after_hearing_all, first_adverts, no_adverts}
-use Rattle.failover.specs.Links.{known_links}
+use Rattle.failover.specs.Exports.{after_hearing_all, first_adverts, known_links, no_adverts}
 use Rattle.failover.specs.declared.advert.Advert.{Advert}
 
 abbrev pub usable_links : Setting → List Item → List LinkRow

@@ -2,16 +2,14 @@
 -- neighbours in OSPF are those that respond (RFC 2328, section 10). And which links a switch
 -- knows: its own usable ones, and of others those that both ends claim by the newest advert that
 -- it heard (sections 13.1 and 16.1, with a boot number instead of the ages of adverts).
-use Rattle.std.specs.Prelude.{ℕ, Bool, true, false, not, ◌&&◌, ◌||◌, ◌==◌, nat_lt, min, max, if◌then◌else◌, Option, Some, None, option_and_then, unwrap_or, List}
-use Rattle.std.specs.Int.{bit_at}
-use Rattle.std.specs.List.{list_any}
-use Rattle.std.specs.Option.{option_map_or}
+use Rattle.std.specs.Prelude.{if◌then◌else◌, ◌&&◌, ◌==◌, ◌||◌, Bool, List, None, Option, Some, false, max, min, nat_lt, not, option_and_then, true, unwrap_or, ℕ}
+use Rattle.base.specs.Exports.{bit_at, list_any, option_map_or}
 use Rattle.ctrl_msg.specs.declared.message.Body.{Body}
 use Rattle.ctrl_msg.specs.declared.message.Body.TheVariants.{Advertise}
 use Rattle.ctrl_msg.specs.declared.message.Message.{Message}
 use Rattle.ctrl_msg.specs.declared.message.Place.{Place}
 use Rattle.ctrl_msg.specs.declared.message.Place.TheVariants as receiver
-use Rattle.net_file.specs.Joins.{are_linked, joins}
+use Rattle.net_file.specs.Exports.{are_linked, joins}
 use Rattle.net_file.specs.declared.net.LinkRow.{LinkRow}
 use Rattle.journal.specs.declared.item.Item.{Item}
 use Rattle.journal.specs.declared.item.Item.TheVariants as item

@@ -2,10 +2,10 @@
 -- do, and nothing else. It has policies, a mark and packets; it knows no switch, link, table or
 -- message. The notion of a version that decides a whole packet is that of Reitblatt, Foster,
 -- Rexford, Schlesinger and Walker, "Abstractions for Network Update".
-use Rattle.std.specs.Prelude.{⊤, ℕ, ◌≡◌, ◌+◌, ◌-◌, ◌<◌, if◌then◌else◌, ◌==◌, Option, Some, None, option_map, option_to_list, List, [], ◌∷◌, ◌++◌, length, slice_get}
-use Rattle.std.specs.Result.{result_ok}
+use Rattle.std.specs.Prelude.{[], if◌then◌else◌, ◌++◌, ◌+◌, ◌-◌, ◌<◌, ◌==◌, ◌∷◌, ◌≡◌, List, None, Option, Some, length, option_map, option_to_list, slice_get, ℕ, ⊤}
+use Rattle.base.specs.Exports.{result_ok}
 use Rattle.five_tuple.specs.declared.header.Header.{Header}
-use Rattle.policy_rules.specs.Policy.{IsFirstMatch}
+use Rattle.policy_rules.specs.Exports.{IsFirstMatch}
 use Rattle.policy_rules.specs.declared.policy.Row.{Row}
 use Rattle.policy_rules.specs.declared.policy.Hit.{Hit}
 use Rattle.policy_rules.specs.declared.policy.Action.TheVariants as action

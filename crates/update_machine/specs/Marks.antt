@@ -1,9 +1,8 @@
 -- The marks of the versions, as the controller knows them: which one is current, which are retired,
 -- and what each switch acknowledged. It is the two-phase update of Reitblatt, Foster, Rexford,
 -- Schlesinger and Walker, "Abstractions for Network Update", with acknowledgements of our own.
-use Rattle.std.specs.Prelude.{ℕ, ◌≡◌, ◌+◌, ◌-◌, ◌<◌, ◌≤◌, ◌⊎◌, Bool, true, false, not, ◌&&◌, ◌==◌, nat_eq, nat_lt, min, max, if◌then◌else◌, Option, Some, None, is_some, unwrap_or, option_and_then, option_to_list, List, [], ◌∷◌, ◌++◌, length, map, fold, filter, filter_map, take_while, All, IsTrue, IsFalse}
-use Rattle.std.specs.List.{list_all, list_any, range_with_len, reduce}
-use Rattle.std.specs.Option.{option_map_or}
+use Rattle.std.specs.Prelude.{[], if◌then◌else◌, ◌&&◌, ◌++◌, ◌+◌, ◌-◌, ◌<◌, ◌==◌, ◌∷◌, ◌≡◌, ◌≤◌, ◌⊎◌, All, Bool, IsFalse, IsTrue, List, None, Option, Some, false, filter, filter_map, fold, is_some, length, map, max, min, nat_eq, nat_lt, not, option_and_then, option_to_list, take_while, true, unwrap_or, ℕ}
+use Rattle.base.specs.Exports.{list_all, list_any, option_map_or, range_with_len, reduce}
 use Rattle.ctrl_msg.specs.declared.message.Body.{Body}
 use Rattle.ctrl_msg.specs.declared.message.Body.TheVariants.{OpenAt, Hello, Installed, Stamped}
 use Rattle.journal.specs.declared.item.Item.{Item}

@@ -1,7 +1,7 @@
 -- The messages of a journal. They are numbered from 1 in the order in which they were sent, may be
 -- delivered in any order and more than once, and may be forgotten: the notion is our own.
-use Rattle.std.specs.Prelude.{ℕ, ◌+◌, Bool, true, false, not, ◌&&◌, ◌==◌, nat_lt, Option, is_some, List, [], ◌∷◌, find}
-use Rattle.std.specs.List.{range_with_len}
+use Rattle.std.specs.Prelude.{[], ◌&&◌, ◌+◌, ◌==◌, ◌∷◌, Bool, List, Option, false, find, is_some, nat_lt, not, true, ℕ}
+use Rattle.base.specs.Exports.{range_with_len}
 use Rattle.ctrl_msg.specs.declared.message.Message.{Message}
 use Rattle.ctrl_msg.specs.declared.message.Place.{Place}
 use Rattle.ctrl_msg.specs.declared.message.Place.TheVariants as receiver

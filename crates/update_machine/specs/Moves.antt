@@ -1,17 +1,15 @@
 -- What becomes of a packet at a switch: lookups, decisions, tunnels and exits, as in Yu, Rexford,
 -- Freedman and Wang, "Scalable Flow-Based Networking with DIFANE", SIGCOMM 2010. Each block of
 -- items is read on the journal before it.
-use Rattle.std.specs.Prelude.{ℕ, true, false, ◌==◌, if◌then◌else◌, Option, Some, None, unwrap_or, option_and_then, option_map, List, [], ◌∷◌, ◌++◌, position, slice_get}
-use Rattle.std.specs.List.{list_all}
+use Rattle.std.specs.Prelude.{[], if◌then◌else◌, ◌++◌, ◌==◌, ◌∷◌, List, None, Option, Some, false, option_and_then, option_map, position, slice_get, true, unwrap_or, ℕ}
+use Rattle.base.specs.Exports.{has, list_all}
 use Rattle.cache_maker.specs.Independent.{widen}
 use Rattle.ctrl_msg.specs.declared.message.Body.TheVariants.{CacheRule}
 use Rattle.ctrl_msg.specs.declared.message.Message.{Message}
 use Rattle.ctrl_msg.specs.declared.message.Place.TheVariants as receiver
-use Rattle.base.specs.Masks.{has}
-use Rattle.five_tuple.specs.Header.{number_of}
+use Rattle.five_tuple.specs.Exports.{header_of, number_of}
 use Rattle.five_tuple.specs.declared.header.Header.{Header}
-use Rattle.five_tuple.specs.HeaderNumbers.{header_of}
-use Rattle.policy_rules.specs.Rules.{is_held}
+use Rattle.policy_rules.specs.Exports.{is_held}
 use Rattle.policy_rules.specs.declared.packet.Cause.{Cause}
 use Rattle.policy_rules.specs.declared.packet.Cause.TheVariants.{NoAuthority, NoRoute}
 use Rattle.policy_rules.specs.declared.packet.How.TheVariants as how
@@ -21,7 +19,7 @@ use Rattle.policy_rules.specs.declared.policy.Action.{Action}
 use Rattle.policy_rules.specs.declared.policy.Action.TheVariants as action
 use Rattle.policy_rules.specs.declared.rules.Partition.{Partition}
 use Rattle.policy_rules.specs.declared.rules.Rule.{Rule}
-use Rattle.switch_table.specs.Tables.{part_of}
+use Rattle.switch_table.specs.Exports.{part_of}
 use Rattle.switch_table.specs.declared.search.Found.{Found}
 use Rattle.switch_table.specs.declared.search.Found.TheVariants as found
 use Rattle.journal.specs.declared.item.Item.{Item}

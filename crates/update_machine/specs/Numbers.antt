@@ -1,7 +1,7 @@
 -- Packets, messages and versions are numbered from 1 without a gap, in the order in which they came
 -- in, were sent or were submitted.
-use Rattle.std.specs.Prelude.{⊤, ℕ, ◌≡◌, ◌+◌, ◌≤◌, ◌↔◌, List, [], ◌∷◌, IsTrue}
-use Rattle.std.specs.List.{range_with_len}
+use Rattle.std.specs.Prelude.{[], ◌+◌, ◌↔◌, ◌∷◌, ◌≡◌, ◌≤◌, IsTrue, List, ℕ, ⊤}
+use Rattle.base.specs.Exports.{range_with_len}
 use Rattle.journal.specs.declared.item.Item.{Item}
 use Rattle.journal.specs.declared.item.Item.TheVariants as item
 use Rattle.update_machine.specs.Folds.{all_given, count_of}

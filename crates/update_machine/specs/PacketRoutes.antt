@@ -1,12 +1,12 @@
 -- The ways of packets: their routes, the links that they found down, and the targets of their legs.
 -- They enter at an ingress switch, seek an authority switch and exit by a switch of their port,
 -- as in Yu, Rexford, Freedman and Wang, "Scalable Flow-Based Networking with DIFANE", SIGCOMM 2010.
-use Rattle.std.specs.Prelude.{ℕ, ◌+◌, ◌==◌, if◌then◌else◌, Option, Some, None, option_map, unwrap_or, List, [], ◌∷◌, slice_get}
-use Rattle.failover.specs.Links.{no_links, with_link}
-use Rattle.net_file.specs.Joins.{owner_of}
+use Rattle.std.specs.Prelude.{[], if◌then◌else◌, ◌+◌, ◌==◌, ◌∷◌, List, None, Option, Some, option_map, slice_get, unwrap_or, ℕ}
+use Rattle.failover.specs.Exports.{no_links, with_link}
+use Rattle.net_file.specs.Exports.{owner_of}
 use Rattle.policy_rules.specs.declared.packet.Leg.{Leg}
 use Rattle.policy_rules.specs.declared.packet.Leg.TheVariants.{Seek, Exit}
-use Rattle.switch_table.specs.Tables.{Hosted}
+use Rattle.switch_table.specs.Exports.{Hosted}
 use Rattle.journal.specs.declared.item.Item.{Item}
 use Rattle.update_machine.specs.Folds.{folded_value, last_given}
 use Rattle.update_machine.specs.Setting.{Setting}

@@ -1,16 +1,15 @@
 -- What each step writes into the journal. The sources of its blocks are named where they are
 -- defined: `Moves` for packets, `Deliveries` for adverts, `Settling` for updates.
-use Rattle.std.specs.Bool.{beq}
-use Rattle.std.specs.Prelude.{ℕ, ◌+◌, ◌-◌, Bool, true, false, ◌==◌, min, max, if◌then◌else◌, Ok, Err, Option, Some, None, unwrap_or, List, [], ◌∷◌, ◌++◌, map, slice_get}
-use Rattle.std.specs.List.{flat_map}
+use Rattle.base.specs.Exports.{beq}
+use Rattle.std.specs.Prelude.{[], if◌then◌else◌, ◌++◌, ◌+◌, ◌-◌, ◌==◌, ◌∷◌, Bool, Err, List, None, Ok, Option, Some, false, flat_map, map, max, min, slice_get, true, unwrap_or, ℕ}
 use Rattle.ctrl_msg.specs.declared.message.Body.TheVariants.{Hello}
 use Rattle.ctrl_msg.specs.declared.message.Message.{Message}
-use Rattle.ctrl_msg.specs.Kinds.{to_controller}
+use Rattle.ctrl_msg.specs.Exports.{to_controller}
 use Rattle.five_tuple.specs.declared.header.Header.{Header}
 use Rattle.policy_rules.specs.declared.applying.Inapplicable.{Inapplicable}
 use Rattle.policy_rules.specs.declared.applying.Inapplicable.TheVariants.{Absent, Taken, TooManyRows}
 use Rattle.policy_rules.specs.declared.policy.Row.{Row}
-use Rattle.policy_rules.specs.Hosted.{NoPlan, TooManyWords, TooManyLeaves, NoRoom}
+use Rattle.policy_rules.specs.Exports.{NoPlan, NoRoom, TooManyLeaves, TooManyWords}
 use Rattle.journal.specs.declared.item.Item.{Item}
 use Rattle.journal.specs.declared.item.Item.TheVariants as item
 use Rattle.steps.specs.declared.step.Step.{Step}

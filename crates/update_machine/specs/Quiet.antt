@@ -2,18 +2,17 @@
 -- matters was received. The notion is our own; that of a newer advert is OSPF's (RFC 2328, section
 -- 13.1). It is said of any journal: a message was delivered if a `Delivered` of its number follows
 -- its sending.
-use Rattle.std.specs.Prelude.{⊤, ℕ, ◌≡◌, ◌⊎◌, Bool, true, false, not, ◌&&◌, ◌||◌, ◌==◌, nat_lt, if◌then◌else◌, Option, Some, None, unwrap_or, List, [], ◌∷◌, All, IsTrue}
-use Rattle.std.specs.List.{list_any}
-use Rattle.std.specs.Option.{option_map_or}
-use Rattle.ctrl_msg.specs.Bodies.{body_boot}
+use Rattle.std.specs.Prelude.{[], if◌then◌else◌, ◌&&◌, ◌==◌, ◌||◌, ◌∷◌, ◌≡◌, ◌⊎◌, All, Bool, IsTrue, List, None, Option, Some, false, nat_lt, not, true, unwrap_or, ℕ, ⊤}
+use Rattle.base.specs.Exports.{list_any, option_map_or}
+use Rattle.ctrl_msg.specs.Exports.{body_boot}
 use Rattle.ctrl_msg.specs.declared.message.Body.{Body}
 use Rattle.ctrl_msg.specs.declared.message.Body.TheVariants.{Install, Stamp, Collect, Advertise, Hello, Installed, Stamped}
 use Rattle.ctrl_msg.specs.declared.message.Message.{Message}
 use Rattle.ctrl_msg.specs.declared.message.Place.TheVariants as receiver
-use Rattle.failover.specs.Adverts.{is_newer}
+use Rattle.failover.specs.Exports.{is_newer}
 use Rattle.journal.specs.declared.item.Item.{Item}
 use Rattle.journal.specs.declared.item.Item.TheVariants as item
-use Rattle.steps.specs.Steps.{HasSwitch}
+use Rattle.steps.specs.Exports.{HasSwitch}
 use Rattle.update_machine.specs.Boots.{boot_of, is_up}
 use Rattle.update_machine.specs.Folds.{last_given}
 use Rattle.update_machine.specs.Marks.{current_mark}

@@ -1,20 +1,16 @@
 -- First tier. A network with files of policies, and the policies and plans of a journal's versions.
-use Rattle.std.specs.Prelude.{ℕ, zero, suc, ◌-◌, ◌==◌, if◌then◌else◌, Option, Some, None, Result, Ok, Err, option_and_then, List, [], ◌∷◌, slice_get, ⊤, ◌≡◌, is_some, IsOk, IsTrue, All}
-use Rattle.std.specs.Result.{result_ok}
-use Rattle.std.specs.Option.{option_or}
+use Rattle.std.specs.Prelude.{[], if◌then◌else◌, ◌-◌, ◌==◌, ◌∷◌, ◌≡◌, All, Err, IsOk, IsTrue, List, None, Ok, Option, Result, Some, is_some, option_and_then, slice_get, suc, zero, ℕ, ⊤}
+use Rattle.base.specs.Exports.{option_or, result_ok}
 use Rattle.net_file.specs.declared.net.Net.{Net}
-use Rattle.net_file.specs.Net.{IsNet}
-use Rattle.net_file.specs.Joins.{owner_of}
+use Rattle.net_file.specs.Exports.{IsNet, owner_of}
 use Rattle.partition.specs.Plan.{Hosted, plan_of}
-use Rattle.policy_rules.specs.Applied.{applied}
-use Rattle.policy_rules.specs.PolicyFiles.{GivesOnly, IsPolicyFile}
+use Rattle.policy_rules.specs.Exports.{GivesOnly, IsPolicyFile, NoPlan, applied}
 use Rattle.policy_rules.specs.declared.applying.Inapplicable.{Inapplicable}
 use Rattle.policy_rules.specs.declared.applying.Inapplicable.TheVariants.{Absent}
 use Rattle.policy_rules.specs.declared.file.PolicyFile.{PolicyFile}
 use Rattle.policy_rules.specs.declared.file.PolicyFile.TheVariants.{Whole, Change}
 use Rattle.policy_rules.specs.declared.policy.Row.{Row}
 use Rattle.policy_rules.specs.declared.policy.Action.{Action}
-use Rattle.policy_rules.specs.Hosted.{NoPlan}
 use Rattle.policy_rules.specs.declared.policy.Action.TheVariants as action
 use Rattle.journal.specs.declared.item.Item.{Item}
 use Rattle.journal.specs.declared.item.Item.TheVariants as item

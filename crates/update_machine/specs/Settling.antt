@@ -1,8 +1,8 @@
 -- What the controller sends: the two-phase update of Reitblatt, Foster, Rexford, Schlesinger and
 -- Walker, "Abstractions for Network Update", with boots and acknowledgements of our own. Each group
 -- is by ascending switch, and each message has the known boot of its switch.
-use Rattle.std.specs.Prelude.{ℕ, ◌+◌, ◌-◌, true, false, not, ◌&&◌, ◌==◌, nat_lt, if◌then◌else◌, List, [], ◌∷◌, ◌++◌, map, filter}
-use Rattle.std.specs.List.{range_with_len}
+use Rattle.std.specs.Prelude.{[], if◌then◌else◌, ◌&&◌, ◌++◌, ◌+◌, ◌-◌, ◌==◌, ◌∷◌, List, false, filter, map, nat_lt, not, true, ℕ}
+use Rattle.base.specs.Exports.{range_with_len}
 use Rattle.ctrl_msg.specs.declared.message.Body.{Body}
 use Rattle.ctrl_msg.specs.declared.message.Body.TheVariants.{Install, OpenAt, Stamp, Collect}
 use Rattle.ctrl_msg.specs.declared.message.Message.{Message}

@@ -1,5 +1,5 @@
 -- The steps of a journal: the stretches from one row to the next, the last of which may continue.
-use Rattle.std.specs.Prelude.{List, [], ◌∷◌, ◌++◌}
+use Rattle.std.specs.Prelude.{[], ◌++◌, ◌∷◌, List}
 use Rattle.journal.specs.declared.item.Item.{Item}
 use Rattle.journal.specs.declared.item.Item.TheVariants as item
 use Rattle.update_machine.specs.Folds.{folded_value}

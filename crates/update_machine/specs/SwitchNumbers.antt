@@ -1,6 +1,6 @@
 -- The switches of a network, by number.
-use Rattle.std.specs.Prelude.{ℕ, List, length}
-use Rattle.std.specs.List.{range_with_len}
+use Rattle.std.specs.Prelude.{List, length, ℕ}
+use Rattle.base.specs.Exports.{range_with_len}
 use Rattle.update_machine.specs.Setting.{Setting}
 
 -- the numbers of the switches, ascending

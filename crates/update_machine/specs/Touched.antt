@@ -1,11 +1,11 @@
 -- What the change that made a version touches, as the controller sends it to the switches.
-use Rattle.std.specs.Prelude.{ℕ, zero, suc, Option, Some, List, option_and_then}
-use Rattle.policy_rules.specs.Touched.{touched_words}
+use Rattle.std.specs.Prelude.{List, Option, Some, option_and_then, suc, zero, ℕ}
+use Rattle.policy_rules.specs.Exports.{touched_words}
 use Rattle.policy_rules.specs.declared.file.PolicyFile.{PolicyFile}
 use Rattle.policy_rules.specs.declared.file.PolicyFile.TheVariants.{Change}
 use Rattle.policy_rules.specs.declared.policy.Row.{Row}
-use Rattle.switch_table.specs.Carried.{all_touched, few_touched}
-use Rattle.ternary.specs.Word.{WordValue}
+use Rattle.switch_table.specs.Exports.{all_touched, few_touched}
+use Rattle.ternary.specs.Exports.{WordValue}
 use Rattle.journal.specs.declared.item.Item.{Item}
 use Rattle.update_machine.specs.Setting.{Setting, file_at, file_of, policy_in}
 use Rattle.update_machine.specs.Versions.{version_count}

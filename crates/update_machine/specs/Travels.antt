@@ -1,7 +1,7 @@
 -- Which packets travel, where they entered, and on which leg they are: more about the packets of
 -- `Packets`.
-use Rattle.std.specs.Prelude.{ℕ, Bool, true, false, ◌&&◌, ◌==◌, if◌then◌else◌, Option, Some, None, option_and_then, unwrap_or, List, filter, find}
-use Rattle.std.specs.List.{range_with_len}
+use Rattle.std.specs.Prelude.{if◌then◌else◌, ◌&&◌, ◌==◌, Bool, List, None, Option, Some, false, filter, find, option_and_then, true, unwrap_or, ℕ}
+use Rattle.base.specs.Exports.{range_with_len}
 use Rattle.policy_rules.specs.declared.packet.Leg.{Leg}
 use Rattle.policy_rules.specs.declared.packet.Leg.TheVariants.{Seek, Exit}
 use Rattle.policy_rules.specs.declared.policy.Action.{Action}

@@ -2,15 +2,14 @@
 -- packets with. Tables that are installed under a version before packets are stamped with it, and
 -- are removed once none is, are those of Reitblatt, Foster, Rexford, Schlesinger and Walker,
 -- "Abstractions for Network Update".
-use Rattle.std.specs.Prelude.{ℕ, ◌≡◌, ◌+◌, Bool, true, false, not, ◌&&◌, ◌||◌, ◌==◌, nat_le, max, if◌then◌else◌, Option, Some, None, is_some, unwrap_or, List, [], ◌∷◌, ◌++◌, fold, filter_map, Result, Ok, Err}
-use Rattle.std.specs.List.{list_any}
-use Rattle.std.specs.Option.{option_map_or}
+use Rattle.std.specs.Prelude.{[], if◌then◌else◌, ◌&&◌, ◌++◌, ◌+◌, ◌==◌, ◌||◌, ◌∷◌, ◌≡◌, Bool, Err, List, None, Ok, Option, Result, Some, false, filter_map, fold, is_some, max, nat_le, not, true, unwrap_or, ℕ}
+use Rattle.base.specs.Exports.{list_any, option_map_or}
 use Rattle.ctrl_msg.specs.declared.message.Body.{Body}
 use Rattle.ctrl_msg.specs.declared.message.Body.TheVariants.{Install, OpenAt, Stamp, Collect}
 use Rattle.policy_rules.specs.declared.applying.Inapplicable.{Inapplicable}
 use Rattle.policy_rules.specs.declared.policy.Row.{Row}
-use Rattle.policy_rules.specs.Hosted.{NoPlan}
-use Rattle.switch_table.specs.Tables.{tables_of}
+use Rattle.policy_rules.specs.Exports.{NoPlan}
+use Rattle.switch_table.specs.Exports.{tables_of}
 use Rattle.switch_table.specs.declared.tables.Tables.{Tables}
 use Rattle.journal.specs.declared.item.Item.{Item}
 use Rattle.journal.specs.declared.item.Item.TheVariants as item

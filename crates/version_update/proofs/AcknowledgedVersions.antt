@@ -1,12 +1,9 @@
 -- The versions that a switch acknowledged.
-use Rattle.std.proofs.Common.{ℕ, ◌≡◌, ◌-◌, ◌^◌, ◌<◌, ◌≤◌, ◌⊎◌, max, Bool, true, false, cond, ◌&&◌, eqb, refl, ap, sym, ◌∙◌, arith, inl, inr}
-use Rattle.std.specs.Prelude.{IsTrue, ◌||◌, bit_or}
-use Rattle.std.specs.Int.{bit_at}
-use Rattle.std.proofs.lemmas.Nat.Bits.{bit_at-zero, bit_at_above, bit_at_or, bit_at-lt, bit_at-pow_same, bit_at-pow_other}
-use Rattle.std.proofs.lemmas.Bool.{cases_eq, eq-eqb, ne_eqb}
+use Rattle.std.proofs.Common.{◌&&◌, ◌-◌, ◌<◌, ◌^◌, ◌||◌, ◌∙◌, ◌≡◌, ◌≤◌, ◌⊎◌, Bool, IsTrue, ap, arith, bit_or, cond, eq-eqb, eqb, false, inl, inr, max, ne_eqb, refl, sym, true, ℕ}
+use Rattle.base.proofs.Exports.{bit_at, bit_at-lt, bit_at-pow_other, bit_at-pow_same, bit_at-zero, bit_at_above, bit_at_or, cases_eq}
 use Rattle.version_update.specs.declared.record.Phase.TheVariants.{Joining}
 use Rattle.version_update.specs.declared.record.SwitchRecord.{SwitchRecord}
-use Rattle.version_update.specs.Record.{has_acked, first_record, IsSoundRecord, takes_hello, hello_recorded, takes_installed, after_installed}
+use Rattle.version_update.specs.Exports.{IsSoundRecord, after_installed, first_record, has_acked, hello_recorded, takes_hello, takes_installed}
 
 pub first_acked : (version : ℕ) → 1 ≤ version → has_acked first_record version ≡ eqb version 1
 first_acked version low = elim (cases_eq version 1) [

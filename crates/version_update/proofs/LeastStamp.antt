@@ -1,11 +1,8 @@
 -- The least of the stamps that members acknowledged.
-use Rattle.std.proofs.Common.{ℕ, ◌≡◌, ◌≤◌, min, Bool, true, false, cond, List, [], ◌∷◌, map, All, refl, arith}
-use Rattle.std.specs.Prelude.{unwrap_or}
-use Rattle.std.specs.List.{fold}
-use Rattle.std.proofs.lemmas.List.Elements.{All-nil, All-cons, All-head, All-tail}
+use Rattle.std.proofs.Common.{[], ◌∷◌, ◌≡◌, ◌≤◌, All, Bool, List, arith, cond, false, fold, map, min, refl, true, unwrap_or, ℕ}
+use Rattle.base.proofs.Exports.{All-cons, All-head, All-nil, All-tail}
 use Rattle.version_update.specs.declared.record.SwitchRecord.{SwitchRecord}
-use Rattle.version_update.specs.Record.{is_member, IsSoundRecord}
-use Rattle.version_update.specs.Marks.{member_records, acked_stamps, least_of}
+use Rattle.version_update.specs.Exports.{IsSoundRecord, acked_stamps, is_member, least_of, member_records}
 
 -- from 1 to count
 abbrev IsVersion : ℕ → ℕ → Type 0

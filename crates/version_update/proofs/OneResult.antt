@@ -1,19 +1,10 @@
 -- A change settles in one way.
-use Rattle.std.proofs.Common.{ℕ, suc, zero, ◌≡◌, ◌+◌, ◌-◌, ◌<◌, ◌≤◌, ◌⊎◌, ◌&&◌, min, Bool, false, cond, ltb, Option, Some, None, List, [], ◌∷◌, map, All, Contains, MatchOption, refl, ap, sym, ◌∙◌, subst, arith, inl, inr, ⊎_elim}
-use Rattle.std.specs.Prelude.{IsFalse, slice_get, unwrap_or}
-use Rattle.std.specs.List.{fold}
-use Rattle.std.specs.Option.{option_map_or}
-use Rattle.std.specs.Int.{from_bool}
-use Rattle.std.proofs.lemmas.Nat.Bits.{same_from_bits, bit_at-zero}
-use Rattle.std.proofs.lemmas.Bool.{cases_lt, le-ltb}
-use Rattle.std.proofs.lemmas.List.Elements.{All-head, All-tail, All-cons, All-nil}
+use Rattle.std.proofs.Common.{[], ◌&&◌, ◌+◌, ◌-◌, ◌<◌, ◌∙◌, ◌∷◌, ◌≡◌, ◌≤◌, ◌⊎◌, All, Bool, Contains, IsFalse, List, MatchOption, None, Option, Some, ap, arith, cond, false, fold, inl, inr, le-ltb, ltb, map, min, refl, slice_get, subst, suc, sym, unwrap_or, zero, ℕ, ⊎_elim}
+use Rattle.base.proofs.Exports.{All-cons, All-head, All-nil, All-tail, bit_at-zero, cases_lt, from_bool, option_map_or, same_from_bits}
 use Rattle.version_update.specs.declared.record.Phase.TheVariants.{Member}
 use Rattle.version_update.specs.declared.record.SwitchRecord.{SwitchRecord}
 use Rattle.version_update.specs.declared.marks.Settled.{Settled}
-use Rattle.version_update.specs.Record.{is_member, opens_at, opened_record}
-use Rattle.version_update.specs.Marks.{MarksValue, acked_stamps, least_of, AreMarksSettled}
-use Rattle.version_update.specs.Settling.{Names, rises_to, RisesTo, Reports, Settles}
-use Rattle.version_update.specs.Laws.{nothing_rose, IsLeast}
+use Rattle.version_update.specs.Exports.{AreMarksSettled, IsLeast, MarksValue, Names, Reports, RisesTo, Settles, acked_stamps, is_member, least_of, nothing_rose, opened_record, opens_at, rises_to}
 
 -- ---- one result
 

@@ -1,20 +1,11 @@
 -- What the opening of joining switches keeps, and what it settles.
-use Rattle.std.proofs.Common.{ℕ, ◌≡◌, ◌+◌, ◌-◌, ◌<◌, ◌≤◌, ◌^◌, Bool, true, false, cond, ◌&&◌, List, [], ◌∷◌, length, map, replicate, All, refl, ap, sym, ◌∙◌, subst, arith}
-use Rattle.std.specs.Prelude.{IsTrue, IsFalse}
-use Rattle.std.specs.List.{list_all}
-use Rattle.std.proofs.lemmas.List.{length-map, length-replicate}
-use Rattle.std.proofs.lemmas.List.Elements.{All-map, All-replicate}
+use Rattle.std.proofs.Common.{[], ◌&&◌, ◌+◌, ◌-◌, ◌<◌, ◌^◌, ◌∙◌, ◌∷◌, ◌≡◌, ◌≤◌, All, Bool, IsFalse, IsTrue, List, ap, arith, bit_or, cond, false, length, map, refl, replicate, subst, sym, true, ℕ}
+use Rattle.base.proofs.Exports.{All-map, All-replicate, and_parts, length-map, length-replicate, list_all, or_lt, pow-lt}
 use Rattle.version_update.specs.declared.record.Phase.{Phase}
 use Rattle.version_update.specs.declared.record.Phase.TheVariants.{Joining, Member, Over}
 use Rattle.version_update.specs.declared.record.SwitchRecord.{SwitchRecord}
-use Rattle.version_update.specs.Record.{first_record, is_member, is_joining, has_acked, takes_installed, after_installed, IsSoundRecord, opens_at, opened_record}
-use Rattle.std.specs.Int.Bits.{bit_or}
-use Rattle.std.proofs.lemmas.Nat.{or_lt}
-use Rattle.std.proofs.Math.Pow.{pow-lt}
-use Rattle.std.proofs.lemmas.Bool.{and_parts}
+use Rattle.version_update.specs.Exports.{AreBounded, AreMarksSettled, IsSoundRecord, MarksValue, RisesTo, after_installed, all_have_acked, first_marks, first_record, has_acked, is_joining, is_member, member_records, opened_record, opens_at, retired_of, takes_installed}
 use Rattle.version_update.proofs.LeastStamp.{least_stamp-version}
-use Rattle.version_update.specs.Marks.{MarksValue, first_marks, member_records, all_have_acked, retired_of, AreBounded, AreMarksSettled}
-use Rattle.version_update.specs.Settling.{RisesTo}
 
 -- a member stays as it is
 member_stays : (current : ℕ) (known : SwitchRecord) → is_member known.phase ≡ true

@@ -1,16 +1,8 @@
 -- Masks whose bits name the switches that pass a test.
-use Rattle.std.proofs.Common.{ℕ, suc, zero, ◌≡◌, ◌+◌, ◌*◌, ◌%◌, ◌^◌, ◌<◌, ◌≤◌, max, Bool, true, false, ◌&&◌, eqb, List, [], ◌∷◌, ◌++◌, length, get_or, take, refl, ap, sym, ◌∙◌, subst, arith, inl, inr}
-use Rattle.std.specs.Prelude.{◌||◌, Option, Some, None, IsTrue, slice_get, bit_or}
-use Rattle.std.specs.Option.{option_map_or}
-use Rattle.std.specs.Int.{bit_at, from_bool}
-use Rattle.std.proofs.Math.Nat.{mod-eq_of_lt}
-use Rattle.std.proofs.Math.Pow.{pow-lt}
-use Rattle.std.proofs.lemmas.Nat.Bits.{bit_at_or, bit_at-zero, bit_at-pow_same, bit_at-pow_other}
-use Rattle.std.proofs.lemmas.Bool.{cases_eq, eq-eqb, ne_eqb}
-use Rattle.std.proofs.lemmas.Bool.Decides.{nat_tests}
-use Rattle.std.proofs.lemmas.List.{take_more, length-take}
+use Rattle.std.proofs.Common.{[], ◌%◌, ◌&&◌, ◌*◌, ◌++◌, ◌+◌, ◌<◌, ◌^◌, ◌||◌, ◌∙◌, ◌∷◌, ◌≡◌, ◌≤◌, Bool, IsTrue, List, None, Option, Some, ap, arith, bit_or, eq-eqb, eqb, false, get_or, inl, inr, length, length-take, max, mod-eq_of_lt, ne_eqb, refl, slice_get, subst, suc, sym, take, true, zero, ℕ}
+use Rattle.base.proofs.Exports.{bit_at, bit_at-pow_other, bit_at-pow_same, bit_at-zero, bit_at_or, cases_eq, from_bool, nat_tests, option_map_or, pow-lt, take_more}
 use Rattle.version_update.specs.declared.record.SwitchRecord.{SwitchRecord}
-use Rattle.version_update.specs.Settling.{Names}
+use Rattle.version_update.specs.Exports.{Names}
 
 -- whether there is a switch s that passes
 abbrev passes_at : (SwitchRecord → Bool) → List SwitchRecord → ℕ → Bool

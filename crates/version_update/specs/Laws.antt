@@ -1,7 +1,7 @@
 -- The laws of settling, and of the versions that a switch acknowledged: `x_laws` of the crate
 -- ensures the record of each.
-use Rattle.std.specs.Prelude.{ℕ, ◌≡◌, ◌<◌, ◌≤◌, Bool, false, ◌&&◌, ◌||◌, ◌==◌, Some, None, List, slice_get, [], All, Contains, MatchOption, IsTrue}
-use Rattle.std.specs.Int.{bit_at}
+use Rattle.std.specs.Prelude.{[], ◌&&◌, ◌<◌, ◌==◌, ◌||◌, ◌≡◌, ◌≤◌, All, Bool, Contains, IsTrue, List, MatchOption, None, Some, false, slice_get, ℕ}
+use Rattle.base.specs.Exports.{bit_at}
 use Rattle.version_update.specs.declared.record.SwitchRecord.{SwitchRecord}
 use Rattle.version_update.specs.declared.marks.Settled.{Settled}
 use Rattle.version_update.specs.Record.{has_acked, first_record, IsSoundRecord, takes_hello, hello_recorded, takes_installed, after_installed}

@@ -2,3 +2,4 @@ pub mod Record
 pub mod Marks
 pub mod Settling
 pub mod Laws
+pub mod Exports

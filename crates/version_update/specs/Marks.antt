@@ -1,7 +1,7 @@
 -- The marks of a policy's versions: how many there are, the current one, the last one that is
 -- retired, and what is known of each switch.
-use Rattle.std.specs.Prelude.{ℕ, ◌≡◌, ◌+◌, ◌-◌, ◌<◌, ◌≤◌, Bool, IsFalse, Option, unwrap_or, List, map, filter, replicate, length, min, All, slice_index_or, slice_set}
-use Rattle.std.specs.List.{list_all, reduce}
+use Rattle.std.specs.Prelude.{◌+◌, ◌-◌, ◌<◌, ◌≡◌, ◌≤◌, All, Bool, IsFalse, List, Option, filter, length, map, min, replicate, slice_index_or, slice_set, unwrap_or, ℕ}
+use Rattle.base.specs.Exports.{list_all, reduce}
 use Rattle.version_update.specs.declared.record.SwitchRecord.{SwitchRecord}
 use Rattle.version_update.specs.Record.{is_member, has_acked, first_record, unknown_switch, IsSoundRecord, opens_at}
 

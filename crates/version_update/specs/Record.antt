@@ -1,8 +1,8 @@
 -- What the controller knows of one switch while versions of a policy are put in place, after the
 -- two-phase update of Reitblatt, Foster, Rexford, Schlesinger and Walker, "Abstractions for Network
 -- Update"; the acknowledgements are our own.
-use Rattle.std.specs.Prelude.{ℕ, ◌-◌, ◌^◌, ◌<◌, ◌≤◌, Bool, true, false, not, ◌&&◌, ◌==◌, nat_lt, max, if◌then◌else◌, bit_or, IsTrue}
-use Rattle.std.specs.Int.{bit_at}
+use Rattle.std.specs.Prelude.{if◌then◌else◌, ◌&&◌, ◌-◌, ◌<◌, ◌==◌, ◌^◌, ◌≤◌, Bool, IsTrue, bit_or, false, max, nat_lt, not, true, ℕ}
+use Rattle.base.specs.Exports.{bit_at}
 use Rattle.version_update.specs.declared.record.Phase.{Phase}
 use Rattle.version_update.specs.declared.record.Phase.TheVariants.{Joining, Member, Over}
 use Rattle.version_update.specs.declared.record.SwitchRecord.{SwitchRecord}

@@ -1,7 +1,6 @@
 -- Settling: what follows from a change of what is known, stated about its result.
-use Rattle.std.specs.Prelude.{ℕ, ◌≡◌, ◌+◌, ◌<◌, ◌≤◌, Bool, false, ◌&&◌, nat_lt, if◌then◌else◌, Option, Some, None, List, map, slice_get, IsTrue, IsFalse}
-use Rattle.std.specs.Option.{option_map_or}
-use Rattle.std.specs.Int.{bit_at, from_bool}
+use Rattle.std.specs.Prelude.{if◌then◌else◌, ◌&&◌, ◌+◌, ◌<◌, ◌≡◌, ◌≤◌, Bool, IsFalse, IsTrue, List, None, Option, Some, false, map, nat_lt, slice_get, ℕ}
+use Rattle.base.specs.Exports.{bit_at, from_bool, option_map_or}
 use Rattle.version_update.specs.declared.record.SwitchRecord.{SwitchRecord}
 use Rattle.version_update.specs.declared.marks.Settled.{Settled}
 use Rattle.version_update.specs.Record.{is_member, opens_at, opened_record}

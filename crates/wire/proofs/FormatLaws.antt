@@ -1,13 +1,7 @@
 -- The two laws of formats: what is read is spelled so, and what is spelled is read again.
-use Rattle.std.proofs.Common.{◌≡◌, ℕ, zero, suc, ◌+◌, ◌%◌, ◌^◌, ◌<◌, ◌≤◌, Bool, true, false, cond, ltb, List, [], ◌∷◌, ◌++◌, length, get_or, take, drop, Option, Some, None, refl, sym, ap, subst, ◌∙◌, append_assoc, arith, inl, inr}
-use Rattle.std.specs.List.{flat_map, list_all}
-use Rattle.std.specs.Int.{Width, w8, w32, w64, byte_len, from_be_bytes, to_be_bytes}
-use Rattle.std.proofs.lemmas.Bool.{cases_lt, ltb-false, ltb-true, le-ltb, lt-ltb, and_parts}
-use Rattle.std.proofs.lemmas.List.{take_at, drop_at, take-append-drop, length-append, length-take, get_or-drop, get_or-take, get_or_past}
-use Rattle.std.proofs.lemmas.Nat.{be_bytes_4, be_bytes_8, from_be_bytes-to_be_bytes_4, from_be_bytes-to_be_bytes_8}
-use Rattle.std.proofs.lemmas.Option.{same_Some, cond_some}
-use Rattle.base.proofs.OptionsByTest.{not_refused}
-use Rattle.wire.specs.Format.{Format, then_read, spelled_number, read_number, number, ◌⊗◌, as_type, such_that, read_flagged, optional, read_items, list_of}
+use Rattle.std.proofs.Common.{[], ◌%◌, ◌++◌, ◌+◌, ◌<◌, ◌^◌, ◌∙◌, ◌∷◌, ◌≡◌, ◌≤◌, Bool, List, None, Option, Some, ap, append_assoc, arith, cond, drop, drop_at, false, flat_map, get_or, get_or-drop, get_or-take, inl, inr, le-ltb, length, length-append, length-take, lt-ltb, ltb, ltb-false, ltb-true, refl, subst, suc, sym, take, take-append-drop, take_at, true, w32, w64, w8, zero, ℕ}
+use Rattle.base.proofs.Exports.{Width, and_parts, be_bytes_4, be_bytes_8, byte_len, cases_lt, cond_some, from_be_bytes, from_be_bytes-to_be_bytes_4, from_be_bytes-to_be_bytes_8, get_or_past, list_all, not_refused, same_Some, to_be_bytes}
+use Rattle.wire.specs.Exports.{◌⊗◌, Format, as_type, list_of, number, optional, read_flagged, read_items, read_number, spelled_number, such_that, then_read}
 
 -- each is a byte
 abbrev pub AreBytes : List ℕ → Type 0

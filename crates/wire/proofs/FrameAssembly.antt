@@ -1,19 +1,11 @@
 -- Frames of one count at rising places: when they are all there, and which message they are of.
-use Rattle.std.proofs.Common.{◌≡◌, ℕ, zero, suc, ◌+◌, ◌-◌, ◌*◌, ◌≤◌, List, [], ◌∷◌, ◌++◌, length, length-drop, take, drop, map, refl, sym, ap, subst, ◌∙◌, arith}
-use Rattle.std.specs.List.{flat_map}
-use Rattle.std.specs.Int.{div_ceil}
-use Rattle.std.proofs.Math.Nat.{zero-mul}
-use Rattle.std.proofs.Math.Seq.{take-add}
-use Rattle.std.proofs.lemmas.Grind.{div_ceil_times}
-use Rattle.std.proofs.lemmas.List.{take-append-drop, length-map, take_all}
+use Rattle.std.proofs.Common.{[], ◌*◌, ◌++◌, ◌+◌, ◌-◌, ◌∙◌, ◌∷◌, ◌≡◌, ◌≤◌, List, ap, arith, drop, flat_map, length, length-drop, map, refl, subst, suc, sym, take, take-add, take-append-drop, take_all, zero, zero-mul, ℕ}
+use Rattle.base.proofs.Exports.{IfRefused-weaker, div_ceil, div_ceil_times, length-map}
 use Rattle.ctrl_msg.specs.declared.message.Message.{Message}
-use Rattle.wire.specs.Messages.{message, IsSpelling}
-use Rattle.wire.specs.Frames.{frame, frames_from, frames_of, chunks, chunk_of, place_in_frame, equal_chunks, chunks_behind_head, head_len, most_of_chunk, AreFrames}
-use Rattle.base.specs.Refusals.{IfRefused}
+use Rattle.wire.specs.Exports.{AreFrames, AreNone, AreRising, IsSpelling, chunk_of, chunks, chunks_behind_head, equal_chunks, frame, frames_from, frames_of, head_len, message, most_of_chunk, place_in_frame}
+use Rattle.base.specs.Exports.{IfRefused}
 use Rattle.base.specs.declared.error.Failure.{Failure}
 use Rattle.wire.specs.declared.error.Malformed.{Malformed}
-use Rattle.base.proofs.RefusalWeakening.{IfRefused-weaker}
-use Rattle.wire.specs.Assembly.{AreRising, AreNone}
 use Rattle.wire.proofs.FrameBytes.{chunks_of_frames}
 use Rattle.wire.proofs.MessageDecoding.{one_message}
 

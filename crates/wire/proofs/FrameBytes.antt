@@ -1,11 +1,7 @@
 -- A frame is its place, the count and its chunk.
-use Rattle.std.proofs.Common.{◌≡◌, ℕ, ◌+◌, ◌≤◌, ◌<◌, ◌^◌, List, [], ◌∷◌, ◌++◌, length, length-drop, take, drop, map, refl, sym, ap, ◌∙◌, append_assoc, arith}
-use Rattle.std.specs.Int.{w32, from_be_bytes}
-use Rattle.std.proofs.lemmas.List.{length-append, length-take, take_at, drop_at, take-append-drop, drop-drop}
-use Rattle.std.proofs.lemmas.Nat.{be_bytes_4, from_be_bytes-to_be_bytes_4}
-use Rattle.wire.specs.Format.{spelled_number}
-use Rattle.wire.specs.Fields.{n4}
-use Rattle.wire.specs.Frames.{frame, frames_from, place_in_frame, count_in_frame, chunk_of}
+use Rattle.std.proofs.Common.{[], ◌++◌, ◌+◌, ◌<◌, ◌^◌, ◌∙◌, ◌∷◌, ◌≡◌, ◌≤◌, List, ap, append_assoc, arith, drop, drop-drop, drop_at, length, length-append, length-drop, length-take, map, refl, sym, take, take-append-drop, take_at, w32, ℕ}
+use Rattle.base.proofs.Exports.{be_bytes_4, from_be_bytes, from_be_bytes-to_be_bytes_4}
+use Rattle.wire.specs.Exports.{chunk_of, count_in_frame, frame, frames_from, n4, place_in_frame, spelled_number}
 use Rattle.wire.proofs.FormatLaws.{AreBytes, AreBytes-drop, AreBytes-take}
 
 pub length_n4 : (n : ℕ) → length (n4.spell n) ≡ 4

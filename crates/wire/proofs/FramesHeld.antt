@@ -1,20 +1,12 @@
 -- Which frames are held, in the order of their places.
-use Rattle.std.proofs.Common.{◌≡◌, ℕ, suc, ◌+◌, ◌-◌, ◌≤◌, ◌<◌, Bool, true, false, eqb, ltb, leb, not, inl, inr, List, [], ◌∷◌, length, filter, Option, Some, None, Result, Ok, Err, slice_get, refl, sym, ap, subst, ◌∙◌, arith}
-use Rattle.std.specs.Prelude.{IsSome, OnOk, OnErr}
-use Rattle.std.specs.List.{insert, position, position_or_len}
-use Rattle.std.proofs.lemmas.Bool.{cases_lt, cases_eq, lt-ltb, le-ltb, ltb-false, eqb-true, ne_eqb, false_from_ne_true, cond-true}
-use Rattle.std.proofs.lemmas.Bool.Decides.{nat_tests}
-use Rattle.std.proofs.lemmas.Option.{same_Some, cond_some}
+use Rattle.std.proofs.Common.{[], ◌+◌, ◌-◌, ◌<◌, ◌∙◌, ◌∷◌, ◌≡◌, ◌≤◌, Bool, Err, IsSome, List, None, Ok, OnErr, OnOk, Option, Result, Some, ap, arith, eqb, eqb-true, false, filter, inl, inr, insert, le-ltb, leb, length, lt-ltb, ltb, ltb-false, ne_eqb, not, position, refl, slice_get, subst, suc, sym, true, ℕ}
+use Rattle.base.proofs.Exports.{IfRefused-weaker, cases_eq, cases_lt, cond-true, cond_some, false_from_ne_true, false_not_true, nat_tests, none_is_not, none_is_not_some, on_err, on_ok, position_or_len, same_Some}
 use Rattle.ctrl_msg.specs.declared.message.Message.{Message}
 use Rattle.wire.specs.declared.assembler.FrameCheck.TheVariants.{Held, New}
-use Rattle.base.specs.Refusals.{IfRefused}
+use Rattle.base.specs.Exports.{IfRefused}
 use Rattle.base.specs.declared.error.Failure.{Failure}
 use Rattle.wire.specs.declared.error.Malformed.{Malformed}
-use Rattle.base.proofs.RefusalWeakening.{IfRefused-weaker}
-use Rattle.base.proofs.OptionsMade.{false_not_true, none_is_not, none_is_not_some}
-use Rattle.base.proofs.ResultsMade.{on_err, on_ok}
-use Rattle.wire.specs.Frames.{place_in_frame, count_in_frame, AreFrames}
-use Rattle.wire.specs.Assembly.{held_at, with_frame, AreAllHeld, AreRising, AreTogether, IsOfCount, IsRefusedFrame, too_short, too_long, past_the_count, another_count, another_frame, no_message, Agree, AreNone, IsAssembled, IsFed, Joins, IsFrameCheck}
+use Rattle.wire.specs.Exports.{Agree, AreAllHeld, AreFrames, AreNone, AreRising, AreTogether, IsAssembled, IsFed, IsFrameCheck, IsOfCount, IsRefusedFrame, Joins, another_count, another_frame, count_in_frame, held_at, no_message, past_the_count, place_in_frame, too_long, too_short, with_frame}
 use Rattle.wire.proofs.FormatLaws.{AreBytes}
 use Rattle.wire.proofs.FrameBytes.{frame_again}
 use Rattle.wire.proofs.FrameAssembly.{rising_few}

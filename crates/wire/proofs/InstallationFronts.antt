@@ -1,18 +1,11 @@
 -- What stands before the tables in an installation is read as it is spelled.
-use Rattle.std.proofs.Common.{◌≡◌, ℕ, true, cond, eqb, List, [], ◌++◌, length, Some, None, Result, Ok, Err, refl, sym, ap, subst, ◌∙◌}
-use Rattle.std.specs.Prelude.{IfOk, IfErr}
-use Rattle.std.proofs.lemmas.Bool.{eqb-true}
-use Rattle.std.proofs.lemmas.List.{append-nil, nil_from_length}
-use Rattle.std.proofs.lemmas.Option.{same_Some, cond_some}
+use Rattle.std.proofs.Common.{[], ◌++◌, ◌∙◌, ◌≡◌, Err, IfErr, IfOk, List, None, Ok, Result, Some, ap, append-nil, cond, eqb, eqb-true, length, refl, subst, sym, true, ℕ}
+use Rattle.base.proofs.Exports.{IfRefused-weaker, cond_some, nil_from_length, none_is_not, passes_then_some, same_Some}
 use Rattle.ctrl_msg.specs.declared.message.Place.{Place}
-use Rattle.base.specs.Refusals.{IfRefused}
+use Rattle.base.specs.Exports.{IfRefused}
 use Rattle.base.specs.declared.error.Failure.{Failure}
 use Rattle.wire.specs.declared.error.Malformed.{Malformed}
-use Rattle.base.proofs.RefusalWeakening.{IfRefused-weaker}
-use Rattle.base.proofs.OptionsByTest.{passes_then_some}
-use Rattle.base.proofs.OptionsMade.{none_is_not}
-use Rattle.wire.specs.Messages.{IsFront, message_front, read_front, spelled_front}
-use Rattle.wire.specs.Reading.{Gives}
+use Rattle.wire.specs.Exports.{Gives, IsFront, message_front, read_front, spelled_front}
 use Rattle.wire.proofs.FormatLaws.{AreBytes, then_some}
 use Rattle.wire.proofs.LawfulFormats.{front_lawful}
 

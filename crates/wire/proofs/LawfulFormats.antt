@@ -1,19 +1,13 @@
 -- Each format of messages is lawful.
-use Rattle.std.proofs.Common.{◌≡◌, ℕ, ◌+◌, ◌*◌, ◌/◌, ◌%◌, ◌^◌, ◌<◌, true, false, ltb, eqb, List, ◌++◌, Option, Some, None, refl, sym, ap, subst, ◌∙◌, append_assoc, arith, inl, inr}
-use Rattle.std.proofs.lemmas.Bool.{ltb-true, eqb-true, and_parts}
-use Rattle.std.proofs.lemmas.Bool.Decides.{nat_tests}
-use Rattle.std.proofs.lemmas.Nat.{div-add-mod'}
-use Rattle.std.proofs.lemmas.Option.{same_Some}
-use Rattle.base.proofs.OptionsByTest.{cond_cases}
+use Rattle.std.proofs.Common.{◌%◌, ◌*◌, ◌++◌, ◌+◌, ◌/◌, ◌<◌, ◌^◌, ◌∙◌, ◌≡◌, List, None, Option, Some, ap, append_assoc, arith, div-add-mod', eqb, eqb-true, false, inl, inr, ltb, ltb-true, refl, subst, sym, true, ℕ}
+use Rattle.base.proofs.Exports.{and_parts, cond_cases, nat_tests, same_Some}
 use Rattle.ctrl_msg.specs.declared.message.Place.{Place}
 use Rattle.ctrl_msg.specs.declared.message.Place.TheVariants.{Switch, Controller}
 use Rattle.ctrl_msg.specs.declared.message.Body.{Body}
 use Rattle.ctrl_msg.specs.declared.message.Body.TheVariants.{Install, OpenAt, Stamp, Collect, CacheRule, Advertise, Hello, Installed, Stamped}
 use Rattle.policy_rules.specs.declared.policy.Action.{Action}
 use Rattle.policy_rules.specs.declared.policy.Action.TheVariants.{Drop, Out}
-use Rattle.wire.specs.Format.{Format, then_read, ◌⊗◌, optional}
-use Rattle.wire.specs.Fields.{n1, n4, n8, n16, switch, is_word_pair, word, rule_name, action_by_port, port_in_action, action, rule, touched_count, touched, target_count, targets, region, partition, tables}
-use Rattle.wire.specs.Messages.{receiver_of, receiver, message_front, install_form, boot_and_version, stamp_form, cache_rule_form, advert, hello, acknowledgement, kind_number, spelled_fields, fields_fit, made_body, cache_rule_of, read_fields, body, suits_receiver, message}
+use Rattle.wire.specs.Exports.{◌⊗◌, Format, acknowledgement, action, action_by_port, advert, body, boot_and_version, cache_rule_form, cache_rule_of, fields_fit, hello, install_form, is_word_pair, kind_number, made_body, message, message_front, n1, n16, n4, n8, optional, partition, port_in_action, read_fields, receiver, receiver_of, region, rule, rule_name, spelled_fields, stamp_form, suits_receiver, switch, tables, target_count, targets, then_read, touched, touched_count, word}
 use Rattle.wire.proofs.FormatLaws.{AreBytes, Takes, IsLawful, then_some, n8-bits, n32-bits, n64-bits, ◌⊠◌, as_type_lawful, such_that_lawful, optional_lawful, list_lawful}
 
 n1_lawful : IsLawful n1

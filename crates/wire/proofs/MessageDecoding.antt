@@ -1,17 +1,11 @@
 -- The bytes that a message spells are its one spelling.
-use Rattle.std.proofs.Common.{◌≡◌, ℕ, cond, eqb, List, [], ◌++◌, length, Some, None, Result, Ok, Err, refl, sym, ap, subst, ◌∙◌}
-use Rattle.std.specs.Prelude.{IfOk, IfErr}
-use Rattle.std.proofs.lemmas.Bool.{eqb-true}
-use Rattle.std.proofs.lemmas.List.{append-nil, nil_from_length}
-use Rattle.std.proofs.lemmas.Option.{same_Some, cond_some}
+use Rattle.std.proofs.Common.{[], ◌++◌, ◌∙◌, ◌≡◌, Err, IfErr, IfOk, List, None, Ok, Result, Some, ap, append-nil, cond, eqb, eqb-true, length, refl, subst, sym, ℕ}
+use Rattle.base.proofs.Exports.{IfRefused-weaker, cond_some, nil_from_length, none_is_not, same_Some}
 use Rattle.ctrl_msg.specs.declared.message.Message.{Message}
-use Rattle.base.specs.Refusals.{IfRefused}
+use Rattle.base.specs.Exports.{IfRefused}
 use Rattle.base.specs.declared.error.Failure.{Failure}
 use Rattle.wire.specs.declared.error.Malformed.{Malformed}
-use Rattle.base.proofs.RefusalWeakening.{IfRefused-weaker}
-use Rattle.base.proofs.OptionsMade.{none_is_not}
-use Rattle.wire.specs.Messages.{message, whole_message, IsSpelling}
-use Rattle.wire.specs.Reading.{Gives}
+use Rattle.wire.specs.Exports.{Gives, IsSpelling, message, whole_message}
 use Rattle.wire.proofs.FormatLaws.{AreBytes, then_some}
 use Rattle.wire.proofs.LawfulFormats.{message_lawful}
 

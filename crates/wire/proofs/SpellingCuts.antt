@@ -1,9 +1,7 @@
 -- Cutting a spelling into chunks and the chunks into frames, one after the other.
-use Rattle.std.proofs.Common.{◌≡◌, ℕ, zero, suc, ◌+◌, ◌-◌, ◌<◌, ◌^◌, List, [], ◌∷◌, ◌++◌, length, get_or, take, drop, refl, sym, ap, ◌∙◌, append_assoc, add-one, arith}
-use Rattle.std.specs.Int.{div_ceil}
-use Rattle.std.proofs.Math.Seq.{drop-cons}
-use Rattle.std.proofs.lemmas.Grind.{div_ceil_times}
-use Rattle.wire.specs.Frames.{equal_chunks, chunks_behind_head, most_of_chunk, frame, frames_from}
+use Rattle.std.proofs.Common.{[], ◌++◌, ◌+◌, ◌-◌, ◌<◌, ◌^◌, ◌∙◌, ◌∷◌, ◌≡◌, List, add-one, ap, append_assoc, arith, drop, drop-cons, get_or, length, refl, suc, sym, take, zero, ℕ}
+use Rattle.base.proofs.Exports.{div_ceil, div_ceil_times}
+use Rattle.wire.specs.Exports.{chunks_behind_head, equal_chunks, frame, frames_from, most_of_chunk}
 
 pub goes_on : (front : List (List ℕ)) (count i n : ℕ) (left : List ℕ) (total : List (List ℕ))
     → i < count → front ++ equal_chunks (count - i) n left ≡ total

@@ -1,10 +1,9 @@
 -- What an assembler of frames keeps, and what it refuses.
-use Rattle.std.specs.Prelude.{◌≡◌, ◌≢◌, ℕ, ◌+◌, ◌<◌, ◌≤◌, nat_lt, ◌==◌, Bool, true, false, List, [], ◌∷◌, ◌++◌, length, filter, Option, Some, None, IsSome, IfSome, find, Result, Ok, Err, IfErr, IfOk, OnOk, OnErr, ◌↔◌}
-use Rattle.std.specs.List.{insert}
+use Rattle.std.specs.Prelude.{[], ◌++◌, ◌+◌, ◌<◌, ◌==◌, ◌↔◌, ◌∷◌, ◌≡◌, ◌≢◌, ◌≤◌, Bool, Err, IfErr, IfOk, IfSome, IsSome, List, None, Ok, OnErr, OnOk, Option, Result, Some, false, filter, find, insert, length, nat_lt, true, ℕ}
 use Rattle.ctrl_msg.specs.declared.message.Message.{Message}
 use Rattle.wire.specs.declared.assembler.FrameCheck.{FrameCheck}
 use Rattle.wire.specs.declared.assembler.FrameCheck.TheVariants.{Refused, Held, New}
-use Rattle.base.specs.Refusals.{IfRefused}
+use Rattle.base.specs.Exports.{IfRefused}
 use Rattle.base.specs.declared.error.Failure.{Failure}
 use Rattle.wire.specs.declared.error.Malformed.{Malformed}
 use Rattle.wire.specs.Frames.{AreFrames, place_in_frame, count_in_frame, chunk_of, frame}

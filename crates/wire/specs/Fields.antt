@@ -1,13 +1,13 @@
 -- The formats of the fields of messages.
-use Rattle.std.specs.Prelude.{ℕ, ◌+◌, ◌*◌, ◌/◌, ◌%◌, ◌^◌, Bool, ◌&&◌, ◌==◌, nat_lt, nat_le, bit_and, Option, Some, None, List}
-use Rattle.std.specs.Int.{w8, w32, w64}
+use Rattle.std.specs.Prelude.{◌%◌, ◌&&◌, ◌*◌, ◌+◌, ◌/◌, ◌==◌, ◌^◌, Bool, List, None, Option, Some, bit_and, nat_le, nat_lt, ℕ}
+use Rattle.base.specs.Exports.{w32, w64, w8}
 use Rattle.policy_rules.specs.declared.policy.Action.{Action}
 use Rattle.policy_rules.specs.declared.policy.Action.TheVariants.{Drop, Out}
 use Rattle.policy_rules.specs.declared.rules.Rule.{Rule}
 use Rattle.policy_rules.specs.declared.rules.Partition.{Partition}
 use Rattle.switch_table.specs.declared.tables.PartRow.{PartRow}
 use Rattle.switch_table.specs.declared.tables.Tables.{Tables}
-use Rattle.ternary.specs.Word.{WordValue}
+use Rattle.ternary.specs.Exports.{WordValue}
 use Rattle.wire.specs.Format.{Format, number, ◌⊗◌, as_type, such_that, optional, list_of}
 
 -- ---- numbers of 1, 4, 8 and 16 bytes

@@ -1,9 +1,8 @@
 -- Formats: how the values of a type are encoded as bytes. A format is an encoding, a test of which
 -- values it is for, and a reader of one value from the front of bytes; larger formats are made of
 -- smaller ones.
-use Rattle.std.specs.Prelude.{ℕ, zero, suc, nat_lt, Bool, true, ◌&&◌, if◌then◌else◌, List, [], ◌∷◌, ◌++◌, length, take, drop, Option, Some, None}
-use Rattle.std.specs.Int.{Width, byte_len, to_be_bytes, from_be_bytes}
-use Rattle.std.specs.List.{flat_map, list_all}
+use Rattle.std.specs.Prelude.{[], if◌then◌else◌, ◌&&◌, ◌++◌, ◌∷◌, Bool, List, None, Option, Some, drop, flat_map, length, nat_lt, suc, take, true, zero, ℕ}
+use Rattle.base.specs.Exports.{Width, byte_len, from_be_bytes, list_all, to_be_bytes}
 
 pub record Format (A : Type 0) : Type 0 where
   pub spell : A → List ℕ

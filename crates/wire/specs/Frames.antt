@@ -1,6 +1,6 @@
 -- How the encoding of a message is cut into frames.
-use Rattle.std.specs.Prelude.{◌≡◌, ℕ, zero, suc, ◌+◌, ◌-◌, true, List, [], ◌∷◌, ◌++◌, length, take, drop, slice_index_or, slice_set}
-use Rattle.std.specs.Int.{w32, from_be_bytes, div_ceil}
+use Rattle.std.specs.Prelude.{[], ◌++◌, ◌+◌, ◌-◌, ◌∷◌, ◌≡◌, List, drop, length, slice_index_or, slice_set, suc, take, true, zero, ℕ}
+use Rattle.base.specs.Exports.{div_ceil, from_be_bytes, w32}
 use Rattle.ctrl_msg.specs.declared.message.Body.{Body}
 use Rattle.ctrl_msg.specs.declared.message.Body.TheVariants.{Install}
 use Rattle.ctrl_msg.specs.declared.message.Message.{Message}

@@ -4,3 +4,4 @@ pub mod Reading
 pub mod Messages
 pub mod Frames
 pub mod Assembly
+pub mod Exports

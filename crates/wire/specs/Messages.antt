@@ -1,6 +1,6 @@
 -- The format of messages: the receiver, the kind, and the fields of that kind.
-use Rattle.std.specs.Prelude.{◌≡◌, ℕ, ◌^◌, ◌<◌, nat_lt, Bool, true, not, ◌==◌, if◌then◌else◌, List, ◌++◌, length, All, Option, Some, None}
-use Rattle.ctrl_msg.specs.Kinds.{is_for_controller}
+use Rattle.std.specs.Prelude.{if◌then◌else◌, ◌++◌, ◌<◌, ◌==◌, ◌^◌, ◌≡◌, All, Bool, List, None, Option, Some, length, nat_lt, not, true, ℕ}
+use Rattle.ctrl_msg.specs.Exports.{is_for_controller}
 use Rattle.ctrl_msg.specs.declared.message.Place.{Place}
 use Rattle.ctrl_msg.specs.declared.message.Place.TheVariants.{Switch, Controller}
 use Rattle.ctrl_msg.specs.declared.message.Body.{Body}
@@ -11,7 +11,7 @@ use Rattle.policy_rules.specs.declared.policy.Action.{Action}
 use Rattle.policy_rules.specs.declared.rules.Partition.{Partition}
 use Rattle.switch_table.specs.declared.tables.PartRow.{PartRow}
 use Rattle.switch_table.specs.declared.tables.Tables.{Tables}
-use Rattle.ternary.specs.Word.{WordValue}
+use Rattle.ternary.specs.Exports.{WordValue}
 use Rattle.wire.specs.Format.{Format, then_read, ◌⊗◌, as_type, such_that}
 use Rattle.wire.specs.Fields as form
 

@@ -1,7 +1,6 @@
 -- What reading from bytes returns, and the bytes after writing.
-use Rattle.std.specs.Prelude.{◌≡◌, ℕ, true, List, ◌++◌, Option, Some, None, Result, Ok, Err}
-use Rattle.std.specs.List.{flat_map, list_all}
-use Rattle.base.specs.Refusals.{IfRefused}
+use Rattle.std.specs.Prelude.{◌++◌, ◌≡◌, Err, List, None, Ok, Option, Result, Some, flat_map, true, ℕ}
+use Rattle.base.specs.Exports.{IfRefused, list_all}
 use Rattle.base.specs.declared.error.Failure.{Failure}
 use Rattle.wire.specs.declared.error.Malformed.{Malformed}
 use Rattle.ctrl_msg.specs.declared.message.Body.{Body}

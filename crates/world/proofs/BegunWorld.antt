@@ -1,25 +1,17 @@
 -- The parts of a world in which nothing happened yet are as the empty journal says.
-use Rattle.std.proofs.Common.{ℕ, ◌≡◌, List, [], ◌∷◌, refl, sym, subst}
-use Rattle.std.specs.Prelude.{IsOk, IsSome, Ok, unwrap_or}
-use Rattle.message_bag.specs.Posts.{Post}
-use Rattle.controller.specs.Controller.{ControllerValue}
-use Rattle.controller.specs.Plan.{PlanValue}
-use Rattle.journal.specs.declared.item.Item.{Item}
-use Rattle.net_file.specs.Net.{IsNet}
-use Rattle.net_file.specs.Owners.{AreOwners}
-use Rattle.net_file.specs.declared.net.Net.{Net}
-use Rattle.net_file.specs.declared.ports.Ports.{Ports}
+use Rattle.std.proofs.Common.{[], ◌∷◌, ◌≡◌, IsOk, IsSome, List, Ok, refl, subst, sym, unwrap_or, ℕ}
+use Rattle.message_bag.specs.Exports.{Post}
+use Rattle.controller.specs.Exports.{ControllerValue, PlanValue}
+use Rattle.update_machine.specs.Exports.{Change, IsSetting, Item, Net, PolicyFile, Ports, Whole, setting_of}
+use Rattle.net_file.specs.Exports.{AreOwners, IsNet}
 use Rattle.partition.specs.Plan.{plan_of}
-use Rattle.policy_rules.specs.declared.file.PolicyFile.{PolicyFile}
-use Rattle.policy_rules.specs.declared.file.PolicyFile.TheVariants.{Whole, Change}
-use Rattle.world.specs.Files.{FilesValue, IsMade, first_policy}
+use Rattle.world.specs.Exports.{FilesValue, IsMade, first_policy}
 use Rattle.world.specs.declared.files.Compiled.TheVariants.{Planned}
-use Rattle.switch_core.specs.State.{SwitchValue}
+use Rattle.switch_core.specs.Exports.{SwitchValue}
 use Rattle.travelling.specs.Travelling.{Flights}
-use Rattle.update_machine.specs.Setting.{IsSetting, setting_of}
 use Rattle.update_machine.proofs.CallerLemmas.{first_planned}
-use Rattle.refinement.specs.Refinement.{RefineJournal}
-use Rattle.switch_table.specs.Carried.{all_touched}
+use Rattle.refinement.specs.Exports.{RefineJournal}
+use Rattle.switch_table.specs.Exports.{all_touched}
 
 -- where the files are these, on this network, and nothing was written, posted or sent
 -- on its way

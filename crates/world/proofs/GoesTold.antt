@@ -1,21 +1,14 @@
 -- What a step owes to the frame that writes one item, and then what is sent and done upon it.
-use Rattle.std.proofs.Common.{ℕ, ◌≡◌, ◌+◌, List, [], ◌∷◌, ◌++◌, refl, ap, sym, subst, ◌∙◌, append_assoc, length, rules}
-use Rattle.std.specs.Prelude.{IsErr, OnErr, OnOk, Result}
-use Rattle.std.proofs.lemmas.Result.{on_ok_weaker}
-use Rattle.base.proofs.ResultsMade.{both_ok}
-use Rattle.message_bag.specs.Posts.{Post}
+use Rattle.std.proofs.Common.{[], ◌++◌, ◌+◌, ◌∙◌, ◌∷◌, ◌≡◌, IsErr, List, OnErr, OnOk, Result, ap, append_assoc, length, refl, rules, subst, sym, ℕ}
+use Rattle.base.proofs.Exports.{both_ok, on_ok_weaker}
+use Rattle.message_bag.specs.Exports.{Post}
 use Rattle.controller.specs.declared.sends.Act.{Act}
-use Rattle.journal.specs.declared.item.Item.{Item}
+use Rattle.update_machine.specs.Exports.{Item, Setting, Step, piece}
 use Rattle.journal.specs.declared.item.Item.TheVariants as item
-use Rattle.steps.specs.declared.step.Step.{Step}
-use Rattle.update_machine.specs.Pieces.{piece}
-use Rattle.update_machine.specs.Setting.{Setting}
-use Rattle.world.specs.Parts.{BeginsStep, Goes, KeepNet, KeepRest, setting_in, state_in}
-use Rattle.world.specs.State.{comes_in}
-use Rattle.refinement.specs.Refinement.{RefineJournal}
+use Rattle.world.specs.Exports.{BeginsStep, Goes, KeepNet, KeepRest, comes_in, setting_in, state_in}
+use Rattle.refinement.specs.Exports.{RefineJournal}
 use Rattle.travelling.specs.Travelling.{Flights}
-use Rattle.world_log.specs.Sending.{act_items, act_posts}
-use Rattle.world_log.specs.Writing.{IsPart}
+use Rattle.world_log.specs.Exports.{IsPart, act_items, act_posts}
 use Rattle.world_log.specs.declared.log.Log.{Log}
 use Rattle.world.specs.declared.parts.Parts.{Parts}
 use Rattle.world.proofs.StepFrame.{Follows, goes, part_goes}

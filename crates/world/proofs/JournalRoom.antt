@@ -1,15 +1,10 @@
 -- Whether a step may begin behind the journal, by the count of the messages that were sent.
-use Rattle.std.proofs.Common.{◌≡◌, ◌<◌, ◌≤◌, List, length, arith}
-use Rattle.std.specs.Prelude.{Err, IsErrAnd, IsErrOf, Ok, Result}
-use Rattle.journal.specs.declared.item.Item.{Item}
-use Rattle.update_machine.specs.Full.{HasRoom, IsFull}
-use Rattle.update_machine.specs.Setting.{Setting}
+use Rattle.std.proofs.Common.{◌<◌, ◌≡◌, ◌≤◌, Err, IsErrAnd, IsErrOf, List, Ok, Result, arith, length}
+use Rattle.update_machine.specs.Exports.{Failure, HasRoom, IsFull, Item, NoMemory, Setting}
 use Rattle.update_machine.specs.declared.full.TheConstants.{FULL_AT}
-use Rattle.base.specs.declared.error.Failure.{Failure}
-use Rattle.base.specs.declared.error.Failure.TheVariants.{NoMemory}
-use Rattle.world.specs.NoStep.{no_step}
+use Rattle.world.specs.Exports.{no_step}
 use Rattle.world.specs.declared.error.Full.{Full}
-use Rattle.refinement.specs.Refinement.{RefineJournal, NetworkState}
+use Rattle.refinement.specs.Exports.{NetworkState, RefineJournal}
 
 module _ {setting : Setting} {journal : List Item} {state : NetworkState}
     (refines : RefineJournal setting journal state) where

@@ -1,18 +1,13 @@
 -- What is kept of the files of policies.
-use Rattle.std.proofs.Common.{ℕ, zero, suc, ◌≡◌, ◌+◌, ◌<◌, ◌≤◌, None, Some, Ok, List, [], ◌∷◌, get_or, set, length, refl, ap, sym, subst, ◌∙◌, inl, inr, arith}
-use Rattle.std.specs.Prelude.{IsSome, Option, slice_get}
-use Rattle.std.proofs.lemmas.Bool.{cases_eq, cases_lt}
-use Rattle.std.proofs.lemmas.List.{get_or-set_other, get_or-set_same, get_or_past, get_or_read, length-set}
-use Rattle.controller.specs.Plan.{PlanValue}
-use Rattle.net_file.specs.Net.{IsNet}
-use Rattle.net_file.specs.declared.net.Net.{Net}
-use Rattle.policy_rules.specs.declared.file.PolicyFile.{PolicyFile}
-use Rattle.policy_rules.specs.declared.file.PolicyFile.TheVariants.{Whole, Change}
-use Rattle.policy_rules.specs.declared.policy.Row.{Row}
-use Rattle.world.specs.Files.{AreCompiled, IsMade, KeepsWhole, file_or_none, first_policy, made_at, made_from, own_policy}
+use Rattle.std.proofs.Common.{[], ◌+◌, ◌<◌, ◌∙◌, ◌∷◌, ◌≡◌, ◌≤◌, IsSome, List, None, Ok, Option, Some, ap, arith, get_or, get_or-set_other, get_or-set_same, inl, inr, length, length-set, refl, set, slice_get, subst, suc, sym, zero, ℕ}
+use Rattle.base.proofs.Exports.{cases_eq, cases_lt, get_or_past, get_or_read}
+use Rattle.controller.specs.Exports.{PlanValue}
+use Rattle.net_file.specs.Exports.{IsNet}
+use Rattle.update_machine.specs.Exports.{Change, Net, PolicyFile, Row, Whole}
+use Rattle.world.specs.Exports.{AreCompiled, IsMade, KeepsWhole, file_or_none, first_policy, made_at, made_from, own_policy}
 use Rattle.world.specs.declared.files.Compiled.{Compiled}
 use Rattle.world.specs.declared.files.Compiled.TheVariants.{Planned}
-use Rattle.switch_table.specs.Carried.{all_touched}
+use Rattle.switch_table.specs.Exports.{all_touched}
 
 -- ---- files
 

@@ -1,18 +1,10 @@
 -- The least packet on its way is the least that travels.
-use Rattle.std.proofs.Common.{ℕ, zero, suc, ◌≡◌, ◌+◌, ◌≤◌, inl, inr, Bool, true, false, cond, Option, Some, None, List, refl, ap, sym, subst, ◌∙◌, arith}
-use Rattle.std.specs.Prelude.{find, IsSome}
-use Rattle.std.specs.List.{range_with_len}
-use Rattle.std.proofs.lemmas.Bool.{cases_lt, false_from_ne_true, cond-true}
-use Rattle.std.proofs.lemmas.Option.{none-some}
-use Rattle.base.proofs.OptionsByTest.{some_passes_of}
-use Rattle.journal.specs.declared.item.Item.{Item}
-use Rattle.update_machine.specs.Packets.{next_packet}
-use Rattle.update_machine.specs.Setting.{Setting}
-use Rattle.update_machine.specs.Travels.{next_travelling, travels}
-use Rattle.packet_laws.specs.Facts.{what_is_known}
-use Rattle.world.specs.Least.{IsLeastFrom}
-use Rattle.world.specs.State.{RefinesJournal, WorldValue, setting_at}
-use Rattle.refinement.specs.Flights.{flight_in, flight_of}
+use Rattle.std.proofs.Common.{◌+◌, ◌∙◌, ◌≡◌, ◌≤◌, Bool, IsSome, List, None, Option, Some, ap, arith, cond, false, find, inl, inr, refl, subst, suc, sym, true, zero, ℕ}
+use Rattle.base.proofs.Exports.{cases_lt, cond-true, false_from_ne_true, none-some, range_with_len, some_passes_of}
+use Rattle.update_machine.specs.Exports.{Item, Setting, next_packet, next_travelling, travels}
+use Rattle.packet_laws.specs.Exports.{what_is_known}
+use Rattle.world.specs.Exports.{IsLeastFrom, RefinesJournal, WorldValue, setting_at}
+use Rattle.refinement.specs.Exports.{flight_in, flight_of}
 use Rattle.travelling.specs.Travelling.{IsNextFrom, Flights, flight}
 use Rattle.refinement.proofs.JournalLaws.{reached_known}
 

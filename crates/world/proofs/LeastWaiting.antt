@@ -1,24 +1,14 @@
 -- The least message that waits in the bag is the least that the journal says to wait.
-use Rattle.std.proofs.Common.{ℕ, zero, suc, ◌≡◌, ◌+◌, ◌-◌, ◌<◌, ◌≤◌, inl, inr, Bool, true, false, cond, Option, Some, None, List, length, refl, ap, sym, subst, ◌∙◌, arith}
-use Rattle.std.specs.Prelude.{find, not, ◌&&◌, is_some, option_map}
-use Rattle.std.specs.List.{range_with_len}
-use Rattle.std.specs.Option.{option_map_or}
-use Rattle.std.proofs.lemmas.Bool.{cases_lt}
-use Rattle.std.proofs.lemmas.List.{length-map}
-use Rattle.std.proofs.lemmas.Option.{slice_get_past}
+use Rattle.std.proofs.Common.{◌&&◌, ◌+◌, ◌-◌, ◌<◌, ◌∙◌, ◌≡◌, ◌≤◌, Bool, List, None, Option, Some, ap, arith, cond, false, find, inl, inr, is_some, length, not, option_map, refl, subst, suc, sym, true, zero, ℕ}
+use Rattle.base.proofs.Exports.{cases_lt, length-map, option_map_or, range_with_len, slice_get_past}
 use Rattle.policy_rules.proofs.CallerLemmas.{find_same}
 use Rattle.message_bag.specs.Deliveries as statuses
 use Rattle.message_bag.specs.Posts as bag
 use Rattle.message_bag.proofs.NumberedPosts.{numbered_map}
 use Rattle.message_bag.specs.declared.deliveries.MessageState.{MessageState}
-use Rattle.ctrl_msg.specs.declared.message.Message.{Message}
-use Rattle.journal.specs.declared.item.Item.{Item}
-use Rattle.update_machine.specs.Folds.{count_of}
-use Rattle.update_machine.specs.Messages.{is_deliverable, is_forgotten, is_sending, is_waiting, next_message, next_waiting, was_delivered}
-use Rattle.update_machine.specs.Links.{message_of}
-use Rattle.world.specs.Least.{IsLeastFrom}
-use Rattle.world.specs.State.{RefinesJournal, WorldValue}
-use Rattle.refinement.specs.Bags.{IsBagOf, post_in}
+use Rattle.update_machine.specs.Exports.{Item, Message, count_of, is_deliverable, is_forgotten, is_sending, is_waiting, message_of, next_message, next_waiting, was_delivered}
+use Rattle.world.specs.Exports.{IsLeastFrom, RefinesJournal, WorldValue}
+use Rattle.refinement.specs.Exports.{IsBagOf, post_in}
 
 -- a post waits as the journal says of its message
 post_waits : (sent : Option Message) (delivered forgotten : Bool) →

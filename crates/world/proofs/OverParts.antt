@@ -1,21 +1,14 @@
 -- The steps of packets over the parts of a world.
-use Rattle.std.proofs.Common.{ℕ, ◌≡◌, ◌∙◌, ◌+◌, ◌<◌, Global, None, Option, Some, List, Vec, ◌∷◌, ◌++◌, ap, length, refl, sym, subst, get_or, set, arith}
-use Rattle.std.specs.Prelude.{Result, is_some, slice_get, slice_index}
-use Rattle.std.proofs.lemmas.Option.{get_or_from_slice_get}
-use Rattle.std.proofs.lemmas.Result.{on_ok_weaker}
-use Rattle.base.proofs.ResultsMade.{both_ok, three_ok}
-use Rattle.five_tuple.specs.declared.header.Header.{Header}
-use Rattle.journal.specs.declared.item.Item.{Item}
+use Rattle.std.proofs.Common.{◌++◌, ◌+◌, ◌<◌, ◌∙◌, ◌∷◌, ◌≡◌, Global, List, None, Option, Result, Some, Vec, ap, arith, get_or, is_some, length, refl, set, slice_get, slice_index, subst, sym, ℕ}
+use Rattle.base.proofs.Exports.{both_ok, get_or_from_slice_get, on_ok_weaker, three_ok}
+use Rattle.update_machine.specs.Exports.{Header, Hop, Item, Packet as PacketStep}
 use Rattle.journal.specs.declared.item.Item.TheVariants as item
-use Rattle.steps.specs.declared.step.Step.TheVariants.{Hop, Packet as PacketStep}
-use Rattle.switch_core.specs.Answers.{Answer}
-use Rattle.switch_core.specs.State.{SwitchValue, call_counted}
-use Rattle.tunnel.specs.Moves.{here}
-use Rattle.world_log.specs.Packets.{Hops, MayGoOn, coming_in, entry, hop_written}
-use Rattle.world.specs.Parts.{BeginsStep, Goes, setting_in}
-use Rattle.refinement.specs.Refinement.{RefineJournal}
+use Rattle.switch_core.specs.Exports.{Answer, SwitchValue, call_counted}
+use Rattle.tunnel.specs.Exports.{here}
+use Rattle.world_log.specs.Exports.{Hops, LogAfter, MayGoOn, coming_in, entered_flight, entered_items, entered_posts, entry, hop_written}
+use Rattle.world.specs.Exports.{BeginsStep, Goes, setting_in}
+use Rattle.refinement.specs.Exports.{RefineJournal}
 use Rattle.travelling.specs.Travelling.{Flight, Standing, flight}
-use Rattle.world_log.specs.Writing.{LogAfter, entered_items, entered_posts, entered_flight}
 use Rattle.world_log.specs.declared.log.Log.{Log}
 use Rattle.world.specs.declared.parts.Parts.{Parts}
 use Rattle.refinement.proofs.AskingSwitch.{can_ask, within_here}

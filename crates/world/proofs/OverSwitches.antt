@@ -1,8 +1,8 @@
 -- The switches over the parts of a world, on which a step was begun.
-use Rattle.std.proofs.Common.{ℕ, ◌<◌, ◌≤◌, length, vec_len, arith}
-use Rattle.steps.specs.Steps.{HasSwitch}
-use Rattle.steps.specs.declared.step.Step.{Step}
-use Rattle.world.specs.Parts.{HasBegun}
+use Rattle.std.proofs.Common.{◌<◌, ◌≤◌, arith, length, vec_len, ℕ}
+use Rattle.steps.specs.Exports.{HasSwitch}
+use Rattle.update_machine.specs.Exports.{Step}
+use Rattle.world.specs.Exports.{HasBegun}
 use Rattle.world.specs.declared.parts.Parts.{Parts}
 use Rattle.refinement.proofs.NetworkSwitches.{few_switches, switch_known, switch_there}
 

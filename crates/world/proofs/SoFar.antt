@@ -1,16 +1,12 @@
 -- What a world wrote so far.
-use Rattle.std.proofs.Common.{ℕ, ◌≡◌, List, ◌++◌, append_assoc, length}
-use Rattle.journal.specs.declared.item.Item.{Item}
-use Rattle.packet_laws.specs.OnTheWay.{HoldsSoFar, IsKeptBehind}
-use Rattle.packet_laws.specs.Between.{HoldsBetween}
-use Rattle.control_laws.specs.Always.{HoldsReached}
+use Rattle.std.proofs.Common.{◌++◌, ◌≡◌, List, append_assoc, length, ℕ}
+use Rattle.update_machine.specs.Exports.{IsSetting, Item, Setting, Step, piece}
+use Rattle.packet_laws.specs.Exports.{HoldsBetween, HoldsSoFar, IsKeptBehind}
+use Rattle.control_laws.specs.Exports.{HoldsReached}
 use Rattle.refinement.proofs.JournalLaws.{reached_more}
-use Rattle.steps.specs.Steps.{IsStep}
-use Rattle.steps.specs.declared.step.Step.{Step}
-use Rattle.update_machine.specs.Pieces.{piece}
-use Rattle.update_machine.specs.Setting.{IsSetting, Setting}
-use Rattle.world.specs.State.{RefinesJournal, WorldValue, setting_at}
-use Rattle.world_log.specs.Writing.{IsPart}
+use Rattle.steps.specs.Exports.{IsStep}
+use Rattle.world.specs.Exports.{RefinesJournal, WorldValue, setting_at}
+use Rattle.world_log.specs.Exports.{IsPart}
 
 -- the law of what is written so far, and that of what is kept behind steps
 abbrev pub SoFarLaw : Type 0

@@ -1,21 +1,14 @@
 -- What a kind of step owes to the frame that all of them share: its row stands behind the journal,
 -- and it writes the rest.
-use Rattle.std.proofs.Common.{ℕ, ◌≡◌, ◌+◌, List, [], ◌∷◌, ◌++◌, refl, ap, sym, subst, ◌∙◌, arith, rules}
-use Rattle.std.specs.Prelude.{IsErr, OnErr, OnOk, Result, Some}
-use Rattle.std.proofs.lemmas.Result.{on_err_weaker, on_ok_weaker}
-use Rattle.base.proofs.ResultsMade.{both_ok, on_err, on_ok_failed}
-use Rattle.message_bag.specs.Posts.{Post}
-use Rattle.controller.specs.Controller.{newest_policy}
-use Rattle.journal.specs.declared.item.Item.{Item}
+use Rattle.std.proofs.Common.{[], ◌++◌, ◌+◌, ◌∙◌, ◌∷◌, ◌≡◌, IsErr, List, OnErr, OnOk, Result, Some, ap, arith, refl, rules, subst, sym, ℕ}
+use Rattle.base.proofs.Exports.{both_ok, on_err, on_err_weaker, on_ok_failed, on_ok_weaker}
+use Rattle.message_bag.specs.Exports.{Post}
+use Rattle.controller.specs.Exports.{newest_policy}
+use Rattle.update_machine.specs.Exports.{Item, Setting, Step, piece, step_items}
 use Rattle.journal.specs.declared.item.Item.TheVariants as item
-use Rattle.steps.specs.declared.step.Step.{Step}
-use Rattle.update_machine.specs.Pieces.{piece, step_items}
-use Rattle.update_machine.specs.Setting.{Setting}
-use Rattle.world.specs.Files.{FilesValue}
-use Rattle.world.specs.Parts.{PartsRefineJournal, BeginsStep, Goes, HasBegun, HoldNewest, IsReadyForStep, KeepNet, Plays, setting_in, state_in}
-use Rattle.world.specs.State.{comes_in}
-use Rattle.refinement.specs.Refinement.{RefineJournal, NetworkState}
-use Rattle.world_log.specs.Writing.{IsPart}
+use Rattle.world.specs.Exports.{BeginsStep, FilesValue, Goes, HasBegun, HoldNewest, IsReadyForStep, KeepNet, PartsRefineJournal, Plays, comes_in, setting_in, state_in}
+use Rattle.refinement.specs.Exports.{NetworkState, RefineJournal}
+use Rattle.world_log.specs.Exports.{IsPart}
 use Rattle.world.specs.declared.parts.Parts.{Parts}
 use Rattle.refinement.proofs.OneItem.{grown}
 use Rattle.world_log.proofs.StepWrites.{grown_more, part_none, step_part, step_written}

@@ -1,6 +1,6 @@
 -- What contracts see of a world, by the value of its parts.
 use Rattle.std.proofs.Common.{◌≡◌, false, subst}
-use Rattle.world.specs.State.{RefinesJournal, WorldValue}
+use Rattle.world.specs.Exports.{RefinesJournal, WorldValue}
 
 -- what follows from the tie to the journal holds of a world that isn't spent
 pub by_view : (P : WorldValue → Type 0) {own now : WorldValue} → own ≡ now

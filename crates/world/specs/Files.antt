@@ -1,21 +1,14 @@
 -- The files of policies, and the plans of what they have or make on a network.
-use Rattle.std.specs.Prelude.{ℕ, ◌≡◌, ◌⊎◌, Result, Err, Ok, IsSome, Some, None, Option, List, [], ◌∷◌, length, slice_index_or}
-use Rattle.net_file.specs.Net.{IsNet}
-use Rattle.net_file.specs.declared.net.Net.{Net}
+use Rattle.std.specs.Prelude.{[], ◌∷◌, ◌≡◌, ◌⊎◌, Err, IsSome, List, None, Ok, Option, Result, Some, length, slice_index_or, ℕ}
+use Rattle.net_file.specs.Exports.{IsNet}
+use Rattle.update_machine.specs.Exports.{Change, Inapplicable, Net, PolicyFile, Row, Whole, apply_code, made_by, plan_code, touched_of}
 use Rattle.partition.specs.Plan.{plan_of}
-use Rattle.policy_rules.specs.declared.applying.Inapplicable.{Inapplicable}
-use Rattle.policy_rules.specs.declared.file.PolicyFile.{PolicyFile}
-use Rattle.policy_rules.specs.declared.file.PolicyFile.TheVariants.{Whole, Change}
-use Rattle.policy_rules.specs.declared.policy.Row.{Row}
 use Rattle.policy_rules.specs.Hosted as no_plan
-use Rattle.policy_rules.specs.Hosted.{NoPlan}
-use Rattle.update_machine.specs.Pieces.{apply_code, plan_code}
-use Rattle.controller.specs.Plan.{PlanValue}
+use Rattle.policy_rules.specs.Exports.{NoPlan}
+use Rattle.controller.specs.Exports.{PlanValue}
 use Rattle.controller.specs.declared.plan_error.PlanError.{PlanError}
 use Rattle.controller.specs.declared.plan_error.PlanError.TheVariants as plan_error
-use Rattle.ternary.specs.Word.{WordValue}
-use Rattle.update_machine.specs.Setting.{made_by}
-use Rattle.update_machine.specs.Touched.{touched_of}
+use Rattle.ternary.specs.Exports.{WordValue}
 use Rattle.world.specs.declared.files.Compiled.{Compiled}
 use Rattle.world.specs.declared.files.Compiled.TheVariants.{Planned, Refused}
 

@@ -1,5 +1,5 @@
 -- The least number from one on that passes a test.
-use Rattle.std.specs.Prelude.{ℕ, ◌≡◌, ◌<◌, ◌≤◌, Bool, true, false, Option, MatchOption}
+use Rattle.std.specs.Prelude.{◌<◌, ◌≡◌, ◌≤◌, Bool, MatchOption, Option, false, true, ℕ}
 
 -- the least number at or above `from` that passes the test; none if none does
 abbrev pub IsLeastFrom : (ℕ → Bool) → ℕ → Option ℕ → Type 0

@@ -3,3 +3,4 @@ pub mod Least
 pub mod NoStep
 pub mod State
 pub mod Parts
+pub mod Exports

@@ -1,6 +1,5 @@
 -- Why a step isn't taken.
-use Rattle.base.specs.declared.error.Failure.{Failure}
-use Rattle.base.specs.declared.error.Failure.TheVariants.{Refused}
+use Rattle.update_machine.specs.Exports.{Failure, Refused}
 use Rattle.world.specs.declared.error.Full.{Full}
 
 -- no step begins: so many messages were sent

@@ -1,18 +1,13 @@
 -- The parts of a world, and what is true of them.
-use Rattle.std.specs.Prelude.{ℕ, ◌≡◌, ◌+◌, ◌<◌, ◌≤◌, Bool, false, Some, List, [], ◌∷◌, ◌++◌, length, OnErr, OnOk, Result}
-use Rattle.controller.specs.Controller.{newest_policy}
-use Rattle.journal.specs.declared.item.Item.{Item}
+use Rattle.std.specs.Prelude.{[], ◌++◌, ◌+◌, ◌<◌, ◌∷◌, ◌≡◌, ◌≤◌, Bool, List, OnErr, OnOk, Result, Some, false, length, ℕ}
+use Rattle.controller.specs.Exports.{newest_policy}
+use Rattle.update_machine.specs.Exports.{Item, Setting, Step, next_packet, piece, setting_of}
 use Rattle.journal.specs.declared.item.Item.TheVariants as item
-use Rattle.net_file.specs.Net.{IsNet}
-use Rattle.net_file.specs.Owners.{AreOwners}
-use Rattle.steps.specs.declared.step.Step.{Step}
-use Rattle.update_machine.specs.Packets.{next_packet}
-use Rattle.update_machine.specs.Pieces.{piece}
-use Rattle.steps.specs.Steps.{IsStep}
-use Rattle.update_machine.specs.Setting.{Setting, setting_of}
+use Rattle.net_file.specs.Exports.{AreOwners, IsNet}
+use Rattle.steps.specs.Exports.{IsStep}
 use Rattle.world.specs.State.{WorldValue, comes_in}
-use Rattle.refinement.specs.Refinement.{NetworkState, RefineJournal}
-use Rattle.world_log.specs.Writing.{IsPart}
+use Rattle.refinement.specs.Exports.{NetworkState, RefineJournal}
+use Rattle.world_log.specs.Exports.{IsPart}
 use Rattle.world.specs.declared.parts.Parts.{Parts}
 
 abbrev pub setting_in : Parts → Setting

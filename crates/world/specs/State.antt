@@ -1,16 +1,11 @@
 -- A world as contracts see it.
-use Rattle.std.specs.Prelude.{ℕ, ◌≡◌, Bool, false, List, []}
-use Rattle.message_bag.specs.Posts.{Post}
-use Rattle.controller.specs.Controller.{ControllerValue}
-use Rattle.policy_rules.specs.declared.file.PolicyFile.{PolicyFile}
-use Rattle.journal.specs.declared.item.Item.{Item}
-use Rattle.net_file.specs.declared.net.Net.{Net}
-use Rattle.steps.specs.declared.step.Step.{Step}
-use Rattle.steps.specs.declared.step.Step.TheVariants.{Packet}
-use Rattle.switch_core.specs.State.{SwitchValue}
-use Rattle.update_machine.specs.Setting.{Setting, setting_of}
+use Rattle.std.specs.Prelude.{[], ◌≡◌, Bool, List, false, ℕ}
+use Rattle.message_bag.specs.Exports.{Post}
+use Rattle.controller.specs.Exports.{ControllerValue}
+use Rattle.update_machine.specs.Exports.{Item, Net, Packet, PolicyFile, Setting, Step, setting_of}
+use Rattle.switch_core.specs.Exports.{SwitchValue}
 use Rattle.travelling.specs.Travelling.{Flights}
-use Rattle.refinement.specs.Refinement.{NetworkState, RefineJournal}
+use Rattle.refinement.specs.Exports.{NetworkState, RefineJournal}
 
 pub record WorldValue : Type 0 where
   pub net : Net

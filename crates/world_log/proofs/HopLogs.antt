@@ -1,25 +1,16 @@
 -- What a hop wrote, by the link that it found down, if any, and by where it ended.
-use Rattle.std.proofs.Common.{ℕ, ◌≡◌, ◌+◌, Option, Some, None, List, ◌∷◌, [], ◌++◌, refl, ap, length, sym, subst, ◌∙◌}
-use Rattle.std.specs.Prelude.{Result, option_map, slice_get}
-use Rattle.std.proofs.lemmas.Result.{on_ok_weaker}
-use Rattle.journal.specs.declared.item.Item.{Item}
+use Rattle.std.proofs.Common.{[], ◌++◌, ◌+◌, ◌∙◌, ◌∷◌, ◌≡◌, List, None, Option, Result, Some, ap, length, option_map, refl, slice_get, subst, sym, ℕ}
+use Rattle.base.proofs.Exports.{on_ok_weaker}
+use Rattle.update_machine.specs.Exports.{Item, Leg, Ports}
 use Rattle.journal.specs.declared.item.Item.TheVariants as item
-use Rattle.message_bag.specs.Posts.{Post}
-use Rattle.net_file.specs.declared.ports.Ports.{Ports}
-use Rattle.policy_rules.specs.declared.packet.Leg.{Leg}
-use Rattle.switch_core.specs.Answering.{arrived_on, received}
-use Rattle.switch_core.specs.Ends.{around}
-use Rattle.switch_core.specs.Moving.{Moved, link_found_down, hop_answer, hopped_to, move_answer, onward_to}
-use Rattle.switch_core.specs.State.{SwitchValue, call_counted}
-use Rattle.switch_core.specs.Answers.{Arrival}
+use Rattle.message_bag.specs.Exports.{Post}
+use Rattle.switch_core.specs.Exports.{Arrival, Moved, SwitchValue, around, arrived_on, call_counted, hop_answer, hopped_to, link_found_down, move_answer, onward_to, received}
 use Rattle.switch_core.specs.declared.packet.Onward.{Onward}
 use Rattle.switch_core.specs.declared.tunnel_calls.HopEnd.{HopEnd}
 use Rattle.switch_core.specs.declared.tunnel_calls.HopEnd.TheVariants as hop
-use Rattle.tunnel.specs.Moves.{advanced_tunnel, next}
-use Rattle.tunnel.specs.Tunnel.{TunnelValue}
+use Rattle.tunnel.specs.Exports.{TunnelValue, advanced_tunnel, next}
 use Rattle.travelling.specs.Travelling.{Flight, Standing, placed_at, standing_at}
-use Rattle.world_log.specs.Packets.{HasHopped, arrival, arrival_items, arrival_posts, ended_items, ended_posts, ended_switch, ended_flight, hop_posts, hop_flight, hop_written, turned_items}
-use Rattle.world_log.specs.Writing.{IsPart, LogAfter, arrived_items, arrived_posts, arrived_flight, packet_standing}
+use Rattle.world_log.specs.Exports.{HasHopped, IsPart, LogAfter, arrival, arrival_items, arrival_posts, arrived_flight, arrived_items, arrived_posts, ended_flight, ended_items, ended_posts, ended_switch, hop_flight, hop_posts, hop_written, packet_standing, turned_items}
 use Rattle.world_log.specs.declared.log.Log.{Log}
 use Rattle.world_log.proofs.StepWrites.{part_first}
 

@@ -1,13 +1,8 @@
 -- What a switch's move makes of a packet: it keeps its number, its header, its leg and its ingress.
-use Rattle.std.proofs.Common.{ℕ, ◌≡◌, Option, Some, None, List, refl}
-use Rattle.five_tuple.specs.declared.header.Header.{Header}
-use Rattle.policy_rules.specs.declared.packet.Leg.{Leg}
-use Rattle.policy_rules.specs.declared.packet.Leg.TheVariants.{Seek, Exit}
-use Rattle.switch_core.specs.Answering.{IsAtAuthority}
-use Rattle.switch_core.specs.Moving.{link_found_down, hop_answer, hopped_to, move_answer, moved_along, rerouted_here}
-use Rattle.switch_core.specs.State.{SwitchValue, call_counted}
-use Rattle.tunnel.specs.Moves.{marked_down, next, on_route, route_from_here}
-use Rattle.tunnel.specs.Tunnel.{TunnelValue}
+use Rattle.std.proofs.Common.{◌≡◌, List, None, Option, Some, refl, ℕ}
+use Rattle.update_machine.specs.Exports.{Exit, Header, Leg, Seek}
+use Rattle.switch_core.specs.Exports.{IsAtAuthority, SwitchValue, call_counted, hop_answer, hopped_to, link_found_down, move_answer, moved_along, rerouted_here}
+use Rattle.tunnel.specs.Exports.{TunnelValue, marked_down, next, on_route, route_from_here}
 
 -- the same packet on the same leg
 pub record SamePacket (old new : TunnelValue) : Type 0 where

@@ -1,24 +1,15 @@
 -- What a hop wrote where a link was found down: the way around it, or that there is none.
-use Rattle.std.proofs.Common.{ℕ, ◌≡◌, ◌++◌, Option, Some, None, List, ◌∷◌, [], ap, append-nil, subst, sym, ◌∙◌}
-use Rattle.std.specs.Prelude.{Result}
-use Rattle.std.proofs.lemmas.Option.{get_or_from_slice_get}
-use Rattle.failover.specs.Links.{with_link}
-use Rattle.failover.specs.Routes.{route_of}
+use Rattle.std.proofs.Common.{[], ◌++◌, ◌∙◌, ◌∷◌, ◌≡◌, List, None, Option, Result, Some, ap, append-nil, subst, sym, ℕ}
+use Rattle.base.proofs.Exports.{get_or_from_slice_get}
+use Rattle.failover.specs.Exports.{route_of, with_link}
 use Rattle.journal.specs.declared.item.Item.TheVariants as item
-use Rattle.net_file.specs.declared.ports.Ports.{Ports}
-use Rattle.policy_rules.specs.declared.packet.Cause.{Cause}
-use Rattle.policy_rules.specs.declared.packet.Leg.{Leg}
-use Rattle.switch_core.specs.AnswerLaws.{down_with}
-use Rattle.switch_core.specs.Ends.{are_isolated, cause_of}
-use Rattle.switch_core.specs.Answering.{IsAtAuthority}
-use Rattle.switch_core.specs.Moving.{Moved, StandsAt, hop_answer, move_answer, moved_along}
-use Rattle.switch_core.specs.State.{SwitchValue, call_counted}
+use Rattle.update_machine.specs.Exports.{Cause, Leg, Ports}
+use Rattle.switch_core.specs.Exports.{IsAtAuthority, Moved, StandsAt, SwitchValue, are_isolated, call_counted, cause_of, down_with, hop_answer, move_answer, moved_along}
 use Rattle.switch_core.specs.declared.tunnel_calls.HopEnd.TheVariants as hop
 use Rattle.switch_core.proofs.OnWay.{hop_around, hop_stays}
-use Rattle.tunnel.specs.Moves.{here, marked_down, next, on_route}
+use Rattle.tunnel.specs.Exports.{here, marked_down, next, on_route}
 use Rattle.travelling.specs.Travelling.{Flight, Standing, begun_at, marked_at, standing_at, travels_by}
-use Rattle.world_log.specs.Packets.{MeetsDownLink, ended_switch, followed, followed_flight, followed_items, followed_posts, hop_flight, hop_posts, hop_written, hopped_switch}
-use Rattle.world_log.specs.Writing.{LogAfter}
+use Rattle.world_log.specs.Exports.{LogAfter, MeetsDownLink, ended_switch, followed, followed_flight, followed_items, followed_posts, hop_flight, hop_posts, hop_written, hopped_switch}
 use Rattle.world_log.specs.declared.log.Log.{Log}
 use Rattle.world_log.proofs.LogCalls.{log_behind}
 use Rattle.world_log.proofs.HoppedPacket.{authority_counted}

@@ -1,13 +1,10 @@
 -- One call behind another on a log.
-use Rattle.std.proofs.Common.{ℕ, ◌≡◌, ◌∙◌, List, [], ◌∷◌, ◌++◌, Option, append-nil, subst, sym}
-use Rattle.std.specs.Prelude.{IsErr, OnErr, OnOk, Result}
-use Rattle.std.proofs.lemmas.Result.{on_err_weaker, on_ok_weaker}
-use Rattle.base.proofs.ListsJoined.{both_written}
-use Rattle.base.proofs.ResultsMade.{on_err, on_ok_failed}
-use Rattle.journal.specs.declared.item.Item.{Item}
-use Rattle.message_bag.specs.Posts.{Post}
+use Rattle.std.proofs.Common.{[], ◌++◌, ◌∙◌, ◌∷◌, ◌≡◌, IsErr, List, OnErr, OnOk, Option, Result, append-nil, subst, sym, ℕ}
+use Rattle.base.proofs.Exports.{both_written, on_err, on_err_weaker, on_ok_failed, on_ok_weaker}
+use Rattle.update_machine.specs.Exports.{Item}
+use Rattle.message_bag.specs.Exports.{Post}
 use Rattle.travelling.specs.Travelling.{Flight, WithOne}
-use Rattle.world_log.specs.Writing.{IsPart, LogAfter}
+use Rattle.world_log.specs.Exports.{IsPart, LogAfter}
 use Rattle.world_log.specs.declared.log.Log.{Log}
 use Rattle.world_log.proofs.StepWrites.{part_none, part_of_rest}
 

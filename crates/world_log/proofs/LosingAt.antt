@@ -1,14 +1,10 @@
 -- The packets that stand at a switch are lost, one after another.
-use Rattle.std.proofs.Common.{ℕ, ◌≡◌, ◌≢◌, ◌+◌, ◌-◌, ◌<◌, ◌≤◌, ◌==◌, ◌⊎◌, inl, inr, Bool, true, false, cond, if◌then◌else◌, Some, None, List, [], ◌∷◌, ◌++◌, refl, ap, sym, ◌∙◌, length, filter, map, append-nil, append_assoc, arith, eq-eqb, eqb-true, ne_eqb}
-use Rattle.std.specs.List.{range_with_len}
-use Rattle.std.proofs.lemmas.Bool.{cases_lt}
-use Rattle.std.proofs.lemmas.List.{map-append}
-use Rattle.base.proofs.ListsOfRanges.{filter_more}
-use Rattle.journal.specs.declared.item.Item.{Item}
+use Rattle.std.proofs.Common.{[], if◌then◌else◌, ◌++◌, ◌+◌, ◌-◌, ◌<◌, ◌==◌, ◌∙◌, ◌∷◌, ◌≡◌, ◌≢◌, ◌≤◌, ◌⊎◌, Bool, List, None, Some, ap, append-nil, append_assoc, arith, cond, eq-eqb, eqb-true, false, filter, inl, inr, length, map, ne_eqb, refl, sym, true, ℕ}
+use Rattle.base.proofs.Exports.{cases_lt, filter_more, map-append, range_with_len}
+use Rattle.update_machine.specs.Exports.{Item}
 use Rattle.journal.specs.declared.item.Item.TheVariants as item
 use Rattle.travelling.specs.Travelling.{IsNextAt, Flights, WithOne, WithoutAt, numbers_at, stands_at, flight}
-use Rattle.world_log.specs.Losing.{AreLostBelow, numbers_below}
-use Rattle.world_log.specs.Writing.{IsPart}
+use Rattle.world_log.specs.Exports.{AreLostBelow, IsPart, numbers_below}
 use Rattle.travelling.proofs.SlotNumbers.{beyond, filter_on, none_between}
 
 pub none_lost : (before : Flights) (switch : ℕ) (journal : List Item)

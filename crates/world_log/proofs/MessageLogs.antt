@@ -1,19 +1,12 @@
 -- What messages and acts write, one part after another.
-use Rattle.std.proofs.Common.{ℕ, ◌≡◌, ◌+◌, ◌<◌, ◌≤◌, List, [], ◌∷◌, ◌++◌, refl, ap, sym, ◌∙◌, length, length-append, append-nil, append_assoc, map, subst, arith}
-use Rattle.std.specs.Prelude.{All, IsErr, Result}
-use Rattle.std.proofs.lemmas.List.{get_or-append-add, get_or-map, get_or_append_left, length-map, map-append}
-use Rattle.base.proofs.ListsJoined.{both_written}
-use Rattle.base.proofs.ResultsMade.{on_err, on_ok_failed}
-use Rattle.message_bag.specs.Posts.{Post, new_post}
+use Rattle.std.proofs.Common.{[], ◌++◌, ◌+◌, ◌<◌, ◌∙◌, ◌∷◌, ◌≡◌, ◌≤◌, All, IsErr, List, Result, ap, append-nil, append_assoc, arith, get_or-append-add, length, length-append, map, refl, subst, sym, ℕ}
+use Rattle.base.proofs.Exports.{both_written, get_or-map, get_or_append_left, length-map, map-append, on_err, on_ok_failed}
+use Rattle.message_bag.specs.Exports.{HasShortSpelling, Post, new_post}
 use Rattle.controller.specs.declared.sends.Act.{Act}
 use Rattle.controller.specs.declared.sends.Act.TheVariants as act
-use Rattle.ctrl_msg.specs.declared.message.Message.{Message}
-use Rattle.message_bag.specs.Feeding.{HasShortSpelling}
-use Rattle.journal.specs.declared.item.Item.{Item}
+use Rattle.update_machine.specs.Exports.{Item, Message, sent_from}
 use Rattle.journal.specs.declared.item.Item.TheVariants as item
-use Rattle.update_machine.specs.Messages.{sent_from}
-use Rattle.world_log.specs.Sending.{HasNoted, IsSpelled, MayNote, act_item, act_items, act_post, act_posts, number_after}
-use Rattle.world_log.specs.Writing.{IsPart}
+use Rattle.world_log.specs.Exports.{HasNoted, IsPart, IsSpelled, MayNote, act_item, act_items, act_post, act_posts, number_after}
 use Rattle.world_log.specs.declared.log.Log.{Log}
 use Rattle.world_log.proofs.StepWrites.{part_of_first, part_of_rest}
 

@@ -1,28 +1,12 @@
 -- What switches tell of their links, one switch, one neighbour and one advert after another.
-use Rattle.std.proofs.Common.{ℕ, zero, suc, ◌≡◌, ◌+◌, ◌^◌, ◌<◌, ◌≤◌, Bool, true, false, cond, Option, Some, None, List, [], ◌∷◌, ◌++◌, refl, ap, sym, ◌∙◌, length, get_or, map, filter, append-nil, arith, inl, inr}
-use Rattle.std.specs.Prelude.{if◌then◌else◌, filter_map, ◌&&◌, ◌||◌}
-use Rattle.std.specs.Int.Bits.{bit_and, bit_or}
-use Rattle.std.specs.List.{flat_map, range_with_len}
-use Rattle.std.specs.Option.{option_map_or}
-use Rattle.std.proofs.lemmas.Bool.{cases_lt}
-use Rattle.std.proofs.lemmas.Nat.{and_le_l}
-use Rattle.std.proofs.lemmas.Grind.{common_steps, flat_map-append}
-use Rattle.std.proofs.lemmas.List.{map-append}
-use Rattle.std.proofs.lemmas.List.Elements.{filter_map-append}
-use Rattle.std.proofs.lemmas.Option.{slice_get-get_or}
-use Rattle.ctrl_msg.specs.declared.message.Body.TheVariants.{Hello}
-use Rattle.ctrl_msg.specs.declared.message.Message.{Message}
-use Rattle.ctrl_msg.specs.Kinds.{to_controller}
-use Rattle.failover.specs.Adverts.{held_advert}
-use Rattle.failover.specs.declared.advert.Advert.{Advert}
-use Rattle.base.specs.Masks.{has, switches}
-use Rattle.base.specs.ComputedMasks.{only_if}
-use Rattle.base.proofs.CallerLemmas.{has-and, has-or, has-zero, has_mask, has_only_other, has_only_same, mask_of_is, mask_of_lt}
-use Rattle.base.proofs.ListsOfRanges.{filter_more, range_more}
-use Rattle.switch_core.specs.State.{SwitchValue, serves}
-use Rattle.switch_core.specs.Life.{near_changed, next_advert}
-use Rattle.update_machine.specs.Deliveries.{advert_to}
-use Rattle.world_log.specs.Linking.{all_adverts_sent, all_held, links_change, near_where, relinked_as, serves_at, adverts_again, adverts_on_change, adverts_at, advert_if_held, adverts_over}
+use Rattle.std.proofs.Common.{[], if◌then◌else◌, ◌&&◌, ◌++◌, ◌+◌, ◌<◌, ◌^◌, ◌||◌, ◌∙◌, ◌∷◌, ◌≡◌, ◌≤◌, Bool, List, None, Option, Some, ap, append-nil, arith, bit_and, bit_or, cond, false, filter, filter_map, flat_map, get_or, inl, inr, length, map, refl, suc, sym, true, zero, ℕ}
+use Rattle.base.proofs.Exports.{and_le_l, cases_lt, common_steps, filter_map-append, filter_more, flat_map-append, has-and, has-or, has-zero, has_mask, has_only_other, has_only_same, map-append, mask_of_is, mask_of_lt, option_map_or, range_more, range_with_len, slice_get-get_or}
+use Rattle.update_machine.specs.Exports.{Advert, Hello, Message, advert_to}
+use Rattle.ctrl_msg.specs.Exports.{to_controller}
+use Rattle.failover.specs.Exports.{held_advert}
+use Rattle.base.specs.Exports.{has, only_if, switches}
+use Rattle.switch_core.specs.Exports.{SwitchValue, near_changed, next_advert, serves}
+use Rattle.world_log.specs.Exports.{advert_if_held, adverts_again, adverts_at, adverts_on_change, adverts_over, all_adverts_sent, all_held, links_change, near_where, relinked_as, serves_at}
 
 -- ---- adverts
 

@@ -1,10 +1,8 @@
 -- What a step writes behind its row, and parts of it.
-use Rattle.std.proofs.Common.{◌≡◌, List, [], ◌∷◌, ◌++◌, refl, ap, sym, ◌∙◌, append-nil, append_assoc, subst}
-use Rattle.std.specs.Prelude.{OnErr, OnOk, Result, Ok, Err}
-use Rattle.std.proofs.lemmas.Result.{on_ok_weaker}
-use Rattle.base.proofs.ListsJoined.{both_written}
-use Rattle.journal.specs.declared.item.Item.{Item}
-use Rattle.world_log.specs.Writing.{IsPart}
+use Rattle.std.proofs.Common.{[], ◌++◌, ◌∙◌, ◌∷◌, ◌≡◌, Err, List, Ok, OnErr, OnOk, Result, ap, append-nil, append_assoc, refl, subst, sym}
+use Rattle.base.proofs.Exports.{both_written, on_ok_weaker}
+use Rattle.update_machine.specs.Exports.{Item}
+use Rattle.world_log.specs.Exports.{IsPart}
 
 -- nothing was written
 pub part_none : (old items new : List Item) → new ≡ old → IsPart old items new

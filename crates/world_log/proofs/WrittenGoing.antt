@@ -1,30 +1,20 @@
 -- Where a packet goes by its switch's answer, as what was written of it.
-use Rattle.std.proofs.Common.{ℕ, ◌≡◌, ◌==◌, ◌<◌, Bool, if◌then◌else◌, Option, Some, None, List, [], ◌∷◌, ap, refl, sym, subst, ◌∙◌}
-use Rattle.std.specs.Prelude.{Result, Ok, Err, ok_or, option_map}
-use Rattle.ctrl_msg.specs.declared.message.Body.TheVariants.{CacheRule}
+use Rattle.std.proofs.Common.{[], if◌then◌else◌, ◌<◌, ◌==◌, ◌∙◌, ◌∷◌, ◌≡◌, Bool, Err, List, None, Ok, Option, Result, Some, ap, ok_or, option_map, refl, subst, sym, ℕ}
+use Rattle.update_machine.specs.Exports.{Action, CacheRule, Cause, Exit as ExitLeg, Leg, NoRoute, Out as OutBy}
 use Rattle.ctrl_msg.specs.declared.message.Place.TheVariants as receiver
-use Rattle.message_bag.specs.Feeding.{HasShortSpelling}
+use Rattle.message_bag.specs.Exports.{HasShortSpelling}
 use Rattle.message_bag.proofs.SpellingLengths.{alone_short}
-use Rattle.net_file.specs.Owners.{port_owner}
-use Rattle.policy_rules.specs.declared.packet.Cause.{Cause}
-use Rattle.policy_rules.specs.declared.packet.Cause.TheVariants.{NoRoute}
-use Rattle.policy_rules.specs.declared.packet.Leg.{Leg}
-use Rattle.policy_rules.specs.declared.packet.Leg.TheVariants.{Exit as ExitLeg}
-use Rattle.policy_rules.specs.declared.policy.Action.{Action}
-use Rattle.policy_rules.specs.declared.policy.Action.TheVariants.{Out as OutBy}
-use Rattle.switch_core.specs.Answering.{seek_by}
-use Rattle.switch_core.specs.Ends.{Site, cause_of, exit_by, leave_by, next_of, set_out}
-use Rattle.switch_core.specs.State.{SwitchValue}
-use Rattle.failover.specs.Routes.{route_of}
-use Rattle.tunnel.specs.Moves.{tunnel_begun}
+use Rattle.net_file.specs.Exports.{port_owner}
+use Rattle.switch_core.specs.Exports.{Site, SwitchValue, cause_of, exit_by, leave_by, next_of, seek_by, set_out}
+use Rattle.failover.specs.Exports.{route_of}
+use Rattle.tunnel.specs.Exports.{TunnelValue, tunnel_begun}
 use Rattle.switch_core.specs.declared.tunnel_calls.Packet.{Packet}
 use Rattle.switch_core.specs.declared.deciding.Decision.{Decision}
 use Rattle.switch_core.specs.declared.tunnel_calls.Next.{Next}
 use Rattle.switch_core.specs.declared.tunnel_calls.Next.TheVariants.{Out, Stuck}
-use Rattle.ternary.specs.Word.{WordValue}
+use Rattle.ternary.specs.Exports.{WordValue}
 use Rattle.travelling.specs.Travelling.{Standing}
-use Rattle.tunnel.specs.Tunnel.{TunnelValue}
-use Rattle.world_log.specs.Writing.{LogAfter, answer_items, answer_posts, answer_flight, decided_flight, end_item, exit_leg, packet_standing, set_item, set_flight}
+use Rattle.world_log.specs.Exports.{LogAfter, answer_flight, answer_items, answer_posts, decided_flight, end_item, exit_leg, packet_standing, set_flight, set_item}
 use Rattle.world_log.specs.declared.log.Log.{Log}
 
 -- the route that the switch knows

@@ -3,3 +3,4 @@ pub mod Packets
 pub mod Sending
 pub mod Losing
 pub mod Linking
+pub mod Exports

@@ -1,20 +1,11 @@
 -- Which links are usable, and what switches send when that changes.
-use Rattle.std.specs.Prelude.{ℕ, ◌≡◌, ◌<◌, ◌==◌, not, ◌&&◌, Bool, true, false, if◌then◌else◌, Option, Some, None, List, [], ◌∷◌, filter, filter_map, length, map, slice_get, slice_index, slice_index_or}
-use Rattle.std.specs.List.{flat_map, range_with_len}
-use Rattle.std.specs.Option.{option_map_or}
-use Rattle.ctrl_msg.specs.declared.message.Body.TheVariants.{Hello}
-use Rattle.ctrl_msg.specs.declared.message.Message.{Message}
-use Rattle.ctrl_msg.specs.Kinds.{to_controller}
-use Rattle.failover.specs.Adverts.{held_advert}
-use Rattle.failover.specs.declared.advert.Advert.{Advert}
-use Rattle.base.specs.Masks.{has, switches}
-use Rattle.base.specs.ComputedMasks.{mask_of}
-use Rattle.net_file.specs.Joins.{joins}
-use Rattle.net_file.specs.declared.net.Net.{Net}
-use Rattle.net_file.specs.Owners.{links_of}
-use Rattle.switch_core.specs.Life.{near_changed, next_advert}
-use Rattle.switch_core.specs.State.{SwitchValue, serves}
-use Rattle.update_machine.specs.Deliveries.{advert_to}
+use Rattle.std.specs.Prelude.{[], if◌then◌else◌, ◌&&◌, ◌<◌, ◌==◌, ◌∷◌, ◌≡◌, Bool, List, None, Option, Some, false, filter, filter_map, flat_map, length, map, not, slice_get, slice_index, slice_index_or, true, ℕ}
+use Rattle.base.specs.Exports.{has, mask_of, option_map_or, range_with_len, switches}
+use Rattle.update_machine.specs.Exports.{Advert, Hello, Message, Net, advert_to}
+use Rattle.ctrl_msg.specs.Exports.{to_controller}
+use Rattle.failover.specs.Exports.{held_advert}
+use Rattle.net_file.specs.Exports.{joins, links_of}
+use Rattle.switch_core.specs.Exports.{SwitchValue, near_changed, next_advert, serves}
 
 -- ---- links that are up
 

@@ -1,7 +1,7 @@
 -- Packets that are lost where they are.
-use Rattle.std.specs.Prelude.{ℕ, ◌≡◌, ◌<◌, ◌≤◌, if◌then◌else◌, None, List, ◌++◌, filter, length, map}
-use Rattle.std.specs.List.{range_with_len}
-use Rattle.journal.specs.declared.item.Item.{Item}
+use Rattle.std.specs.Prelude.{if◌then◌else◌, ◌++◌, ◌<◌, ◌≡◌, ◌≤◌, List, None, filter, length, map, ℕ}
+use Rattle.base.specs.Exports.{range_with_len}
+use Rattle.update_machine.specs.Exports.{Item}
 use Rattle.journal.specs.declared.item.Item.TheVariants as item
 use Rattle.travelling.specs.Travelling.{Flights, flight, stands_at}
 

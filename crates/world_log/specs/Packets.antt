@@ -1,20 +1,13 @@
 -- What becomes of the journal and of the packets on their way when a packet enters or moves on.
-use Rattle.std.specs.Prelude.{ℕ, ◌≡◌, ◌+◌, ◌<◌, IsTrue, Option, Some, None, List, [], ◌∷◌, ◌++◌, length, set, slice_get, slice_index, Result, OnErr, OnOk}
-use Rattle.message_bag.specs.Posts.{Post}
-use Rattle.failover.specs.Links.{no_links}
-use Rattle.five_tuple.specs.declared.header.Header.{Header}
-use Rattle.journal.specs.declared.item.Item.{Item}
+use Rattle.std.specs.Prelude.{[], ◌++◌, ◌+◌, ◌<◌, ◌∷◌, ◌≡◌, IsTrue, List, None, OnErr, OnOk, Option, Result, Some, length, set, slice_get, slice_index, ℕ}
+use Rattle.message_bag.specs.Exports.{Post}
+use Rattle.failover.specs.Exports.{no_links}
+use Rattle.update_machine.specs.Exports.{Header, Item, Leg, Ports}
 use Rattle.journal.specs.declared.item.Item.TheVariants as item
-use Rattle.policy_rules.specs.declared.packet.Leg.{Leg}
-use Rattle.net_file.specs.declared.ports.Ports.{Ports}
-use Rattle.switch_core.specs.Answering.{CanLookUp, IsAtAuthority, admitted, incoming_packet, received}
-use Rattle.switch_core.specs.Ends.{around}
-use Rattle.switch_core.specs.Moving.{Moved, StandsAt, link_found_down, hop_answer, move_answer}
-use Rattle.switch_core.specs.State.{SwitchValue, call_counted, serves}
-use Rattle.switch_core.specs.Answers.{Answer}
+use Rattle.switch_core.specs.Exports.{Answer, CanLookUp, IsAtAuthority, Moved, StandsAt, SwitchValue, admitted, around, call_counted, hop_answer, incoming_packet, link_found_down, move_answer, received, serves}
 use Rattle.switch_core.specs.declared.tunnel_calls.HopEnd.{HopEnd}
 use Rattle.switch_core.specs.declared.tunnel_calls.HopEnd.TheVariants as hop
-use Rattle.tunnel.specs.Moves.{here, next}
+use Rattle.tunnel.specs.Exports.{here, next}
 use Rattle.travelling.specs.Travelling.{Flight, Standing, flight, standing_at}
 use Rattle.world_log.specs.Writing.{LogAfter, arrived_items, arrived_posts, arrived_flight}
 use Rattle.world_log.specs.declared.log.Log.{Log}

@@ -1,11 +1,9 @@
 -- Messages that are sent one after another, and what a controller does, as items of the journal.
-use Rattle.std.specs.Prelude.{⊤, ℕ, ◌≡◌, ◌+◌, ◌^◌, ◌<◌, List, [], ◌∷◌, ◌++◌, length, All, Result, OnErr, OnOk}
-use Rattle.message_bag.specs.Posts.{Post, new_post}
+use Rattle.std.specs.Prelude.{[], ◌++◌, ◌+◌, ◌<◌, ◌^◌, ◌∷◌, ◌≡◌, All, List, OnErr, OnOk, Result, length, ℕ, ⊤}
+use Rattle.message_bag.specs.Exports.{HasShortSpelling, Post, new_post}
 use Rattle.controller.specs.declared.sends.Act.{Act}
 use Rattle.controller.specs.declared.sends.Act.TheVariants as act
-use Rattle.ctrl_msg.specs.declared.message.Message.{Message}
-use Rattle.message_bag.specs.Feeding.{HasShortSpelling}
-use Rattle.journal.specs.declared.item.Item.{Item}
+use Rattle.update_machine.specs.Exports.{Item, Message}
 use Rattle.journal.specs.declared.item.Item.TheVariants as item
 use Rattle.world_log.specs.Writing.{IsPart}
 use Rattle.world_log.specs.declared.log.Log.{Log}

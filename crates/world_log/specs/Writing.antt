@@ -1,26 +1,17 @@
 -- What the results of a switch for a packet do to the journal and the packet.
-use Rattle.std.specs.Prelude.{ℕ, ◌≡◌, Option, Some, None, option_map, List, [], ◌∷◌, ◌++◌, map, Result, Ok, Err, OnOk, OnErr}
-use Rattle.message_bag.specs.Posts.{Post, new_post}
-use Rattle.ctrl_msg.specs.declared.message.Body.{Body}
-use Rattle.ctrl_msg.specs.declared.message.Message.{Message}
+use Rattle.std.specs.Prelude.{[], ◌++◌, ◌∷◌, ◌≡◌, Err, List, None, Ok, OnErr, OnOk, Option, Result, Some, map, option_map, ℕ}
+use Rattle.message_bag.specs.Exports.{Post, new_post}
+use Rattle.update_machine.specs.Exports.{Action, Body, Cause, Exit as ExitLeg, Item, Leg, Message, sent_from, takes_route}
 use Rattle.ctrl_msg.specs.declared.message.Place.TheVariants as receiver
-use Rattle.policy_rules.specs.declared.packet.Cause.{Cause}
-use Rattle.policy_rules.specs.declared.packet.Leg.{Leg}
-use Rattle.policy_rules.specs.declared.packet.Leg.TheVariants.{Exit as ExitLeg}
-use Rattle.policy_rules.specs.declared.policy.Action.{Action}
 use Rattle.policy_rules.specs.declared.policy.Action.TheVariants as action
-use Rattle.journal.specs.declared.item.Item.{Item}
 use Rattle.journal.specs.declared.item.Item.TheVariants as item
-use Rattle.switch_core.specs.Deciding.{packet_with}
-use Rattle.switch_core.specs.Answers.{Answer, Arrival}
+use Rattle.switch_core.specs.Exports.{Answer, Arrival, packet_with}
 use Rattle.switch_core.specs.Answers as answer
 use Rattle.switch_core.specs.declared.deciding.Decision.{Decision}
 use Rattle.switch_core.specs.declared.tunnel_calls.Next.{Next}
 use Rattle.switch_core.specs.declared.tunnel_calls.Next.TheVariants as next
 use Rattle.switch_core.specs.declared.tunnel_calls.Packet.{Packet}
-use Rattle.tunnel.specs.Tunnel.{TunnelValue}
-use Rattle.update_machine.specs.Messages.{sent_from}
-use Rattle.update_machine.specs.Moves.{takes_route}
+use Rattle.tunnel.specs.Exports.{TunnelValue}
 use Rattle.travelling.specs.Travelling.{Flight, Standing, WithOne}
 use Rattle.world_log.specs.declared.log.Log.{Log}
 

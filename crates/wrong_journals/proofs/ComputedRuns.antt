@@ -1,10 +1,7 @@
 -- Runs of the machine, computed.
-use Rattle.std.proofs.Common.{◌≡◌, refl, arith}
-use Rattle.policy_rules.specs.declared.policy.Action.TheVariants.{Drop}
-use Rattle.update_machine.specs.Machine.{Dropped, IsRun, LeftBy, Lost, Machine, Stuck}
-use Rattle.wrong_journals.specs.Office.{allowed, denied, office_policy, office, second_policy}
-use Rattle.wrong_journals.specs.Right.{decided_rightly, dropped_rightly, left_rightly, lost_rightly, stuck_rightly, updated_rightly}
-use Rattle.wrong_journals.specs.Wrong.{entered_unasked, lost_by_nothing, stuck_beside_a_route}
+use Rattle.std.proofs.Common.{◌≡◌, arith, refl}
+use Rattle.update_machine.specs.Exports.{Drop, Dropped, IsRun, LeftBy, Lost, Machine, Stuck}
+use Rattle.wrong_journals.specs.Exports.{allowed, decided_rightly, denied, dropped_rightly, entered_unasked, left_rightly, lost_by_nothing, lost_rightly, office, office_policy, second_policy, stuck_beside_a_route, stuck_rightly, updated_rightly}
 use Rattle.wrong_journals.proofs.FirstMatches.{by_100, by_200, first_of_denied, second_of_allowed}
 use Rattle.wrong_journals.proofs.PacketMoves.{comer, decided, decides, ends, enters, let_out, lets_out}
 use Rattle.wrong_journals.proofs.MachineFollowing.{is_run_by}

@@ -1,12 +1,9 @@
 -- The first matches of the two policies, and what is none.
-use Rattle.std.proofs.Common.{◌≡◌, ◌∙◌, ◌≤◌, sym, refl, Some, [], ◌∷◌, arith}
+use Rattle.std.proofs.Common.{[], ◌∙◌, ◌∷◌, ◌≡◌, ◌≤◌, Some, arith, refl, sym}
 use Rattle.std.proofs.lemmas.List.Elements.{All-contains, All-from_recursion, All-head}
-use Rattle.policy_rules.specs.Policy.{IsFirstMatch}
-use Rattle.policy_rules.specs.declared.policy.Action.{Action}
-use Rattle.policy_rules.specs.declared.policy.Action.TheVariants.{Drop, Out}
-use Rattle.policy_rules.specs.declared.policy.Hit.{Hit}
-use Rattle.policy_rules.specs.declared.policy.Row.{Row}
-use Rattle.wrong_journals.specs.Office.{allowed, denied, everywhere, office_policy, row_for, second_policy, server_room}
+use Rattle.policy_rules.specs.Exports.{IsFirstMatch}
+use Rattle.update_machine.specs.Exports.{Action, Drop, Hit, Out, Row}
+use Rattle.wrong_journals.specs.Exports.{allowed, denied, everywhere, office_policy, row_for, second_policy, server_room}
 
 abbrev pub by_100 : Action → Hit
 by_100 action = record { rule = Some 100; action = action }

@@ -1,13 +1,11 @@
 -- The machine behind items that it took, as a function of them; and so the move that it makes by an
 -- item in the midst of a run.
-use Rattle.std.proofs.Common.{ℕ, ◌≡◌, ap, sym, subst, ◌∙◌, refl, Option, Some, None, List, [], ◌∷◌, ◌++◌}
-use Rattle.std.specs.Prelude.{⊤, length, option_to_list}
+use Rattle.std.proofs.Common.{[], ◌++◌, ◌∙◌, ◌∷◌, ◌≡◌, List, None, Option, Some, ap, length, option_to_list, refl, subst, sym, ℕ}
+use Rattle.std.specs.Prelude.{⊤}
 use Rattle.std.specs.Result.{result_ok}
-use Rattle.policy_rules.specs.declared.policy.Row.{Row}
-use Rattle.journal.specs.declared.item.Item.{Item}
+use Rattle.update_machine.specs.Exports.{Dropped, End, IsRun, Item, LeftBy, Lost, Machine, Row, Runs, Setting, Stuck, Takes, first_machine, policy_by, submitted_policy, with_packet}
 use Rattle.journal.specs.declared.item.Item.TheVariants as item
-use Rattle.update_machine.specs.Machine.{Dropped, End, IsRun, LeftBy, Lost, Machine, Packet, Runs, Stuck, Takes, first_machine, submitted_policy, with_packet}
-use Rattle.update_machine.specs.Setting.{Setting, policy_by}
+use Rattle.update_machine.specs.Machine.{Packet}
 
 -- what the machine knows of a packet changes, if it entered
 abbrev pub changed : Machine → ℕ → (Packet → Packet) → Machine

@@ -1,16 +1,12 @@
 -- Journals that are no runs of the machine.
-use Rattle.std.proofs.Common.{ℕ, ◌≡◌, ◌<◌, ◌∙◌, sym, subst, refl, Some, None, List, [], ◌∷◌, ◌++◌, arith}
+use Rattle.std.proofs.Common.{[], ◌++◌, ◌<◌, ◌∙◌, ◌∷◌, ◌≡◌, List, None, Some, arith, refl, subst, sym, ℕ}
 use Rattle.std.proofs.lemmas.Option.{none-some, same_Some}
-use Rattle.policy_rules.specs.Policy.{IsFirstMatch}
-use Rattle.policy_rules.specs.declared.policy.Action.TheVariants.{Drop, Out}
-use Rattle.policy_rules.specs.declared.policy.Hit.{Hit}
-use Rattle.policy_rules.specs.declared.policy.Row.{Row}
+use Rattle.policy_rules.specs.Exports.{IsFirstMatch}
+use Rattle.update_machine.specs.Exports.{Decides, Drop, Dropped, End, Ends, Hit, IsRun, LeftBy, Machine, MayEnd, Out, Row, submitted_policy}
 use Rattle.journal.specs.declared.item.Item.TheVariants as item
 use Rattle.steps.specs.declared.step.Step.TheVariants as step
-use Rattle.update_machine.specs.Machine.{Decides, Dropped, End, Ends, IsRun, LeftBy, Machine, MayEnd, Packet, submitted_policy}
-use Rattle.wrong_journals.specs.Office.{allowed, denied, office_policy, gets, in_at_a, in_behind_update, office, second_policy}
-use Rattle.wrong_journals.specs.Right.{decided_rightly}
-use Rattle.wrong_journals.specs.Wrong.{another_row, decided_twice, dropped_undecided, half_and_half, other_port, retired_version, unknown_version}
+use Rattle.update_machine.specs.Machine.{Packet}
+use Rattle.wrong_journals.specs.Exports.{allowed, another_row, decided_rightly, decided_twice, denied, dropped_undecided, gets, half_and_half, in_at_a, in_behind_update, office, office_policy, other_port, retired_version, second_policy, unknown_version}
 use Rattle.wrong_journals.proofs.FirstMatches.{by_100, no_first_of_denied, no_second_of_allowed}
 use Rattle.wrong_journals.proofs.MachineFollowing.{move_at}
 use Rattle.wrong_journals.proofs.PacketMoves.{comer, let_out}

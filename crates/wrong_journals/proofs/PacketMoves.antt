@@ -1,12 +1,9 @@
 -- Moves of the machine with one packet: it enters, is decided, and ends.
-use Rattle.std.proofs.Common.{ℕ, ◌≡◌, ◌<◌, Some, None, List, refl, arith}
-use Rattle.five_tuple.specs.declared.header.Header.{Header}
-use Rattle.policy_rules.specs.Policy.{IsFirstMatch}
-use Rattle.policy_rules.specs.declared.policy.Action.TheVariants.{Out}
-use Rattle.policy_rules.specs.declared.policy.Hit.{Hit}
-use Rattle.policy_rules.specs.declared.policy.Row.{Row}
-use Rattle.update_machine.specs.Machine.{Decides, End, Ends, Enters, Machine, MayEnd, Packet, submitted_policy, with_packet}
-use Rattle.wrong_journals.specs.Office.{allowed, office_policy}
+use Rattle.std.proofs.Common.{◌<◌, ◌≡◌, List, None, Some, arith, refl, ℕ}
+use Rattle.update_machine.specs.Exports.{Decides, End, Ends, Enters, Header, Hit, Machine, MayEnd, Out, Row, submitted_policy, with_packet}
+use Rattle.policy_rules.specs.Exports.{IsFirstMatch}
+use Rattle.update_machine.specs.Machine.{Packet}
+use Rattle.wrong_journals.specs.Exports.{allowed, office_policy}
 use Rattle.wrong_journals.proofs.FirstMatches.{by_100, first_of_allowed}
 
 -- a packet that entered under this mark

@@ -1,17 +1,11 @@
 -- The causes of the journals' items.
-use Rattle.std.proofs.Common.{ℕ, ◌≡◌, ap, Some, List, [], ◌∷◌, refl, sym, subst, inl, inr, arith}
-use Rattle.std.specs.Prelude.{⊤, All, IsTrue, take}
+use Rattle.std.proofs.Common.{[], ◌∷◌, ◌≡◌, All, IsTrue, List, Some, ap, arith, inl, inr, refl, subst, sym, take, ℕ}
+use Rattle.std.specs.Prelude.{⊤}
 use Rattle.std.proofs.lemmas.Bool.Decides.{nat_tests}
 use Rattle.std.proofs.lemmas.List.Elements.{All-from_recursion, All-head}
 use Rattle.std.proofs.lemmas.Option.{same_Some}
-use Rattle.policy_rules.specs.declared.policy.Action.TheVariants.{Out}
-use Rattle.journal.specs.declared.item.Item.{Item}
-use Rattle.update_machine.specs.Causes.{HasCause, HaveCauses, IsLostRightly, Leads, is_open, present_step}
-use Rattle.update_machine.specs.Links.{claim_of, is_link_up, message_of, serves}
-use Rattle.update_machine.specs.Packets.{Decision, decision_of, header_in, standing}
-use Rattle.wrong_journals.specs.Office.{office}
-use Rattle.wrong_journals.specs.Right.{left_rightly, stuck_rightly}
-use Rattle.wrong_journals.specs.Wrong.{lost_by_nothing, other_port, stuck_beside_a_route}
+use Rattle.update_machine.specs.Exports.{Decision, HasCause, HaveCauses, IsLostRightly, Item, Leads, Out, claim_of, decision_of, header_in, is_link_up, is_open, message_of, present_step, serves, standing}
+use Rattle.wrong_journals.specs.Exports.{left_rightly, lost_by_nothing, office, other_port, stuck_beside_a_route, stuck_rightly}
 
 -- an item that needs no cause, and those behind it
 free : {causes : Type 0} → causes → ⊤ × causes

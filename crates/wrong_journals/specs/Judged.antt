@@ -1,14 +1,9 @@
 -- What the headline says of a journal, and how it prints.
-use Rattle.std.specs.Prelude.{◌≡◌, ℕ, Bool, true, false, None, List, [], ◌∷◌}
-use Rattle.journal.specs.declared.item.Item.{Item}
+use Rattle.std.specs.Prelude.{[], ◌∷◌, ◌≡◌, Bool, List, None, false, true, ℕ}
+use Rattle.update_machine.specs.Exports.{Event, HasCause, HaveCauses, IsRun, Item, One, all_given}
 use Rattle.journal.specs.declared.item.Item.TheVariants as item
 use Rattle.journal_text.specs.Lines.{journal_text}
-use Rattle.steps.specs.declared.step.Event.{Event}
-use Rattle.steps.specs.declared.step.Event.TheVariants.{One}
-use Rattle.update_machine.specs.Causes.{HasCause, HaveCauses}
-use Rattle.update_machine.specs.Folds.{all_given}
-use Rattle.update_machine.specs.Machine.{IsRun}
-use Rattle.packet_laws.specs.Entries.{AreEntered, rows_played}
+use Rattle.packet_laws.specs.Exports.{AreEntered, rows_played}
 use Rattle.wrong_journals.specs.Office.{office, text_of, two_switches}
 
 -- the journal prints as these lines

@@ -2,3 +2,4 @@ pub mod Office
 pub mod Wrong
 pub mod Right
 pub mod Judged
+pub mod Exports

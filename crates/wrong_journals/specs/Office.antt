@@ -1,21 +1,9 @@
 -- A network of two switches with two policies, on which small journals are judged, and how these
 -- begin.
-use Rattle.std.specs.Prelude.{ℕ, Some, List, [], ◌∷◌, ◌++◌, codes}
-use Rattle.std.specs.List.{flat_map}
-use Rattle.five_tuple.specs.Header.{AddressBlock}
-use Rattle.five_tuple.specs.HeaderNumbers.{header_of}
-use Rattle.five_tuple.specs.declared.header.Header.{Header}
-use Rattle.five_tuple.specs.declared.matching.Proto.TheVariants.{Any}
-use Rattle.net_file.specs.declared.net.Net.{Net}
-use Rattle.policy_rules.specs.declared.file.PolicyFile.TheVariants.{Whole}
-use Rattle.policy_rules.specs.declared.packet.How.TheVariants.{Authority}
-use Rattle.policy_rules.specs.declared.policy.Action.{Action}
-use Rattle.policy_rules.specs.declared.policy.Action.TheVariants.{Drop, Out}
-use Rattle.policy_rules.specs.declared.policy.Row.{Row}
-use Rattle.journal.specs.declared.item.Item.{Item}
+use Rattle.std.specs.Prelude.{[], ◌++◌, ◌∷◌, List, Some, codes, flat_map, ℕ}
+use Rattle.five_tuple.specs.Exports.{AddressBlock, header_of}
+use Rattle.update_machine.specs.Exports.{Action, Any, Authority, Drop, Header, Item, Net, Out, Packet, Row, Setting, Update, Whole, setting_of}
 use Rattle.journal.specs.declared.item.Item.TheVariants as item
-use Rattle.steps.specs.declared.step.Step.TheVariants.{Packet, Update}
-use Rattle.update_machine.specs.Setting.{Setting, setting_of}
 
 -- the switch a has the port 1, and room for 100 rules; b has the port 2; a link joins them
 abbrev pub two_switches : Net

@@ -1,13 +1,8 @@
 -- Right journals: each wrong one is the beginning of one of these, except for one item.
-use Rattle.std.specs.Prelude.{false, Some, List, [], ◌∷◌, ◌++◌}
-use Rattle.failover.specs.Links.{no_links}
-use Rattle.policy_rules.specs.declared.packet.Cause.TheVariants.{NoRoute}
-use Rattle.policy_rules.specs.declared.packet.How.TheVariants.{Authority}
-use Rattle.policy_rules.specs.declared.packet.Leg.TheVariants.{Exit}
-use Rattle.policy_rules.specs.declared.policy.Action.TheVariants.{Drop, Out}
-use Rattle.journal.specs.declared.item.Item.{Item}
+use Rattle.std.specs.Prelude.{[], ◌++◌, ◌∷◌, List, Some, false}
+use Rattle.failover.specs.Exports.{no_links}
+use Rattle.update_machine.specs.Exports.{Authority, Drop, Exit, Hop, Item, LinkDown, Lose, NoRoute, Out, Packet, Update}
 use Rattle.journal.specs.declared.item.Item.TheVariants as item
-use Rattle.steps.specs.declared.step.Step.TheVariants.{Hop, LinkDown, Lose, Packet, Update}
 use Rattle.wrong_journals.specs.Office.{allowed, denied, gets, in_at_a, in_behind_update}
 
 -- the packet that row 200 matches is dropped by it

@@ -1,12 +1,8 @@
 -- Ten wrong journals.
-use Rattle.std.specs.Prelude.{Some, List, [], ◌∷◌, ◌++◌}
-use Rattle.failover.specs.Links.{no_links}
-use Rattle.policy_rules.specs.declared.packet.Cause.TheVariants.{NoRoute}
-use Rattle.policy_rules.specs.declared.packet.Leg.TheVariants.{Exit}
-use Rattle.policy_rules.specs.declared.policy.Action.TheVariants.{Drop, Out}
-use Rattle.journal.specs.declared.item.Item.{Item}
+use Rattle.std.specs.Prelude.{[], ◌++◌, ◌∷◌, List, Some}
+use Rattle.failover.specs.Exports.{no_links}
+use Rattle.update_machine.specs.Exports.{Drop, Exit, Item, NoRoute, Out, Packet, Update}
 use Rattle.journal.specs.declared.item.Item.TheVariants as item
-use Rattle.steps.specs.declared.step.Step.TheVariants.{Packet, Update}
 use Rattle.wrong_journals.specs.Office.{allowed, denied, gets, in_at_a, in_behind_update}
 
 -- ---- decisions

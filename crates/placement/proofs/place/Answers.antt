@@ -1,7 +1,5 @@
-use Rattle.std.proofs.Common.{◌∙◌, arith}
-use Rattle.std.specs.Result.{IfOk}
-use Rattle.std.proofs.lemmas.Result.{IfErr-weaker, IfOk-weaker}
-use Rattle.base.proofs.RefusalWeakening.{IfRefused-weaker}
+use Rattle.std.proofs.Common.{◌∙◌, IfOk, arith}
+use Rattle.base.proofs.Exports.{IfErr-weaker, IfOk-weaker, IfRefused-weaker}
 use Rattle.placement.specs.Placement.{IsPlacement, RefusesPlacement}
 use Rattle.placement.proofs.PlacementLemmas.{placement_is, refusal_is, sum-sizes}
 use Rattle.placement.proofs.place.Goals as goal

@@ -1,4 +1,4 @@
-use Rattle.std.proofs.Common.{◌*◌, ◌%◌, ◌^◌, arith}
+use Rattle.std.proofs.Common.{◌%◌, ◌*◌, ◌^◌, arith}
 use Rattle.std.proofs.lemmas.Nat.{or_lt}
 use Rattle.base.proofs.masks.with.Goals as goal
 

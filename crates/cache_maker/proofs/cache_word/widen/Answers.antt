@@ -1,13 +1,9 @@
-use Rattle.std.proofs.Common.{◌≡◌, ◌≢◌, ◌∙◌, ◌^◌, ◌<◌, arith, ap, get_or, refl, subst, set, sym, take}
-use Rattle.std.specs.Prelude.{IfSome, IsTrue, bit_and, bit_or, bit_xor}
-use Rattle.std.proofs.lemmas.List.{length-take}
+use Rattle.std.proofs.Common.{◌<◌, ◌^◌, ◌∙◌, ◌≡◌, ◌≢◌, IfSome, IsTrue, ap, arith, bit_and, bit_or, bit_xor, get_or, length-take, refl, set, subst, sym, take}
 use Rattle.std.proofs.lemmas.List.Quantifiers.{position-Some}
 use Rattle.std.proofs.lemmas.Nat.{one_shl, or_lt, xor_lt}
-use Rattle.five_tuple.specs.Header.{number_of}
-use Rattle.policy_rules.specs.Rules.{is_held}
-use Rattle.ternary.specs.Word.{WordValue, holds}
-use Rattle.ternary.specs.WordBits.{IsWord}
-use Rattle.ternary.specs.Meets.{exact_word, free_of, is_fixed_of}
+use Rattle.five_tuple.specs.Exports.{number_of}
+use Rattle.policy_rules.specs.Exports.{is_held}
+use Rattle.ternary.specs.Exports.{IsWord, WordValue, exact_word, free_of, holds, is_fixed_of}
 use Rattle.cache_maker.specs.Differing.{IsWithout}
 use Rattle.cache_maker.specs.Independent.{IsIndependent, widen, widening_of}
 use Rattle.cache_maker.proofs.IndependentWords.{exact_independent}

@@ -1,6 +1,5 @@
-use Rattle.std.proofs.Common.{◌≡◌, ◌∙◌, ◌^◌, ◌%◌, ◌*◌, ap, arith, subst, sym}
+use Rattle.std.proofs.Common.{◌%◌, ◌*◌, ◌^◌, ◌∙◌, ◌≡◌, ap, arith, bit_xor, subst, sym}
 use Rattle.std.proofs.Math.Facts.{Fits-lt-pow}
-use Rattle.std.specs.Prelude.{bit_xor}
 use Rattle.std.specs.Int.{trailing_zeros, w128}
 use Rattle.std.proofs.lemmas.Nat.{one_shl}
 use Rattle.std.proofs.lemmas.Nat.Bits.{bit_at-trailing_zeros}

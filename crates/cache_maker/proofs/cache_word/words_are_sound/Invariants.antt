@@ -1,5 +1,5 @@
-use Rattle.std.proofs.Common.{take, All}
-use Rattle.ternary.specs.WordBits.{IsWord}
+use Rattle.std.proofs.Common.{All, take}
+use Rattle.ternary.specs.Exports.{IsWord}
 use Rattle.policy_rules.specs.declared.rules.Rule.{Rule}
 use Rattle.cache_maker.proofs.cache_word.words_are_sound.Given as goal
 

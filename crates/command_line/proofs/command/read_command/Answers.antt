@@ -1,5 +1,4 @@
-use Rattle.std.specs.Prelude.{is_some}
-use Rattle.std.proofs.Common.{◌∙◌, ap}
+use Rattle.std.proofs.Common.{◌∙◌, ap, is_some}
 use Rattle.command_line.proofs.command.read_command.Goals as goal
 
 pub read_line-requires : goal.read_line-requires

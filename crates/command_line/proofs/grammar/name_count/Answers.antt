@@ -1,12 +1,6 @@
-use Rattle.std.specs.Prelude.{String, string_bytes}
-use Rattle.std.specs.Global.{Global}
-use Rattle.std.specs.List.{prefix_len}
-use Rattle.std.proofs.Common.{◌≡◌, ◌∙◌, List, [], ◌∷◌, map, refl, rules, sym, tests}
-use Rattle.std.proofs.lemmas.Iterator.{YieldsList-from_slice}
-use Rattle.std.proofs.lemmas.Iterator.Consumers.{count_from_yields_List}
-use Rattle.std.proofs.lemmas.Iterator.Search.{YieldsList-from_take_while}
-use Rattle.std.proofs.lemmas.List.Folds.{length-prefix_len}
-use Rattle.command_line.specs.Grammar.{is_file_name}
+use Rattle.std.proofs.Common.{[], ◌∙◌, ◌∷◌, ◌≡◌, Global, List, String, map, refl, rules, string_bytes, sym, tests}
+use Rattle.base.proofs.Exports.{YieldsList-from_slice, YieldsList-from_take_while, count_from_yields_List, length-prefix_len, prefix_len}
+use Rattle.command_line.specs.Exports.{is_file_name}
 use Rattle.command_line.proofs.grammar.name_count.Goals as goal
 
 -- so many arguments in front are names

@@ -1,9 +1,8 @@
-use Rattle.std.specs.Prelude.{map, string_bytes}
-use Rattle.std.proofs.Common.{◌∙◌, Some, ap, sym, true≢false}
-use Rattle.std.proofs.lemmas.Result.{IfOk-weaker}
+use Rattle.std.proofs.Common.{◌∙◌, Some, ap, map, string_bytes, sym, true≢false}
+use Rattle.base.proofs.Exports.{IfOk-weaker}
 use Rattle.clap.proofs.WalkLemmas.{IfOk-both}
 use Rattle.clap.specs.Matches.{found_of}
-use Rattle.command_line.specs.Line.{options_of}
+use Rattle.command_line.specs.Exports.{options_of}
 use Rattle.command_line.proofs.CommandLines.{finds_line, line_walked, takes_line}
 use Rattle.command_line.proofs.ClapParses.{flag_there, line_is, names_there}
 use Rattle.command_line.proofs.read.read_line.Goals as goal

@@ -1,9 +1,8 @@
-use Rattle.std.proofs.Common.{◌≡◌, ◌++◌, map, ap, ◌∙◌}
-use Rattle.controller.specs.Sends.{install_act, settling_acts}
+use Rattle.std.proofs.Common.{◌++◌, ◌∙◌, ◌≡◌, ap, map}
+use Rattle.controller.specs.Exports.{install_act, kept_touched, settling_acts}
 use Rattle.controller.proofs.MaskTelling.{added, not_added}
 use Rattle.controller.proofs.controller.hello_sends.Goals as goal
 use Rattle.controller.proofs.controller.hello_sends.Goals.{then-settled+in_ok-install_all, else-settled}
-use Rattle.controller.specs.Controller.{kept_touched}
 
 pub returns-clause-sends : goal.returns-clause-sends
 returns-clause-sends c = λ before is.

@@ -1,5 +1,5 @@
-use Rattle.std.proofs.Common.{◌≡◌, ◌++◌, map, take}
-use Rattle.controller.specs.Sends.{install_act}
+use Rattle.std.proofs.Common.{◌++◌, ◌≡◌, map, take}
+use Rattle.controller.specs.Exports.{install_act}
 use Rattle.controller.proofs.controller.install_all.Given as goal
 
 -- the versions so far

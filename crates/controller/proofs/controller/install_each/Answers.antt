@@ -1,9 +1,7 @@
-use Rattle.std.proofs.Common.{ℕ, Bool, ◌≡◌, ◌<◌, [], length, sym, ap, ◌∙◌, arith}
-use Rattle.std.specs.Prelude.{false, not, slice_get}
-use Rattle.std.specs.Option.{option_map_or}
-use Rattle.base.proofs.ListsOfRanges.{picked_add, picked_skip}
-use Rattle.version_update.specs.Record.{is_over}
-use Rattle.controller.specs.Sends.{boot_recorded, install_act}
+use Rattle.std.proofs.Common.{[], ◌<◌, ◌∙◌, ◌≡◌, Bool, ap, arith, false, length, not, slice_get, sym, ℕ}
+use Rattle.base.proofs.Exports.{option_map_or, picked_add, picked_skip}
+use Rattle.version_update.specs.Exports.{is_over}
+use Rattle.controller.specs.Exports.{boot_recorded, install_act}
 use Rattle.controller.proofs.PickedSwitches.{passes_there}
 use Rattle.controller.proofs.controller.install_each.Goals as goal
 use Rattle.controller.proofs.controller.install_each.Goals.{then-is_there+in_ok-install+in_ok-push, else-is_there}

@@ -1,7 +1,6 @@
-use Rattle.std.proofs.Common.{◌≡◌, map}
-use Rattle.version_update.specs.Record.{is_over}
-use Rattle.std.specs.Prelude.{not}
-use Rattle.controller.specs.Sends.{boot_recorded, install_act}
+use Rattle.std.proofs.Common.{◌≡◌, map, not}
+use Rattle.version_update.specs.Exports.{is_over}
+use Rattle.controller.specs.Exports.{boot_recorded, install_act}
 use Rattle.controller.proofs.PickedSwitches.{those_below}
 use Rattle.controller.proofs.controller.install_each.Given as goal
 

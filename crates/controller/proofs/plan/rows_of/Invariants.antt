@@ -1,5 +1,5 @@
-use Rattle.std.proofs.Common.{◌≡◌, take, map}
-use Rattle.switch_table.specs.Tables.{row_of}
+use Rattle.std.proofs.Common.{◌≡◌, map, take}
+use Rattle.switch_table.specs.Exports.{row_of}
 use Rattle.controller.proofs.plan.rows_of.Given as goal
 
 abbrev pub invariant-loop-part : goal.invariant-loop-part

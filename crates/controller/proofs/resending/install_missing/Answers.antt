@@ -1,8 +1,7 @@
-use Rattle.std.proofs.Common.{Bool, ◌≡◌, ◌<◌, length, sym, ap, ◌∙◌, arith}
-use Rattle.base.proofs.ListsOfRanges.{item_add, item_skip}
-use Rattle.version_update.specs.Marks.{record_of}
-use Rattle.controller.specs.Controller.{KeptPlan}
-use Rattle.controller.specs.Sends.{install_act, is_missing}
+use Rattle.std.proofs.Common.{◌<◌, ◌∙◌, ◌≡◌, Bool, ap, arith, length, sym}
+use Rattle.base.proofs.Exports.{item_add, item_skip}
+use Rattle.version_update.specs.Exports.{record_of}
+use Rattle.controller.specs.Exports.{KeptPlan, install_act, is_missing}
 use Rattle.controller.proofs.resending.install_missing.Goals as goal
 use Rattle.controller.proofs.resending.install_missing.Goals.{then-is_missing+in_ok-install+in_ok-push, else-is_missing}
 

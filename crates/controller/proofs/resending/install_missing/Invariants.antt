@@ -1,5 +1,5 @@
-use Rattle.std.proofs.Common.{◌≡◌, ◌++◌, take}
-use Rattle.controller.specs.Sends.{missing_installs}
+use Rattle.std.proofs.Common.{◌++◌, ◌≡◌, take}
+use Rattle.controller.specs.Exports.{missing_installs}
 use Rattle.controller.proofs.resending.install_missing.Given as goal
 
 -- those of the versions so far that are missing

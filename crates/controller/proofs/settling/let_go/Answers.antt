@@ -1,6 +1,6 @@
 use Rattle.std.proofs.Common.{leb, rules}
-use Rattle.std.proofs.lemmas.Fn.{filter_same}
-use Rattle.controller.specs.Controller.{KeptPlan}
+use Rattle.base.proofs.Exports.{filter_same}
+use Rattle.controller.specs.Exports.{KeptPlan}
 use Rattle.controller.proofs.settling.let_go.Goals as goal
 
 pub returns : goal.returns

@@ -1,8 +1,6 @@
-use Rattle.std.proofs.Common.{sym, ap, ◌∙◌, eqb}
-use Rattle.std.specs.Int.{bit_at}
-use Rattle.base.proofs.ListsOfRanges.{picked_add, picked_skip}
-use Rattle.controller.specs.News.{body_of}
-use Rattle.controller.specs.Sends.{boot_recorded, post_act}
+use Rattle.std.proofs.Common.{◌∙◌, ap, eqb, sym}
+use Rattle.base.proofs.Exports.{bit_at, picked_add, picked_skip}
+use Rattle.controller.specs.Exports.{body_of, boot_recorded, post_act}
 use Rattle.controller.proofs.settling.send_to_each.Goals as goal
 use Rattle.controller.proofs.settling.send_to_each.Goals.{then-has+in_ok-body+in_ok-push, else-has}
 

@@ -1,6 +1,5 @@
-use Rattle.std.proofs.Common.{◌≡◌, ◌++◌}
-use Rattle.controller.specs.News.{body_of, switches_named}
-use Rattle.controller.specs.Sends.{posts_to}
+use Rattle.std.proofs.Common.{◌++◌, ◌≡◌}
+use Rattle.controller.specs.Exports.{body_of, posts_to, switches_named}
 use Rattle.controller.proofs.settling.send_to_each.Given as goal
 
 -- those of the switches so far that the mask names are told

@@ -1,12 +1,9 @@
-use Rattle.std.proofs.Common.{ℕ, ◌≡◌, List, [], ◌∷◌, ◌++◌, length, ap, refl, sym, ◌∙◌}
+use Rattle.std.proofs.Common.{[], ◌++◌, ◌∙◌, ◌∷◌, ◌≡◌, List, ap, length, refl, sym, ℕ}
 use Rattle.ctrl_msg.specs.declared.message.Body.{Body}
 use Rattle.ctrl_msg.specs.declared.message.Body.TheVariants.{Stamp, Collect}
-use Rattle.version_update.specs.Marks.{MarksValue}
-use Rattle.version_update.specs.Settling.{Settles}
-use Rattle.ternary.specs.Word.{WordValue}
-use Rattle.controller.specs.Controller.{kept_touched}
-use Rattle.controller.specs.News.{switches_named}
-use Rattle.controller.specs.Sends.{posts_to, rising_acts, stamp_acts}
+use Rattle.version_update.specs.Exports.{MarksValue, Settles}
+use Rattle.ternary.specs.Exports.{WordValue}
+use Rattle.controller.specs.Exports.{kept_touched, posts_to, rising_acts, stamp_acts, switches_named}
 use Rattle.controller.specs.declared.sends.Act.TheVariants.{Current, Retired}
 use Rattle.controller.proofs.MaskTelling.{opens_told, rising_none, rising_told, same_number, settling_told, told_current}
 use Rattle.controller.proofs.settling.settle.Goals as goal

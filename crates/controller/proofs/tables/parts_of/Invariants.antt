@@ -1,5 +1,5 @@
-use Rattle.std.proofs.Common.{◌≡◌, map, filter, take}
-use Rattle.switch_table.specs.Tables.{has_target, part_of}
+use Rattle.std.proofs.Common.{◌≡◌, filter, map, take}
+use Rattle.switch_table.specs.Exports.{has_target, part_of}
 use Rattle.controller.proofs.tables.parts_of.Given as goal
 
 abbrev pub invariant-loop-part : goal.invariant-loop-part

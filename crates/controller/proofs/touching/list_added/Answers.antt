@@ -1,7 +1,7 @@
 use Rattle.std.proofs.Common.{subst}
-use Rattle.base.proofs.ListsJoined.{taken_more}
-use Rattle.policy_rules.specs.Words.{words_of_row}
-use Rattle.controller.specs.Touching.{ListsMore}
+use Rattle.base.proofs.Exports.{taken_more}
+use Rattle.policy_rules.specs.Exports.{words_of_row}
+use Rattle.controller.specs.Exports.{ListsMore}
 use Rattle.controller.proofs.TouchedWords.{lists_then}
 use Rattle.controller.proofs.touching.list_added.Goals as goal
 

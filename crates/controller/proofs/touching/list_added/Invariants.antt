@@ -1,7 +1,6 @@
-use Rattle.std.proofs.Common.{take}
-use Rattle.std.specs.List.{flat_map}
-use Rattle.policy_rules.specs.Words.{words_of_row}
-use Rattle.controller.specs.Touching.{ListsMore}
+use Rattle.std.proofs.Common.{flat_map, take}
+use Rattle.policy_rules.specs.Exports.{words_of_row}
+use Rattle.controller.specs.Exports.{ListsMore}
 use Rattle.controller.proofs.touching.list_added.Given as goal
 
 -- those of the rows so far are listed

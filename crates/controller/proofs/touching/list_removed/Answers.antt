@@ -1,11 +1,8 @@
-use Rattle.std.proofs.Common.{ℕ, ◌==◌, List, Option, subst, arith, rules}
-use Rattle.std.specs.Prelude.{find}
-use Rattle.std.specs.List.{filter_map, flat_map}
-use Rattle.std.proofs.lemmas.List.{take_all}
-use Rattle.base.proofs.ListsJoined.{found_more}
-use Rattle.policy_rules.specs.Words.{words_of_row}
+use Rattle.std.proofs.Common.{◌==◌, List, Option, arith, filter_map, find, flat_map, rules, subst, take_all, ℕ}
+use Rattle.base.proofs.Exports.{found_more}
+use Rattle.policy_rules.specs.Exports.{words_of_row}
 use Rattle.policy_rules.specs.declared.policy.Row.{Row}
-use Rattle.controller.specs.Touching.{ListsMore}
+use Rattle.controller.specs.Exports.{ListsMore}
 use Rattle.controller.proofs.TouchedWords.{lists_then}
 use Rattle.controller.proofs.touching.list_removed.Goals as goal
 

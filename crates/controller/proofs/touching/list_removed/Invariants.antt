@@ -1,8 +1,6 @@
-use Rattle.std.proofs.Common.{◌==◌, take}
-use Rattle.std.specs.Prelude.{find}
-use Rattle.std.specs.List.{filter_map, flat_map}
-use Rattle.policy_rules.specs.Words.{words_of_row}
-use Rattle.controller.specs.Touching.{ListsMore}
+use Rattle.std.proofs.Common.{◌==◌, filter_map, find, flat_map, take}
+use Rattle.policy_rules.specs.Exports.{words_of_row}
+use Rattle.controller.specs.Exports.{ListsMore}
 use Rattle.controller.proofs.touching.list_removed.Given as goal
 
 -- those of the priorities so far are listed

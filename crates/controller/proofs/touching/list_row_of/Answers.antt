@@ -1,6 +1,6 @@
 use Rattle.std.proofs.Common.{◌==◌}
-use Rattle.base.proofs.ListsFound.{found_all}
-use Rattle.policy_rules.specs.SoundPolicies.{IsSoundRow}
+use Rattle.base.proofs.Exports.{found_all}
+use Rattle.policy_rules.specs.Exports.{IsSoundRow}
 use Rattle.policy_rules.specs.declared.policy.Row.{Row}
 use Rattle.controller.proofs.touching.list_row_of.Goals as goal
 

@@ -1,16 +1,11 @@
-use Rattle.std.proofs.Common.{ℕ, ◌==◌, ◌∙◌, ◌++◌, List, [], All, refl, inl, ap, sym, subst}
-use Rattle.std.specs.Prelude.{filter_map, find}
-use Rattle.std.specs.List.{flat_map}
-use Rattle.std.proofs.lemmas.List.Concat.{flat_map-append}
-use Rattle.ternary.specs.Word.{WordValue}
-use Rattle.policy_rules.specs.Applied.{additions, removals}
-use Rattle.policy_rules.specs.SoundPolicies.{IsSoundRow}
-use Rattle.policy_rules.specs.Touched.{removed_rows}
-use Rattle.policy_rules.specs.Words.{words_of_row}
+use Rattle.std.proofs.Common.{[], ◌++◌, ◌==◌, ◌∙◌, All, List, ap, filter_map, find, flat_map, inl, refl, subst, sym, ℕ}
+use Rattle.base.proofs.Exports.{flat_map-append}
+use Rattle.ternary.specs.Exports.{WordValue}
+use Rattle.policy_rules.specs.Exports.{IsSoundRow, additions, removals, removed_rows, words_of_row}
 use Rattle.policy_rules.specs.declared.policy.Row.{Row}
 use Rattle.policy_rules.proofs.CallerLemmas.{additions_sound}
-use Rattle.switch_table.specs.Carried.{few_touched}
-use Rattle.controller.specs.Touching.{ListsMore}
+use Rattle.switch_table.specs.Exports.{few_touched}
+use Rattle.controller.specs.Exports.{ListsMore}
 use Rattle.controller.proofs.TouchedWords.{lists_then, told_alike}
 use Rattle.controller.proofs.touching.touched.Goals as goal
 

@@ -1,6 +1,6 @@
-use Rattle.std.proofs.Common.{◌∙◌, ◌+◌, ◌≡◌, arith}
-use Rattle.std.proofs.lemmas.List.FromFn.{map-range_with_len_more}
-use Rattle.switch_table.specs.Tables.{tables_of}
+use Rattle.std.proofs.Common.{◌+◌, ◌∙◌, ◌≡◌, arith}
+use Rattle.base.proofs.Exports.{map-range_with_len_more}
+use Rattle.switch_table.specs.Exports.{tables_of}
 use Rattle.controller.proofs.version.make_each.Goals as goal
 
 pub loop-s-preserved : goal.loop-s-preserved

@@ -1,6 +1,6 @@
 use Rattle.std.proofs.Common.{◌≡◌, map}
-use Rattle.std.specs.List.{range_with_len}
-use Rattle.switch_table.specs.Tables.{tables_of}
+use Rattle.base.proofs.Exports.{range_with_len}
+use Rattle.switch_table.specs.Exports.{tables_of}
 use Rattle.controller.proofs.version.make_each.Given as goal
 
 -- the tables of the switches so far

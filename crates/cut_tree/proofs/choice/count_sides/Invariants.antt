@@ -1,5 +1,5 @@
-use Rattle.std.proofs.Common.{◌-◌, ◌≤◌, true, false, length}
-use Rattle.cut_tree.specs.Counts.{IsCounting}
+use Rattle.std.proofs.Common.{◌-◌, ◌≤◌, false, length, true}
+use Rattle.cut_tree.specs.Exports.{IsCounting}
 use Rattle.cut_tree.proofs.choice.count_sides.Given as goal
 
 abbrev pub invariant-loop-place : goal.invariant-loop-place

@@ -1,5 +1,5 @@
-use Rattle.std.proofs.Common.{◌≡◌, ◌<◌, bit_xor, arith, refl}
-use Rattle.std.proofs.lemmas.Bool.{both_ways}
+use Rattle.std.proofs.Common.{◌<◌, ◌≡◌, arith, bit_xor, refl}
+use Rattle.base.proofs.Exports.{both_ways}
 use Rattle.cut_tree.proofs.SideLemmas.{beyond, beyond_small, covers_no_half}
 use Rattle.cut_tree.proofs.choice.fixes_few.Goals as goal
 

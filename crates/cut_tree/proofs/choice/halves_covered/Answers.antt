@@ -1,5 +1,5 @@
-use Rattle.std.proofs.Common.{◌≡◌, ◌<◌, ◌∙◌, bit_xor, arith, sym, refl}
-use Rattle.std.proofs.lemmas.Bool.{both_ways}
+use Rattle.std.proofs.Common.{◌<◌, ◌∙◌, ◌≡◌, arith, bit_xor, refl, sym}
+use Rattle.base.proofs.Exports.{both_ways}
 use Rattle.cut_tree.proofs.SideLemmas.{beyond, beyond_small, covered_whole, covered_one, covered_none}
 use Rattle.cut_tree.proofs.choice.halves_covered.Goals as goal
 use Rattle.cut_tree.proofs.choice.halves_covered.Goals.{After-mask-2}

@@ -1,5 +1,4 @@
-use Rattle.std.proofs.Common.{arith}
-use Rattle.std.proofs.lemmas.Bool.{eqb-true, eq-eqb}
+use Rattle.std.proofs.Common.{arith, eq-eqb, eqb-true}
 use Rattle.cut_tree.proofs.SideLemmas.{lowest_beyond, one_shifted}
 use Rattle.cut_tree.proofs.choice.is_one_bit.Goals as goal
 

@@ -1,6 +1,5 @@
 use Rattle.std.proofs.Common.{arith}
-use Rattle.std.specs.Int.{w128, trailing_zeros}
-use Rattle.std.proofs.lemmas.Nat.Bits.{bit_at-trailing_zeros}
+use Rattle.base.proofs.Exports.{bit_at-trailing_zeros, trailing_zeros, w128}
 use Rattle.cut_tree.proofs.LeastLemmas.{least_first}
 use Rattle.cut_tree.proofs.choice.least_bit.Goals as goal
 

@@ -1,6 +1,5 @@
-use Rattle.std.proofs.Common.{◌≡◌, ◌-◌, min, sym, ap, arith}
-use Rattle.std.specs.Int.{bit_at, from_bool}
-use Rattle.std.proofs.lemmas.Nat.Bits.{bit_at-lt, bit_at_and}
+use Rattle.std.proofs.Common.{◌-◌, ◌≡◌, ap, arith, min, sym}
+use Rattle.base.proofs.Exports.{bit_at, bit_at-lt, bit_at_and, from_bool}
 use Rattle.cut_tree.proofs.SideLemmas.{still_open, side_step}
 use Rattle.cut_tree.proofs.choice.pass.Goals as goal
 

@@ -1,4 +1,4 @@
-use Rattle.ternary.specs.Meets.{any_word}
+use Rattle.ternary.specs.Exports.{any_word}
 use Rattle.cut_tree.proofs.TreeLemmas.{one_tree, tree_defined}
 use Rattle.cut_tree.proofs.laws.tree_laws.Goals as goal
 

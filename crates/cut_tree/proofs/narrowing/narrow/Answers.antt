@@ -1,4 +1,4 @@
-use Rattle.std.proofs.Common.{arith, sym, ◌∙◌}
+use Rattle.std.proofs.Common.{◌∙◌, arith, sym}
 use Rattle.cut_tree.proofs.NarrowLemmas.{keeps_all, keeps_last, keeps_next}
 use Rattle.cut_tree.proofs.narrowing.narrow.Goals as goal
 

@@ -1,5 +1,5 @@
-use Rattle.std.proofs.Common.{◌≡◌, ◌++◌, drop}
-use Rattle.cut_tree.specs.Narrow.{narrow}
+use Rattle.std.proofs.Common.{◌++◌, ◌≡◌, drop}
+use Rattle.cut_tree.specs.Exports.{narrow}
 use Rattle.cut_tree.proofs.narrowing.narrow.Given as goal
 
 abbrev pub invariant-loop-rule : goal.invariant-loop-rule

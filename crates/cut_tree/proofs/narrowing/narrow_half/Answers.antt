@@ -1,6 +1,5 @@
-use Rattle.std.proofs.Common.{◌≡◌, ◌++◌, List, Option, Some, arith, sym, ap, ◌∙◌}
-use Rattle.ternary.specs.Word.{WordValue}
-use Rattle.ternary.specs.Meets.{fix_of, meet_of}
+use Rattle.std.proofs.Common.{◌++◌, ◌∙◌, ◌≡◌, List, Option, Some, ap, arith, sym}
+use Rattle.ternary.specs.Exports.{WordValue, fix_of, meet_of}
 use Rattle.policy_rules.specs.declared.rules.Rule.{Rule}
 use Rattle.cut_tree.proofs.HalfLemmas.{lies_at}
 use Rattle.cut_tree.proofs.NarrowLemmas.{keeps_all, keeps_last, keeps_next, narrow_past}

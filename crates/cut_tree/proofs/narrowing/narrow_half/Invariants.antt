@@ -1,5 +1,5 @@
-use Rattle.std.proofs.Common.{◌≡◌, ◌++◌, drop}
-use Rattle.cut_tree.specs.Cuts.{side_of}
+use Rattle.std.proofs.Common.{◌++◌, ◌≡◌, drop}
+use Rattle.cut_tree.specs.Exports.{side_of}
 use Rattle.cut_tree.proofs.narrowing.narrow_half.Given as goal
 
 abbrev pub invariant-loop-rule : goal.invariant-loop-rule

@@ -1,4 +1,4 @@
-use Rattle.cut_tree.specs.DefinedTree.{free_count}
+use Rattle.cut_tree.specs.Exports.{free_count}
 use Rattle.cut_tree.proofs.tree.+grow.Given as goal
 
 abbrev pub decreases-grow : goal.decreases-grow

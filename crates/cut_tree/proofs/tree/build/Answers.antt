@@ -1,4 +1,4 @@
-use Rattle.cut_tree.specs.DefinedTree.{tree_of}
+use Rattle.cut_tree.specs.Exports.{tree_of}
 use Rattle.cut_tree.proofs.TreeLemmas.{root_node}
 use Rattle.cut_tree.proofs.tree.build.Goals as goal
 

@@ -1,6 +1,6 @@
-use Rattle.std.proofs.Common.{◌≡◌, ◌∙◌, [], ◌∷◌, refl}
-use Rattle.command_line.specs.Named.{audit_named}
-use Rattle.difane_cli.specs.Inputs.{solo_ports}
+use Rattle.std.proofs.Common.{[], ◌∙◌, ◌∷◌, ◌≡◌, refl}
+use Rattle.command_line.specs.Exports.{audit_named}
+use Rattle.difane_cli.specs.Exports.{solo_ports}
 use Rattle.difane_cli.proofs.BegunNetwork.{as_many}
 use Rattle.difane_cli.proofs.AuditReads.{auditing_is, both_read, trace_alone}
 use Rattle.difane_cli.proofs.CalmReads.{stops_behind, stops_with}

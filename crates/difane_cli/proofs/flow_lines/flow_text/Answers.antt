@@ -1,10 +1,6 @@
-use Rattle.std.specs.Prelude.{ℕ, Vec}
-use Rattle.std.specs.Global.{Global}
-use Rattle.std.proofs.Common.{◌∙◌, ◌++◌, ap, arith}
-use Rattle.std.proofs.lemmas.List.{take_all}
-use Rattle.std.specs.List.{flat_map}
+use Rattle.std.proofs.Common.{◌++◌, ◌∙◌, Global, Vec, ap, arith, flat_map, take_all, ℕ}
 use Rattle.flow_export.specs.Lines.{flow_lines}
-use Rattle.meters.specs.Meters.{flow_records_of}
+use Rattle.meters.specs.Exports.{flow_records_of}
 use Rattle.difane_cli.proofs.FlowTexts.{lines_of_all}
 use Rattle.difane_cli.proofs.flow_lines.flow_text.Goals as goal
 

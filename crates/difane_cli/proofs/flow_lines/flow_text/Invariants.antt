@@ -1,9 +1,6 @@
-use Rattle.std.specs.Prelude.{◌++◌}
-use Rattle.std.specs.String.{string_bytes}
-use Rattle.std.specs.List.{flat_map}
-use Rattle.std.proofs.Common.{◌≡◌, take}
+use Rattle.std.proofs.Common.{◌++◌, ◌≡◌, flat_map, string_bytes, take}
 use Rattle.flow_export.specs.Lines.{flow_lines}
-use Rattle.meters.specs.Meters.{flow_records_of}
+use Rattle.meters.specs.Exports.{flow_records_of}
 use Rattle.difane_cli.proofs.flow_lines.flow_text.Given as goal
 
 abbrev pub invariant-loop-meter : goal.invariant-loop-meter

@@ -1,17 +1,11 @@
-use Rattle.std.specs.Prelude.{IsSome, IsTrue, Vec}
-use Rattle.std.specs.Global.{Global}
-use Rattle.std.proofs.Common.{ℕ, ◌≡◌, ◌≤◌, ◌+◌, ◌==◌, ◌∙◌, Bool, Ok, Err, All, List, [], ◌∷◌, ◌++◌, ap, arith, drop, get_or, length, length-append, subst, sym}
-use Rattle.std.proofs.lemmas.List.{length-map}
-use Rattle.std.proofs.lemmas.List.Elements.{All-push}
-use Rattle.policy_file.specs.Changes.{file_length}
-use Rattle.policy_file.specs.Ports.{names_port_of}
-use Rattle.policy_rules.specs.PolicyFiles.{GivesOnly, IsPolicyFile}
-use Rattle.policy_rules.specs.declared.file.PolicyFile.{PolicyFile}
-use Rattle.std.specs.Option.{ForSome}
-use Rattle.command_line.specs.Named.{names_seen}
-use Rattle.world.specs.Files.{first_policy}
-use Rattle.difane_cli.specs.Ending.{EndsRead, NamesOneOf, status_of}
-use Rattle.difane_cli.specs.Inputs.{read_file}
+use Rattle.std.proofs.Common.{[], ◌++◌, ◌+◌, ◌==◌, ◌∙◌, ◌∷◌, ◌≡◌, ◌≤◌, All, Bool, Err, Global, IsSome, IsTrue, List, Ok, Vec, ap, arith, drop, get_or, length, length-append, subst, sym, ℕ}
+use Rattle.base.proofs.Exports.{All-push, ForSome, length-map}
+use Rattle.policy_file.specs.Exports.{file_length, names_port_of}
+use Rattle.policy_rules.specs.Exports.{GivesOnly, IsPolicyFile}
+use Rattle.update_machine.specs.Exports.{PolicyFile}
+use Rattle.command_line.specs.Exports.{names_seen}
+use Rattle.world.specs.Exports.{first_policy}
+use Rattle.difane_cli.specs.Exports.{EndsRead, NamesOneOf, read_file, status_of}
 use Rattle.difane_cli.specs.declared.status.Stop.TheVariants as stop
 use Rattle.difane_cli.proofs.CalmReads.{stops_behind, stops_with}
 use Rattle.difane_cli.proofs.FileReads.{HasRead, at_next, first_behind, is_none, name_there, one_read, reads_at, stops_at}

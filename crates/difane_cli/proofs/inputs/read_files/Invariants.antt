@@ -1,10 +1,8 @@
-use Rattle.std.proofs.Common.{◌≡◌, ◌<◌, ◌≤◌, All, drop, length}
-use Rattle.std.specs.Prelude.{IsSome, IsTrue}
-use Rattle.policy_file.specs.Changes.{file_length}
-use Rattle.policy_file.specs.Ports.{names_port_of}
-use Rattle.policy_rules.specs.PolicyFiles.{GivesOnly, IsPolicyFile}
-use Rattle.world.specs.Files.{first_policy}
-use Rattle.command_line.specs.Named.{names_seen}
+use Rattle.std.proofs.Common.{◌<◌, ◌≡◌, ◌≤◌, All, IsSome, IsTrue, drop, length}
+use Rattle.policy_file.specs.Exports.{file_length, names_port_of}
+use Rattle.policy_rules.specs.Exports.{GivesOnly, IsPolicyFile}
+use Rattle.world.specs.Exports.{first_policy}
+use Rattle.command_line.specs.Exports.{names_seen}
 use Rattle.difane_cli.proofs.FileReads.{HasRead}
 use Rattle.difane_cli.proofs.inputs.read_files.Given as goal
 

@@ -1,13 +1,9 @@
-use Rattle.world.specs.State.{setting_at}
-use Rattle.std.specs.Option.{ForSome}
-use Rattle.std.specs.Prelude.{option_to_list}
-use Rattle.std.proofs.Common.{◌+◌, ◌≡◌, ◌∙◌, Some, [], ◌∷◌, ap, arith, refl}
-use Rattle.std.proofs.lemmas.Grind.{common_steps}
-use Rattle.std.proofs.lemmas.List.{length-map}
-use Rattle.shelf.specs.Shelf.{IsAfterReads}
-use Rattle.command_line.specs.Commands.{Replay}
-use Rattle.command_line.specs.Named.{replay_named}
-use Rattle.difane_cli.specs.Inputs.{inputs_of, most_reads, net_reads}
+use Rattle.world.specs.Exports.{setting_at}
+use Rattle.base.proofs.Exports.{ForSome, common_steps, length-map}
+use Rattle.std.proofs.Common.{[], ◌+◌, ◌∙◌, ◌∷◌, ◌≡◌, Some, ap, arith, option_to_list, refl}
+use Rattle.shelf.specs.Exports.{IsAfterReads}
+use Rattle.command_line.specs.Exports.{Replay, replay_named}
+use Rattle.difane_cli.specs.Exports.{inputs_of, most_reads, net_reads}
 use Rattle.difane_cli.proofs.BegunNetwork.{all_are_events, as_many, asked_for, ends_in_check, few_named, inputs_are, inputs_then, plan_accounts, planned_inputs}
 use Rattle.difane_cli.proofs.CalmReads.{stops_behind, stops_with}
 use Rattle.difane_cli.proofs.RefusedNames.{among_behind, among_front, among_last, first_check}

@@ -1,4 +1,4 @@
-use Rattle.std.proofs.Common.{◌≤◌, length, sym, subst, arith}
+use Rattle.std.proofs.Common.{◌≤◌, arith, length, subst, sym}
 use Rattle.schedule.specs.Case.{LoadCase, case_seen}
 use Rattle.difane_cli.proofs.BegunNetwork.{AreDrawn, are_drawn}
 use Rattle.difane_cli.proofs.load.draw_inputs.Goals as goal

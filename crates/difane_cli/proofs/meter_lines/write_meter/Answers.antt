@@ -1,6 +1,6 @@
-use Rattle.std.proofs.Common.{ℕ, ◌≡◌, ◌≢◌, ◌∙◌, List, length, ap, rules, subst, sym}
-use Rattle.shelf.specs.SinkWrites.{IsAfterWrite}
-use Rattle.difane_cli.specs.Texts.{meter_line, notes_line}
+use Rattle.std.proofs.Common.{◌∙◌, ◌≡◌, ◌≢◌, List, ap, length, rules, subst, sym, ℕ}
+use Rattle.shelf.specs.Exports.{IsAfterWrite}
+use Rattle.difane_cli.specs.Exports.{meter_line, notes_line}
 use Rattle.difane_cli.proofs.MeterLines.{line_some}
 use Rattle.difane_cli.proofs.meter_lines.write_meter.Goals as goal
 

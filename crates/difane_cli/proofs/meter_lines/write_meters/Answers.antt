@@ -1,11 +1,7 @@
-use Rattle.std.proofs.Common.{◌≡◌, ◌∙◌, ap, arith, drop, get_or, suc, sym, take}
-use Rattle.std.proofs.lemmas.List.{take_all}
-use Rattle.std.proofs.lemmas.Result.{err_from_is_err_and}
-use Rattle.std.specs.List.{flat_map}
-use Rattle.base.proofs.ListsJoined.{flat_map-one, flat_map-there, middle_none}
-use Rattle.shelf.specs.Sink.{with_gained}
-use Rattle.shelf.specs.SinkWrites.{gained-gained}
-use Rattle.difane_cli.specs.Texts.{meter_line}
+use Rattle.std.proofs.Common.{◌∙◌, ◌≡◌, ap, arith, drop, flat_map, get_or, suc, sym, take, take_all}
+use Rattle.base.proofs.Exports.{err_from_is_err_and, flat_map-one, flat_map-there, middle_none}
+use Rattle.shelf.specs.Exports.{gained-gained, with_gained}
+use Rattle.difane_cli.specs.Exports.{meter_line}
 use Rattle.difane_cli.proofs.MeterLines.{lines_of, piece_cut}
 use Rattle.difane_cli.proofs.meter_lines.write_meters.Goals as goal
 

@@ -1,7 +1,6 @@
-use Rattle.std.proofs.Common.{◌≡◌, [], map, take}
-use Rattle.std.specs.List.{flat_map}
-use Rattle.shelf.specs.Sink.{with_gained}
-use Rattle.difane_cli.specs.Texts.{meter_line, meter_lines}
+use Rattle.std.proofs.Common.{[], ◌≡◌, flat_map, map, take}
+use Rattle.shelf.specs.Exports.{with_gained}
+use Rattle.difane_cli.specs.Exports.{meter_line, meter_lines}
 use Rattle.difane_cli.proofs.meter_lines.write_meters.Given as goal
 
 abbrev pub invariant-loop-meter : goal.invariant-loop-meter

@@ -1,5 +1,5 @@
 use Rattle.std.proofs.Common.{rules}
-use Rattle.base.proofs.ListsOfAll.{AllZip-range_more}
+use Rattle.base.proofs.Exports.{AllZip-range_more}
 use Rattle.difane_cli.proofs.metered.at_each_port.Goals as goal
 
 pub loop-port-preserved : goal.loop-port-preserved

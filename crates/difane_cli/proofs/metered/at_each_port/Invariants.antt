@@ -1,5 +1,5 @@
 use Rattle.std.proofs.Common.{Ok}
-use Rattle.std.specs.List.{AllZip, range_with_len}
+use Rattle.base.proofs.Exports.{AllZip, range_with_len}
 use Rattle.difane_cli.proofs.metered.at_each_port.Given as goal
 
 abbrev pub invariant-loop-port : goal.invariant-loop-port

@@ -1,9 +1,8 @@
 use Rattle.std.proofs.Common.{◌∙◌, ap}
-use Rattle.std.specs.List.{range_with_len}
-use Rattle.base.proofs.ListsOfAll.{seen_are}
-use Rattle.command_line.specs.Commands.{argument_texts}
+use Rattle.base.proofs.Exports.{range_with_len, seen_are}
+use Rattle.command_line.specs.Exports.{argument_texts}
 use Rattle.difane_cli.proofs.MeteredFlows.{come_to, flows_told}
-use Rattle.difane_cli.specs.NewMeters.{new_meter, new_meters}
+use Rattle.difane_cli.specs.Exports.{new_meter, new_meters}
 use Rattle.difane_cli.proofs.metered.run_metered.Goals as goal
 
 pub returns-clause-outcome : goal.returns-clause-outcome

@@ -1,17 +1,9 @@
-use Rattle.std.proofs.Common.{ℕ, ◌∙◌, inr, Bool, IsTrue, List, ap, map, subst, sym}
-use Rattle.meters.specs.Gone.{gone_records}
-use Rattle.meters.specs.Meters.{kept_meters}
+use Rattle.std.proofs.Common.{◌∙◌, Bool, IsTrue, List, ap, inr, map, subst, sym, ℕ}
+use Rattle.meters.specs.Exports.{gone_records, kept_meters}
 use Rattle.meters.specs.declared.flows.FlowRecord.{FlowRecord}
-use Rattle.net_file.specs.declared.net.Net.{Net}
+use Rattle.update_machine.specs.Exports.{Event, IsPlay, Net}
 use Rattle.replay.specs.Leavings.{left_in, kept_by}
-use Rattle.steps.specs.declared.step.Event.{Event}
-use Rattle.update_machine.specs.Full.{IsPlay}
-use Rattle.difane_cli.specs.Commands.{inputs_stated}
-use Rattle.difane_cli.specs.FlowLines.{gone_by}
-use Rattle.difane_cli.specs.Texts.{play_text}
-use Rattle.difane_cli.specs.Prints.{IsAfterText}
-use Rattle.difane_cli.specs.Verdict.{is_asked}
-use Rattle.difane_cli.specs.Run.{is_made}
+use Rattle.difane_cli.specs.Exports.{IsAfterText, gone_by, inputs_stated, is_asked, is_made, play_text}
 use Rattle.difane_cli.proofs.PlayOutcomes.{judged, played, told, unjudged}
 use Rattle.difane_cli.proofs.WorkStatus.{after_work, by_failed, by_memory, of_failed, on_err, out_of_judging, out_of_writing}
 use Rattle.difane_cli.proofs.playing.play.Goals as goal

@@ -1,6 +1,5 @@
-use Rattle.std.proofs.Common.{ℕ, List, ap, map, subst, true, ◌∙◌}
-use Rattle.difane_cli.specs.FlowLines.{flow_text}
-use Rattle.difane_cli.specs.Prints.{IsAfterText}
+use Rattle.std.proofs.Common.{◌∙◌, List, ap, map, subst, true, ℕ}
+use Rattle.difane_cli.specs.Exports.{IsAfterText, flow_text}
 use Rattle.difane_cli.proofs.AfterTexts.{text_written}
 use Rattle.difane_cli.proofs.playing.write_flows.Goals as goal
 

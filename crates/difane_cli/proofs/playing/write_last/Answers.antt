@@ -1,6 +1,6 @@
 use Rattle.std.proofs.Common.{◌∙◌, map}
-use Rattle.std.proofs.lemmas.Result.{err_from_is_err_and}
-use Rattle.difane_cli.specs.Texts.{meter_lines, quiet_line}
+use Rattle.base.proofs.Exports.{err_from_is_err_and}
+use Rattle.difane_cli.specs.Exports.{meter_lines, quiet_line}
 use Rattle.difane_cli.proofs.MeterLines.{both_written, first_part, none_left, none_right}
 use Rattle.difane_cli.proofs.playing.write_last.Goals as goal
 

@@ -1,8 +1,8 @@
-use Rattle.std.proofs.Common.{ℕ, ◌∙◌, ◌++◌, List, ap, map, subst}
-use Rattle.std.proofs.lemmas.Result.{err_from_is_err_and}
+use Rattle.std.proofs.Common.{◌++◌, ◌∙◌, List, ap, map, subst, ℕ}
+use Rattle.base.proofs.Exports.{err_from_is_err_and}
 use Rattle.journal_text.specs.Lines.{journal_text}
-use Rattle.shelf.specs.SinkWrites.{IsAfterWrite}
-use Rattle.difane_cli.specs.Texts.{last_lines}
+use Rattle.shelf.specs.Exports.{IsAfterWrite}
+use Rattle.difane_cli.specs.Exports.{last_lines}
 use Rattle.difane_cli.proofs.MeterLines.{both_written, cut_short, none_left, none_right, none_of_text, text_whole}
 use Rattle.difane_cli.proofs.playing.write_played.Goals as goal
 

@@ -1,6 +1,6 @@
-use Rattle.std.proofs.Common.{ℕ, List, ap, subst, true, ◌∙◌}
-use Rattle.journal_reports.specs.Summary.{summary_text}
-use Rattle.difane_cli.specs.Prints.{IsAfterText}
+use Rattle.std.proofs.Common.{◌∙◌, List, ap, subst, true, ℕ}
+use Rattle.journal_reports.specs.Exports.{summary_text}
+use Rattle.difane_cli.specs.Exports.{IsAfterText}
 use Rattle.difane_cli.proofs.AfterTexts.{text_written}
 use Rattle.difane_cli.proofs.playing.write_summary.Goals as goal
 

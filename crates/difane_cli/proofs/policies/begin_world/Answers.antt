@@ -1,10 +1,10 @@
 use Rattle.std.proofs.Common.{arith, subst}
-use Rattle.std.proofs.lemmas.Grind.{common_steps}
-use Rattle.command_line.specs.Named.{names_seen}
+use Rattle.base.proofs.Exports.{common_steps}
+use Rattle.command_line.specs.Exports.{names_seen}
 use Rattle.difane_cli.proofs.BegunNetwork.{has_plan, sound_by_tie}
-use Rattle.update_machine.specs.Setting.{IsSetting, setting_of}
+use Rattle.update_machine.specs.Exports.{IsSetting, setting_of}
 use Rattle.world.proofs.BegunWorld.{first_plans}
-use Rattle.world.specs.State.{IsBegun}
+use Rattle.world.specs.Exports.{IsBegun}
 use Rattle.difane_cli.proofs.policies.begin_world.Goals as goal
 
 pub returns-clause-planned : goal.returns-clause-planned

@@ -1,5 +1,5 @@
 use Rattle.std.proofs.Common.{arith}
-use Rattle.std.proofs.lemmas.Grind.{common_steps}
+use Rattle.base.proofs.Exports.{common_steps}
 use Rattle.difane_cli.proofs.RefusedNames.{plan_read}
 use Rattle.difane_cli.proofs.policies.plan_policy.Goals as goal
 

@@ -1,7 +1,6 @@
-use Rattle.std.specs.Prelude.{option_to_list}
-use Rattle.std.proofs.Common.{◌∙◌, [], ◌∷◌}
-use Rattle.command_line.specs.Named.{print_named}
-use Rattle.difane_cli.specs.Inputs.{net_reads}
+use Rattle.std.proofs.Common.{[], ◌∙◌, ◌∷◌, option_to_list}
+use Rattle.command_line.specs.Exports.{print_named}
+use Rattle.difane_cli.specs.Exports.{net_reads}
 use Rattle.difane_cli.proofs.CalmReads.{stops_behind, stops_with}
 use Rattle.difane_cli.proofs.RefusedNames.{among_behind, among_front, among_last}
 use Rattle.difane_cli.proofs.ShelfReads.{both_reads, fewer_reads, net_asked_read}

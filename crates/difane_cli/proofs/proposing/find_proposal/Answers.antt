@@ -1,12 +1,12 @@
 -- What the lists that were made say, and so what the proposal is.
-use Rattle.std.proofs.Common.{◌≡◌, ◌<◌, ◌^◌, ◌∙◌, List, length, map, ap, arith}
-use Rattle.std.proofs.lemmas.List.Elements.{All-map}
+use Rattle.std.proofs.Common.{◌<◌, ◌^◌, ◌∙◌, ◌≡◌, List, ap, arith, length, map}
+use Rattle.base.proofs.Exports.{All-map}
 use Rattle.partition.specs.Plan.{Hosted, sizes_of}
-use Rattle.switch_table.specs.Tables.{part_of}
-use Rattle.policy_rules.specs.declared.rules.Partition.{Partition}
+use Rattle.switch_table.specs.Exports.{part_of}
+use Rattle.update_machine.specs.Exports.{Partition}
 use Rattle.rebalance.specs.Loads.{weights_of}
 use Rattle.rebalance.specs.Spread.{IsProposal}
-use Rattle.difane_cli.specs.Proposals.{targets_by_partition}
+use Rattle.difane_cli.specs.Exports.{targets_by_partition}
 use Rattle.difane_cli.proofs.ProposedPlans.{AreMeasured, as_many_asked, as_many_sizes, as_many_targets, few_rooms, found_for, proposal_number, sizes_are}
 use Rattle.difane_cli.proofs.proposing.find_proposal.Goals as goal
 use Rattle.difane_cli.proofs.proposing.find_proposal.Goals.{In_ok-new, In_ok-old}

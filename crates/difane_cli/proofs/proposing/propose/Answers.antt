@@ -1,13 +1,9 @@
 -- The plan that a play leaves is the one whose placement is proposed.
-use Rattle.std.proofs.Common.{ℕ, ◌∙◌, List, Option, None, refl, sym, subst}
+use Rattle.std.proofs.Common.{◌∙◌, List, None, Option, refl, subst, sym, ℕ}
 use Rattle.command_line.specs.Commands as grammar
-use Rattle.net_file.specs.declared.net.Net.{Net}
+use Rattle.update_machine.specs.Exports.{Event, IsPlay, Net}
 use Rattle.partition.specs.Plan.{IsPlan}
-use Rattle.steps.specs.declared.step.Event.{Event}
-use Rattle.update_machine.specs.Full.{IsPlay}
-use Rattle.difane_cli.specs.Commands.{inputs_stated}
-use Rattle.difane_cli.specs.Proposals.{IsAfterProposal}
-use Rattle.difane_cli.specs.Run.{IsAnswer}
+use Rattle.difane_cli.specs.Exports.{IsAfterProposal, IsAnswer, inputs_stated}
 use Rattle.difane_cli.proofs.PlayOutcomes.{played}
 use Rattle.difane_cli.proofs.ProposedPlans.{out_of_room, whole_told}
 use Rattle.difane_cli.proofs.WorkStatus.{after_work, by_failed, by_memory, of_failed}

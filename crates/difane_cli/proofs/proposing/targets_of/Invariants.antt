@@ -1,5 +1,5 @@
 use Rattle.std.proofs.Common.{◌≡◌, take}
-use Rattle.difane_cli.specs.Proposals.{targets_by_partition}
+use Rattle.difane_cli.specs.Exports.{targets_by_partition}
 use Rattle.difane_cli.proofs.proposing.targets_of.Given as goal
 
 abbrev pub invariant-loop-targets : goal.invariant-loop-targets

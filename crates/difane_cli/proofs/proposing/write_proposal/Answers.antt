@@ -1,5 +1,4 @@
-use Rattle.std.proofs.Common.{◌≡◌, ◌∙◌}
-use Rattle.std.specs.Fmt.{decimal}
+use Rattle.std.proofs.Common.{◌∙◌, ◌≡◌, decimal}
 use Rattle.difane_cli.proofs.ProposedPlans.{wrote_proposal}
 use Rattle.difane_cli.proofs.proposing.write_proposal.Goals as goal
 

@@ -1,5 +1,4 @@
-use Rattle.std.proofs.Common.{◌≡◌, ◌∙◌}
-use Rattle.std.specs.Fmt.{decimal}
+use Rattle.std.proofs.Common.{◌∙◌, ◌≡◌, decimal}
 use Rattle.difane_cli.proofs.status.write_input_line.Goals as goal
 
 pub returns : goal.returns

@@ -1,7 +1,5 @@
-use Rattle.std.proofs.Common.{List, ℕ, drop, take, suc}
-use Rattle.std.specs.Borrow.{Bor}
-use Rattle.std.specs.List.{flat_map}
-use Rattle.base.proofs.ListsJoined.{flat_map-at}
+use Rattle.std.proofs.Common.{Bor, List, drop, flat_map, suc, take, ℕ}
+use Rattle.base.proofs.Exports.{flat_map-at}
 use Rattle.difane_cli.proofs.MeterLines.{piece_cut}
 use Rattle.difane_cli.proofs.status.write_pieces.Goals as goal
 

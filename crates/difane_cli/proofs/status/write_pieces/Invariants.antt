@@ -1,6 +1,5 @@
-use Rattle.std.proofs.Common.{◌≡◌, take}
-use Rattle.std.specs.List.{flat_map}
-use Rattle.shelf.specs.Sink.{with_gained}
+use Rattle.std.proofs.Common.{◌≡◌, flat_map, take}
+use Rattle.shelf.specs.Exports.{with_gained}
 use Rattle.difane_cli.proofs.status.write_pieces.Given as goal
 
 abbrev pub invariant-loop-piece : goal.invariant-loop-piece

@@ -1,11 +1,8 @@
 -- What is to be told decides which play comes to pass.
 use Rattle.std.proofs.Common.{◌≡◌, Ok, Some, subst}
-use Rattle.std.specs.Option.{ForSome}
-use Rattle.command_line.specs.Commands.{Command}
-use Rattle.difane_cli.specs.Commands.{inputs_stated}
-use Rattle.difane_cli.specs.Inputs.{known_task}
-use Rattle.difane_cli.specs.Run.{IsPlayOf}
-use Rattle.difane_cli.specs.Tasks.{Play}
+use Rattle.base.proofs.Exports.{ForSome}
+use Rattle.command_line.specs.Exports.{Command}
+use Rattle.difane_cli.specs.Exports.{IsPlayOf, Play, inputs_stated, known_task}
 use Rattle.difane_cli.proofs.ReplayReports.{keeps_meters, play_outcome, proposal_out, proposal_outcome}
 use Rattle.difane_cli.proofs.task.work.Goals as goal
 

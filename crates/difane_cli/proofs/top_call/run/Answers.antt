@@ -1,14 +1,9 @@
-use Rattle.std.specs.Prelude.{String, Vec, option_map, string_bytes}
-use Rattle.std.specs.Global.{Global}
-use Rattle.std.proofs.Common.{◌≡◌, ◌∙◌, Bool, Option, Some, List, ap, map, rules, subst, sym}
-use Rattle.journal.specs.declared.item.Item.{Item}
-use Rattle.meters.specs.Seen.{Seen}
-use Rattle.shelf.specs.Shelf.{Files}
-use Rattle.shelf.specs.Sink.{SinkState}
-use Rattle.command_line.specs.Named.{command_named}
-use Rattle.difane_cli.specs.Ending.{RanOut}
-use Rattle.difane_cli.specs.Run.{Outcome}
-use Rattle.command_line.specs.Grammar.{command_of}
+use Rattle.std.proofs.Common.{◌∙◌, ◌≡◌, Bool, Global, List, Option, Some, String, Vec, ap, map, option_map, rules, string_bytes, subst, sym}
+use Rattle.update_machine.specs.Exports.{Item}
+use Rattle.meters.specs.Exports.{Seen}
+use Rattle.shelf.specs.Exports.{Files, SinkState}
+use Rattle.command_line.specs.Exports.{command_named, command_of}
+use Rattle.difane_cli.specs.Exports.{Outcome, RanOut}
 use Rattle.command_line.specs.Commands as grammar
 use Rattle.difane_cli.specs.declared.status.Ended.{Ended}
 use Rattle.difane_cli.specs.declared.status.Status.{Status}

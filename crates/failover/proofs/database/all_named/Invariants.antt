@@ -1,5 +1,5 @@
-use Rattle.std.proofs.Common.{◌≡◌, ℕ, ◌<◌, length, get_or, None}
-use Rattle.failover.specs.Links.{neighbours_named}
+use Rattle.std.proofs.Common.{◌<◌, ◌≡◌, None, get_or, length, ℕ}
+use Rattle.failover.specs.Exports.{neighbours_named}
 use Rattle.failover.proofs.database.all_named.Given as goal
 
 abbrev pub invariant-loop-origin : goal.invariant-loop-origin

@@ -1,5 +1,5 @@
-use Rattle.std.proofs.Common.{sym, arith}
-use Rattle.std.proofs.lemmas.List.{set_past}
+use Rattle.std.proofs.Common.{arith, sym}
+use Rattle.base.proofs.Exports.{set_past}
 use Rattle.failover.proofs.database.set_own.Goals as goal
 
 pub returns-else-at-lt-MAX_SWITCHES : goal.returns-else-at-lt-MAX_SWITCHES

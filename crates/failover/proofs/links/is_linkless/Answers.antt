@@ -1,6 +1,6 @@
-use Rattle.std.proofs.Common.{◌∙◌, ◌==◌, ap}
-use Rattle.failover.specs.Links.{is_link, links_at}
-use Rattle.base.proofs.CallerLemmas.{mask_of_lt}
+use Rattle.std.proofs.Common.{◌==◌, ◌∙◌, ap}
+use Rattle.failover.specs.Exports.{is_link, links_at}
+use Rattle.base.proofs.Exports.{mask_of_lt}
 use Rattle.failover.proofs.KnownLinkRows.{no_row_past}
 use Rattle.failover.proofs.RowLoop.{and_all}
 use Rattle.failover.proofs.links.is_linkless.Goals as goal

@@ -1,6 +1,6 @@
 use Rattle.std.proofs.Common.{◌∙◌, ap, arith}
-use Rattle.base.specs.ComputedMasks.{only_if, least_in}
-use Rattle.base.proofs.CallerLemmas.{least_lt}
+use Rattle.base.specs.Exports.{least_in, only_if}
+use Rattle.base.proofs.Exports.{least_lt}
 use Rattle.failover.proofs.RowLoop.{row_begins, row_ends, row_goes_on, fewer_left, first_left}
 use Rattle.failover.proofs.links.links_within.Goals as goal
 

@@ -1,7 +1,5 @@
-use Rattle.std.proofs.Common.{ℕ, ◌≡◌, ◌<◌, List, get_or, ap, subst, sym, ◌∙◌, arith, length-set}
-use Rattle.std.specs.Int.Bits.{bit_and}
-use Rattle.failover.specs.Links.{links_at}
-use Rattle.failover.specs.Isolated.{links_of_each}
+use Rattle.std.proofs.Common.{◌<◌, ◌∙◌, ◌≡◌, List, ap, arith, bit_and, get_or, length-set, subst, sym, ℕ}
+use Rattle.failover.specs.Exports.{links_at, links_of_each}
 use Rattle.failover.proofs.KnownLinkRows.{length-link_rows, row_of, row_turned}
 use Rattle.failover.proofs.RouteSearch.{none_after}
 use Rattle.failover.proofs.RouteWriting.{first_ball, next_ball, no_balls, more_balls, no_more, before_more, next_away}

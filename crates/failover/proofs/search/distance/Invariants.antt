@@ -1,8 +1,6 @@
-use Rattle.std.proofs.Common.{◌≡◌, ℕ, ◌<◌, false, length}
-use Rattle.base.specs.Masks.{has}
-use Rattle.failover.specs.Isolated.{links_of_each}
-use Rattle.failover.specs.Routes.{ball}
-use Rattle.failover.specs.Search.{AreBalls, IsEdge}
+use Rattle.std.proofs.Common.{◌<◌, ◌≡◌, false, length, ℕ}
+use Rattle.base.specs.Exports.{has}
+use Rattle.failover.specs.Exports.{AreBalls, IsEdge, ball, links_of_each}
 use Rattle.failover.proofs.search.distance.Given as goal
 
 abbrev pub invariant-loop-k : goal.invariant-loop-k

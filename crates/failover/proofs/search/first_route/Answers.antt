@@ -1,7 +1,6 @@
-use Rattle.std.proofs.Common.{sym, ◌∙◌, arith}
-use Rattle.std.proofs.lemmas.List.{at_drop_more, at_drop_all}
-use Rattle.failover.specs.Isolated.{links_of_each}
-use Rattle.failover.specs.Routes.{first_route}
+use Rattle.std.proofs.Common.{◌∙◌, arith, sym}
+use Rattle.base.proofs.Exports.{at_drop_all, at_drop_more}
+use Rattle.failover.specs.Exports.{first_route, links_of_each}
 use Rattle.failover.proofs.RouteSearch.{first_route-found, first_route-missing, first_route-none}
 use Rattle.failover.proofs.search.first_route.Goals as goal
 

@@ -1,6 +1,5 @@
 use Rattle.std.proofs.Common.{◌≡◌, drop}
-use Rattle.failover.specs.Isolated.{links_of_each}
-use Rattle.failover.specs.Routes.{first_route}
+use Rattle.failover.specs.Exports.{first_route, links_of_each}
 use Rattle.failover.proofs.search.first_route.Given as goal
 
 abbrev pub invariant-loop-target : goal.invariant-loop-target

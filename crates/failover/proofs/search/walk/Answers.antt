@@ -1,10 +1,6 @@
-use Rattle.std.proofs.Common.{ℕ, ◌≡◌, ◌+◌, ◌-◌, List, ◌∷◌, ◌++◌, take, replicate, get_or, sym, ◌∙◌, ap, subst, arith, length}
-use Rattle.failover.specs.Isolated.{links_of_each}
-use Rattle.failover.specs.RouteList.{IsRouteList}
-use Rattle.std.specs.Int.Bits.{bit_and}
-use Rattle.base.specs.ComputedMasks.{least_in}
-use Rattle.failover.specs.Routes.{least_neighbour_in}
-use Rattle.failover.specs.Search.{path_by_balls}
+use Rattle.std.proofs.Common.{◌++◌, ◌+◌, ◌-◌, ◌∙◌, ◌∷◌, ◌≡◌, List, ap, arith, bit_and, get_or, length, replicate, subst, sym, take, ℕ}
+use Rattle.failover.specs.Exports.{IsRouteList, least_neighbour_in, links_of_each, path_by_balls}
+use Rattle.base.specs.Exports.{least_in}
 use Rattle.failover.proofs.KnownLinkRows.{row_of}
 use Rattle.failover.proofs.RouteWriting.{length-along, left_at, below_in, along-next, written_more, written_route}
 use Rattle.failover.proofs.search.walk.Goals as goal

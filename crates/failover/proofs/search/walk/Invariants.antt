@@ -1,6 +1,5 @@
-use Rattle.std.proofs.Common.{◌≡◌, ◌+◌, ◌-◌, ◌∷◌, ◌++◌, take, drop, replicate}
-use Rattle.failover.specs.Isolated.{links_of_each}
-use Rattle.failover.specs.Search.{path_by_balls}
+use Rattle.std.proofs.Common.{◌++◌, ◌+◌, ◌-◌, ◌∷◌, ◌≡◌, drop, replicate, take}
+use Rattle.failover.specs.Exports.{links_of_each, path_by_balls}
 use Rattle.failover.proofs.search.walk.Given as goal
 
 abbrev pub invariant-loop-step : goal.invariant-loop-step

@@ -1,10 +1,7 @@
-use Rattle.std.proofs.Common.{◌<◌, ◌^◌, ◌∙◌, sym, ap, subst, ℕ, arith}
-use Rattle.std.specs.Int.{bit_not, w64}
-use Rattle.std.specs.Int.Bits.{bit_and, bit_xor}
-use Rattle.base.specs.ComputedMasks.{least_in}
-use Rattle.base.proofs.CallerLemmas.{least_lt, mask_of_lt}
-use Rattle.failover.specs.Links.{is_link}
-use Rattle.failover.specs.Isolated.{links_of_each}
+use Rattle.std.proofs.Common.{◌<◌, ◌^◌, ◌∙◌, ap, arith, bit_and, bit_xor, subst, sym, w64, ℕ}
+use Rattle.base.proofs.Exports.{bit_not, least_lt, mask_of_lt}
+use Rattle.base.specs.Exports.{least_in}
+use Rattle.failover.specs.Exports.{is_link, links_of_each}
 use Rattle.failover.proofs.RowLoop.{fewer_left, first_left, or_others}
 use Rattle.failover.proofs.KnownLinkRows.{length-link_rows, row_of, row_turned}
 use Rattle.failover.proofs.WiderLoop.{IsWideSoFar, wide_begins, wide_ends, wide_goes_on}

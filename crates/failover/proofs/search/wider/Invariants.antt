@@ -1,4 +1,4 @@
-use Rattle.failover.specs.Isolated.{links_of_each}
+use Rattle.failover.specs.Exports.{links_of_each}
 use Rattle.failover.proofs.WiderLoop.{IsWideSoFar}
 use Rattle.failover.proofs.search.wider.Given as goal
 

@@ -1,7 +1,6 @@
 use Rattle.std.proofs.Common.{◌≡◌, subst, sym}
 use Rattle.std.proofs.lemmas.Result.{IfOk-weaker}
-use Rattle.five_tuple.specs.Cover.{cover_of}
-use Rattle.five_tuple.specs.Laws.{IsCoverOf}
+use Rattle.five_tuple.specs.Exports.{IsCoverOf, cover_of}
 use Rattle.five_tuple.proofs.CoverOf.{is_cover_of}
 use Rattle.five_tuple.proofs.port_blocks.cover.Goals as goal
 

@@ -1,6 +1,6 @@
-use Rattle.std.proofs.Common.{◌+◌, ◌∙◌, arith, rules}
+use Rattle.std.proofs.Common.{◌+◌, ◌∙◌, arith, rules, take_all}
 use Rattle.std.proofs.lemmas.Bool.{and_from}
-use Rattle.std.proofs.lemmas.List.{take_all, take_rest}
+use Rattle.std.proofs.lemmas.List.{take_rest}
 use Rattle.std.proofs.lemmas.List.Folds.{list_all_more}
 use Rattle.std.specs.Char.{is_ascii_digit}
 use Rattle.five_tuple.proofs.DottedParts.{byte_before, lacks_dot, lacks_large, lacks_other, lacks_plain}

@@ -1,5 +1,5 @@
 use Rattle.std.proofs.Common.{rules}
-use Rattle.five_tuple.specs.Texts.{prefix_of}
+use Rattle.five_tuple.specs.Exports.{prefix_of}
 use Rattle.five_tuple.proofs.PartReadings.{block_reads}
 use Rattle.five_tuple.proofs.read.read_prefix.Goals as goal
 

@@ -1,5 +1,5 @@
 use Rattle.std.proofs.Common.{rules}
-use Rattle.five_tuple.specs.Texts.{range_of}
+use Rattle.five_tuple.specs.Exports.{range_of}
 use Rattle.five_tuple.proofs.PartReadings.{range_reads}
 use Rattle.five_tuple.proofs.read.read_range.Goals as goal
 

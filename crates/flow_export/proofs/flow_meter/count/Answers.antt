@@ -1,5 +1,5 @@
 use Rattle.std.proofs.Common.{◌≡◌, arith, rules}
-use Rattle.std.proofs.lemmas.Grind.{common_steps}
+use Rattle.base.proofs.Exports.{common_steps}
 use Rattle.flow_export.specs.Counts.{count_of_header}
 use Rattle.flow_export.proofs.flow_meter.count.Goals as goal
 

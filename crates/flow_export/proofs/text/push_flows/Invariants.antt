@@ -1,6 +1,4 @@
-use Rattle.std.specs.Prelude.{◌++◌}
-use Rattle.std.specs.String.{string_bytes}
-use Rattle.std.proofs.Common.{◌≡◌, take}
+use Rattle.std.proofs.Common.{◌++◌, ◌≡◌, string_bytes, take}
 use Rattle.flow_export.specs.Lines.{flow_lines}
 use Rattle.flow_export.proofs.text.push_flows.Given as goal
 

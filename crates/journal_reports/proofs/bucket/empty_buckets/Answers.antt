@@ -1,4 +1,4 @@
-use Rattle.std.proofs.Common.{◌≡◌, ◌+◌, ◌∙◌, ◌++◌, List, [], ◌∷◌, length, ap, get_or, length-append}
+use Rattle.std.proofs.Common.{[], ◌++◌, ◌+◌, ◌∙◌, ◌∷◌, ◌≡◌, List, ap, get_or, length, length-append}
 use Rattle.journal_reports.specs.declared.bucket.Bucket.{Bucket}
 use Rattle.journal_reports.proofs.MessageBuckets.{empty_more}
 use Rattle.journal_reports.proofs.bucket.empty_buckets.Goals as goal

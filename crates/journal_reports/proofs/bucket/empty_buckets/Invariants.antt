@@ -1,4 +1,4 @@
-use Rattle.std.proofs.Common.{ℕ, ◌≡◌, ◌<◌, [], get_or, length}
+use Rattle.std.proofs.Common.{[], ◌<◌, ◌≡◌, get_or, length, ℕ}
 use Rattle.journal_reports.specs.declared.bucket.Bucket.{Bucket}
 use Rattle.journal_reports.proofs.bucket.empty_buckets.Given as goal
 

@@ -1,6 +1,5 @@
-use Rattle.std.proofs.Common.{◌∙◌, ap, sym, subst, arith, length}
-use Rattle.std.proofs.lemmas.Bool.{ltb-true}
-use Rattle.journal_reports.specs.Buckets.{HasSaying}
+use Rattle.std.proofs.Common.{◌∙◌, ap, arith, length, ltb-true, subst, sym}
+use Rattle.journal_reports.specs.Exports.{HasSaying}
 use Rattle.journal_reports.specs.declared.bucket.Bucket.{Bucket}
 use Rattle.journal_reports.proofs.MessageBuckets.{kept_in_bucket, kept_nowhere}
 use Rattle.journal_reports.proofs.bucket.is_kept.Goals as goal

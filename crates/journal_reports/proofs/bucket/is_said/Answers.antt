@@ -1,7 +1,5 @@
-use Rattle.std.proofs.Common.{refl, sym, subst, ◌∙◌, true≢false, arith}
-use Rattle.std.proofs.lemmas.List.{take_all}
-use Rattle.journal_reports.specs.Buckets.{HasSaying}
-use Rattle.journal_reports.specs.Judging.{SaysAsMuch}
+use Rattle.std.proofs.Common.{◌∙◌, arith, refl, subst, sym, take_all, true≢false}
+use Rattle.journal_reports.specs.Exports.{HasSaying, SaysAsMuch}
 use Rattle.journal_reports.proofs.MessageBuckets.{none_more, some_at}
 use Rattle.journal_reports.proofs.bucket.is_said.Goals as goal
 

@@ -1,6 +1,6 @@
-use Rattle.std.proofs.Common.{◌∙◌, ◌++◌, [], ◌∷◌, ap, arith, refl, set}
-use Rattle.ctrl_msg.specs.declared.message.Message.{Message}
-use Rattle.journal_reports.specs.Buckets.{bucket_of}
+use Rattle.std.proofs.Common.{[], ◌++◌, ◌∙◌, ◌∷◌, ap, arith, refl, set}
+use Rattle.update_machine.specs.Exports.{Message}
+use Rattle.journal_reports.specs.Exports.{bucket_of}
 use Rattle.journal_reports.specs.declared.bucket.Bucket.{Bucket}
 use Rattle.journal_reports.proofs.MessageBuckets.{kept_more}
 use Rattle.journal_reports.proofs.bucket.keep.Goals as goal

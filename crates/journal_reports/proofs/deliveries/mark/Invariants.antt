@@ -1,5 +1,4 @@
-use Rattle.std.proofs.Common.{ℕ, ◌≡◌, ◌+◌, ◌-◌, false, length}
-use Rattle.std.specs.Prelude.{slice_index_or}
+use Rattle.std.proofs.Common.{◌+◌, ◌-◌, ◌≡◌, false, length, slice_index_or, ℕ}
 use Rattle.journal_reports.proofs.deliveries.mark.Given as goal
 
 abbrev pub invariant-loop-marks : goal.invariant-loop-marks

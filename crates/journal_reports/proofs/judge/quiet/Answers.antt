@@ -1,11 +1,7 @@
-use Rattle.std.proofs.Common.{ℕ, ◌≡◌, ◌-◌, ◌∙◌, Bool, not, List, [], length, drop, ap, sym, subst, arith, true≢false}
+use Rattle.std.proofs.Common.{[], ◌-◌, ◌∙◌, ◌≡◌, Bool, List, ap, arith, drop, length, not, subst, sym, true≢false, ℕ}
 use Rattle.std.specs.List.{list_all}
-use Rattle.net_file.specs.declared.net.Net.{Net}
-use Rattle.net_file.specs.declared.net.SwitchRow.{SwitchRow}
-use Rattle.update_machine.specs.Messages.{was_delivered}
-use Rattle.update_machine.specs.Quiet.{IsQuiet}
-use Rattle.journal_reports.specs.Judging.{has_mark, is_missed}
-use Rattle.journal_reports.specs.Traffic.{AreTraffic}
+use Rattle.update_machine.specs.Exports.{IsQuiet, Net, SwitchRow, was_delivered}
+use Rattle.journal_reports.specs.Exports.{AreTraffic, has_mark, is_missed}
 use Rattle.journal_reports.specs.declared.traffic.Traffic.{Traffic}
 use Rattle.journal_reports.proofs.QuietJudge.{marks_at_end, marks_before, missed_answer, read_next, received_at_end, received_before, rows_at_end, rows_before, switches_found, waiting_answer}
 use Rattle.journal_reports.proofs.judge.quiet.Goals as goal

@@ -1,12 +1,6 @@
-use Rattle.std.proofs.Common.{ℕ, ◌≡◌, ◌≤◌, drop, length}
-use Rattle.std.specs.Prelude.{All, IsTrue, not, ◌||◌}
-use Rattle.update_machine.specs.Boots.{is_up}
-use Rattle.update_machine.specs.Messages.{was_delivered}
-use Rattle.update_machine.specs.Quiet.{AreReceived, is_waited_for}
-use Rattle.update_machine.specs.Setting.{Setting}
-use Rattle.update_machine.specs.SwitchNumbers.{switches_of}
-use Rattle.journal_reports.specs.Judging.{has_mark}
-use Rattle.journal_reports.specs.Traffic.{AreTraffic}
+use Rattle.std.proofs.Common.{◌||◌, ◌≡◌, ◌≤◌, All, IsTrue, drop, length, not, ℕ}
+use Rattle.update_machine.specs.Exports.{AreReceived, Setting, is_up, is_waited_for, switches_of, was_delivered}
+use Rattle.journal_reports.specs.Exports.{AreTraffic, has_mark}
 use Rattle.journal_reports.proofs.judge.quiet.Given as goal
 
 -- the items from the place on were read

@@ -1,6 +1,6 @@
-use Rattle.std.proofs.Common.{ap, List}
-use Rattle.journal.specs.declared.item.Item.{Item}
-use Rattle.journal_reports.specs.Judging.{status_in}
+use Rattle.std.proofs.Common.{List, ap}
+use Rattle.update_machine.specs.Exports.{Item}
+use Rattle.journal_reports.specs.Exports.{status_in}
 use Rattle.journal_reports.proofs.SwitchStatus.{told_of_item}
 use Rattle.journal_reports.proofs.status.status_items.Goals as goal
 

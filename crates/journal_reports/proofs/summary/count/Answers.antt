@@ -1,6 +1,6 @@
-use Rattle.std.proofs.Common.{◌∙◌, ◌∷◌, [], ◌++◌, ap, sym, take}
+use Rattle.std.proofs.Common.{[], ◌++◌, ◌∙◌, ◌∷◌, ap, sym, take}
 use Rattle.std.proofs.lemmas.List.{take_more}
-use Rattle.journal_reports.specs.Summary.{counted_with, item_counts}
+use Rattle.journal_reports.specs.Exports.{counted_with, item_counts}
 use Rattle.journal_reports.proofs.SummaryCounts.{counts_more, counts_start}
 use Rattle.journal_reports.proofs.summary.count.Goals as goal
 

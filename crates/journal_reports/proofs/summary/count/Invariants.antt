@@ -1,5 +1,5 @@
 use Rattle.std.proofs.Common.{◌≡◌, take}
-use Rattle.journal_reports.specs.Summary.{item_counts}
+use Rattle.journal_reports.specs.Exports.{item_counts}
 use Rattle.journal_reports.proofs.summary.count.Given as goal
 
 abbrev pub invariant-loop-item : goal.invariant-loop-item

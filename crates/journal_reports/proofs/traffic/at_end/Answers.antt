@@ -1,7 +1,6 @@
-use Rattle.std.proofs.Common.{◌≡◌, ◌+◌, ◌∙◌, ◌++◌, true, List, [], ◌∷◌, length, ap, length-append, refl, subst, sym}
-use Rattle.journal.specs.declared.item.Item.{Item}
-use Rattle.journal_reports.specs.Judging.{status_in}
-use Rattle.journal_reports.specs.Traffic.{AreTraffic}
+use Rattle.std.proofs.Common.{[], ◌++◌, ◌+◌, ◌∙◌, ◌∷◌, ◌≡◌, List, ap, length, length-append, refl, subst, sym, true}
+use Rattle.update_machine.specs.Exports.{Item}
+use Rattle.journal_reports.specs.Exports.{AreTraffic, status_in}
 use Rattle.journal_reports.specs.declared.traffic.Traffic.{Traffic}
 use Rattle.journal_reports.proofs.ReadItems.{traffic_at_end}
 use Rattle.journal_reports.proofs.traffic.at_end.Goals as goal

@@ -1,5 +1,5 @@
-use Rattle.std.proofs.Common.{◌≡◌, [], length}
-use Rattle.journal_reports.specs.Traffic.{AreTraffic}
+use Rattle.std.proofs.Common.{[], ◌≡◌, length}
+use Rattle.journal_reports.specs.Exports.{AreTraffic}
 use Rattle.journal_reports.proofs.traffic.at_end.Given as goal
 
 abbrev pub invariant-loop-switch : goal.invariant-loop-switch

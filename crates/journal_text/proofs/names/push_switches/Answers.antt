@@ -1,10 +1,7 @@
-use Rattle.std.proofs.Common.{ℕ, ◌++◌, ◌^◌, List, ap, refl, sym, ◌∙◌, arith}
-use Rattle.std.specs.Prelude.{codes, filter}
-use Rattle.std.specs.Int.Bits.{bit_xor}
-use Rattle.base.specs.Masks.{has, switches}
-use Rattle.base.specs.ComputedMasks.{least_in}
+use Rattle.std.proofs.Common.{◌++◌, ◌^◌, ◌∙◌, List, ap, arith, bit_xor, codes, filter, refl, sym, ℕ}
+use Rattle.base.specs.Exports.{has, least_in, switches}
 use Rattle.failover.proofs.RowLoop.{fewer_left}
-use Rattle.net_file.specs.Net.{name_of, names_text}
+use Rattle.net_file.specs.Exports.{name_of, names_text}
 use Rattle.lines.proofs.CallerLemmas.{pushed_append}
 use Rattle.lines.specs.Pushes.{line_with}
 use Rattle.journal_text.proofs.MaskLemmas.{least_first}

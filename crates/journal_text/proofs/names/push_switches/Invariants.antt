@@ -1,7 +1,6 @@
-use Rattle.std.proofs.Common.{◌≡◌, ◌<◌, ◌^◌}
-use Rattle.std.specs.Prelude.{filter}
-use Rattle.base.specs.Masks.{has, switches}
-use Rattle.net_file.specs.Net.{names_text}
+use Rattle.std.proofs.Common.{◌<◌, ◌^◌, ◌≡◌, filter}
+use Rattle.base.specs.Exports.{has, switches}
+use Rattle.net_file.specs.Exports.{names_text}
 use Rattle.lines.specs.Pushes.{line_with}
 use Rattle.journal_text.proofs.names.push_switches.Given as goal
 

@@ -1,4 +1,4 @@
-use Rattle.std.proofs.Common.{◌/◌, ◌%◌, ◌+◌, arith}
+use Rattle.std.proofs.Common.{◌%◌, ◌+◌, ◌/◌, arith}
 use Rattle.lines.proofs.ShortNumbers.{pairs_at, take_two_set}
 use Rattle.lines.proofs.digits.put_pair.Goals as goal
 

@@ -1,4 +1,4 @@
-use Rattle.std.proofs.Common.{◌≡◌, ◌+◌, arith, append_assoc}
+use Rattle.std.proofs.Common.{◌+◌, ◌≡◌, append_assoc, arith}
 use Rattle.lines.proofs.ShortNumbers.{decimal_pair, decimal_pairs}
 use Rattle.lines.proofs.digits.put_short.Goals as goal
 

@@ -1,5 +1,5 @@
 use Rattle.std.proofs.Common.{◌≡◌, take}
-use Rattle.net_file.specs.Net.{names_text}
+use Rattle.net_file.specs.Exports.{names_text}
 use Rattle.lines.specs.Pushes.{line_with}
 use Rattle.lines.proofs.names.push_names.Given as goal
 

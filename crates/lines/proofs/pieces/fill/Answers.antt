@@ -1,5 +1,4 @@
-use Rattle.std.proofs.Common.{◌≡◌, ◌-◌, ◌∙◌, length, take, arith}
-use Rattle.std.proofs.lemmas.List.{length-take-le}
+use Rattle.std.proofs.Common.{◌-◌, ◌∙◌, ◌≡◌, arith, length, length-take-le, take}
 use Rattle.std.proofs.lemmas.Slice.{take-put_mid}
 use Rattle.lines.proofs.PieceLemmas.{part}
 use Rattle.lines.proofs.pieces.fill.Goals as goal

@@ -1,5 +1,4 @@
-use Rattle.std.proofs.Common.{◌≡◌, ◌∙◌, length, take, arith}
-use Rattle.std.proofs.lemmas.List.{length-take-le}
+use Rattle.std.proofs.Common.{◌∙◌, ◌≡◌, arith, length, length-take-le, take}
 use Rattle.lines.proofs.PieceLemmas.{whole}
 use Rattle.lines.proofs.pieces.put.Goals as goal
 

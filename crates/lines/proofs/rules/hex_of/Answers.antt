@@ -1,5 +1,5 @@
-use Rattle.std.proofs.Common.{◌≡◌, ◌+◌, ◌-◌, ◌%◌, ◌++◌, length-set, drop, ap, sym, ◌∙◌, arith}
-use Rattle.ternary.specs.Word.{hex_digits}
+use Rattle.std.proofs.Common.{◌%◌, ◌++◌, ◌+◌, ◌-◌, ◌∙◌, ◌≡◌, ap, arith, drop, length-set, sym}
+use Rattle.ternary.specs.Exports.{hex_digits}
 use Rattle.lines.proofs.HexPairs.{pairs_at, two_more}
 use Rattle.lines.proofs.rules.hex_of.Goals as goal
 

@@ -1,5 +1,5 @@
-use Rattle.std.proofs.Common.{◌≡◌, ◌%◌, ◌≤◌, ◌++◌, drop, length}
-use Rattle.ternary.specs.Word.{hex_digits}
+use Rattle.std.proofs.Common.{◌%◌, ◌++◌, ◌≡◌, ◌≤◌, drop, length}
+use Rattle.ternary.specs.Exports.{hex_digits}
 use Rattle.lines.proofs.rules.hex_of.Given as goal
 
 -- the last digits stand, and the first ones are those of what is left

@@ -1,5 +1,5 @@
-use Rattle.std.proofs.Common.{sym, subst, arith}
-use Rattle.wire.specs.Messages.{IsSpelling}
+use Rattle.std.proofs.Common.{arith, subst, sym}
+use Rattle.wire.specs.Exports.{IsSpelling}
 use Rattle.message_bag.proofs.ComingOut.{alone_are, long_alone, rest_is, spelled_alone}
 use Rattle.message_bag.proofs.reading.message_of_frame.Goals as goal
 

@@ -1,4 +1,4 @@
-use Rattle.std.proofs.Common.{ℕ, None, ◌≡◌, ◌+◌, ◌-◌, get_or, length}
+use Rattle.std.proofs.Common.{◌+◌, ◌-◌, ◌≡◌, None, get_or, length, ℕ}
 use Rattle.message_bag.proofs.sharing_bag.make_place.Given as goal
 
 abbrev pub invariant-loop-adverts : goal.invariant-loop-adverts

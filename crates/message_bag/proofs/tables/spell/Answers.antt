@@ -1,9 +1,8 @@
-use Rattle.std.proofs.Common.{◌++◌, [], List, ℕ, get_or, length, ap, subst, ◌∙◌}
-use Rattle.std.proofs.lemmas.List.{get_or_read}
-use Rattle.wire.specs.Frames.{frame}
-use Rattle.wire.specs.Messages.{spelled_front}
+use Rattle.std.proofs.Common.{[], ◌++◌, ◌∙◌, List, ap, get_or, length, subst, ℕ}
+use Rattle.base.proofs.Exports.{get_or_read}
+use Rattle.wire.specs.Exports.{frame, spelled_front}
 use Rattle.switch_table.specs.declared.tables.Tables.{Tables}
-use Rattle.message_bag.specs.KeptFrames.{CarryTables}
+use Rattle.message_bag.specs.Exports.{CarryTables}
 use Rattle.message_bag.proofs.PostedMessages.{tables_are, tables_fit}
 use Rattle.message_bag.proofs.tables.spell.Goals as goal
 

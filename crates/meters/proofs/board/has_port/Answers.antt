@@ -1,6 +1,5 @@
-use Rattle.std.proofs.Common.{◌≡◌, ◌∙◌, sym, nat_lt, false, arith}
-use Rattle.std.proofs.lemmas.Bool.Decides.{nat_tests}
-use Rattle.base.proofs.CallerLemmas.{has_above}
+use Rattle.std.proofs.Common.{◌∙◌, ◌≡◌, arith, false, nat_lt, sym}
+use Rattle.base.proofs.Exports.{has_above, nat_tests}
 use Rattle.meters.proofs.board.has_port.Goals as goal
 
 pub returns-else-port-lt64 : goal.returns-else-port-lt64

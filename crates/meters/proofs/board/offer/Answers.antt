@@ -1,6 +1,6 @@
-use Rattle.std.proofs.Common.{◌≡◌, sym, ◌∙◌, subst}
+use Rattle.std.proofs.Common.{◌∙◌, ◌≡◌, subst, sym}
 use Rattle.meters.specs.declared.meter.Stay.{Stay}
-use Rattle.meters.specs.Meters.{IsNoted}
+use Rattle.meters.specs.Exports.{IsNoted}
 use Rattle.meters.proofs.MetersKept.{kept-stay, kept-leave, kept_elsewhere}
 use Rattle.meters.proofs.board.offer.Goals as goal
 use Rattle.meters.proofs.board.offer.Given.{Over}

@@ -1,6 +1,6 @@
-use Rattle.std.proofs.Common.{◌≡◌, ◌+◌, [], drop, map, length}
+use Rattle.std.proofs.Common.{[], ◌+◌, ◌≡◌, drop, length, map}
 use Rattle.toml.specs.View.{view}
-use Rattle.net_file.specs.Reading.{link_of, rows_read}
+use Rattle.net_file.specs.Exports.{link_of, rows_read}
 use Rattle.net_file.proofs.links.read_links.Given as goal
 
 abbrev pub invariant-loop-value : goal.invariant-loop-value

@@ -1,6 +1,5 @@
-use Rattle.std.proofs.Common.{ℕ, ◌≡◌, ◌<◌, None, length}
-use Rattle.std.specs.Prelude.{slice_index_or}
-use Rattle.net_file.specs.Joins.{owner_of}
+use Rattle.std.proofs.Common.{◌<◌, ◌≡◌, None, length, slice_index_or, ℕ}
+use Rattle.net_file.specs.Exports.{owner_of}
 use Rattle.net_file.proofs.ports.owners.Given as goal
 
 abbrev pub invariant-loop-port : goal.invariant-loop-port

@@ -1,7 +1,5 @@
-use Rattle.std.proofs.Common.{refl, inl, inr}
-use Rattle.std.proofs.lemmas.Bool.{both_ways, cases_Bool}
-use Rattle.std.proofs.lemmas.Str.{IsUtf8-from_is_utf8, is_utf8-from_IsUtf8}
-use Rattle.std.specs.Str.{is_utf8}
+use Rattle.std.proofs.Common.{inl, inr, refl}
+use Rattle.base.proofs.Exports.{IsUtf8-from_is_utf8, both_ways, cases_Bool, is_utf8, is_utf8-from_IsUtf8}
 use Rattle.toml.specs.Errors.{IsMemory}
 use Rattle.net_file.proofs.read.read_document.Goals as goal
 

@@ -1,9 +1,8 @@
 use Rattle.std.proofs.Common.{ok_or}
-use Rattle.std.proofs.lemmas.Result.{IfOk-weaker, err_from_is_err_and}
+use Rattle.base.proofs.Exports.{IfOk-weaker, err_from_is_err_and}
 use Rattle.toml.specs.View.{table_view}
-use Rattle.net_file.specs.Net.{IsNet}
-use Rattle.net_file.specs.Reading.{document_of, net_read, net_of}
-use Rattle.base.specs.Refusals.{in_row}
+use Rattle.net_file.specs.Exports.{IsNet, document_of, net_of, net_read}
+use Rattle.base.specs.Exports.{in_row}
 use Rattle.net_file.specs.declared.error.NetRefusal.TheVariants.{Toml}
 use Rattle.net_file.proofs.SoundNetworks.{net_of_document, sound_net}
 use Rattle.net_file.proofs.RowRefusals.{refused_with}

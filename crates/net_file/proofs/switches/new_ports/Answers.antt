@@ -1,8 +1,6 @@
-use Rattle.std.proofs.Common.{◌||◌, ap, sym, ◌∙◌}
-use Rattle.std.specs.Prelude.{filter_map, nat_eq}
-use Rattle.std.specs.List.{list_any}
-use Rattle.std.proofs.Math.Bool.{or-false}
-use Rattle.net_file.specs.Reading.{port_read}
+use Rattle.std.proofs.Common.{◌||◌, ◌∙◌, ap, filter_map, nat_eq, sym}
+use Rattle.base.proofs.Exports.{list_any, or-false}
+use Rattle.net_file.specs.Exports.{port_read}
 use Rattle.net_file.proofs.MaskBits.{in_mask, mask_of_is}
 use Rattle.net_file.proofs.FreshPorts.{any_next, are_fresh, are_new_is, fresh_next, fresh_stop, ports_less, ports_more}
 use Rattle.net_file.proofs.ValueItems.{values_end, values_more}

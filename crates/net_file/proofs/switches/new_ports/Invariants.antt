@@ -1,8 +1,7 @@
-use Rattle.std.proofs.Common.{ℕ, ◌≡◌, ◌<◌, ◌^◌, ◌||◌, drop, map}
-use Rattle.std.specs.Prelude.{filter_map, nat_eq}
-use Rattle.std.specs.List.{list_any}
+use Rattle.std.proofs.Common.{◌<◌, ◌^◌, ◌||◌, ◌≡◌, drop, filter_map, map, nat_eq, ℕ}
+use Rattle.base.proofs.Exports.{list_any}
 use Rattle.toml.specs.View.{view}
-use Rattle.net_file.specs.Reading.{port_read}
+use Rattle.net_file.specs.Exports.{port_read}
 use Rattle.net_file.proofs.MaskBits.{in_mask}
 use Rattle.net_file.proofs.FreshPorts.{are_fresh}
 use Rattle.net_file.proofs.switches.new_ports.Given as goal

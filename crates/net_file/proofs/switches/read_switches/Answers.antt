@@ -1,8 +1,7 @@
-use Rattle.std.proofs.Common.{◌≡◌, ◌+◌, ◌||◌, [], ◌∷◌, ◌++◌, length-append, map, drop, refl, ap, ◌∙◌, arith}
-use Rattle.std.proofs.lemmas.Result.{err_from_is_err_and}
+use Rattle.std.proofs.Common.{[], ◌++◌, ◌+◌, ◌||◌, ◌∙◌, ◌∷◌, ◌≡◌, ap, arith, drop, length-append, map, refl}
+use Rattle.base.proofs.Exports.{err_from_is_err_and}
 use Rattle.toml.specs.View.{view}
-use Rattle.net_file.specs.Joins.{has_port}
-use Rattle.net_file.specs.Reading.{rows_read, switch_read}
+use Rattle.net_file.specs.Exports.{has_port, rows_read, switch_read}
 use Rattle.net_file.proofs.MaskBits.{in_mask_or}
 use Rattle.net_file.proofs.FreshPorts.{have_port_push}
 use Rattle.net_file.proofs.RowRefusals.{next_row, refused_row, refused_same}

@@ -1,8 +1,6 @@
-use Rattle.std.proofs.Common.{◌≡◌, [], drop, map, length}
+use Rattle.std.proofs.Common.{[], ◌≡◌, drop, length, map}
 use Rattle.toml.specs.View.{view}
-use Rattle.net_file.specs.Laws.{IsMask}
-use Rattle.net_file.specs.Reading.{rows_read, switch_read}
-use Rattle.net_file.specs.Owners.{have_port}
+use Rattle.net_file.specs.Exports.{IsMask, have_port, rows_read, switch_read}
 use Rattle.net_file.proofs.switches.read_switches.Given as goal
 
 abbrev pub invariant-loop-value : goal.invariant-loop-value

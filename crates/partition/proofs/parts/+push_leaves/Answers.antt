@@ -1,5 +1,5 @@
-use Rattle.std.proofs.Common.{◌≡◌, ◌∙◌, ap, arith}
-use Rattle.cut_tree.specs.Shape.{Node, shape_of}
+use Rattle.std.proofs.Common.{◌∙◌, ◌≡◌, ap, arith}
+use Rattle.cut_tree.specs.Exports.{Node, shape_of}
 use Rattle.partition.proofs.PartLemmas.{both_sides, pushed_leaf, pushed_room, pushed_both}
 use Rattle.partition.proofs.parts.+push_leaves.Goals as goal
 

@@ -1,6 +1,6 @@
-use Rattle.std.proofs.Common.{◌≡◌, ◌∙◌, true, option_map, ap, sym, arith}
-use Rattle.ternary.specs.Word.{holds}
-use Rattle.policy_rules.specs.Hosted.{is_in}
+use Rattle.std.proofs.Common.{◌∙◌, ◌≡◌, ap, arith, option_map, sym, true}
+use Rattle.ternary.specs.Exports.{holds}
+use Rattle.policy_rules.specs.Exports.{is_in}
 use Rattle.policy_rules.specs.declared.rules.Partition.{Partition}
 use Rattle.partition.proofs.PartLemmas.{alone, part_here}
 use Rattle.partition.proofs.parts.find.Goals as goal

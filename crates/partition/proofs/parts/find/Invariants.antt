@@ -1,6 +1,5 @@
-use Rattle.std.proofs.Common.{◌≡◌, drop, find}
-use Rattle.std.specs.List.{count_by}
-use Rattle.policy_rules.specs.Hosted.{is_in}
+use Rattle.std.proofs.Common.{◌≡◌, count_by, drop, find}
+use Rattle.policy_rules.specs.Exports.{is_in}
 use Rattle.partition.proofs.parts.find.Given as goal
 
 abbrev pub invariant-loop-part : goal.invariant-loop-part

@@ -1,7 +1,5 @@
-use Rattle.std.proofs.Common.{ℕ, ◌≡◌, ◌≢◌, ◌∙◌, ◌+◌, ◌<◌, ◌||◌, false, List, length, take, get_or, set, eqb, cond, ap, inl, inr, arith, AllPairs}
-use Rattle.std.specs.List.{list_any}
-use Rattle.std.proofs.lemmas.Bool.{cases_eq, eq-eqb, ne_eqb, or_right}
-use Rattle.std.proofs.lemmas.List.{get_or-set_same, get_or-set_other, take_more}
+use Rattle.std.proofs.Common.{◌+◌, ◌<◌, ◌||◌, ◌∙◌, ◌≡◌, ◌≢◌, AllPairs, List, ap, arith, cond, eq-eqb, eqb, false, get_or, get_or-set_other, get_or-set_same, inl, inr, length, ne_eqb, set, take, ℕ}
+use Rattle.base.proofs.Exports.{cases_eq, list_any, or_right, take_more}
 use Rattle.placement.proofs.OrderLemmas.{not_among_before, among-push}
 use Rattle.placement.proofs.turns.add_load.Goals as goal
 

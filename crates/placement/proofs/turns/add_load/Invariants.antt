@@ -1,5 +1,5 @@
-use Rattle.std.proofs.Common.{ℕ, ◌≡◌, ◌+◌, cond, eqb, get_or, take}
-use Rattle.std.specs.List.{list_any}
+use Rattle.std.proofs.Common.{◌+◌, ◌≡◌, cond, eqb, get_or, take, ℕ}
+use Rattle.base.proofs.Exports.{list_any}
 use Rattle.placement.proofs.turns.add_load.Given as goal
 
 abbrev pub invariant-loop-switch : goal.invariant-loop-switch

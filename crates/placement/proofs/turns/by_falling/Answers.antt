@@ -1,8 +1,5 @@
-use Rattle.std.proofs.Common.{ℕ, ◌≡◌, ◌+◌, ◌≤◌, length, rules, get_or, sym, ◌∙◌, arith}
-use Rattle.std.specs.List.{range_with_len}
-use Rattle.std.specs.declared.cmp.Reverse.{Reverse}
-use Rattle.std.proofs.lemmas.Fn.{always_returns_same}
-use Rattle.std.proofs.lemmas.List.Sorted.{sum_by-IsPermutation}
+use Rattle.std.proofs.Common.{◌+◌, ◌∙◌, ◌≡◌, ◌≤◌, arith, get_or, length, rules, sym, ℕ}
+use Rattle.base.proofs.Exports.{Reverse, always_returns_same, range_with_len, sum_by-IsPermutation}
 use Rattle.placement.specs.Order.{in_order}
 use Rattle.placement.specs.Placement.{is_earlier}
 use Rattle.placement.proofs.OrderLemmas.{one_of, count, count-range-le, sum-in_order, rises_from_sorted, rises-in_order, same_rising, lexicographic}

@@ -1,6 +1,5 @@
-use Rattle.std.proofs.Common.{ℕ, ◌≡◌, ◌+◌, ◌≤◌, ◌∙◌, sym, ap, filter, rules, get_or, arith}
-use Rattle.std.proofs.lemmas.Fn.{always_returns_same, filter_same}
-use Rattle.std.proofs.lemmas.List.Sorted.{sum_by-IsPermutation}
+use Rattle.std.proofs.Common.{◌+◌, ◌∙◌, ◌≡◌, ◌≤◌, ap, arith, filter, get_or, rules, sym, ℕ}
+use Rattle.base.proofs.Exports.{always_returns_same, filter_same, sum_by-IsPermutation}
 use Rattle.placement.specs.Order.{in_order}
 use Rattle.placement.specs.Placement.{is_lighter, has_room, with_room}
 use Rattle.placement.proofs.OrderLemmas.{one_of, count, rises_from_sorted, rises-in_order, same_rising, sum-in_order, lexicographic}

@@ -1,4 +1,4 @@
-use Rattle.std.proofs.Common.{ℕ, ◌≡◌, ◌+◌, ◌≤◌, ◌<◌, ◌⊎◌, ◌↔◌, List, length, length-take, take, inl, inr, Option, Some, None, MatchOption, IsNone, refl, arith}
+use Rattle.std.proofs.Common.{◌+◌, ◌<◌, ◌↔◌, ◌≡◌, ◌≤◌, ◌⊎◌, IsNone, List, MatchOption, None, Option, Some, arith, inl, inr, length, length-take, refl, take, ℕ}
 use Rattle.placement.proofs.turns.front.Goals as goal
 
 -- a list of one to four

@@ -1,5 +1,5 @@
-use Rattle.std.proofs.Common.{refl, arith}
-use Rattle.std.proofs.lemmas.Iterator.{items_from_collect, YieldsList-from_range}
+use Rattle.std.proofs.Common.{arith, refl}
+use Rattle.base.proofs.Exports.{YieldsList-from_range, items_from_collect}
 use Rattle.placement.proofs.turns.numbers_below.Goals as goal
 
 pub returns : goal.returns

@@ -1,6 +1,6 @@
 use Rattle.std.proofs.Common.{◌∙◌, ap, sym}
 use Rattle.csv.specs.Records.{fields_of}
-use Rattle.policy_file.specs.Changes.{has_change_heading, is_change_text}
+use Rattle.policy_file.specs.Exports.{has_change_heading, is_change_text}
 use Rattle.policy_file.proofs.StatedRows.{first_heads, none_heads}
 use Rattle.policy_file.proofs.file.is_change.Goals as goal
 

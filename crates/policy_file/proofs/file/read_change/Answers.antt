@@ -1,8 +1,7 @@
-use Rattle.std.proofs.Common.{◌≡◌, ◌∙◌, ◌+◌, Err, Ok, length, ap, sym, subst, arith}
+use Rattle.std.proofs.Common.{◌+◌, ◌∙◌, ◌≡◌, Err, Ok, ap, arith, length, subst, sym}
 use Rattle.policy_file.specs.declared.error.PolicyRefusal.TheVariants as why
 use Rattle.policy_rules.proofs.CallerLemmas.{fresh_edits}
-use Rattle.policy_file.specs.Changes.{change_of, change_rows}
-use Rattle.policy_file.specs.Reading.{IsReadUpTo}
+use Rattle.policy_file.specs.Exports.{IsReadUpTo, change_of, change_rows}
 use Rattle.policy_file.proofs.StatedRows.{all_fresh_edits, all_read, refused_next, repeated}
 use Rattle.policy_file.proofs.file.read_change.Goals as goal
 

@@ -1,8 +1,7 @@
-use Rattle.std.proofs.Common.{◌≡◌, ◌∙◌, ap, sym, subst, ◌+◌, ◌++◌, ◌<◌, [], ◌∷◌, length, length-append, take, drop, Ok, arith}
-use Rattle.std.specs.List.{All}
-use Rattle.std.proofs.lemmas.List.Elements.{All-push}
+use Rattle.std.proofs.Common.{[], ◌++◌, ◌+◌, ◌<◌, ◌∙◌, ◌∷◌, ◌≡◌, All, Ok, ap, arith, drop, length, length-append, subst, sym, take}
+use Rattle.base.proofs.Exports.{All-push}
 use Rattle.csv.specs.Records.{fields_of}
-use Rattle.policy_file.specs.Reading.{StateEach}
+use Rattle.policy_file.specs.Exports.{StateEach}
 use Rattle.policy_file.proofs.StatedRows.{ended, next_of, refused_row, state_push, too_many}
 use Rattle.policy_file.proofs.file_rows.read_records.Goals as goal
 

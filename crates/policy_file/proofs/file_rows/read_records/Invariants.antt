@@ -1,6 +1,5 @@
-use Rattle.std.proofs.Common.{◌≡◌, ◌≤◌, ◌-◌, length, take, drop}
-use Rattle.std.specs.Prelude.{All}
-use Rattle.policy_file.specs.Reading.{StateEach}
+use Rattle.std.proofs.Common.{◌-◌, ◌≡◌, ◌≤◌, All, drop, length, take}
+use Rattle.policy_file.specs.Exports.{StateEach}
 use Rattle.policy_file.proofs.file_rows.read_records.Given as goal
 
 -- the rows so far are what the first records state, and the others are left

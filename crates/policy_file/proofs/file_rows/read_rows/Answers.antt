@@ -1,6 +1,6 @@
 use Rattle.std.proofs.Common.{◌∙◌, ap, sym}
 use Rattle.csv.specs.Records.{fields_of}
-use Rattle.policy_file.specs.Reading.{rows_under_heading}
+use Rattle.policy_file.specs.Exports.{rows_under_heading}
 use Rattle.policy_file.proofs.StatedRows.{under_heading}
 use Rattle.policy_file.proofs.file_rows.read_rows.Goals as goal
 

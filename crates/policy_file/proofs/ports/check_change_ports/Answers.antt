@@ -1,5 +1,5 @@
-use Rattle.std.proofs.Common.{IsTrue, All, subst}
-use Rattle.policy_file.specs.Ports.{adds_port_of}
+use Rattle.std.proofs.Common.{All, IsTrue, subst}
+use Rattle.policy_file.specs.Exports.{adds_port_of}
 use Rattle.policy_file.proofs.AddedPorts.{only_ports}
 use Rattle.policy_file.proofs.ports.check_change_ports.Goals as goal
 

@@ -1,7 +1,6 @@
-use Rattle.std.proofs.Common.{◌∙◌, sym, arith}
-use Rattle.std.proofs.lemmas.Bool.{le-ltb}
-use Rattle.base.specs.Masks.{has}
-use Rattle.base.proofs.CallerLemmas.{has_above}
+use Rattle.std.proofs.Common.{◌∙◌, arith, le-ltb, sym}
+use Rattle.base.specs.Exports.{has}
+use Rattle.base.proofs.Exports.{has_above}
 use Rattle.policy_file.proofs.ports.has_port.Goals as goal
 
 pub returns-else-port-lt64 : goal.returns-else-port-lt64

@@ -1,6 +1,6 @@
-use Rattle.std.proofs.Common.{◌≡◌, ◌∙◌, ◌+◌, Err, Ok, length, ap, sym, subst, arith}
+use Rattle.std.proofs.Common.{◌+◌, ◌∙◌, ◌≡◌, Err, Ok, ap, arith, length, subst, sym}
 use Rattle.policy_file.specs.declared.error.PolicyRefusal.TheVariants as why
-use Rattle.policy_file.specs.Reading.{IsReadUpTo, policy_of, policy_rows}
+use Rattle.policy_file.specs.Exports.{IsReadUpTo, policy_of, policy_rows}
 use Rattle.policy_file.proofs.StatedRows.{all_fresh_rows, all_read, fresh_rows, refused_next, repeated}
 use Rattle.policy_file.proofs.read.read_policy.Goals as goal
 

@@ -1,6 +1,5 @@
 use Rattle.std.proofs.Common.{◌∙◌, ap}
-use Rattle.policy_file.specs.Changes.{policy_file_of}
-use Rattle.policy_file.specs.Printing.{change_text}
+use Rattle.policy_file.specs.Exports.{change_text, policy_file_of}
 use Rattle.policy_file.proofs.write.write_change.Goals as goal
 
 pub returns-clause-read_back : goal.returns-clause-read_back

@@ -1,6 +1,5 @@
 use Rattle.std.proofs.Common.{◌∙◌, ap}
-use Rattle.policy_file.specs.Printing.{policy_text}
-use Rattle.policy_file.specs.Reading.{policy_of}
+use Rattle.policy_file.specs.Exports.{policy_of, policy_text}
 use Rattle.policy_file.proofs.write.write_policy.Goals as goal
 
 pub returns-clause-read_back : goal.returns-clause-read_back

@@ -1,7 +1,5 @@
-use Rattle.std.proofs.Common.{◌∙◌, ap, sym, take, ◌++◌, append_assoc, arith}
-use Rattle.std.specs.String.{string_bytes}
-use Rattle.std.proofs.lemmas.List.{take_all}
-use Rattle.policy_file.specs.Printing.{fields_line, rows_text}
+use Rattle.std.proofs.Common.{◌++◌, ◌∙◌, ap, append_assoc, arith, string_bytes, sym, take, take_all}
+use Rattle.policy_file.specs.Exports.{fields_line, rows_text}
 use Rattle.policy_file.proofs.StatedLines.{rows_text-more}
 use Rattle.policy_file.proofs.write.write_rows.Goals as goal
 

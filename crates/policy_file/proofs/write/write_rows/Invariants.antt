@@ -1,6 +1,5 @@
-use Rattle.std.proofs.Common.{◌≡◌, ◌++◌, take}
-use Rattle.std.specs.String.{string_bytes}
-use Rattle.policy_file.specs.Printing.{rows_text}
+use Rattle.std.proofs.Common.{◌++◌, ◌≡◌, string_bytes, take}
+use Rattle.policy_file.specs.Exports.{rows_text}
 use Rattle.policy_file.proofs.write.write_rows.Given as goal
 
 abbrev pub invariant-loop-row : goal.invariant-loop-row

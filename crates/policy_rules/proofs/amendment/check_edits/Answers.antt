@@ -1,11 +1,6 @@
-use Rattle.std.proofs.Common.{◌≡◌, ◌∙◌, sym, ap, subst, ◌+◌, ◌++◌, ◌∷◌, [], take, All, false, arith}
-use Rattle.std.specs.BTreeSet.{contains}
-use Rattle.std.specs.Ordering.{nat_cmp}
-use Rattle.std.proofs.lemmas.Bool.{not-true}
-use Rattle.std.proofs.lemmas.List.{take_all, take_more}
-use Rattle.std.proofs.lemmas.List.Elements.{All-more}
-use Rattle.policy_rules.specs.Applied.{AreDistinctEdits, IsSoundEdit}
-use Rattle.policy_rules.specs.Edits.{AreSeen, repeats}
+use Rattle.std.proofs.Common.{[], ◌++◌, ◌+◌, ◌∙◌, ◌∷◌, ◌≡◌, All, ap, arith, false, nat_cmp, subst, sym, take, take_all}
+use Rattle.base.proofs.Exports.{All-more, contains, not-true, take_more}
+use Rattle.policy_rules.specs.Exports.{AreDistinctEdits, AreSeen, IsSoundEdit, repeats}
 use Rattle.policy_rules.proofs.EditLists.{distinct_edits_push}
 use Rattle.policy_rules.proofs.amendment.check_edits.Goals as goal
 

@@ -1,8 +1,6 @@
-use Rattle.std.proofs.Common.{◌≡◌, take, All}
-use Rattle.std.specs.BTreeSet.{contains}
-use Rattle.std.specs.Ordering.{nat_cmp}
-use Rattle.policy_rules.specs.Applied.{AreDistinctEdits, IsSoundEdit}
-use Rattle.policy_rules.specs.Edits.{AreSeen}
+use Rattle.std.proofs.Common.{◌≡◌, All, nat_cmp, take}
+use Rattle.base.proofs.Exports.{contains}
+use Rattle.policy_rules.specs.Exports.{AreDistinctEdits, AreSeen, IsSoundEdit}
 use Rattle.policy_rules.proofs.amendment.check_edits.Given as goal
 
 abbrev pub invariant-loop-edit : goal.invariant-loop-edit

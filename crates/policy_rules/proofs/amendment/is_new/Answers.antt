@@ -1,7 +1,6 @@
-use Rattle.std.proofs.Common.{◌++◌, ◌∷◌, [], sym, subst}
-use Rattle.std.specs.BTreeSet.{contains}
-use Rattle.std.specs.Ordering.{nat_cmp}
-use Rattle.policy_rules.specs.Edits.{AreSeen}
+use Rattle.std.proofs.Common.{[], ◌++◌, ◌∷◌, nat_cmp, subst, sym}
+use Rattle.base.proofs.Exports.{contains}
+use Rattle.policy_rules.specs.Exports.{AreSeen}
 use Rattle.policy_rules.proofs.EditLists.{seen_add, seen_remove}
 use Rattle.policy_rules.proofs.PrioritySets.{set_with}
 use Rattle.policy_rules.proofs.amendment.is_new.Goals as goal

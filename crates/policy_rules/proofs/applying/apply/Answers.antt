@@ -1,11 +1,7 @@
-use Rattle.std.proofs.Common.{ℕ, ◌≡◌, ◌∙◌, ◌≤◌, ◌<◌, ◌++◌, ◌+◌, false, filter, length, List, not, eqb, ltb, Ok, Err, sym, ap, subst, arith}
-use Rattle.std.specs.List.{list_any}
-use Rattle.std.specs.BTreeSet.{contains}
-use Rattle.std.specs.Ordering.{nat_cmp}
-use Rattle.std.proofs.lemmas.Bool.{le-ltb, lt-ltb}
-use Rattle.policy_rules.specs.Applied.{adds_taken, amended_rows, removals, removes_absent, staying_rows}
+use Rattle.std.proofs.Common.{◌++◌, ◌+◌, ◌<◌, ◌∙◌, ◌≡◌, ◌≤◌, Err, List, Ok, ap, arith, eqb, false, filter, le-ltb, length, lt-ltb, ltb, nat_cmp, not, subst, sym, ℕ}
+use Rattle.base.proofs.Exports.{contains, list_any}
+use Rattle.policy_rules.specs.Exports.{IsPolicy, adds_taken, amended_rows, removals, removes_absent, staying_rows}
 use Rattle.policy_rules.specs.declared.applying.Inapplicable.TheVariants.{TooManyRows}
-use Rattle.policy_rules.specs.Policy.{IsPolicy}
 use Rattle.policy_rules.specs.declared.amendment.Edit.{Edit}
 use Rattle.policy_rules.specs.declared.policy.Row.{Row}
 use Rattle.policy_rules.proofs.AmendmentCases.{IsPolicy-amended, IsSetOf, absent_by, is_absent, is_applied, is_taken, is_too_long, priorities, taken_by}

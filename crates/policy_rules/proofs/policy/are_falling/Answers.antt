@@ -1,6 +1,5 @@
-use Rattle.std.proofs.Common.{◌≡◌, ◌∙◌, sym, ap, nat_eq, take, false, true, cond, arith}
-use Rattle.std.proofs.lemmas.Bool.{ne_eqb}
-use Rattle.policy_rules.specs.Applied.{has_priority}
+use Rattle.std.proofs.Common.{◌∙◌, ◌≡◌, ap, arith, cond, false, nat_eq, ne_eqb, sym, take, true}
+use Rattle.policy_rules.specs.Exports.{has_priority}
 use Rattle.policy_rules.proofs.DistinctRows.{seen_more, so_far_all, so_far_more}
 use Rattle.policy_rules.proofs.policy.are_falling.Goals as goal
 

@@ -1,5 +1,5 @@
-use Rattle.std.proofs.Common.{◌≡◌, ℕ, ◌<◌, false, take}
-use Rattle.policy_rules.specs.Applied.{has_priority}
+use Rattle.std.proofs.Common.{◌<◌, ◌≡◌, false, take, ℕ}
+use Rattle.policy_rules.specs.Exports.{has_priority}
 use Rattle.policy_rules.proofs.DistinctRows.{AreSoFar}
 use Rattle.policy_rules.proofs.policy.are_falling.Given as goal
 

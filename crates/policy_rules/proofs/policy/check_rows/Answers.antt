@@ -1,5 +1,5 @@
-use Rattle.std.proofs.Common.{◌∙◌, sym, ap, ◌+◌, nat_eq, true, cond}
-use Rattle.std.proofs.lemmas.Bool.{not-true}
+use Rattle.std.proofs.Common.{◌+◌, ◌∙◌, ap, cond, nat_eq, sym, true}
+use Rattle.base.proofs.Exports.{not-true}
 use Rattle.policy_rules.proofs.DistinctRows.{seen_more, so_far_all, so_far_more}
 use Rattle.policy_rules.proofs.PrioritySets.{set_with}
 use Rattle.policy_rules.proofs.policy.check_rows.Goals as goal

@@ -1,7 +1,6 @@
-use Rattle.std.proofs.Common.{◌≡◌, ℕ, take}
-use Rattle.std.specs.BTreeSet.{contains}
-use Rattle.std.specs.Ordering.{nat_cmp}
-use Rattle.policy_rules.specs.Applied.{has_priority}
+use Rattle.std.proofs.Common.{◌≡◌, nat_cmp, take, ℕ}
+use Rattle.base.proofs.Exports.{contains}
+use Rattle.policy_rules.specs.Exports.{has_priority}
 use Rattle.policy_rules.proofs.DistinctRows.{AreSoFar}
 use Rattle.policy_rules.proofs.policy.check_rows.Given as goal
 

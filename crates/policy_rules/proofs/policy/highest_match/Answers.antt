@@ -1,6 +1,6 @@
-use Rattle.std.proofs.Common.{◌≡◌, ◌∙◌, ◌++◌, [], ◌∷◌, Bool, cond, false, filter, refl, ap, sym, subst, take}
+use Rattle.std.proofs.Common.{[], ◌++◌, ◌∙◌, ◌∷◌, ◌≡◌, Bool, ap, cond, false, filter, refl, subst, sym, take}
 use Rattle.std.proofs.lemmas.List.Elements.{filter_more}
-use Rattle.policy_rules.specs.Policy.{row_matches}
+use Rattle.policy_rules.specs.Exports.{row_matches}
 use Rattle.policy_rules.specs.declared.policy.Row.{Row}
 use Rattle.policy_rules.proofs.FirstMatch.{IsBest, best_keeps, best_takes}
 use Rattle.policy_rules.proofs.policy.highest_match.Goals as goal

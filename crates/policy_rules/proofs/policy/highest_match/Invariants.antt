@@ -1,5 +1,5 @@
 use Rattle.std.proofs.Common.{take}
-use Rattle.policy_rules.specs.Scan.{IsHighestMatch}
+use Rattle.policy_rules.specs.Exports.{IsHighestMatch}
 use Rattle.policy_rules.proofs.policy.highest_match.Given as goal
 
 abbrev pub invariant-loop-row : goal.invariant-loop-row

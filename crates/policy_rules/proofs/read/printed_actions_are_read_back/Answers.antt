@@ -1,10 +1,8 @@
-use Rattle.std.proofs.Common.{ℕ, ◌≡◌, ◌<◌, ◌≤◌, ◌^◌, Some, refl, ap, arith}
-use Rattle.std.specs.Prelude.{decimal, option_map}
-use Rattle.five_tuple.specs.Texts.{number_up_to}
+use Rattle.std.proofs.Common.{◌<◌, ◌^◌, ◌≡◌, ◌≤◌, Some, ap, arith, decimal, option_map, refl, ℕ}
+use Rattle.five_tuple.specs.Exports.{number_up_to}
 use Rattle.policy_rules.specs.declared.policy.Action.{Action}
 use Rattle.policy_rules.specs.declared.policy.Action.TheVariants.{Drop, Out}
-use Rattle.policy_rules.specs.Policy.{action_text}
-use Rattle.policy_rules.specs.Read.{action_of, HasSmallPort}
+use Rattle.policy_rules.specs.Exports.{HasSmallPort, action_of, action_text}
 use Rattle.policy_rules.proofs.read.printed_actions_are_read_back.Goals as goal
 
 back : ((most n : ℕ) → n ≤ most → n < 2 ^ 64 → number_up_to most (decimal n) ≡ Some n)

@@ -1,6 +1,5 @@
-use Rattle.std.proofs.Common.{ℕ, rules}
-use Rattle.std.specs.declared.cmp.Reverse.{Reverse}
-use Rattle.std.proofs.lemmas.List.Sorted.{answers_always}
+use Rattle.std.proofs.Common.{rules, ℕ}
+use Rattle.base.proofs.Exports.{Reverse, answers_always}
 use Rattle.policy_rules.specs.declared.policy.Row.{Row}
 use Rattle.policy_rules.proofs.FallingRows.{falling_from_sorted, same_sorted}
 use Rattle.policy_rules.proofs.rule_list.by_falling_priority.Goals as goal

@@ -1,5 +1,5 @@
-use Rattle.std.proofs.Common.{◌≡◌, ◌≤◌, ◌*◌, take}
-use Rattle.policy_rules.specs.RuleList.{word_total}
+use Rattle.std.proofs.Common.{◌*◌, ◌≡◌, ◌≤◌, take}
+use Rattle.policy_rules.specs.Exports.{word_total}
 use Rattle.policy_rules.proofs.rule_list.count_words.Given as goal
 
 abbrev pub invariant-loop-row : goal.invariant-loop-row

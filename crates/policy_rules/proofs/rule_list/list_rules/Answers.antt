@@ -1,8 +1,6 @@
-use Rattle.std.proofs.Common.{ℕ, ◌≡◌, ◌∙◌, ◌≤◌, List, ap, sym, [], ◌∷◌, ◌++◌, length, arith, take}
-use Rattle.std.specs.List.{flat_map}
-use Rattle.std.proofs.lemmas.List.{flat_map_more, take_more, take_all}
-use Rattle.std.proofs.lemmas.List.Sums.{sum_by-take-le}
-use Rattle.policy_rules.specs.RuleList.{entries_of, ranked_from, with_default, word_count, word_total}
+use Rattle.std.proofs.Common.{[], ◌++◌, ◌∙◌, ◌∷◌, ◌≡◌, ◌≤◌, List, ap, arith, flat_map, length, sym, take, take_all, ℕ}
+use Rattle.base.proofs.Exports.{flat_map_more, sum_by-take-le, take_more}
+use Rattle.policy_rules.specs.Exports.{entries_of, ranked_from, with_default, word_count, word_total}
 use Rattle.policy_rules.specs.declared.policy.Row.{Row}
 use Rattle.policy_rules.specs.declared.rules.Rule.{Rule}
 use Rattle.policy_rules.proofs.RuleRanks.{ranked_more, length-ranked_from, length-entries}

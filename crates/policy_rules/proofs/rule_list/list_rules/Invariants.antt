@@ -1,6 +1,5 @@
-use Rattle.std.proofs.Common.{◌≡◌, take}
-use Rattle.std.specs.List.{flat_map}
-use Rattle.policy_rules.specs.RuleList.{entries_of, ranked_from}
+use Rattle.std.proofs.Common.{◌≡◌, flat_map, take}
+use Rattle.policy_rules.specs.Exports.{entries_of, ranked_from}
 use Rattle.policy_rules.proofs.rule_list.list_rules.Given as goal
 
 abbrev pub invariant-loop-row : goal.invariant-loop-row

@@ -1,9 +1,8 @@
-use Rattle.std.proofs.Common.{◌≡◌, ◌∙◌, ◌++◌, ◌∷◌, ap, sym, [], length, length-take, append-nil, arith, take}
-use Rattle.std.proofs.lemmas.List.{length-map, map-append, take_all, take_more}
+use Rattle.std.proofs.Common.{[], ◌++◌, ◌∙◌, ◌∷◌, ◌≡◌, ap, append-nil, arith, length, length-take, sym, take, take_all}
+use Rattle.base.proofs.Exports.{length-map, map-append, take_more}
 use Rattle.five_tuple.proofs.CallerLemmas.{is_cover_of}
-use Rattle.five_tuple.specs.Cover.{cover_of}
-use Rattle.policy_rules.specs.RuleList.{ranked_from, with_hit}
-use Rattle.policy_rules.specs.Words.{words_of_row}
+use Rattle.five_tuple.specs.Exports.{cover_of}
+use Rattle.policy_rules.specs.Exports.{ranked_from, with_hit, words_of_row}
 use Rattle.policy_rules.proofs.RuleRanks.{ranked_more, length_ranked, few_pairs}
 use Rattle.policy_rules.proofs.rule_list.push_row.Goals as goal
 use Rattle.policy_rules.proofs.rule_list.push_row.Goals.{After-as_slice-word-items}

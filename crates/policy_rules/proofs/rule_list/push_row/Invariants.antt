@@ -1,5 +1,5 @@
-use Rattle.std.proofs.Common.{◌≡◌, ◌++◌, length, take}
-use Rattle.policy_rules.specs.RuleList.{ranked_from, with_hit}
+use Rattle.std.proofs.Common.{◌++◌, ◌≡◌, length, take}
+use Rattle.policy_rules.specs.Exports.{ranked_from, with_hit}
 use Rattle.policy_rules.proofs.rule_list.push_row.Given as goal
 
 abbrev pub invariant-loop-word : goal.invariant-loop-word

@@ -1,5 +1,5 @@
-use Rattle.std.proofs.Common.{◌∙◌, ap, [], ◌∷◌, ◌++◌}
-use Rattle.policy_rules.specs.RuleList.{ranked_rule, ranked_from}
+use Rattle.std.proofs.Common.{[], ◌++◌, ◌∙◌, ◌∷◌, ap}
+use Rattle.policy_rules.specs.Exports.{ranked_from, ranked_rule}
 use Rattle.policy_rules.proofs.rule_list.push_rule.Goals as goal
 
 pub returns : goal.returns

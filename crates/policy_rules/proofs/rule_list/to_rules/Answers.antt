@@ -1,8 +1,6 @@
-use Rattle.std.proofs.Common.{◌∙◌, All, ap, option_map, subst, sym, arith}
-use Rattle.std.proofs.lemmas.List.Sorted.{All-permutation, sum_by-IsPermutation}
-use Rattle.policy_rules.specs.Policy.{IsSoundRow}
-use Rattle.policy_rules.specs.Rules.{first_rule}
-use Rattle.policy_rules.specs.RuleList.{by_falling_priority, hit_of_rule, ranked_from, rules_of, with_default, word_count, word_total}
+use Rattle.std.proofs.Common.{◌∙◌, All, ap, arith, option_map, subst, sym}
+use Rattle.base.proofs.Exports.{All-permutation, sum_by-IsPermutation}
+use Rattle.policy_rules.specs.Exports.{IsSoundRow, by_falling_priority, first_rule, hit_of_rule, ranked_from, rules_of, with_default, word_count, word_total}
 use Rattle.policy_rules.proofs.FallingRows.{IsPermutation-by_falling_priority}
 use Rattle.policy_rules.proofs.rule_list.to_rules.Goals as goal
 

@@ -1,7 +1,7 @@
-use Rattle.five_tuple.specs.Header.{number_of}
-use Rattle.policy_rules.specs.Rules.{is_held}
+use Rattle.five_tuple.specs.Exports.{number_of}
+use Rattle.policy_rules.specs.Exports.{is_held}
 use Rattle.policy_rules.proofs.rules.first_hit.Goals as goal
-use Rattle.base.proofs.ListsFound.{find-position}
+use Rattle.base.proofs.Exports.{find-position}
 
 pub returns-clause-rule : goal.returns-clause-rule
 returns-clause-rule c = rw (c.place_of.ensures, c.number.ensures.number)

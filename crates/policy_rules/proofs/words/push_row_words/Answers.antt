@@ -1,6 +1,5 @@
-use Rattle.std.proofs.Common.{◌∙◌, ◌++◌, ap, sym, append-nil}
-use Rattle.std.specs.List.{flat_map}
-use Rattle.std.proofs.lemmas.List.{flat_map_more}
+use Rattle.std.proofs.Common.{◌++◌, ◌∙◌, ap, append-nil, flat_map, sym}
+use Rattle.base.proofs.Exports.{flat_map_more}
 use Rattle.policy_rules.proofs.BlockLoops.{IsAtBlock, at_block, block_words}
 use Rattle.policy_rules.proofs.words.push_row_words.Goals as goal
 use Rattle.policy_rules.proofs.words.push_row_words.Goals.{After-next}

@@ -1,7 +1,6 @@
-use Rattle.std.proofs.Common.{◌≡◌, ◌++◌, map}
-use Rattle.std.specs.List.{flat_map}
-use Rattle.five_tuple.specs.Cover.{cover_of}
-use Rattle.policy_rules.specs.Words.{word_of_row}
+use Rattle.std.proofs.Common.{◌++◌, ◌≡◌, flat_map, map}
+use Rattle.five_tuple.specs.Exports.{cover_of}
+use Rattle.policy_rules.specs.Exports.{word_of_row}
 use Rattle.policy_rules.proofs.words.push_row_words.Given as goal
 
 abbrev pub invariant-loop-source : goal.invariant-loop-source

@@ -1,6 +1,6 @@
-use Rattle.std.proofs.Common.{◌∙◌, ◌++◌, ◌∷◌, ap, sym, [], append-nil, append_assoc, map}
-use Rattle.std.proofs.lemmas.List.{map-append}
-use Rattle.policy_rules.specs.Words.{word_of_row}
+use Rattle.std.proofs.Common.{[], ◌++◌, ◌∙◌, ◌∷◌, ap, append-nil, append_assoc, map, sym}
+use Rattle.base.proofs.Exports.{map-append}
+use Rattle.policy_rules.specs.Exports.{word_of_row}
 use Rattle.policy_rules.proofs.BlockLoops.{IsAtBlock, at_block}
 use Rattle.policy_rules.proofs.words.push_source_words.Goals as goal
 use Rattle.policy_rules.proofs.words.push_source_words.Goals.{After-next}

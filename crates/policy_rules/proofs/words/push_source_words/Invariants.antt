@@ -1,5 +1,5 @@
-use Rattle.std.proofs.Common.{◌≡◌, ◌++◌, map}
-use Rattle.policy_rules.specs.Words.{word_of_row}
+use Rattle.std.proofs.Common.{◌++◌, ◌≡◌, map}
+use Rattle.policy_rules.specs.Exports.{word_of_row}
 use Rattle.policy_rules.proofs.words.push_source_words.Given as goal
 
 abbrev pub invariant-loop-destination : goal.invariant-loop-destination

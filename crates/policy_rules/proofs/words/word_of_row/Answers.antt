@@ -1,8 +1,7 @@
-use Rattle.std.proofs.Common.{◌≡◌, ◌∙◌, sym, subst}
-use Rattle.std.proofs.lemmas.Option.{MatchOption-at_some}
-use Rattle.ternary.specs.Word.{WordValue}
-use Rattle.ternary.specs.WordBits.{IsWord}
-use Rattle.policy_rules.specs.Words.{word_of_row}
+use Rattle.std.proofs.Common.{◌∙◌, ◌≡◌, subst, sym}
+use Rattle.base.proofs.Exports.{MatchOption-at_some}
+use Rattle.ternary.specs.Exports.{IsWord, WordValue}
+use Rattle.policy_rules.specs.Exports.{word_of_row}
 use Rattle.policy_rules.proofs.RowWords.{IsWord-word_of_row}
 use Rattle.policy_rules.proofs.words.word_of_row.Goals as goal
 

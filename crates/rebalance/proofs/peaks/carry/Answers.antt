@@ -1,6 +1,5 @@
-use Rattle.std.proofs.Common.{◌≡◌, ◌∙◌, ◌<◌, [], length, ap, sym, arith}
-use Rattle.std.specs.List.{range_with_len, sum_by}
-use Rattle.std.proofs.lemmas.List.{get_or_default}
+use Rattle.std.proofs.Common.{[], ◌<◌, ◌∙◌, ◌≡◌, ap, arith, length, sum_by, sym}
+use Rattle.base.proofs.Exports.{get_or_default, range_with_len}
 use Rattle.rebalance.proofs.LoadLemmas.{carried, carried-step, carried-within, traffic-sum}
 use Rattle.rebalance.proofs.peaks.carry.Goals as goal
 

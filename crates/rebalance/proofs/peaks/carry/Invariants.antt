@@ -1,5 +1,5 @@
-use Rattle.std.proofs.Common.{ℕ, ◌≡◌, ◌<◌, get_or, length}
-use Rattle.std.specs.List.{range_with_len, sum_by}
+use Rattle.std.proofs.Common.{◌<◌, ◌≡◌, get_or, length, sum_by, ℕ}
+use Rattle.base.proofs.Exports.{range_with_len}
 use Rattle.rebalance.proofs.LoadLemmas.{carried}
 use Rattle.rebalance.proofs.peaks.carry.Given as goal
 

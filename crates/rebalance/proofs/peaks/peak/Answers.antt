@@ -1,4 +1,4 @@
-use Rattle.std.proofs.Common.{◌≡◌, ◌∙◌, length, replicate, refl, arith}
+use Rattle.std.proofs.Common.{◌∙◌, ◌≡◌, arith, length, refl, replicate}
 use Rattle.placement.proofs.CallerLemmas.{none_yet}
 use Rattle.rebalance.proofs.LoadLemmas.{greatest-is}
 use Rattle.rebalance.proofs.peaks.peak.Goals as goal

@@ -1,4 +1,4 @@
-use Rattle.std.proofs.Common.{◌≡◌, ◌∙◌, ◌≤◌, inr, ap, arith}
+use Rattle.std.proofs.Common.{◌∙◌, ◌≡◌, ◌≤◌, ap, arith, inr}
 use Rattle.rebalance.specs.Loads.{peak}
 use Rattle.rebalance.proofs.SpreadLemmas.{kept_by_lack, kept_by_peak}
 use Rattle.rebalance.proofs.proposing.proposed.Goals as goal

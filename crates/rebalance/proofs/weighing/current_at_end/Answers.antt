@@ -1,6 +1,6 @@
-use Rattle.std.proofs.Common.{◌∙◌, ◌∷◌, [], ◌++◌, ap, sym, take}
-use Rattle.std.proofs.lemmas.List.{take_more}
-use Rattle.update_machine.specs.Marks.{current_mark}
+use Rattle.std.proofs.Common.{[], ◌++◌, ◌∙◌, ◌∷◌, ap, sym, take}
+use Rattle.base.proofs.Exports.{take_more}
+use Rattle.update_machine.specs.Exports.{current_mark}
 use Rattle.rebalance.proofs.WeightLemmas.{current_goes_on, current_start}
 use Rattle.rebalance.proofs.weighing.current_at_end.Goals as goal
 

@@ -1,5 +1,5 @@
 use Rattle.std.proofs.Common.{◌≡◌, take}
-use Rattle.update_machine.specs.Marks.{current_mark}
+use Rattle.update_machine.specs.Exports.{current_mark}
 use Rattle.rebalance.proofs.weighing.current_at_end.Given as goal
 
 abbrev pub invariant-loop-item : goal.invariant-loop-item

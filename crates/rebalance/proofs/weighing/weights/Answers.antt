@@ -1,9 +1,8 @@
-use Rattle.std.proofs.Common.{ℕ, ◌≡◌, ◌∙◌, ◌<◌, ◌++◌, List, length, length-take, replicate, take, drop, get_or, ap, arith, rules, take_all}
-use Rattle.std.specs.List.{sum}
+use Rattle.std.proofs.Common.{◌++◌, ◌<◌, ◌∙◌, ◌≡◌, List, ap, arith, drop, get_or, length, length-take, replicate, rules, sum, take, take_all, ℕ}
 use Rattle.rebalance.specs.Loads.{weights_of}
-use Rattle.std.proofs.lemmas.List.{get_or_default, length-replicate}
+use Rattle.base.proofs.Exports.{get_or_default, length-replicate}
 use Rattle.placement.proofs.CallerLemmas.{none_yet, overwritten}
-use Rattle.update_machine.specs.Marks.{current_mark}
+use Rattle.update_machine.specs.Exports.{current_mark}
 use Rattle.rebalance.proofs.WeightLemmas.{asked-room, asked-step, asked_count, weights-are, weights-few}
 use Rattle.rebalance.proofs.weighing.weights.Goals as goal
 

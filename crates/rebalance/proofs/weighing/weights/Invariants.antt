@@ -1,4 +1,4 @@
-use Rattle.std.proofs.Common.{ℕ, ◌≡◌, ◌<◌, get_or, length, take}
+use Rattle.std.proofs.Common.{◌<◌, ◌≡◌, get_or, length, take, ℕ}
 use Rattle.rebalance.proofs.WeightLemmas.{asked_count}
 use Rattle.rebalance.proofs.weighing.weights.Given as goal
 

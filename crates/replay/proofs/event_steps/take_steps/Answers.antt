@@ -1,10 +1,9 @@
-use Rattle.std.proofs.Common.{◌-◌, ◌∙◌, ap, drop, Err, length, refl, subst, sym, take, true, true≢false, arith}
-use Rattle.base.proofs.ResultsMade.{on_err_holds, same_error}
-use Rattle.meters.specs.Gone.{seen_board}
-use Rattle.steps.specs.Steps.{IsEvent}
-use Rattle.update_machine.specs.Setting.{Setting}
-use Rattle.world.specs.State.{WorldValue, setting_at}
-use Rattle.world.specs.NoStep.{no_step}
+use Rattle.std.proofs.Common.{◌-◌, ◌∙◌, Err, ap, arith, drop, length, refl, subst, sym, take, true, true≢false}
+use Rattle.base.proofs.Exports.{on_err_holds, same_error}
+use Rattle.meters.specs.Exports.{seen_board}
+use Rattle.steps.specs.Exports.{IsEvent}
+use Rattle.update_machine.specs.Exports.{Setting}
+use Rattle.world.specs.Exports.{WorldValue, no_step, setting_at}
 use Rattle.replay.specs.Leavings.{KeepUp}
 use Rattle.replay.specs.Playing.{StopsWithin}
 use Rattle.replay.proofs.AskedStep.{Asked, asked, brought_all, none_yet}

@@ -1,6 +1,6 @@
-use Rattle.world.specs.State.{setting_at}
-use Rattle.std.proofs.Common.{◌≡◌, ◌+◌, false}
-use Rattle.meters.specs.Gone.{seen_board}
+use Rattle.world.specs.Exports.{setting_at}
+use Rattle.std.proofs.Common.{◌+◌, ◌≡◌, false}
+use Rattle.meters.specs.Exports.{seen_board}
 use Rattle.replay.specs.Leavings.{KeepUp}
 use Rattle.replay.proofs.AskedStep.{brought_so_far, steps_left}
 use Rattle.replay.proofs.EventStepping.{Took}

@@ -1,8 +1,7 @@
-use Rattle.std.proofs.Common.{ap, subst, sym, ◌∙◌, Some}
-use Rattle.control_laws.specs.Bounds.{MarksAreBounded}
-use Rattle.control_laws.specs.Planned.{VersionsArePlanned}
-use Rattle.controller.specs.Controller.{current_plan}
-use Rattle.world.specs.State.{setting_at}
+use Rattle.std.proofs.Common.{◌∙◌, Some, ap, subst, sym}
+use Rattle.control_laws.specs.Exports.{MarksAreBounded, VersionsArePlanned}
+use Rattle.controller.specs.Exports.{current_plan}
+use Rattle.world.specs.Exports.{setting_at}
 use Rattle.replay.proofs.PlanInForce.{kept_in_force}
 use Rattle.replay.proofs.WorldRefines.{tie_of}
 use Rattle.replay.proofs.in_force.plan_in_force.Goals as goal

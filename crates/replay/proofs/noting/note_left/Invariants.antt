@@ -1,5 +1,5 @@
 use Rattle.std.proofs.Common.{take}
-use Rattle.meters.specs.Gone.{seen_board}
+use Rattle.meters.specs.Exports.{seen_board}
 use Rattle.replay.specs.Leavings.{StayOn, left_in}
 use Rattle.replay.proofs.noting.note_left.Given as goal
 

@@ -1,11 +1,9 @@
-use Rattle.world.specs.State.{setting_at}
-use Rattle.std.proofs.Common.{◌≡◌, ◌+◌, ◌∙◌, Some, None, Err, List, [], ap, map, refl, sym, subst, arith}
-use Rattle.std.proofs.lemmas.List.{drop_all}
-use Rattle.journal.specs.declared.item.Item.{Item}
-use Rattle.meters.specs.Gone.{BoardValue, board_after, seen_board}
-use Rattle.meters.specs.Seen.{Seen}
-use Rattle.update_machine.specs.Packets.{next_packet}
-use Rattle.update_machine.proofs.CallerLemmas.{start_laws}
+use Rattle.world.specs.Exports.{setting_at}
+use Rattle.std.proofs.Common.{[], ◌+◌, ◌∙◌, ◌≡◌, Err, List, None, Some, ap, arith, map, refl, subst, sym}
+use Rattle.base.proofs.Exports.{drop_all}
+use Rattle.update_machine.specs.Exports.{Item, next_packet}
+use Rattle.meters.specs.Exports.{BoardValue, Seen, board_after, seen_board}
+use Rattle.update_machine.proofs.Exports.{start_laws}
 use Rattle.replay.specs.Leavings.{left_in}
 use Rattle.replay.proofs.AskedStep.{brought_few}
 use Rattle.replay.proofs.EventPlays.{PlaysOn, plays_from_start, plays_no_more, plays_on_by, stops_by}

@@ -1,7 +1,7 @@
-use Rattle.world.specs.State.{setting_at}
-use Rattle.std.proofs.Common.{ℕ, ◌≡◌, ◌+◌, ◌≤◌, Option, [], List, drop, false, map}
-use Rattle.journal.specs.declared.item.Item.{Item}
-use Rattle.meters.specs.Gone.{board_after, seen_board}
+use Rattle.world.specs.Exports.{setting_at}
+use Rattle.std.proofs.Common.{[], ◌+◌, ◌≡◌, ◌≤◌, List, Option, drop, false, map, ℕ}
+use Rattle.update_machine.specs.Exports.{Item}
+use Rattle.meters.specs.Exports.{board_after, seen_board}
 use Rattle.replay.specs.Leavings.{left_in}
 use Rattle.replay.proofs.EventPlays.{PlaysOn}
 use Rattle.replay.proofs.playing.play.Given as goal

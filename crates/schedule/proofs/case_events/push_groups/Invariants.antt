@@ -1,4 +1,4 @@
-use Rattle.std.proofs.Common.{◌≡◌, ◌++◌}
+use Rattle.std.proofs.Common.{◌++◌, ◌≡◌}
 use Rattle.schedule.specs.Case.{groups_from}
 use Rattle.schedule.proofs.case_events.push_groups.Given as goal
 

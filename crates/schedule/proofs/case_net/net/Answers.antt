@@ -1,5 +1,5 @@
 use Rattle.std.proofs.Common.{subst, sym}
-use Rattle.net_file.specs.Net.{IsNet}
+use Rattle.net_file.specs.Exports.{IsNet}
 use Rattle.schedule.proofs.CaseNetworks.{load_net_sound}
 use Rattle.schedule.proofs.case_net.net.Goals as goal
 

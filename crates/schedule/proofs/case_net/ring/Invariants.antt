@@ -1,5 +1,5 @@
 use Rattle.std.proofs.Common.{◌≡◌, map}
-use Rattle.std.specs.List.{range_with_len}
+use Rattle.base.proofs.Exports.{range_with_len}
 use Rattle.schedule.specs.Case.{switch_row}
 use Rattle.schedule.proofs.case_net.ring.Given as goal
 

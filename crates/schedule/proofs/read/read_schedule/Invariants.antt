@@ -1,4 +1,4 @@
-use Rattle.std.proofs.Common.{◌≡◌, ◌≤◌, ◌-◌, length}
+use Rattle.std.proofs.Common.{◌-◌, ◌≡◌, ◌≤◌, length}
 use Rattle.schedule.specs.Reading.{schedule_of}
 use Rattle.schedule.proofs.RowsInTurn.{goes_on}
 use Rattle.schedule.proofs.read.read_schedule.Given as goal

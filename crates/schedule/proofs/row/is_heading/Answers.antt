@@ -1,4 +1,4 @@
-use Rattle.std.proofs.Common.{◌∙◌, ◌&&◌, sym, ap, codes, bytes_eq, arith}
+use Rattle.std.proofs.Common.{◌&&◌, ◌∙◌, ap, arith, bytes_eq, codes, sym}
 use Rattle.csv.specs.Records.{fields_of}
 use Rattle.csv_records.specs.Texts.{field_or_empty}
 use Rattle.schedule.proofs.EventFields.{is_heading-two}

@@ -1,4 +1,4 @@
-use Rattle.std.proofs.Common.{ℕ, ◌-◌, length, length-take, length-drop, ap, arith}
+use Rattle.std.proofs.Common.{◌-◌, ap, arith, length, length-drop, length-take, ℕ}
 use Rattle.shelf.proofs.PieceWrites.{gained_more}
 use Rattle.shelf.proofs.output.write_whole.Goals as goal
 

@@ -1,5 +1,5 @@
-use Rattle.std.proofs.Common.{◌≡◌, ◌≤◌, ◌-◌, [], length, take}
-use Rattle.shelf.specs.Sink.{with_gained}
+use Rattle.std.proofs.Common.{[], ◌-◌, ◌≡◌, ◌≤◌, length, take}
+use Rattle.shelf.specs.Exports.{with_gained}
 use Rattle.shelf.proofs.output.write_whole.Given as goal
 
 abbrev pub invariant-loop-written : goal.invariant-loop-written

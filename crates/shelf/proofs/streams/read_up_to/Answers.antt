@@ -1,4 +1,4 @@
-use Rattle.std.proofs.Common.{◌≡◌, ℕ, ◌<◌, List, [], ◌++◌, length, take, take_all, length-take, Option, Some, None, IfSome, ap, ◌∙◌, arith}
+use Rattle.std.proofs.Common.{[], ◌++◌, ◌<◌, ◌∙◌, ◌≡◌, IfSome, List, None, Option, Some, ap, arith, length, length-take, take, take_all, ℕ}
 use Rattle.shelf.proofs.streams.read_up_to.Goals as goal
 
 -- where more of what is left might have been read, all of it was

@@ -1,4 +1,4 @@
-use Rattle.std.proofs.Common.{◌≡◌, ◌++◌, take}
+use Rattle.std.proofs.Common.{◌++◌, ◌≡◌, take}
 use Rattle.show_text.specs.Text.{rule_lines}
 use Rattle.show_text.proofs.plan_lines.add_rules.Given as goal
 

@@ -1,4 +1,4 @@
-use Rattle.std.proofs.Common.{rules, arith}
+use Rattle.std.proofs.Common.{arith, rules}
 use Rattle.lines.proofs.CallerLemmas.{pushed_append, pushed_whole}
 use Rattle.show_text.specs.Text.{rule_text_of, with_line_feed}
 use Rattle.show_text.proofs.LineSizes.{rule_fits}

@@ -1,5 +1,4 @@
-use Rattle.std.proofs.Common.{◌≡◌, ◌++◌, take}
-use Rattle.std.specs.List.{flat_map}
+use Rattle.std.proofs.Common.{◌++◌, ◌≡◌, flat_map, take}
 use Rattle.show_text.specs.Text.{own_lines}
 use Rattle.show_text.proofs.text.add_own.Given as goal
 

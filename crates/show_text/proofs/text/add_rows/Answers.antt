@@ -1,5 +1,5 @@
-use Rattle.std.proofs.Common.{◌++◌, ◌∙◌, ap, append_assoc, sym, take}
-use Rattle.std.specs.List.{enumerate_from, flat_map}
+use Rattle.std.proofs.Common.{◌++◌, ◌∙◌, ap, append_assoc, flat_map, sym, take}
+use Rattle.base.proofs.Exports.{enumerate_from}
 use Rattle.show_text.specs.Text.{row_line}
 use Rattle.show_text.proofs.RowLemmas.{rows_more}
 use Rattle.show_text.proofs.text.add_rows.Goals as goal

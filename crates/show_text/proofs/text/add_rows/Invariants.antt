@@ -1,5 +1,5 @@
-use Rattle.std.proofs.Common.{◌≡◌, ◌++◌, take}
-use Rattle.std.specs.List.{flat_map, enumerate_from}
+use Rattle.std.proofs.Common.{◌++◌, ◌≡◌, flat_map, take}
+use Rattle.base.proofs.Exports.{enumerate_from}
 use Rattle.show_text.specs.Text.{row_line}
 use Rattle.show_text.proofs.text.add_rows.Given as goal
 

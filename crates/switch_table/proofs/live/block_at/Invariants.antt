@@ -1,5 +1,4 @@
-use Rattle.std.proofs.Common.{◌≡◌, ◌+◌, take}
-use Rattle.std.specs.List.{sum}
+use Rattle.std.proofs.Common.{◌+◌, ◌≡◌, sum, take}
 use Rattle.switch_table.proofs.live.block_at.Given as goal
 
 -- so many came before this block

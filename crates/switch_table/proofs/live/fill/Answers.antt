@@ -1,4 +1,4 @@
-use Rattle.std.proofs.Common.{◌*◌, ◌≤◌, sym, subst, arith}
+use Rattle.std.proofs.Common.{◌*◌, ◌≤◌, arith, subst, sym}
 use Rattle.switch_table.proofs.LiveLemmas.{filled}
 use Rattle.switch_table.proofs.live.fill.Goals as goal
 

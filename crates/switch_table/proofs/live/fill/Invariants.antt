@@ -1,4 +1,4 @@
-use Rattle.std.proofs.Common.{ℕ, ◌≡◌, ◌-◌, ◌*◌, ◌<◌, get_or, min}
+use Rattle.std.proofs.Common.{◌*◌, ◌-◌, ◌<◌, ◌≡◌, get_or, min, ℕ}
 use Rattle.switch_table.proofs.live.fill.Given as goal
 
 -- so many are left, and the blocks before this one are counted

@@ -1,5 +1,5 @@
 use Rattle.std.proofs.Common.{◌-◌, Bool, List, length}
-use Rattle.switch_table.specs.Live.{AreBlocks}
+use Rattle.switch_table.specs.Exports.{AreBlocks}
 use Rattle.switch_table.proofs.live.reach.Given as goal
 
 -- the counts are still those of the same flags

@@ -1,4 +1,4 @@
-use Rattle.std.proofs.Common.{◌<◌, ◌^◌, length, unwrap_or, ap, arith}
+use Rattle.std.proofs.Common.{◌<◌, ◌^◌, ap, arith, length, unwrap_or}
 use Rattle.switch_table.proofs.TableLemmas.{place_fits}
 use Rattle.switch_table.proofs.search.authority.Goals as goal
 

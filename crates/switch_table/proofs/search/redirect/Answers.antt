@@ -1,7 +1,7 @@
-use Rattle.std.proofs.Common.{◌≡◌, ◌∙◌, ap, sym, Some, [], find, unwrap_or, position}
-use Rattle.std.specs.Option.{option_map_or}
-use Rattle.ternary.specs.Word.{holds}
-use Rattle.switch_table.specs.Tables.{row_has}
+use Rattle.std.proofs.Common.{[], ◌∙◌, ◌≡◌, Some, ap, find, position, sym, unwrap_or}
+use Rattle.base.proofs.Exports.{option_map_or}
+use Rattle.ternary.specs.Exports.{holds}
+use Rattle.switch_table.specs.Exports.{row_has}
 use Rattle.switch_table.specs.declared.search.Found.TheVariants.{Redirect}
 use Rattle.switch_table.specs.declared.tables.PartRow.{PartRow}
 use Rattle.switch_table.proofs.TableLemmas.{row_there, row_at}

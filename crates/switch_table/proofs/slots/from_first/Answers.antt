@@ -1,4 +1,4 @@
-use Rattle.switch_table.specs.Keys.{equal_keys}
+use Rattle.switch_table.specs.Exports.{equal_keys}
 use Rattle.switch_table.proofs.slots.from_first.Goals as goal
 
 pub returns-clause-unique : goal.returns-clause-unique

@@ -1,5 +1,5 @@
-use Rattle.std.proofs.Common.{◌≡◌, ◌+◌, map, take}
-use Rattle.switch_table.specs.Live.{count_set}
+use Rattle.std.proofs.Common.{◌+◌, ◌≡◌, map, take}
+use Rattle.switch_table.specs.Exports.{count_set}
 use Rattle.switch_table.specs.declared.key.Slot.{Slot}
 use Rattle.switch_table.proofs.slots.nth_live.Given as goal
 

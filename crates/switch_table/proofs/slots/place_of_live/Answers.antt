@@ -1,8 +1,6 @@
-use Rattle.std.proofs.Common.{ℕ, ◌≡◌, ◌∙◌, ◌<◌, ap, drop, map, subst, sym}
-use Rattle.std.proofs.lemmas.List.{drop-map}
-use Rattle.std.specs.Map.{values_of}
-use Rattle.switch_table.specs.Live.{IsNthSet, count_set}
-use Rattle.switch_table.specs.Slots.{flags_of, is_live}
+use Rattle.std.proofs.Common.{◌<◌, ◌∙◌, ◌≡◌, ap, drop, map, subst, sym, ℕ}
+use Rattle.base.proofs.Exports.{drop-map, values_of}
+use Rattle.switch_table.specs.Exports.{IsNthSet, count_set, flags_of, is_live}
 use Rattle.switch_table.proofs.SlotRemoveLemmas.{IsStart, flag_of, flags_values, nth_behind, starts_block, starts_first}
 use Rattle.switch_table.proofs.slots.place_of_live.Goals as goal
 use Rattle.switch_table.proofs.slots.place_of_live.Goals.{then-before-eq0, else-before-eq0}

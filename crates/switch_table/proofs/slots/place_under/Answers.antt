@@ -1,10 +1,8 @@
-use Rattle.std.proofs.Common.{ℕ, ◌≡◌, ◌∙◌, ap, bit_and, sym}
-use Rattle.std.specs.List.{position_or_len}
-use Rattle.std.specs.Map.{keys_of}
-use Rattle.std.proofs.lemmas.Option.{MatchOption-at_some}
-use Rattle.ternary.specs.Word.{WordValue}
+use Rattle.std.proofs.Common.{◌∙◌, ◌≡◌, ap, bit_and, sym, ℕ}
+use Rattle.base.proofs.Exports.{MatchOption-at_some, keys_of, position_or_len}
+use Rattle.ternary.specs.Exports.{WordValue}
 use Rattle.indexmap.proofs.MapLemmas.{Found-position, Missing-position}
-use Rattle.switch_table.specs.Keys.{equal_keys, key_under}
+use Rattle.switch_table.specs.Exports.{equal_keys, key_under}
 use Rattle.switch_table.proofs.SlotHitLemmas.{has_live, place_dead, place_live, place_missing, under_is_word}
 use Rattle.switch_table.proofs.slots.place_under.Goals as goal
 use Rattle.switch_table.proofs.slots.place_under.Goals.{After-unwrap-word, In-Some}

@@ -1,11 +1,7 @@
-use Rattle.std.proofs.Common.{◌≡◌, ◌∙◌, ◌<◌, ◌^◌, None, subst, sym}
-use Rattle.std.specs.Prelude.{OnOk}
-use Rattle.std.proofs.lemmas.Option.{same_Some}
-use Rattle.base.proofs.ListLemmas.{none_from_not_some}
-use Rattle.base.proofs.ResultsMade.{both_ok}
+use Rattle.std.proofs.Common.{◌<◌, ◌^◌, ◌∙◌, ◌≡◌, None, OnOk, subst, sym}
+use Rattle.base.proofs.Exports.{both_ok, none_from_not_some, same_Some}
 use Rattle.indexmap.specs.IndexMap.{get}
-use Rattle.switch_table.specs.Keys.{equal_keys}
-use Rattle.switch_table.specs.Slots.{SlotPair}
+use Rattle.switch_table.specs.Exports.{SlotPair, equal_keys}
 use Rattle.switch_table.specs.declared.key.CacheKey.{CacheKey}
 use Rattle.switch_table.proofs.SlotPushLemmas.{IsFound, equal_keys_same, found_at, found_dead, same_flags}
 use Rattle.switch_table.proofs.slots.release_key.Goals as goal

@@ -1,7 +1,6 @@
-use Rattle.std.proofs.Common.{rules, ◌≡◌, ◌∙◌, ap, filter, length, replicate, subst, sym, true}
+use Rattle.std.proofs.Common.{◌∙◌, ◌≡◌, ap, filter, length, replicate, rules, subst, sym, true}
 use Rattle.indexmap.proofs.CallerLemmas.{filter-RetainsPairs}
-use Rattle.switch_table.specs.Live.{AreCounts}
-use Rattle.switch_table.specs.Slots.{flags_of, is_live}
+use Rattle.switch_table.specs.Exports.{AreCounts, flags_of, is_live}
 use Rattle.switch_table.proofs.SlotPushLemmas.{swept_flags}
 use Rattle.switch_table.proofs.slots.sweep.Goals as goal
 use Rattle.switch_table.proofs.slots.sweep.Goals.{After-retain}

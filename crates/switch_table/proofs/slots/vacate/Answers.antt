@@ -1,10 +1,8 @@
-use Rattle.std.proofs.Common.{ℕ, ◌≡◌, ◌∙◌, ◌+◌, ◌-◌, ◌<◌, ◌^◌, IfSome, None, false, ap, arith, inr, slice_get, sym, subst}
-use Rattle.std.proofs.lemmas.Option.{same_Some, slice_get_within}
-use Rattle.std.proofs.lemmas.List.{length-map}
+use Rattle.std.proofs.Common.{◌+◌, ◌-◌, ◌<◌, ◌^◌, ◌∙◌, ◌≡◌, IfSome, None, ap, arith, false, inr, slice_get, subst, sym, ℕ}
+use Rattle.base.proofs.Exports.{length-map, same_Some, slice_get_within}
 use Rattle.indexmap.proofs.CallerLemmas.{insert_entry-new}
 use Rattle.indexmap.specs.IndexMap.{Updates, get}
-use Rattle.switch_table.specs.Keys.{equal_keys}
-use Rattle.switch_table.specs.Slots.{AreNamed, SlotPair, flags_of, is_live, live_pairs}
+use Rattle.switch_table.specs.Exports.{AreNamed, SlotPair, equal_keys, flags_of, is_live, live_pairs}
 use Rattle.switch_table.proofs.SlotPushLemmas.{IsRekeyed, rekeyed, rekeyed_flags, rekeyed_pairs}
 use Rattle.switch_table.specs.declared.key.CacheKey.{CacheKey}
 use Rattle.switch_table.proofs.SlotKeyLemmas.{named_absent, named_set}

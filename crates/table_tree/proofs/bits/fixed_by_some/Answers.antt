@@ -1,5 +1,4 @@
-use Rattle.std.proofs.Common.{◌∙◌, ap, arith}
-use Rattle.std.proofs.lemmas.List.{take_all}
+use Rattle.std.proofs.Common.{◌∙◌, ap, arith, take_all}
 use Rattle.table_tree.specs.Regions.{some_fix}
 use Rattle.table_tree.proofs.BitLemmas.{some_more, some_none}
 use Rattle.table_tree.proofs.bits.fixed_by_some.Goals as goal

@@ -1,5 +1,4 @@
-use Rattle.std.proofs.Common.{ℕ, ◌≡◌, take}
-use Rattle.std.specs.Bool.{◌==◌}
+use Rattle.std.proofs.Common.{◌==◌, ◌≡◌, take, ℕ}
 use Rattle.std.specs.Int.{bit_at}
 use Rattle.table_tree.specs.Regions.{some_fix}
 use Rattle.table_tree.proofs.bits.fixed_by_some.Given as goal

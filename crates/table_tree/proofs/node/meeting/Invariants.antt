@@ -1,4 +1,4 @@
-use Rattle.std.proofs.Common.{◌≡◌, ◌++◌, drop, filter}
+use Rattle.std.proofs.Common.{◌++◌, ◌≡◌, drop, filter}
 use Rattle.table_tree.specs.Regions.{candidate_meets}
 use Rattle.table_tree.proofs.node.meeting.Given as goal
 

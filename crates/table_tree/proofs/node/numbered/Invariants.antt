@@ -1,4 +1,4 @@
-use Rattle.std.proofs.Common.{◌≡◌, ◌++◌, length, drop}
+use Rattle.std.proofs.Common.{◌++◌, ◌≡◌, drop, length}
 use Rattle.table_tree.specs.Regions.{AreRegions, candidates_from, candidates_of}
 use Rattle.table_tree.proofs.node.numbered.Given as goal
 

@@ -1,4 +1,4 @@
-use Rattle.std.proofs.Common.{ap, map, sym, ◌∙◌}
+use Rattle.std.proofs.Common.{◌∙◌, ap, map, sym}
 use Rattle.table_tree.specs.LookupTrees.{Leaf}
 use Rattle.table_tree.proofs.RuleLemmas.{rank_of, within_cut, within_end}
 use Rattle.table_tree.proofs.rule_node.+grow.Goals as goal

@@ -1,4 +1,4 @@
-use Rattle.std.proofs.Common.{◌≡◌, ◌++◌, drop, map}
+use Rattle.std.proofs.Common.{◌++◌, ◌≡◌, drop, map}
 use Rattle.table_tree.proofs.RuleLemmas.{rank_of}
 use Rattle.table_tree.proofs.rule_node.places_of.Given as goal
 

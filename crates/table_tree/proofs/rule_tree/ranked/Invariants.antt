@@ -1,5 +1,5 @@
-use Rattle.std.proofs.Common.{◌≡◌, ◌++◌, length, drop}
-use Rattle.cut_tree.specs.Nodes.{AreWords}
+use Rattle.std.proofs.Common.{◌++◌, ◌≡◌, drop, length}
+use Rattle.cut_tree.specs.Exports.{AreWords}
 use Rattle.table_tree.specs.Ruling.{ranked_by_place}
 use Rattle.table_tree.proofs.rule_tree.ranked.Given as goal
 

@@ -1,4 +1,4 @@
-use Rattle.std.proofs.Common.{◌≡◌, ◌++◌, drop, map}
+use Rattle.std.proofs.Common.{◌++◌, ◌≡◌, drop, map}
 use Rattle.table_tree.specs.Ruling.{part_tree, seen_tree}
 use Rattle.table_tree.proofs.trees.rule_trees.Given as goal
 

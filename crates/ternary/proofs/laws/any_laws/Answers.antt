@@ -1,4 +1,4 @@
-use Rattle.std.proofs.Common.{refl, arith}
+use Rattle.std.proofs.Common.{arith, refl}
 use Rattle.ternary.proofs.WordLemmas.{any_holds}
 use Rattle.ternary.proofs.FreeBits.{any_unfixed}
 use Rattle.ternary.proofs.laws.any_laws.Goals as goal

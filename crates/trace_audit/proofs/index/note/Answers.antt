@@ -1,5 +1,5 @@
 use Rattle.std.proofs.Common.{subst, sym}
-use Rattle.trace_audit.specs.Index.{Notes}
+use Rattle.trace_audit.specs.Exports.{Notes}
 use Rattle.trace_audit.proofs.IndexedRows.{notes_pushed}
 use Rattle.trace_audit.proofs.index.note.Goals as goal
 

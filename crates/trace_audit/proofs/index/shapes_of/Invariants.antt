@@ -1,5 +1,5 @@
 use Rattle.std.proofs.Common.{take}
-use Rattle.trace_audit.specs.Index.{AreShapesOf}
+use Rattle.trace_audit.specs.Exports.{AreShapesOf}
 use Rattle.trace_audit.proofs.index.shapes_of.Given as goal
 
 abbrev pub invariant-loop-row : goal.invariant-loop-row

@@ -1,7 +1,5 @@
-use Rattle.std.proofs.Common.{◌∙◌, [], length, ap, arith, subst, sym}
-use Rattle.trace_audit.specs.Reading.{Open, Whole, lines_of}
-use Rattle.trace_audit.specs.Seen.{IsLineRead, state_seen}
-use Rattle.trace_audit.specs.Verdicts.{IsAuditVerdict}
+use Rattle.std.proofs.Common.{[], ◌∙◌, ap, arith, length, subst, sym}
+use Rattle.trace_audit.specs.Exports.{IsAuditVerdict, IsLineRead, Open, Whole, lines_of, state_seen}
 use Rattle.trace_audit.specs.declared.trace.Verdict.TheVariants.{No, Yes}
 use Rattle.trace_audit.proofs.KnownPackets.{verdict_justified}
 use Rattle.trace_audit.proofs.TraceLines.{lines_next, lines_nil, lines_open}

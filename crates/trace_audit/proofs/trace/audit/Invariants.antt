@@ -1,6 +1,5 @@
 use Rattle.std.proofs.Common.{length}
-use Rattle.trace_audit.specs.Reading.{lines_of}
-use Rattle.trace_audit.specs.Seen.{state_seen}
+use Rattle.trace_audit.specs.Exports.{lines_of, state_seen}
 use Rattle.trace_audit.proofs.TraceVerdicts.{IsSoFar}
 use Rattle.trace_audit.proofs.trace.audit.Given as goal
 

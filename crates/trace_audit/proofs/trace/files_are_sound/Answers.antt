@@ -1,7 +1,6 @@
-use Rattle.std.proofs.Common.{All, subst, arith}
-use Rattle.std.proofs.lemmas.List.{take_all}
-use Rattle.std.proofs.lemmas.List.Elements.{All-more}
-use Rattle.policy_rules.specs.PolicyFiles.{IsPolicyFile}
+use Rattle.std.proofs.Common.{All, arith, subst, take_all}
+use Rattle.base.proofs.Exports.{All-more}
+use Rattle.policy_rules.specs.Exports.{IsPolicyFile}
 use Rattle.trace_audit.proofs.trace.files_are_sound.Goals as goal
 
 pub loop-file-preserved : goal.loop-file-preserved

@@ -1,5 +1,5 @@
-use Rattle.std.proofs.Common.{take, All}
-use Rattle.policy_rules.specs.PolicyFiles.{IsPolicyFile}
+use Rattle.std.proofs.Common.{All, take}
+use Rattle.policy_rules.specs.Exports.{IsPolicyFile}
 use Rattle.trace_audit.proofs.trace.files_are_sound.Given as goal
 
 abbrev pub invariant-loop-file : goal.invariant-loop-file

@@ -1,5 +1,5 @@
-use Rattle.std.proofs.Common.{◌≡◌, ◌∙◌, ◌∷◌, get_or, length, take, ap, arith, refl, subst}
-use Rattle.std.proofs.lemmas.List.{get_or_append_left, get_or_at, length-append, take_all, take_rest}
+use Rattle.std.proofs.Common.{◌∙◌, ◌∷◌, ◌≡◌, ap, arith, get_or, length, length-append, refl, subst, take, take_all}
+use Rattle.base.proofs.Exports.{get_or_append_left, get_or_at, take_rest}
 use Rattle.trace_audit.proofs.FirstWords.{not_begun, word_before}
 use Rattle.trace_audit.proofs.words.after.Goals as goal
 

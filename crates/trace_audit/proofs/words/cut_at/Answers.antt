@@ -1,5 +1,5 @@
 use Rattle.std.proofs.Common.{◌∙◌, sym}
-use Rattle.std.proofs.lemmas.List.{take_rest}
+use Rattle.base.proofs.Exports.{take_rest}
 use Rattle.five_tuple.proofs.CallerLemmas.{parts_at, parts_none}
 use Rattle.trace_audit.proofs.words.cut_at.Goals as goal
 

@@ -1,7 +1,5 @@
-use Rattle.std.proofs.Common.{◌≡◌, ◌∙◌, ◌==◌, ltb, ℕ, Bool, Option, Some, None, List, length, sym, ap, arith}
-use Rattle.std.specs.List.{position, position_or_len}
-use Rattle.std.proofs.lemmas.Bool.{cond-false, cond-true, false_from_ne_true, le-ltb, lt-ltb}
-use Rattle.std.proofs.lemmas.List.Sums.{position_or_len_is}
+use Rattle.std.proofs.Common.{◌==◌, ◌∙◌, ◌≡◌, Bool, List, None, Option, Some, ap, arith, le-ltb, length, lt-ltb, ltb, position, sym, ℕ}
+use Rattle.base.proofs.Exports.{cond-false, cond-true, false_from_ne_true, position_or_len, position_or_len_is}
 use Rattle.memchr.specs.Find.{IsFirstByte, is_byte}
 use Rattle.trace_audit.proofs.words.place_of.Goals as goal
 

@@ -1,6 +1,6 @@
-use Rattle.std.proofs.Common.{◌+◌, ◌*◌, ◌^◌, ◌<◌, arith}
-use Rattle.base.specs.ComputedMasks.{least_in}
-use Rattle.base.proofs.CallerLemmas.{least_lt, some_of}
+use Rattle.std.proofs.Common.{◌*◌, ◌+◌, ◌<◌, ◌^◌, arith}
+use Rattle.base.specs.Exports.{least_in}
+use Rattle.base.proofs.Exports.{least_lt, some_of}
 use Rattle.travelling.specs.SwitchIndex.{mask_at}
 use Rattle.travelling.proofs.MarkBlocks.{block_within, first_marked}
 use Rattle.travelling.proofs.switch_index.first_of_block.Goals as goal

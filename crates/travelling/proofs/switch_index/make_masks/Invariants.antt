@@ -1,4 +1,4 @@
-use Rattle.std.proofs.Common.{ℕ, ◌≡◌, ◌+◌, ◌-◌, ◌≤◌, length, max, get_or}
+use Rattle.std.proofs.Common.{◌+◌, ◌-◌, ◌≡◌, ◌≤◌, get_or, length, max, ℕ}
 use Rattle.travelling.proofs.switch_index.make_masks.Given as goal
 
 abbrev pub invariant-loop-masks : goal.invariant-loop-masks

@@ -1,4 +1,4 @@
-use Rattle.std.proofs.Common.{◌+◌, ◌*◌, ◌/◌, subst}
+use Rattle.std.proofs.Common.{◌*◌, ◌+◌, ◌/◌, subst}
 use Rattle.travelling.specs.SwitchIndex.{IsNextInBlock, IsNoneMarked}
 use Rattle.travelling.proofs.MarkBlocks.{block_has, least_beyond, none_beyond}
 use Rattle.travelling.proofs.switch_index.next_by_blocks.Goals as goal

@@ -1,5 +1,5 @@
-use Rattle.std.proofs.Common.{ℕ, ◌≡◌, ◌+◌, ◌*◌, ◌/◌, ◌%◌, ◌^◌, ◌<◌, zero, suc, refl, get_or, arith}
-use Rattle.base.specs.ComputedMasks.{least_in}
+use Rattle.std.proofs.Common.{◌%◌, ◌*◌, ◌+◌, ◌/◌, ◌<◌, ◌^◌, ◌≡◌, arith, get_or, refl, suc, zero, ℕ}
+use Rattle.base.specs.Exports.{least_in}
 use Rattle.travelling.proofs.StandingMasks.{least_marked, none_before, none_in_mask, none_past, rest_below}
 use Rattle.travelling.proofs.switch_index.next_in_block.Goals as goal
 

@@ -1,5 +1,5 @@
 use Rattle.std.proofs.Common.{inl, inr}
-use Rattle.std.proofs.lemmas.Bool.{cases_lt}
+use Rattle.base.proofs.Exports.{cases_lt}
 use Rattle.travelling.proofs.StandingMasks.{none_past}
 use Rattle.travelling.proofs.switch_index.next_marked.Goals as goal
 

@@ -1,4 +1,4 @@
-use Rattle.std.proofs.Common.{ℕ, ◌≡◌, ◌+◌, ◌-◌, ◌<◌, ◌≤◌, false, length}
+use Rattle.std.proofs.Common.{◌+◌, ◌-◌, ◌<◌, ◌≡◌, ◌≤◌, false, length, ℕ}
 use Rattle.travelling.specs.SwitchIndex.{is_marked}
 use Rattle.travelling.proofs.switch_index.next_marked.Given as goal
 

@@ -1,4 +1,4 @@
-use Rattle.std.proofs.Common.{ℕ, ◌≡◌, ◌-◌, ◌<◌, ◌≤◌, None, length}
+use Rattle.std.proofs.Common.{◌-◌, ◌<◌, ◌≡◌, ◌≤◌, None, length, ℕ}
 use Rattle.travelling.specs.Travelling.{flight}
 use Rattle.travelling.proofs.travelling.first_held.Given as goal
 

@@ -1,4 +1,4 @@
-use Rattle.std.proofs.Common.{ℕ, ◌≡◌, ◌+◌, ◌-◌, ◌≤◌, length, max}
+use Rattle.std.proofs.Common.{◌+◌, ◌-◌, ◌≡◌, ◌≤◌, length, max, ℕ}
 use Rattle.travelling.specs.Travelling.{flight}
 use Rattle.travelling.proofs.travelling.make_room.Given as goal
 

@@ -1,6 +1,6 @@
-use Rattle.std.proofs.Common.{◌≡◌, ap, ◌∙◌, arith, refl, Bool, true, false, ◌&&◌}
-use Rattle.std.specs.Int.{from_bool}
-use Rattle.version_update.specs.Record.{is_member}
+use Rattle.std.proofs.Common.{◌&&◌, ◌∙◌, ◌≡◌, Bool, ap, arith, false, refl, true}
+use Rattle.base.proofs.Exports.{from_bool}
+use Rattle.version_update.specs.Exports.{is_member}
 use Rattle.version_update.proofs.TestMasks.{Names-more}
 use Rattle.version_update.proofs.switches.members_where.Goals as goal
 use Rattle.version_update.proofs.switches.members_where.Goals.{then-rose, else-rose}

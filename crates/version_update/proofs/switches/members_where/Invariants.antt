@@ -1,7 +1,5 @@
-use Rattle.std.proofs.Common.{take}
-use Rattle.std.specs.Prelude.{◌&&◌}
-use Rattle.version_update.specs.Record.{is_member}
-use Rattle.version_update.specs.Settling.{Names}
+use Rattle.std.proofs.Common.{◌&&◌, take}
+use Rattle.version_update.specs.Exports.{Names, is_member}
 use Rattle.version_update.proofs.switches.members_where.Given as goal
 
 -- the mask names those of the switches so far

@@ -1,7 +1,6 @@
-use Rattle.std.proofs.Common.{ap, ◌∙◌, arith, refl}
-use Rattle.version_update.specs.Record.{opens_at, opened_record}
-use Rattle.std.specs.Int.{from_bool}
-use Rattle.base.proofs.ListsByPlace.{mapped_more, mapped_read}
+use Rattle.std.proofs.Common.{◌∙◌, ap, arith, refl}
+use Rattle.version_update.specs.Exports.{opened_record, opens_at}
+use Rattle.base.proofs.Exports.{from_bool, mapped_more, mapped_read}
 use Rattle.version_update.proofs.TestMasks.{Names-more}
 use Rattle.version_update.proofs.switches.open_if_acked.Goals as goal
 

@@ -1,6 +1,5 @@
-use Rattle.std.proofs.Common.{◌≡◌, ◌++◌, take, drop, map}
-use Rattle.version_update.specs.Record.{opens_at, opened_record}
-use Rattle.version_update.specs.Settling.{Names}
+use Rattle.std.proofs.Common.{◌++◌, ◌≡◌, drop, map, take}
+use Rattle.version_update.specs.Exports.{Names, opened_record, opens_at}
 use Rattle.version_update.proofs.switches.open_if_acked.Given as goal
 
 -- those of the switches so far are opened, and named

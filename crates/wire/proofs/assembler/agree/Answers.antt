@@ -1,4 +1,4 @@
-use Rattle.std.proofs.Common.{sym, ap, eqb}
+use Rattle.std.proofs.Common.{ap, eqb, sym}
 use Rattle.wire.proofs.FramesHeld.{agree_first}
 use Rattle.wire.proofs.assembler.agree.Goals as goal
 

@@ -1,7 +1,6 @@
-use Rattle.std.proofs.Common.{◌≡◌, ℕ, Option, List, refl, sym, ap, ◌∙◌, arith}
-use Rattle.base.proofs.OptionsMade.{false_not_true}
-use Rattle.wire.specs.Frames.{place_in_frame}
-use Rattle.wire.specs.Assembly.{held_at, another_frame}
+use Rattle.std.proofs.Common.{◌∙◌, ◌≡◌, List, Option, ap, arith, refl, sym, ℕ}
+use Rattle.base.proofs.Exports.{false_not_true}
+use Rattle.wire.specs.Exports.{another_frame, held_at, place_in_frame}
 use Rattle.wire.proofs.FormatLaws.{AreBytes}
 use Rattle.wire.proofs.FramesHeld.{index_of, check_held, check_new}
 use Rattle.wire.proofs.assembler.check_among.Goals as goal

@@ -1,5 +1,5 @@
-use Rattle.std.proofs.Common.{sym, ◌∙◌}
-use Rattle.wire.specs.Assembly.{another_count}
+use Rattle.std.proofs.Common.{◌∙◌, sym}
+use Rattle.wire.specs.Exports.{another_count}
 use Rattle.wire.proofs.assembler.check_of.Goals as goal
 
 pub returns-then-not-agree : goal.returns-then-not-agree

@@ -1,7 +1,6 @@
 use Rattle.std.proofs.Common.{subst}
 use Rattle.wire.specs.declared.assembler.FrameCheck.TheVariants.{Held, New}
-use Rattle.wire.specs.Frames.{count_in_frame}
-use Rattle.wire.specs.Assembly.{IsAssembled, IsFrameCheck}
+use Rattle.wire.specs.Exports.{IsAssembled, IsFrameCheck, count_in_frame}
 use Rattle.wire.proofs.FramesHeld.{fed_held, fed_new}
 use Rattle.wire.proofs.assembler.feed.Goals as goal
 

@@ -1,7 +1,6 @@
-use Rattle.std.proofs.Common.{◌<◌, [], length, get_or, ap, sym, ◌∙◌, arith}
-use Rattle.std.proofs.lemmas.List.{get_or-map}
-use Rattle.base.proofs.OptionsMade.{false_not_true}
-use Rattle.wire.specs.Frames.{chunk_of}
+use Rattle.std.proofs.Common.{[], ◌<◌, ◌∙◌, ap, arith, get_or, length, sym}
+use Rattle.base.proofs.Exports.{false_not_true, get_or-map}
+use Rattle.wire.specs.Exports.{chunk_of}
 use Rattle.wire.proofs.assembly.are_chunks.Goals as goal
 
 pub returns-then-not-are_same : goal.returns-then-not-are_same

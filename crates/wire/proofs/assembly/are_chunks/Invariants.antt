@@ -1,5 +1,5 @@
 use Rattle.std.proofs.Common.{◌≡◌, map, take}
-use Rattle.wire.specs.Frames.{chunk_of}
+use Rattle.wire.specs.Exports.{chunk_of}
 use Rattle.wire.proofs.assembly.are_chunks.Given as goal
 
 abbrev pub invariant-loop-place : goal.invariant-loop-place

@@ -1,7 +1,6 @@
-use Rattle.std.proofs.Common.{map, ap, sym, refl, ◌∙◌}
-use Rattle.std.proofs.lemmas.Result.{err_from_is_err_and}
-use Rattle.base.proofs.OptionsMade.{false_not_true}
-use Rattle.wire.specs.Frames.{chunks_behind_head}
+use Rattle.std.proofs.Common.{◌∙◌, ap, map, refl, sym}
+use Rattle.base.proofs.Exports.{err_from_is_err_and, false_not_true}
+use Rattle.wire.specs.Exports.{chunks_behind_head}
 use Rattle.wire.proofs.FrameAssembly.{frames_by, none_by, none_spelled}
 use Rattle.wire.proofs.assembly.decoded.Goals as goal
 

@@ -1,6 +1,5 @@
-use Rattle.std.proofs.Common.{◌≡◌, take}
-use Rattle.std.specs.List.{flat_map}
-use Rattle.wire.specs.Frames.{chunk_of}
+use Rattle.std.proofs.Common.{◌≡◌, flat_map, take}
+use Rattle.wire.specs.Exports.{chunk_of}
 use Rattle.wire.proofs.assembly.joined.Given as goal
 
 abbrev pub invariant-loop-frame : goal.invariant-loop-frame

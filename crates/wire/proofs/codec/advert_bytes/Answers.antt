@@ -1,7 +1,5 @@
-use Rattle.std.proofs.Common.{◌≡◌, ◌%◌, refl, arith}
-use Rattle.wire.specs.Fields.{n1, n4, n8, switch}
-use Rattle.wire.specs.Format.{spelled_number}
-use Rattle.wire.specs.Messages.{advert}
+use Rattle.std.proofs.Common.{◌%◌, ◌≡◌, arith, refl}
+use Rattle.wire.specs.Exports.{advert, n1, n4, n8, spelled_number, switch}
 use Rattle.wire.proofs.codec.advert_bytes.Goals as goal
 
 pub returns-clause-spelled : goal.returns-clause-spelled

@@ -1,6 +1,6 @@
-use Rattle.std.proofs.Common.{◌≡◌, true, ◌++◌, length, take}
-use Rattle.std.specs.List.{flat_map, list_all}
-use Rattle.wire.specs.Fields.{target_count, switch}
+use Rattle.std.proofs.Common.{◌++◌, ◌≡◌, flat_map, length, take, true}
+use Rattle.base.proofs.Exports.{list_all}
+use Rattle.wire.specs.Exports.{switch, target_count}
 use Rattle.wire.proofs.fields.put_targets.Given as goal
 
 abbrev pub invariant-loop-switch : goal.invariant-loop-switch

@@ -1,9 +1,7 @@
-use Rattle.std.proofs.Common.{◌≡◌, ◌<◌, None, length, take, refl, ◌∙◌, arith}
-use Rattle.std.proofs.lemmas.List.{take_more_set, length-set}
-use Rattle.std.proofs.lemmas.Result.{err_from_is_err_and}
-use Rattle.base.specs.Refusals.{IfRefused}
-use Rattle.wire.specs.Fields.{switch, target_count, targets}
-use Rattle.wire.specs.Format.{read_items}
+use Rattle.std.proofs.Common.{◌<◌, ◌∙◌, ◌≡◌, None, arith, length, length-set, refl, take}
+use Rattle.base.proofs.Exports.{err_from_is_err_and, take_more_set}
+use Rattle.base.specs.Exports.{IfRefused}
+use Rattle.wire.specs.Exports.{read_items, switch, target_count, targets}
 use Rattle.wire.proofs.ItemLoops.{goes_on, stops, is_done}
 use Rattle.wire.proofs.fields.read_targets.Goals as goal
 

@@ -1,6 +1,5 @@
-use Rattle.std.proofs.Common.{◌≡◌, ◌-◌, ◌≤◌, length, take}
-use Rattle.wire.specs.Fields.{switch}
-use Rattle.wire.specs.Format.{read_items}
+use Rattle.std.proofs.Common.{◌-◌, ◌≡◌, ◌≤◌, length, take}
+use Rattle.wire.specs.Exports.{read_items, switch}
 use Rattle.wire.proofs.ItemLoops.{with_front}
 use Rattle.wire.proofs.fields.read_targets.Given as goal
 

@@ -1,5 +1,5 @@
-use Rattle.std.proofs.Common.{◌≡◌, length, refl, arith}
-use Rattle.wire.specs.Fields.{word}
+use Rattle.std.proofs.Common.{◌≡◌, arith, length, refl}
+use Rattle.wire.specs.Exports.{word}
 use Rattle.wire.proofs.FormatLaws.{items_count}
 use Rattle.wire.proofs.fields.read_touched.Goals as goal
 

@@ -1,6 +1,6 @@
 use Rattle.std.proofs.Common.{map}
-use Rattle.std.proofs.lemmas.List.{map_push}
-use Rattle.wire.specs.Frames.{chunks_behind_head, most_of_chunk}
+use Rattle.base.proofs.Exports.{map_push}
+use Rattle.wire.specs.Exports.{chunks_behind_head, most_of_chunk}
 use Rattle.wire.proofs.SpellingCuts.{goes_on}
 use Rattle.wire.proofs.frames.cut.Goals as goal
 

@@ -1,5 +1,5 @@
-use Rattle.std.proofs.Common.{◌≡◌, ◌-◌, ◌++◌, map}
-use Rattle.wire.specs.Frames.{chunks_behind_head, equal_chunks, most_of_chunk}
+use Rattle.std.proofs.Common.{◌++◌, ◌-◌, ◌≡◌, map}
+use Rattle.wire.specs.Exports.{chunks_behind_head, equal_chunks, most_of_chunk}
 use Rattle.wire.proofs.frames.cut.Given as goal
 
 abbrev pub invariant-loop : goal.invariant-loop

@@ -1,6 +1,6 @@
-use Rattle.std.proofs.Common.{◌≡◌, [], length, map, sym}
-use Rattle.std.proofs.lemmas.List.{get_or-map, length-map}
-use Rattle.wire.specs.Frames.{frames_of}
+use Rattle.std.proofs.Common.{[], ◌≡◌, length, map, sym}
+use Rattle.base.proofs.Exports.{get_or-map, length-map}
+use Rattle.wire.specs.Exports.{frames_of}
 use Rattle.wire.proofs.SpellingCuts.{frames_go_on}
 use Rattle.wire.proofs.frames.framed.Goals as goal
 

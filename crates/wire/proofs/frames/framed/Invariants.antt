@@ -1,5 +1,5 @@
-use Rattle.std.proofs.Common.{◌≡◌, ◌++◌, length, drop, map}
-use Rattle.wire.specs.Frames.{frames_from, frames_of}
+use Rattle.std.proofs.Common.{◌++◌, ◌≡◌, drop, length, map}
+use Rattle.wire.specs.Exports.{frames_from, frames_of}
 use Rattle.wire.proofs.frames.framed.Given as goal
 
 abbrev pub invariant-loop-place : goal.invariant-loop-place

@@ -1,6 +1,6 @@
-use Rattle.std.proofs.Common.{◌≡◌, ◌<◌, ◌^◌, length, sym, ap, ◌∙◌}
-use Rattle.std.proofs.lemmas.List.{length-map}
-use Rattle.wire.specs.Frames.{chunks_behind_head}
+use Rattle.std.proofs.Common.{◌<◌, ◌^◌, ◌∙◌, ◌≡◌, ap, length, sym}
+use Rattle.base.proofs.Exports.{length-map}
+use Rattle.wire.specs.Exports.{chunks_behind_head}
 use Rattle.wire.proofs.SpellingCuts.{few_chunks}
 use Rattle.wire.proofs.frames.split.Goals as goal
 

@@ -1,5 +1,5 @@
 use Rattle.std.proofs.Common.{take}
-use Rattle.wire.specs.Reading.{AppendsItems}
+use Rattle.wire.specs.Exports.{AppendsItems}
 use Rattle.wire.proofs.list.put_items.Given as goal
 
 abbrev pub invariant-loop-item : goal.invariant-loop-item

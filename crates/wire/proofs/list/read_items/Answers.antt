@@ -1,6 +1,6 @@
-use Rattle.std.proofs.lemmas.Result.{err_from_is_err_and}
+use Rattle.base.proofs.Exports.{err_from_is_err_and}
 use Rattle.wire.proofs.ItemLoops.{goes_on, stops, is_done}
-use Rattle.wire.specs.Format.{read_items}
+use Rattle.wire.specs.Exports.{read_items}
 use Rattle.wire.proofs.list.read_items.Goals as goal
 
 pub returns-in_err-read : goal.returns-in_err-read

@@ -1,5 +1,5 @@
-use Rattle.std.proofs.Common.{◌≡◌, ◌-◌}
-use Rattle.wire.specs.Format.{read_items}
+use Rattle.std.proofs.Common.{◌-◌, ◌≡◌}
+use Rattle.wire.specs.Exports.{read_items}
 use Rattle.wire.proofs.ItemLoops.{with_front}
 use Rattle.wire.proofs.list.read_items.Given as goal
 

@@ -1,13 +1,12 @@
-use Rattle.std.proofs.Common.{ℕ, ◌≡◌, ◌<◌, ◌∷◌, [], ◌++◌, ap, sym, ◌∙◌, map, length, subst, arith}
-use Rattle.std.specs.List.{range_with_len}
-use Rattle.std.proofs.lemmas.List.FromFn.{map-range_with_len_more}
-use Rattle.failover.specs.Adverts.{first_adverts}
-use Rattle.switch_core.specs.State.{HasOwnUpTo, SwitchValue, new_switch}
+use Rattle.std.proofs.Common.{[], ◌++◌, ◌<◌, ◌∙◌, ◌∷◌, ◌≡◌, ap, arith, length, map, subst, sym, ℕ}
+use Rattle.base.proofs.Exports.{map-range_with_len_more, range_with_len}
+use Rattle.failover.specs.Exports.{first_adverts}
+use Rattle.switch_core.specs.Exports.{HasOwnUpTo, SwitchValue, new_switch}
 use Rattle.switch_core.proofs.SwitchLaws.{own_first}
-use Rattle.net_file.specs.Owners.{links_of}
-use Rattle.switch_table.specs.Tables.{tables_of}
-use Rattle.switch_table.specs.declared.tables.Tables.{Tables}
-use Rattle.refinement.specs.Begun.{switch_begun}
+use Rattle.net_file.specs.Exports.{links_of}
+use Rattle.switch_table.specs.Exports.{tables_of}
+use Rattle.update_machine.specs.Exports.{Tables}
+use Rattle.refinement.specs.Exports.{switch_begun}
 use Rattle.refinement.proofs.FirstSwitches.{first_near, first_tables}
 use Rattle.world.proofs.beginning.switches_of.Goals as goal
 

@@ -1,8 +1,7 @@
 use Rattle.std.proofs.Common.{◌≡◌, length, map}
-use Rattle.std.specs.List.{range_with_len}
-use Rattle.controller.specs.Controller.{first_controller}
-use Rattle.controller.specs.Plan.{PlanValue}
-use Rattle.refinement.specs.Begun.{switch_begun}
+use Rattle.base.proofs.Exports.{range_with_len}
+use Rattle.controller.specs.Exports.{PlanValue, first_controller}
+use Rattle.refinement.specs.Exports.{switch_begun}
 use Rattle.world.proofs.beginning.switches_of.Given as goal
 
 abbrev pub invariant-loop-number : goal.invariant-loop-number

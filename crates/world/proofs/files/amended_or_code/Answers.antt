@@ -1,11 +1,9 @@
-use Rattle.std.proofs.Common.{List, subst, sym}
-use Rattle.std.specs.Prelude.{IfOk, Result}
-use Rattle.policy_rules.specs.declared.applying.Inapplicable.{Inapplicable}
-use Rattle.policy_rules.specs.declared.policy.Row.{Row}
-use Rattle.policy_rules.specs.Applied.{applied}
-use Rattle.world.specs.Files.{IsMade}
+use Rattle.std.proofs.Common.{IfOk, List, Result, subst, sym}
+use Rattle.update_machine.specs.Exports.{Inapplicable, Row}
+use Rattle.policy_rules.specs.Exports.{applied}
+use Rattle.world.specs.Exports.{IsMade}
 use Rattle.world.proofs.files.amended_or_code.Goals as goal
-use Rattle.ternary.specs.Word.{WordValue}
+use Rattle.ternary.specs.Exports.{WordValue}
 
 pub returns-in-Ok : goal.returns-in-Ok
 returns-in-Ok c =

@@ -1,5 +1,4 @@
-use Rattle.std.proofs.Common.{◌+◌, List, None, ap, arith, set, subst, sym}
-use Rattle.std.specs.Prelude.{Option}
+use Rattle.std.proofs.Common.{◌+◌, List, None, Option, ap, arith, set, subst, sym}
 use Rattle.world.specs.declared.files.Compiled.{Compiled}
 use Rattle.world.proofs.KeptFiles.{AreForgotten, all_forgotten, change_forgotten, none_forgotten, whole_kept, whole_own}
 use Rattle.world.proofs.files.forget_changes.Goals as goal

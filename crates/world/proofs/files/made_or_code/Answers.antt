@@ -1,8 +1,7 @@
-use Rattle.std.proofs.Common.{List, Ok, subst, sym}
-use Rattle.std.specs.Prelude.{IfOk}
-use Rattle.ternary.specs.Word.{WordValue}
-use Rattle.policy_rules.specs.declared.file.PolicyFile.{PolicyFile}
-use Rattle.world.specs.Files.{IsMade, made_from}
+use Rattle.std.proofs.Common.{IfOk, List, Ok, subst, sym}
+use Rattle.ternary.specs.Exports.{WordValue}
+use Rattle.update_machine.specs.Exports.{PolicyFile}
+use Rattle.world.specs.Exports.{IsMade, made_from}
 use Rattle.world.proofs.files.made_or_code.Goals as goal
 
 pub returns-in-Whole : goal.returns-in-Whole

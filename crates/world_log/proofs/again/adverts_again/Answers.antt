@@ -1,4 +1,4 @@
-use Rattle.std.proofs.Common.{◌≡◌, sym, ◌∙◌, arith}
+use Rattle.std.proofs.Common.{◌∙◌, ◌≡◌, arith, sym}
 use Rattle.world_log.proofs.RelinkingAdverts.{again_all, again_none}
 use Rattle.world_log.proofs.again.adverts_again.Goals as goal
 

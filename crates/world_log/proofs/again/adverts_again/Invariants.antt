@@ -1,6 +1,6 @@
-use Rattle.std.proofs.Common.{◌≡◌, ◌∷◌}
-use Rattle.ctrl_msg.specs.declared.message.Body.TheVariants.{Hello}
-use Rattle.ctrl_msg.specs.Kinds.{to_controller}
+use Rattle.std.proofs.Common.{◌∷◌, ◌≡◌}
+use Rattle.update_machine.specs.Exports.{Hello}
+use Rattle.ctrl_msg.specs.Exports.{to_controller}
 use Rattle.world_log.proofs.RelinkingAdverts.{again_below}
 use Rattle.world_log.proofs.again.adverts_again.Given as goal
 

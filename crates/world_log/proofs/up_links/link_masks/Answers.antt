@@ -1,7 +1,6 @@
-use Rattle.std.proofs.Common.{arith, ◌∙◌}
-use Rattle.std.proofs.lemmas.List.{length-set}
-use Rattle.std.proofs.lemmas.List.Edits.{fill_by_more}
-use Rattle.net_file.specs.Owners.{links_of}
+use Rattle.std.proofs.Common.{◌∙◌, arith, length-set}
+use Rattle.base.proofs.Exports.{fill_by_more}
+use Rattle.net_file.specs.Exports.{links_of}
 use Rattle.world_log.proofs.up_links.link_masks.Goals as goal
 
 pub loop-switch-preserved : goal.loop-switch-preserved

@@ -1,5 +1,5 @@
-use Rattle.std.proofs.Common.{◌≡◌, ◌<◌, ℕ, length, get_or}
-use Rattle.net_file.specs.Owners.{links_of}
+use Rattle.std.proofs.Common.{◌<◌, ◌≡◌, get_or, length, ℕ}
+use Rattle.net_file.specs.Exports.{links_of}
 use Rattle.world_log.proofs.up_links.link_masks.Given as goal
 
 abbrev pub invariant-loop-switch : goal.invariant-loop-switch

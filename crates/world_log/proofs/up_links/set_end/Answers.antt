@@ -1,11 +1,6 @@
-use Rattle.std.proofs.Common.{ℕ, ◌≡◌, ◌*◌, ◌%◌, ◌^◌, ◌<◌, ◌==◌, Bool, true, false, refl, ap, sym, ◌∙◌, eq-eqb, eqb-true}
-use Rattle.std.specs.Int.{bit_at, bit_not, w64}
-use Rattle.std.specs.Int.Bits.{bit_and, bit_or}
-use Rattle.std.specs.Prelude.{◌||◌, if◌then◌else◌}
-use Rattle.std.proofs.lemmas.Nat.Bits.{bit_at_clear_other, bit_at_clear_same}
-use Rattle.std.proofs.lemmas.Bool.{or_right}
-use Rattle.base.specs.Masks.{has}
-use Rattle.base.proofs.CallerLemmas.{has-or, has-pow_other, has-pow_same}
+use Rattle.std.proofs.Common.{if◌then◌else◌, ◌%◌, ◌*◌, ◌<◌, ◌==◌, ◌^◌, ◌||◌, ◌∙◌, ◌≡◌, Bool, ap, bit_and, bit_or, eq-eqb, eqb-true, false, refl, sym, true, w64, ℕ}
+use Rattle.base.proofs.Exports.{bit_at, bit_at_clear_other, bit_at_clear_same, bit_not, has-or, has-pow_other, has-pow_same, or_right}
+use Rattle.base.specs.Exports.{has}
 use Rattle.world_log.proofs.up_links.set_end.Goals as goal
 
 -- a switch is added to a mask, or taken from it

@@ -1,8 +1,7 @@
-use Rattle.std.proofs.Common.{◌≡◌, ◌++◌, ◌<◌, length, arith, get_or, ap, sym, refl, subst, ◌∙◌, inl, inr, set}
-use Rattle.std.proofs.lemmas.Bool.{cases_lt}
-use Rattle.std.proofs.lemmas.List.{get_or-set_other, get_or-set_same, get_or_default, length-set}
-use Rattle.switch_core.specs.State.{SwitchValue}
-use Rattle.world_log.specs.Linking.{relinked_as, adverts_on_change}
+use Rattle.std.proofs.Common.{◌++◌, ◌<◌, ◌∙◌, ◌≡◌, ap, arith, get_or, get_or-set_other, get_or-set_same, inl, inr, length, length-set, refl, set, subst, sym}
+use Rattle.base.proofs.Exports.{cases_lt, get_or_default}
+use Rattle.switch_core.specs.Exports.{SwitchValue}
+use Rattle.world_log.specs.Exports.{adverts_on_change, relinked_as}
 use Rattle.world_log.proofs.RelinkingAdverts.{all_below, all_more, all_none, all_of_them}
 use Rattle.world_log.proofs.usable_links.relink.Goals as goal
 

@@ -1,6 +1,6 @@
-use Rattle.std.proofs.Common.{ℕ, ◌≡◌, ◌<◌, ◌≤◌, length, get_or}
-use Rattle.switch_core.specs.State.{SwitchValue}
-use Rattle.world_log.specs.Linking.{relinked_as}
+use Rattle.std.proofs.Common.{◌<◌, ◌≡◌, ◌≤◌, get_or, length, ℕ}
+use Rattle.switch_core.specs.Exports.{SwitchValue}
+use Rattle.world_log.specs.Exports.{relinked_as}
 use Rattle.world_log.proofs.RelinkingAdverts.{all_below}
 use Rattle.world_log.proofs.usable_links.relink.Given as goal
 

@@ -1,8 +1,7 @@
-use Rattle.std.proofs.Common.{◌≡◌, ◌++◌, ap, sym, ◌∙◌, arith, true, ◌==◌, ne_eqb}
-use Rattle.std.specs.Prelude.{not, ◌&&◌}
-use Rattle.switch_core.specs.Life.{near_changed, next_advert}
+use Rattle.std.proofs.Common.{◌&&◌, ◌++◌, ◌==◌, ◌∙◌, ◌≡◌, ap, arith, ne_eqb, not, sym, true}
+use Rattle.switch_core.specs.Exports.{near_changed, next_advert}
 use Rattle.world_log.proofs.RelinkingAdverts.{told_all, told_below}
-use Rattle.world_log.specs.Linking.{links_change}
+use Rattle.world_log.specs.Exports.{links_change}
 use Rattle.world_log.proofs.usable_links.relink_one.Goals as goal
 
 pub returns-clause-told : goal.returns-clause-told

@@ -1,4 +1,4 @@
-use Rattle.std.proofs.Common.{◌≡◌, ◌++◌}
+use Rattle.std.proofs.Common.{◌++◌, ◌≡◌}
 use Rattle.world_log.proofs.RelinkingAdverts.{told_below}
 use Rattle.world_log.proofs.usable_links.relink_one.Given as goal
 

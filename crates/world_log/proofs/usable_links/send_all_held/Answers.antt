@@ -1,4 +1,4 @@
-use Rattle.std.proofs.Common.{ℕ, ◌≡◌, arith}
+use Rattle.std.proofs.Common.{◌≡◌, arith, ℕ}
 use Rattle.world_log.proofs.RelinkingAdverts.{held_all}
 use Rattle.world_log.proofs.usable_links.send_all_held.Goals as goal
 

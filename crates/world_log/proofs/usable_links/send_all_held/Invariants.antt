@@ -1,4 +1,4 @@
-use Rattle.std.proofs.Common.{◌≡◌, ◌++◌}
+use Rattle.std.proofs.Common.{◌++◌, ◌≡◌}
 use Rattle.world_log.proofs.RelinkingAdverts.{held_below}
 use Rattle.world_log.proofs.usable_links.send_all_held.Given as goal
 

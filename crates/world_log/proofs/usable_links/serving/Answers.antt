@@ -1,6 +1,5 @@
-use Rattle.std.proofs.Common.{ap, sym, ◌∙◌, ◌+◌, Bool, arith, subst}
-use Rattle.std.specs.Int.Bits.{bit_or}
-use Rattle.base.specs.ComputedMasks.{only_if}
+use Rattle.std.proofs.Common.{◌+◌, ◌∙◌, Bool, ap, arith, bit_or, subst, sym}
+use Rattle.base.specs.Exports.{only_if}
 use Rattle.world_log.proofs.RelinkingAdverts.{ServeBelow, serve_all, serve_none, serve_one}
 use Rattle.world_log.proofs.usable_links.serving.Goals as goal
 

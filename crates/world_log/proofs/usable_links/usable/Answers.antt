@@ -1,8 +1,6 @@
-use Rattle.std.proofs.Common.{ℕ, ◌≡◌, arith, ◌∙◌}
-use Rattle.std.proofs.lemmas.List.{length-set}
-use Rattle.std.proofs.lemmas.List.Edits.{fill_by_more}
-use Rattle.std.proofs.lemmas.List.FromFn.{fill_by_all}
-use Rattle.world_log.specs.Linking.{near_all, near_by}
+use Rattle.std.proofs.Common.{◌∙◌, ◌≡◌, arith, length-set, ℕ}
+use Rattle.base.proofs.Exports.{fill_by_all, fill_by_more}
+use Rattle.world_log.specs.Exports.{near_all, near_by}
 use Rattle.world_log.proofs.RelinkingAdverts.{same_near}
 use Rattle.world_log.proofs.usable_links.usable.Goals as goal
 

@@ -1,5 +1,5 @@
-use Rattle.std.proofs.Common.{ℕ, ◌≡◌, ◌<◌, length, get_or}
-use Rattle.world_log.specs.Linking.{near_by}
+use Rattle.std.proofs.Common.{◌<◌, ◌≡◌, get_or, length, ℕ}
+use Rattle.world_log.specs.Exports.{near_by}
 use Rattle.world_log.proofs.usable_links.usable.Given as goal
 
 -- those so far

@@ -1,4 +1,4 @@
-use Rattle.std.proofs.Common.{sym, ◌∙◌, arith}
+use Rattle.std.proofs.Common.{◌∙◌, arith, sym}
 use Rattle.world_log.proofs.RelinkingAdverts.{usable_bits, usable_none}
 use Rattle.world_log.proofs.usable_links.usable_from.Goals as goal
 

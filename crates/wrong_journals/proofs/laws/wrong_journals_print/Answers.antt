@@ -1,6 +1,6 @@
 use Rattle.std.proofs.Common.{rules}
 use Rattle.std.specs.Fmt.{digits}
-use Rattle.five_tuple.specs.Printing.{address_text, fields_text, proto_number_text}
+use Rattle.five_tuple.specs.Exports.{address_text, fields_text, proto_number_text}
 use Rattle.journal_text.specs.Lines.{ruled_text, two_text}
 use Rattle.wrong_journals.proofs.laws.wrong_journals_print.Goals as goal
 

@@ -1,10 +1,6 @@
-use Rattle.std.proofs.Common.{ℕ, ◌≡◌, ◌+◌, [], ◌∷◌, ◌++◌, map, refl, ap, ◌∙◌}
-use Rattle.std.specs.Prelude.{not}
-use Rattle.version_update.specs.Marks.{with_version}
-use Rattle.version_update.specs.Record.{is_over}
-use Rattle.controller.specs.Controller.{KeptPlan, ControllerValue, StaysController, current_touched, plans_from}
-use Rattle.controller.specs.Sends.{boot_recorded, install_act, switches_where, settling_acts, submit_acts}
-use Rattle.controller.specs.Submit.{SubmitsPlan}
+use Rattle.std.proofs.Common.{[], ◌++◌, ◌+◌, ◌∙◌, ◌∷◌, ◌≡◌, ap, map, not, refl, ℕ}
+use Rattle.version_update.specs.Exports.{is_over, with_version}
+use Rattle.controller.specs.Exports.{ControllerValue, KeptPlan, StaysController, SubmitsPlan, boot_recorded, current_touched, install_act, plans_from, settling_acts, submit_acts, switches_where}
 use Rattle.controller.proofs.NewestPolicy.{newest_added}
 use Rattle.controller.proofs.KeptPlanVersions.{IsWhole, whole_more, stays_more}
 use Rattle.controller.proofs.controller.Controller.add.Goals as goal

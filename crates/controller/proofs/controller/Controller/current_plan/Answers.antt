@@ -1,6 +1,6 @@
 -- The plan of the current version stands first.
-use Rattle.std.proofs.Common.{◌∙◌, Some, ap, sym, arith}
-use Rattle.controller.specs.Controller.{ControllerValue, current_plan}
+use Rattle.std.proofs.Common.{◌∙◌, Some, ap, arith, sym}
+use Rattle.controller.specs.Exports.{ControllerValue, current_plan}
 use Rattle.controller.proofs.KeptPlans.{current_kept, current_there}
 use Rattle.controller.proofs.controller.Controller.current_plan.Goals as goal
 

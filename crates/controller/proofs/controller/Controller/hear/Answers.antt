@@ -1,6 +1,6 @@
-use Rattle.std.proofs.Common.{[], ◌++◌, refl, sym, ap, ◌∙◌, subst}
-use Rattle.version_update.specs.Marks.{MarksValue}
-use Rattle.controller.specs.Controller.{SettlesWith}
+use Rattle.std.proofs.Common.{[], ◌++◌, ◌∙◌, ap, refl, subst, sym}
+use Rattle.version_update.specs.Exports.{MarksValue}
+use Rattle.controller.specs.Exports.{SettlesWith}
 use Rattle.controller.proofs.NewestPolicy.{newest_stays}
 use Rattle.controller.proofs.UnheardMarks.{is_unheard}
 use Rattle.controller.proofs.controller.Controller.hear.Goals as goal

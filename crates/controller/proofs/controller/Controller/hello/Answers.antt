@@ -1,10 +1,8 @@
-use Rattle.std.proofs.Common.{◌≡◌, List, [], ◌++◌, cond, map, sym, ap, ◌∙◌}
-use Rattle.std.proofs.lemmas.Result.{IfOk-weaker}
+use Rattle.std.proofs.Common.{[], ◌++◌, ◌∙◌, ◌≡◌, List, ap, cond, map, sym}
+use Rattle.base.proofs.Exports.{IfOk-weaker}
 use Rattle.ctrl_msg.specs.declared.message.Body.TheVariants.{Hello}
-use Rattle.version_update.specs.Marks.{at_switch, record_of}
-use Rattle.version_update.specs.Record.{hello_recorded, takes_hello}
-use Rattle.controller.specs.Controller.{KeptPlan, ControllerValue, kept_touched, plans_from}
-use Rattle.controller.specs.Sends.{install_act, settling_acts, hear_acts}
+use Rattle.version_update.specs.Exports.{at_switch, hello_recorded, record_of, takes_hello}
+use Rattle.controller.specs.Exports.{ControllerValue, KeptPlan, hear_acts, install_act, kept_touched, plans_from, settling_acts}
 use Rattle.controller.proofs.KeptPlanVersions.{plans_twice, whole_at, settles_at, stays_at}
 use Rattle.controller.proofs.controller.Controller.hello.Goals as goal
 

@@ -1,7 +1,6 @@
 use Rattle.std.proofs.Common.{refl}
-use Rattle.version_update.specs.Marks.{at_switch}
-use Rattle.version_update.specs.Record.{after_over}
-use Rattle.controller.specs.Controller.{ControllerValue, SettlesWith, StaysController}
+use Rattle.version_update.specs.Exports.{after_over, at_switch}
+use Rattle.controller.specs.Exports.{ControllerValue, SettlesWith, StaysController}
 use Rattle.controller.proofs.NewestPolicy.{newest_stays}
 use Rattle.controller.proofs.KeptPlanVersions.{whole_at, settles_at, settles_seen, stays_at}
 use Rattle.controller.proofs.controller.Controller.over.Goals as goal

@@ -1,4 +1,4 @@
-use Rattle.controller.specs.Replies.{after_reply}
+use Rattle.controller.specs.Exports.{after_reply}
 use Rattle.controller.proofs.KeptPlanVersions.{whole_at, settles_at, settles_seen, stays_at}
 use Rattle.controller.proofs.controller.Controller.replied.Goals as goal
 

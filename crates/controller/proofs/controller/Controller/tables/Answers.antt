@@ -1,8 +1,8 @@
 -- The tables are those of the plan at the version's place.
-use Rattle.std.proofs.Common.{◌≡◌, ◌≤◌, ◌-◌, Some, get_or, ap, subst, sym, ◌∙◌, arith}
-use Rattle.std.proofs.lemmas.Result.{IfOk-weaker}
-use Rattle.switch_table.specs.Tables.{AreSoundTables}
-use Rattle.controller.specs.Controller.{ControllerValue, KeptPlan, kept_tables}
+use Rattle.std.proofs.Common.{◌-◌, ◌∙◌, ◌≡◌, ◌≤◌, Some, ap, arith, get_or, subst, sym}
+use Rattle.base.proofs.Exports.{IfOk-weaker}
+use Rattle.switch_table.specs.Exports.{AreSoundTables}
+use Rattle.controller.specs.Exports.{ControllerValue, KeptPlan, kept_tables}
 use Rattle.controller.proofs.KeptPlans.{kept_sound, kept_tables_are, kept_there}
 use Rattle.controller.proofs.controller.Controller.tables.Goals as goal
 use Rattle.controller.proofs.controller.Controller.tables.Goals.{After-tables}

@@ -1,7 +1,6 @@
-use Rattle.std.proofs.Common.{true, sym, ap, ◌∙◌, subst, arith}
-use Rattle.version_update.specs.Laws.{nothing_rose}
-use Rattle.controller.specs.Controller.{ControllerValue, IsController, SettlesWith, current_touched}
-use Rattle.controller.specs.Sends.{settling_acts}
+use Rattle.std.proofs.Common.{◌∙◌, ap, arith, subst, sym, true}
+use Rattle.version_update.specs.Exports.{nothing_rose}
+use Rattle.controller.specs.Exports.{ControllerValue, IsController, SettlesWith, current_touched, settling_acts}
 use Rattle.controller.proofs.UnheardMarks.{nothing_sent, all_kept}
 use Rattle.controller.proofs.controller.Controller.unheard.Goals as goal
 

@@ -1,7 +1,6 @@
-use Rattle.std.proofs.Common.{◌∙◌, map, ap, subst, sym}
-use Rattle.std.specs.List.{zip}
-use Rattle.switch_table.specs.Tables.{part_of}
-use Rattle.controller.specs.Leads.{LeadEveryHeader}
+use Rattle.std.proofs.Common.{◌∙◌, ap, map, subst, sym, zip}
+use Rattle.switch_table.specs.Exports.{part_of}
+use Rattle.controller.specs.Exports.{LeadEveryHeader}
 use Rattle.controller.proofs.PlanLemmas.{retargeted_leads, retargeted_sound}
 use Rattle.controller.proofs.plan.Plan.with_targets.Goals as goal
 

@@ -1,7 +1,6 @@
-use Rattle.std.proofs.Common.{length, map, sym, ap, ◌∙◌}
-use Rattle.std.specs.List.{range_with_len}
-use Rattle.std.proofs.lemmas.List.FromFn.{length-map-range_with_len}
-use Rattle.switch_table.specs.Tables.{tables_of}
+use Rattle.std.proofs.Common.{◌∙◌, ap, length, map, sym}
+use Rattle.base.proofs.Exports.{length-map-range_with_len, range_with_len}
+use Rattle.switch_table.specs.Exports.{tables_of}
 use Rattle.controller.proofs.version.Version.new.Goals as goal
 
 pub invariant_of-result : goal.invariant_of-result

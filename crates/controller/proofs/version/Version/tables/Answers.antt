@@ -1,7 +1,7 @@
-use Rattle.std.proofs.Common.{◌<◌, length, get_or, ap, ◌∙◌, arith}
-use Rattle.base.proofs.ListsOfRanges.{read_map}
-use Rattle.switch_table.specs.Tables.{tables_of}
-use Rattle.controller.specs.Controller.{KeptPlan}
+use Rattle.std.proofs.Common.{◌<◌, ◌∙◌, ap, arith, get_or, length}
+use Rattle.base.proofs.Exports.{read_map}
+use Rattle.switch_table.specs.Exports.{tables_of}
+use Rattle.controller.specs.Exports.{KeptPlan}
 use Rattle.controller.proofs.version.Version.tables.Goals as goal
 
 pub returns-in-Some : goal.returns-in-Some

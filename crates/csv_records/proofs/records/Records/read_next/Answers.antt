@@ -1,4 +1,4 @@
-use Rattle.std.proofs.Common.{◌≡◌, ◌∙◌, [], cond, not, ap, sym, subst}
+use Rattle.std.proofs.Common.{[], ◌∙◌, ◌≡◌, ap, cond, not, subst, sym}
 use Rattle.csv.specs.Records.{fields_of}
 use Rattle.csv_records.specs.Readers.{records_left}
 use Rattle.csv_records.specs.Texts.{TakesRecord}

@@ -1,6 +1,5 @@
-use Rattle.std.proofs.Common.{◌∷◌, ℕ, ◌+◌, ◌≤◌, bit_and, arith}
-use Rattle.std.specs.Int.{bit_at}
-use Rattle.std.proofs.lemmas.Nat.Bits.{bit_at-lt}
+use Rattle.std.proofs.Common.{◌+◌, ◌∷◌, ◌≤◌, arith, bit_and, ℕ}
+use Rattle.base.proofs.Exports.{bit_at, bit_at-lt}
 use Rattle.cut_tree.proofs.SideLemmas.{met_step}
 use Rattle.cut_tree.proofs.choice.Side.count_four.Goals as goal
 use Rattle.cut_tree.proofs.choice.Side.count_four.Goals.{After-halves_met-fourth}

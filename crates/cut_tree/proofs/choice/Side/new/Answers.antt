@@ -1,5 +1,5 @@
 use Rattle.std.proofs.Common.{arith}
-use Rattle.std.proofs.lemmas.Nat.Bits.{bit_at_ones}
+use Rattle.base.proofs.Exports.{bit_at_ones}
 use Rattle.cut_tree.proofs.choice.Side.new.Goals as goal
 
 pub returns-clause-expected : goal.returns-clause-expected

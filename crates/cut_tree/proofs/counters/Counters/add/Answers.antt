@@ -1,5 +1,5 @@
 use Rattle.std.proofs.Common.{arith}
-use Rattle.std.proofs.lemmas.Nat.Bits.{bit_at-lt, bit_at-zero}
+use Rattle.base.proofs.Exports.{bit_at-lt, bit_at-zero}
 use Rattle.cut_tree.proofs.counters.Counters.add.Goals as goal
 
 pub add_four-requires : goal.add_four-requires

@@ -1,5 +1,5 @@
-use Rattle.std.proofs.Common.{◌≡◌, ◌∙◌, arith}
-use Rattle.std.proofs.lemmas.Nat.Bits.{bit_at-lt}
+use Rattle.std.proofs.Common.{◌∙◌, ◌≡◌, arith}
+use Rattle.base.proofs.Exports.{bit_at-lt}
 use Rattle.cut_tree.proofs.CountLemmas.{carried_on, carried_out, four_added}
 use Rattle.cut_tree.proofs.counters.Counters.add_four.Goals as goal
 

@@ -1,6 +1,6 @@
-use Rattle.std.proofs.Common.{◌≡◌, ℕ, ◌+◌, ◌*◌, ◌^◌}
-use Rattle.std.specs.Int.{bit_at}
-use Rattle.cut_tree.specs.Counts.{count_at}
+use Rattle.std.proofs.Common.{◌*◌, ◌+◌, ◌^◌, ◌≡◌, ℕ}
+use Rattle.base.proofs.Exports.{bit_at}
+use Rattle.cut_tree.specs.Exports.{count_at}
 use Rattle.cut_tree.proofs.counters.Counters.add_four.Given as goal
 
 abbrev pub invariant-loop-place : goal.invariant-loop-place

@@ -1,6 +1,5 @@
-use Rattle.std.proofs.Common.{◌-◌, sym, arith}
-use Rattle.std.proofs.lemmas.Nat.Bits.{bit_at-lt, shr_and_one}
-use Rattle.std.specs.Prelude.{slice_index_or}
+use Rattle.std.proofs.Common.{◌-◌, arith, slice_index_or, sym}
+use Rattle.base.proofs.Exports.{bit_at-lt, shr_and_one}
 use Rattle.cut_tree.proofs.CountLemmas.{rest_below}
 use Rattle.cut_tree.proofs.counters.Counters.count.Goals as goal
 

@@ -1,5 +1,5 @@
 use Rattle.std.proofs.Common.{◌≡◌, ◌≤◌, drop}
-use Rattle.cut_tree.specs.Counts.{count_at}
+use Rattle.cut_tree.specs.Exports.{count_at}
 use Rattle.cut_tree.proofs.counters.Counters.count.Given as goal
 
 abbrev pub invariant-loop-place : goal.invariant-loop-place

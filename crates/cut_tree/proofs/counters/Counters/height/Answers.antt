@@ -1,6 +1,6 @@
-use Rattle.std.proofs.Common.{List, ℕ, ◌≤◌, arith, length}
-use Rattle.std.proofs.lemmas.List.{at_drop_all}
-use Rattle.cut_tree.specs.Counts.{IsHeight, count_at}
+use Rattle.std.proofs.Common.{◌≤◌, List, arith, length, ℕ}
+use Rattle.base.proofs.Exports.{at_drop_all}
+use Rattle.cut_tree.specs.Exports.{IsHeight, count_at}
 use Rattle.cut_tree.proofs.counters.Counters.height.Goals as goal
 
 pub loop-height-init : goal.loop-height-init

@@ -1,4 +1,4 @@
-use Rattle.cut_tree.specs.Counts.{IsHeight}
+use Rattle.cut_tree.specs.Exports.{IsHeight}
 use Rattle.cut_tree.proofs.counters.Counters.height.Given as goal
 
 abbrev pub invariant-loop-height : goal.invariant-loop-height

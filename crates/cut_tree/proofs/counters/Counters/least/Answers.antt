@@ -1,5 +1,5 @@
 use Rattle.std.proofs.Common.{◌-◌, arith, drop}
-use Rattle.cut_tree.specs.Counts.{count_by}
+use Rattle.cut_tree.specs.Exports.{count_by}
 use Rattle.cut_tree.proofs.LeastLemmas.{chosen_at, least_fewer, least_same, least_start}
 use Rattle.cut_tree.proofs.counters.Counters.least.Goals as goal
 

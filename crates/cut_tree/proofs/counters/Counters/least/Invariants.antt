@@ -1,6 +1,6 @@
-use Rattle.std.proofs.Common.{◌≡◌, ◌≢◌, ◌≤◌, ◌↔◌, ℕ, drop}
-use Rattle.std.specs.Int.{bit_at}
-use Rattle.cut_tree.specs.Counts.{IsLeastOf, count_by}
+use Rattle.std.proofs.Common.{◌↔◌, ◌≡◌, ◌≢◌, ◌≤◌, drop, ℕ}
+use Rattle.base.proofs.Exports.{bit_at}
+use Rattle.cut_tree.specs.Exports.{IsLeastOf, count_by}
 use Rattle.cut_tree.proofs.counters.Counters.least.Given as goal
 
 abbrev pub invariant-loop-place : goal.invariant-loop-place

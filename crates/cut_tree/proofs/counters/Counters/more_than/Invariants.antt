@@ -1,6 +1,6 @@
-use Rattle.std.proofs.Common.{◌≤◌, ℕ, drop}
-use Rattle.std.specs.Int.{bit_at}
-use Rattle.cut_tree.specs.Counts.{count_at}
+use Rattle.std.proofs.Common.{◌≤◌, drop, ℕ}
+use Rattle.base.proofs.Exports.{bit_at}
+use Rattle.cut_tree.specs.Exports.{count_at}
 use Rattle.cut_tree.proofs.LeastLemmas.{AreOrdered}
 use Rattle.cut_tree.proofs.counters.Counters.more_than.Given as goal
 

@@ -1,5 +1,5 @@
 use Rattle.std.proofs.Common.{arith}
-use Rattle.ternary.specs.Meets.{fix_of}
+use Rattle.ternary.specs.Exports.{fix_of}
 use Rattle.cut_tree.proofs.NarrowLemmas.{narrow_few}
 use Rattle.cut_tree.proofs.TreeLemmas.{side_node}
 use Rattle.cut_tree.proofs.node.Node.half.Goals as goal

@@ -1,6 +1,6 @@
-use Rattle.std.proofs.Common.{List, ap, sym, ◌∙◌, arith}
+use Rattle.std.proofs.Common.{◌∙◌, List, ap, arith, sym}
 use Rattle.policy_rules.specs.declared.rules.Rule.{Rule}
-use Rattle.cut_tree.specs.Cuts.{least_below}
+use Rattle.cut_tree.specs.Exports.{least_below}
 use Rattle.cut_tree.proofs.CutLemmas.{least_cuts}
 use Rattle.cut_tree.proofs.TreeLemmas.{never_stuck}
 use Rattle.cut_tree.proofs.node.Node.least_cut.Goals as goal

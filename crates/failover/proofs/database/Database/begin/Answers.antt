@@ -1,8 +1,7 @@
-use Rattle.std.proofs.Common.{◌∙◌, None, arith, sym, subst}
-use Rattle.std.proofs.lemmas.List.FromFn.{fill_by_all}
-use Rattle.base.specs.Masks.{switches}
-use Rattle.failover.specs.Adverts.{first_of, first_adverts}
-use Rattle.failover.specs.Newest.{AreByOrigin}
+use Rattle.std.proofs.Common.{◌∙◌, None, arith, subst, sym}
+use Rattle.base.proofs.Exports.{fill_by_all}
+use Rattle.base.specs.Exports.{switches}
+use Rattle.failover.specs.Exports.{AreByOrigin, first_adverts, first_of}
 use Rattle.failover.proofs.HeldAdverts.{by_origin-first}
 use Rattle.failover.proofs.database.Database.begin.Goals as goal
 

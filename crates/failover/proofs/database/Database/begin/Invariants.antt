@@ -1,5 +1,5 @@
-use Rattle.std.proofs.Common.{◌≡◌, ℕ, ◌<◌, length, get_or, None}
-use Rattle.failover.specs.Adverts.{first_of}
+use Rattle.std.proofs.Common.{◌<◌, ◌≡◌, None, get_or, length, ℕ}
+use Rattle.failover.specs.Exports.{first_of}
 use Rattle.failover.proofs.database.Database.begin.Given as goal
 
 abbrev pub invariant-loop-origin : goal.invariant-loop-origin

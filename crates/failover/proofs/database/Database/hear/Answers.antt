@@ -1,6 +1,6 @@
-use Rattle.std.proofs.Common.{sym, ◌∙◌, ap, set, Some}
-use Rattle.std.proofs.lemmas.List.{map-set}
-use Rattle.failover.specs.Links.{neighbours_named}
+use Rattle.std.proofs.Common.{◌∙◌, Some, ap, set, sym}
+use Rattle.base.proofs.Exports.{map-set}
+use Rattle.failover.specs.Exports.{neighbours_named}
 use Rattle.failover.proofs.HeldAdverts.{after_no_news, after_news, by_origin-set}
 use Rattle.failover.proofs.database.Database.hear.Goals as goal
 

@@ -1,8 +1,5 @@
-use Rattle.std.proofs.Common.{ap, ◌∙◌, List, ℕ, sym, subst, Option}
-use Rattle.failover.specs.Links.{known_links}
-use Rattle.failover.specs.Paths.{IsRoute}
-use Rattle.failover.specs.Routes.{route_of, first_route}
-use Rattle.failover.specs.Isolated.{links_of_each}
+use Rattle.std.proofs.Common.{◌∙◌, List, Option, ap, subst, sym, ℕ}
+use Rattle.failover.specs.Exports.{IsRoute, first_route, known_links, links_of_each, route_of}
 use Rattle.failover.proofs.KnownLinkRows.{named_links_held}
 use Rattle.failover.proofs.RouteSearch.{known_route_is_route, route_is_list}
 use Rattle.failover.proofs.database.Database.route.Goals as goal

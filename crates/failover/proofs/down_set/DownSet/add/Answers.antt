@@ -1,6 +1,5 @@
-use Rattle.std.proofs.Common.{◌≡◌, ◌||◌, ℕ, List, subst, sym}
-use Rattle.failover.specs.DownSet.{IsLinkSet, is_link_of}
-use Rattle.failover.specs.Links.{has_link}
+use Rattle.std.proofs.Common.{◌||◌, ◌≡◌, List, subst, sym, ℕ}
+use Rattle.failover.specs.Exports.{IsLinkSet, has_link, is_link_of}
 use Rattle.failover.proofs.LinkSets.{with_link_is_link_set, with_link-rows, has_link-with_link}
 use Rattle.failover.proofs.down_set.DownSet.add.Goals as goal
 

@@ -1,4 +1,4 @@
-use Rattle.std.proofs.Common.{ℕ, ◌∙◌, ◌≤◌, cond, IsOk, List, [], ◌∷◌, ◌++◌, length, ap, subst, sym, arith}
+use Rattle.std.proofs.Common.{[], ◌++◌, ◌∙◌, ◌∷◌, ◌≤◌, IsOk, List, ap, arith, cond, length, subst, sym, ℕ}
 use Rattle.five_tuple.specs.declared.header.Header.{Header}
 use Rattle.flow_export.specs.Counts.{count_of_header}
 use Rattle.flow_export.proofs.FlowCounts.{count_few, counts_after}

@@ -1,6 +1,5 @@
-use Rattle.std.proofs.Common.{◌≡◌, ◌∙◌, ap, map, rules}
-use Rattle.std.proofs.lemmas.Iterator.{items_from_collect, YieldsList-from_map}
-use Rattle.std.proofs.lemmas.Iterator.Consumers.{YieldsList-from_rest}
+use Rattle.std.proofs.Common.{◌∙◌, ◌≡◌, ap, map, rules}
+use Rattle.base.proofs.Exports.{YieldsList-from_map, YieldsList-from_rest, items_from_collect}
 use Rattle.flow_export.specs.Flows.{FlowMeterValue, flows}
 use Rattle.flow_export.proofs.FlowCounts.{record_at, records_are}
 use Rattle.flow_export.proofs.flow_meter.FlowMeterMeter.records.Goals as goal

@@ -1,5 +1,5 @@
 use Rattle.std.proofs.Common.{◌≡◌, take}
-use Rattle.journal_reports.specs.Judging.{status_in}
+use Rattle.journal_reports.specs.Exports.{status_in}
 use Rattle.journal_reports.proofs.status.SwitchStatus.of.Given as goal
 
 abbrev pub invariant-loop-item : goal.invariant-loop-item

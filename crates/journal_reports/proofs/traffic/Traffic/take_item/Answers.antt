@@ -1,7 +1,6 @@
-use Rattle.std.proofs.Common.{subst, sym}
-use Rattle.std.specs.Prelude.{IfOk}
-use Rattle.journal.specs.declared.item.Item.{Item}
-use Rattle.journal_reports.specs.Traffic.{IsAfter}
+use Rattle.std.proofs.Common.{IfOk, subst, sym}
+use Rattle.update_machine.specs.Exports.{Item}
+use Rattle.journal_reports.specs.Exports.{IsAfter}
 use Rattle.journal_reports.proofs.ReadItems.{after_sent}
 use Rattle.journal_reports.proofs.traffic.Traffic.take_item.Goals as goal
 

@@ -1,5 +1,5 @@
 use Rattle.std.proofs.Common.{subst}
-use Rattle.journal_reports.specs.Buckets.{IsKeptInBucket}
+use Rattle.journal_reports.specs.Exports.{IsKeptInBucket}
 use Rattle.journal_reports.proofs.ReadItems.{passed_over}
 use Rattle.journal_reports.proofs.traffic.Traffic.take_message.Goals as goal
 

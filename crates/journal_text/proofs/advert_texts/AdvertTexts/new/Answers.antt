@@ -1,5 +1,5 @@
-use Rattle.std.proofs.lemmas.List.Elements.{All-replicate}
-use Rattle.std.specs.Prelude.{None}
+use Rattle.base.proofs.Exports.{All-replicate}
+use Rattle.std.proofs.Common.{None}
 use Rattle.journal_text.specs.AdvertTexts.{IsKept}
 use Rattle.journal_text.proofs.advert_texts.AdvertTexts.new.Goals as goal
 

@@ -1,6 +1,4 @@
-use Rattle.std.proofs.Common.{take, arith}
-use Rattle.std.specs.Prelude.{decimal}
-use Rattle.std.proofs.lemmas.List.{length-take}
+use Rattle.std.proofs.Common.{arith, decimal, length-take, take}
 use Rattle.lines.proofs.ShortNumbers.{held_whole}
 use Rattle.lines.proofs.line.Line.push_number.Goals as goal
 

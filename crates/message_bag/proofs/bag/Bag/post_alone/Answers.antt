@@ -1,7 +1,6 @@
-use Rattle.std.proofs.Common.{◌≡◌, ◌++◌, ◌∷◌, [], ℕ, List, None, ap, ◌∙◌}
-use Rattle.wire.specs.Frames.{frames}
-use Rattle.wire.specs.Messages.{message}
-use Rattle.message_bag.specs.KeptFrames.{frames_in}
+use Rattle.std.proofs.Common.{[], ◌++◌, ◌∙◌, ◌∷◌, ◌≡◌, List, None, ap, ℕ}
+use Rattle.wire.specs.Exports.{frames, message}
+use Rattle.message_bag.specs.Exports.{frames_in}
 use Rattle.message_bag.proofs.PostedMessages.{alone_is, kept_after, posted_after, same_grown}
 use Rattle.message_bag.proofs.bag.Bag.post_alone.Goals as goal
 

@@ -1,7 +1,7 @@
-use Rattle.std.proofs.Common.{◌≡◌, ℕ, List, Some, ap, ◌∙◌}
-use Rattle.base.proofs.ResultsMade.{on_err}
-use Rattle.wire.specs.Frames.{frames}
-use Rattle.message_bag.specs.KeptFrames.{frames_in}
+use Rattle.std.proofs.Common.{◌∙◌, ◌≡◌, List, Some, ap, ℕ}
+use Rattle.base.proofs.Exports.{on_err}
+use Rattle.wire.specs.Exports.{frames}
+use Rattle.message_bag.specs.Exports.{frames_in}
 use Rattle.message_bag.proofs.PostedMessages.{all_stay, kept_after, posted_after, still_kept, unchanged_after}
 use Rattle.message_bag.proofs.bag.Bag.post_tables.Goals as goal
 

@@ -1,6 +1,6 @@
-use Rattle.std.proofs.Common.{◌≡◌, ◌++◌, ◌∷◌, [], ◌<◌, ◌+◌, ◌^◌, length, ap, sym, subst, arith}
-use Rattle.std.proofs.lemmas.Grind.{common_steps}
-use Rattle.message_bag.specs.Deliveries.{ArePassed, waiting_status}
+use Rattle.std.proofs.Common.{[], ◌++◌, ◌+◌, ◌<◌, ◌^◌, ◌∷◌, ◌≡◌, ap, arith, length, subst, sym}
+use Rattle.base.proofs.Exports.{common_steps}
+use Rattle.message_bag.specs.Exports.{ArePassed, waiting_status}
 use Rattle.message_bag.proofs.WaitingStatuses.{pushed_passed}
 use Rattle.message_bag.proofs.deliveries.Deliveries.add.Goals as goal
 

@@ -1,5 +1,5 @@
 use Rattle.std.proofs.Common.{arith}
-use Rattle.message_bag.specs.Deliveries.{delivered_status}
+use Rattle.message_bag.specs.Exports.{delivered_status}
 use Rattle.message_bag.proofs.WaitingStatuses.{changed_passed}
 use Rattle.message_bag.proofs.deliveries.Deliveries.deliver.Goals as goal
 

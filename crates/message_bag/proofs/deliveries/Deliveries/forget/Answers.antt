@@ -1,5 +1,5 @@
 use Rattle.std.proofs.Common.{arith}
-use Rattle.message_bag.specs.Deliveries.{forgotten_status}
+use Rattle.message_bag.specs.Exports.{forgotten_status}
 use Rattle.message_bag.proofs.WaitingStatuses.{changed_passed}
 use Rattle.message_bag.proofs.deliveries.Deliveries.forget.Goals as goal
 

@@ -1,4 +1,4 @@
-use Rattle.std.proofs.Common.{ap, length, arith}
+use Rattle.std.proofs.Common.{ap, arith, length}
 use Rattle.message_bag.proofs.WaitingStatuses.{next_is, next_is_none, searched}
 use Rattle.message_bag.proofs.deliveries.Deliveries.next_waiting.Goals as goal
 

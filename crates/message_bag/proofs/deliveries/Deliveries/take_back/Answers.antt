@@ -1,5 +1,5 @@
-use Rattle.std.proofs.Common.{sym, subst, ◌∙◌, arith}
-use Rattle.message_bag.specs.Deliveries.{ArePassed}
+use Rattle.std.proofs.Common.{◌∙◌, arith, subst, sym}
+use Rattle.message_bag.specs.Exports.{ArePassed}
 use Rattle.message_bag.proofs.WaitingStatuses.{taken_back, without_last}
 use Rattle.message_bag.proofs.deliveries.Deliveries.take_back.Goals as goal
 

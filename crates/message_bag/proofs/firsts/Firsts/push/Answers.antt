@@ -1,7 +1,6 @@
-use Rattle.std.proofs.Common.{◌≡◌, ◌++◌, ◌∷◌, ℕ, [], List, Option, length, map, ap, ◌∙◌, arith}
-use Rattle.std.proofs.lemmas.Grind.{common_steps}
-use Rattle.base.proofs.ResultsMade.{on_err}
-use Rattle.message_bag.specs.KeptFrames.{First, first_in}
+use Rattle.std.proofs.Common.{[], ◌++◌, ◌∙◌, ◌∷◌, ◌≡◌, List, Option, ap, arith, length, map, ℕ}
+use Rattle.base.proofs.Exports.{common_steps, on_err}
+use Rattle.message_bag.specs.Exports.{First, first_in}
 use Rattle.message_bag.specs.declared.firsts.Span.{Span}
 use Rattle.message_bag.proofs.FirstFrameSpans.{all_stay, pushed}
 use Rattle.message_bag.proofs.firsts.Firsts.push.Goals as goal

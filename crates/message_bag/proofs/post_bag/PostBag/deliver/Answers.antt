@@ -1,4 +1,4 @@
-use Rattle.message_bag.specs.Deliveries.{delivered_status}
+use Rattle.message_bag.specs.Exports.{delivered_status}
 use Rattle.message_bag.proofs.FramesByStatus.{posts_changed}
 use Rattle.message_bag.proofs.post_bag.PostBag.deliver.Goals as goal
 

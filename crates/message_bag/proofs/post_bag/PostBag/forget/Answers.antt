@@ -1,4 +1,4 @@
-use Rattle.message_bag.specs.Deliveries.{forgotten_status}
+use Rattle.message_bag.specs.Exports.{forgotten_status}
 use Rattle.message_bag.proofs.FramesByStatus.{posts_changed}
 use Rattle.message_bag.proofs.post_bag.PostBag.forget.Goals as goal
 

@@ -1,9 +1,7 @@
-use Rattle.std.proofs.Common.{◌≡◌, true, ℕ, Option, List, ap, length, sym, subst, ◌∙◌}
-use Rattle.std.specs.Prelude.{IfOk, IfSome, is_some}
-use Rattle.std.specs.List.{zip}
+use Rattle.std.proofs.Common.{◌∙◌, ◌≡◌, IfOk, IfSome, List, Option, ap, is_some, length, subst, sym, true, zip, ℕ}
 use Rattle.ctrl_msg.specs.declared.message.Message.{Message}
 use Rattle.message_bag.specs.Deliveries as statuses
-use Rattle.message_bag.specs.Posts.{IsMessageOf, Post, is_post_deliverable}
+use Rattle.message_bag.specs.Exports.{IsMessageOf, Post, is_post_deliverable}
 use Rattle.message_bag.proofs.TakenMessages.{found_known, found_there}
 use Rattle.message_bag.proofs.FramesByStatus.{deliverable_as}
 use Rattle.message_bag.proofs.post_bag.PostBag.get.Goals as goal

@@ -1,4 +1,4 @@
-use Rattle.std.proofs.Common.{length, ap, arith}
+use Rattle.std.proofs.Common.{ap, arith, length}
 use Rattle.message_bag.proofs.FramesByStatus.{length_of_zip, one_more}
 use Rattle.message_bag.proofs.post_bag.PostBag.post_shared.Goals as goal
 

@@ -1,4 +1,4 @@
-use Rattle.std.proofs.Common.{length, ap, sym, ◌∙◌}
+use Rattle.std.proofs.Common.{◌∙◌, ap, length, sym}
 use Rattle.message_bag.proofs.FramesByStatus.{length_of_zip}
 use Rattle.message_bag.proofs.post_bag.PostBag.sent.Goals as goal
 

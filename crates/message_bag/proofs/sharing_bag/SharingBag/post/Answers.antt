@@ -1,5 +1,5 @@
 use Rattle.message_bag.proofs.RepeatedMessages.{framed_after, posted_either}
-use Rattle.wire.specs.Frames.{frames}
+use Rattle.wire.specs.Exports.{frames}
 use Rattle.message_bag.proofs.sharing_bag.SharingBag.post.Goals as goal
 
 pub invariant_of-self : goal.invariant_of-self

@@ -1,10 +1,9 @@
-use Rattle.std.proofs.Common.{◌≡◌, ◌∙◌, ◌++◌, ◌∷◌, [], ℕ, List, Some, ap, arith, sym}
-use Rattle.std.proofs.lemmas.Grind.{common_steps}
-use Rattle.wire.specs.Frames.{frames}
+use Rattle.std.proofs.Common.{[], ◌++◌, ◌∙◌, ◌∷◌, ◌≡◌, List, Some, ap, arith, sym, ℕ}
+use Rattle.base.proofs.Exports.{common_steps}
+use Rattle.wire.specs.Exports.{frames}
 use Rattle.message_bag.proofs.FramedMessages.{framed_is}
 use Rattle.message_bag.proofs.RepeatedMessages.{all_posted, all_same, last_numbered, one_set}
-use Rattle.message_bag.specs.Numbered.{item_numbered}
-use Rattle.message_bag.specs.Posts.{posted_frames}
+use Rattle.message_bag.specs.Exports.{item_numbered, posted_frames}
 use Rattle.message_bag.proofs.sharing_bag.SharingBag.post_advert.Goals as goal
 
 framed : (c : goal.Joined-index_mut) → frames c.get.result.now ≡ posted_frames c.args.message

@@ -1,6 +1,6 @@
-use Rattle.std.proofs.Common.{sym, subst}
+use Rattle.std.proofs.Common.{subst, sym}
 use Rattle.switch_table.specs.declared.tables.Tables.{Tables}
-use Rattle.message_bag.specs.KeptFrames.{CarryTables}
+use Rattle.message_bag.specs.Exports.{CarryTables}
 use Rattle.message_bag.proofs.InstallationFrames.{says}
 use Rattle.message_bag.proofs.tables.TableFrames.new.Goals as goal
 

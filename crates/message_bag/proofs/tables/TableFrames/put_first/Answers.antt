@@ -1,7 +1,5 @@
-use Rattle.std.proofs.Common.{◌≡◌, ◌++◌, List, ℕ, length, ap, subst, ◌∙◌}
-use Rattle.std.specs.Prelude.{OnOk}
-use Rattle.wire.specs.Frames.{frame}
-use Rattle.wire.specs.Messages.{spelled_front}
+use Rattle.std.proofs.Common.{◌++◌, ◌∙◌, ◌≡◌, List, OnOk, ap, length, subst, ℕ}
+use Rattle.wire.specs.Exports.{frame, spelled_front}
 use Rattle.message_bag.proofs.InstallationFrames.{first_put_ok, own_long}
 use Rattle.message_bag.proofs.tables.TableFrames.put_first.Goals as goal
 

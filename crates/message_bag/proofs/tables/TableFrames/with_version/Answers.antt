@@ -1,6 +1,6 @@
-use Rattle.std.proofs.Common.{◌<◌, ◌^◌, sym, subst, arith}
+use Rattle.std.proofs.Common.{◌<◌, ◌^◌, arith, subst, sym}
 use Rattle.switch_table.specs.declared.tables.Tables.{Tables}
-use Rattle.message_bag.specs.KeptFrames.{CarryTables}
+use Rattle.message_bag.specs.Exports.{CarryTables}
 use Rattle.message_bag.proofs.InstallationFrames.{says_too}
 use Rattle.message_bag.proofs.tables.TableFrames.with_version.Goals as goal
 

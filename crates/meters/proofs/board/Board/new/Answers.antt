@@ -1,6 +1,6 @@
-use Rattle.std.proofs.Common.{◌≡◌, ◌∙◌, sym, ap, filter, map, rules}
-use Rattle.std.proofs.lemmas.Fn.{filter_same}
-use Rattle.base.specs.Masks.{has}
+use Rattle.std.proofs.Common.{◌∙◌, ◌≡◌, ap, filter, map, rules, sym}
+use Rattle.base.proofs.Exports.{filter_same}
+use Rattle.base.specs.Exports.{has}
 use Rattle.meters.proofs.MetersKept.{map-filter, kept-nothing}
 use Rattle.meters.proofs.board.Board.new.Goals as goal
 use Rattle.meters.proofs.board.Board.new.Given.{Over}

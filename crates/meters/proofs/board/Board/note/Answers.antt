@@ -1,7 +1,5 @@
-use Rattle.std.proofs.Common.{◌≡◌, ◌<◌, ◌∙◌, get_or-set_same, length, sym, ap, ◌∷◌, [], ◌++◌, append-nil, drop, map, rules}
-use Rattle.std.specs.List.{flat_map}
-use Rattle.meters.specs.Gone.{leaving_records}
-use Rattle.meters.specs.Meters.{meters_after, flow_records_of}
+use Rattle.std.proofs.Common.{[], ◌++◌, ◌<◌, ◌∙◌, ◌∷◌, ◌≡◌, ap, append-nil, drop, flat_map, get_or-set_same, length, map, rules, sym}
+use Rattle.meters.specs.Exports.{flow_records_of, leaving_records, meters_after}
 use Rattle.meters.proofs.MetersKept.{after_stay, after_leave, after_all}
 use Rattle.meters.proofs.MeterRecords.{board_on, told_all, told_leave, told_stay}
 use Rattle.meters.proofs.board.Board.note.Goals as goal

@@ -1,7 +1,5 @@
-use Rattle.std.proofs.Common.{◌≡◌, ◌∷◌, [], map, ◌++◌, take, drop, ◌-◌, length}
-use Rattle.std.specs.List.{flat_map}
-use Rattle.meters.specs.Gone.{leaving_records}
-use Rattle.meters.specs.Meters.{meters_after}
+use Rattle.std.proofs.Common.{[], ◌++◌, ◌-◌, ◌∷◌, ◌≡◌, drop, flat_map, length, map, take}
+use Rattle.meters.specs.Exports.{leaving_records, meters_after}
 use Rattle.meters.proofs.board.Board.note.Given as goal
 
 abbrev pub invariant-loop-at : goal.invariant-loop-at

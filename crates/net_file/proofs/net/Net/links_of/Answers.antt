@@ -1,8 +1,6 @@
-use Rattle.std.proofs.Common.{◌||◌, take, take_all, ap, sym, ◌∙◌}
-use Rattle.std.specs.Prelude.{nat_eq}
-use Rattle.std.proofs.lemmas.List.Folds.{list_any_more}
-use Rattle.std.proofs.Math.Bool.{or-false}
-use Rattle.net_file.specs.Joins.{are_linked, joins}
+use Rattle.std.proofs.Common.{◌||◌, ◌∙◌, ap, nat_eq, sym, take, take_all}
+use Rattle.base.proofs.Exports.{list_any_more, or-false}
+use Rattle.net_file.specs.Exports.{are_linked, joins}
 use Rattle.net_file.proofs.MaskBits.{in_mask_with, mask_of_is}
 use Rattle.net_file.proofs.net.Net.links_of.Goals as goal
 use Rattle.net_file.proofs.net.Net.links_of.Goals.{in-Some, in_default}

@@ -1,6 +1,5 @@
-use Rattle.std.proofs.Common.{◌≡◌, ◌<◌, ◌^◌, take}
-use Rattle.net_file.specs.Joins.{are_linked}
-use Rattle.net_file.specs.Laws.{IsMask}
+use Rattle.std.proofs.Common.{◌<◌, ◌^◌, ◌≡◌, take}
+use Rattle.net_file.specs.Exports.{IsMask, are_linked}
 use Rattle.net_file.proofs.net.Net.links_of.Given as goal
 
 abbrev pub invariant-loop-link : goal.invariant-loop-link

@@ -1,8 +1,6 @@
-use Rattle.std.proofs.Common.{◌||◌, take, take_all, ap, sym, ◌∙◌}
-use Rattle.std.proofs.Math.Facts.{Fits-lt-pow}
-use Rattle.std.proofs.lemmas.List.Folds.{list_any_more}
-use Rattle.net_file.specs.Joins.{has_port}
-use Rattle.net_file.specs.Owners.{have_port}
+use Rattle.std.proofs.Common.{◌||◌, ◌∙◌, ap, sym, take, take_all}
+use Rattle.base.proofs.Exports.{Fits-lt-pow, list_any_more}
+use Rattle.net_file.specs.Exports.{has_port, have_port}
 use Rattle.net_file.proofs.MaskBits.{in_mask_or, mask_of_is}
 use Rattle.net_file.proofs.net.Net.port_mask.Goals as goal
 

@@ -1,6 +1,5 @@
 use Rattle.std.proofs.Common.{◌≡◌, take}
-use Rattle.net_file.specs.Laws.{IsMask}
-use Rattle.net_file.specs.Owners.{have_port}
+use Rattle.net_file.specs.Exports.{IsMask, have_port}
 use Rattle.net_file.proofs.net.Net.port_mask.Given as goal
 
 abbrev pub invariant-loop-row : goal.invariant-loop-row

@@ -1,5 +1,5 @@
-use Rattle.std.proofs.Common.{inl, inr, sym, ◌∙◌}
-use Rattle.std.proofs.lemmas.Bool.{cases_lt}
+use Rattle.std.proofs.Common.{◌∙◌, inl, inr, sym}
+use Rattle.base.proofs.Exports.{cases_lt}
 use Rattle.net_file.proofs.RowPlaces.{no_owner}
 use Rattle.net_file.proofs.net.Net.ports.Goals as goal
 

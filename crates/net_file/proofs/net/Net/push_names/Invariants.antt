@@ -1,6 +1,5 @@
-use Rattle.std.proofs.Common.{◌≡◌, ◌++◌, take}
-use Rattle.std.specs.String.{string_bytes}
-use Rattle.net_file.specs.Net.{names_text}
+use Rattle.std.proofs.Common.{◌++◌, ◌≡◌, string_bytes, take}
+use Rattle.net_file.specs.Exports.{names_text}
 use Rattle.net_file.proofs.net.Net.push_names.Given as goal
 
 abbrev pub invariant-loop-s : goal.invariant-loop-s

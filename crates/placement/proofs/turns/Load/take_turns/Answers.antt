@@ -1,6 +1,5 @@
-use Rattle.std.proofs.Common.{ℕ, ◌≡◌, ◌∙◌, ◌+◌, ◌<◌, List, ◌∷◌, [], length, length-take, take, drop, get_or, eqb, cond, refl, ap, subst, sym, arith, rules, All, AllPairs}
-use Rattle.std.specs.List.{list_any}
-use Rattle.std.proofs.lemmas.List.{take_more, drop_more, drop_all, get_or-take}
+use Rattle.std.proofs.Common.{[], ◌+◌, ◌<◌, ◌∙◌, ◌∷◌, ◌≡◌, All, AllPairs, List, ap, arith, cond, drop, eqb, get_or, get_or-take, length, length-take, refl, rules, subst, sym, take, ℕ}
+use Rattle.base.proofs.Exports.{drop_all, drop_more, list_any, take_more}
 use Rattle.placement.specs.Placement.{AreFirst, loaded_by, turn_rule, with_room}
 use Rattle.placement.specs.declared.turns.Load.{Load}
 use Rattle.placement.specs.declared.turns.Load.TheVariants as load

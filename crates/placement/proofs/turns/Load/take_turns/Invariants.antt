@@ -1,4 +1,4 @@
-use Rattle.std.proofs.Common.{take, drop}
+use Rattle.std.proofs.Common.{drop, take}
 use Rattle.placement.specs.Placement.{turn_rule}
 use Rattle.placement.proofs.TurnLemmas.{Loaded}
 use Rattle.placement.proofs.turns.Load.take_turns.Given as goal

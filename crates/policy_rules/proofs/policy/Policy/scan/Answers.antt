@@ -1,8 +1,7 @@
-use Rattle.std.proofs.Common.{◌∙◌, ◌≢◌, sym, ap, subst, filter}
-use Rattle.std.proofs.lemmas.List.Kept.{AllPairs-filter}
+use Rattle.std.proofs.Common.{◌∙◌, ◌≢◌, ap, filter, subst, sym}
+use Rattle.base.proofs.Exports.{AllPairs-filter}
 use Rattle.policy_rules.specs.declared.policy.Row.{Row}
-use Rattle.policy_rules.specs.Policy.{HaveDistinctPriorities, row_matches}
-use Rattle.policy_rules.specs.Scan.{hit_of, scan_by}
+use Rattle.policy_rules.specs.Exports.{HaveDistinctPriorities, hit_of, row_matches, scan_by}
 use Rattle.policy_rules.proofs.FirstMatch.{highest_is}
 use Rattle.policy_rules.proofs.policy.Policy.scan.Goals as goal
 

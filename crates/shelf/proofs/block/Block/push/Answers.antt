@@ -1,5 +1,5 @@
-use Rattle.std.proofs.Common.{ℕ, List, ◌++◌, subst, sym}
-use Rattle.shelf.specs.SinkWrites.{IsGathered}
+use Rattle.std.proofs.Common.{◌++◌, List, subst, sym, ℕ}
+use Rattle.shelf.specs.Exports.{IsGathered}
 use Rattle.shelf.proofs.BlockWrites.{all_written, part_longer, part_written, waits_alone}
 use Rattle.shelf.proofs.block.Block.push.Goals as goal
 

@@ -1,6 +1,5 @@
-use Rattle.std.proofs.Common.{◌≡◌, ◌∙◌, sym, subst, Some, List, ℕ}
-use Rattle.failover.specs.Links.{no_links}
-use Rattle.failover.specs.Routes.{route_of}
+use Rattle.std.proofs.Common.{◌∙◌, ◌≡◌, List, Some, subst, sym, ℕ}
+use Rattle.failover.specs.Exports.{no_links, route_of}
 use Rattle.switch_core.proofs.FirstTargets.{to_any}
 use Rattle.switch_core.proofs.routes.Routes.find_route.Goals as goal
 

@@ -1,8 +1,5 @@
-use Rattle.std.proofs.Common.{◌≡◌, ◌∙◌, ap, sym, subst, Some, List, ℕ}
-use Rattle.std.specs.Option.{option_copied}
-use Rattle.std.specs.Prelude.{unwrap_or}
-use Rattle.failover.specs.Links.{no_links}
-use Rattle.failover.specs.Routes.{route_of}
+use Rattle.std.proofs.Common.{◌∙◌, ◌≡◌, List, Some, ap, option_copied, subst, sym, unwrap_or, ℕ}
+use Rattle.failover.specs.Exports.{no_links, route_of}
 use Rattle.switch_core.proofs.FirstTargets.{to_any}
 use Rattle.switch_core.proofs.routes.Routes.to_first.Goals as goal
 

@@ -1,7 +1,6 @@
-use Rattle.std.proofs.Common.{ap, sym, ◌∙◌}
-use Rattle.failover.specs.Links.{no_links}
-use Rattle.switch_core.specs.Answering.{incoming_packet}
-use Rattle.switch_core.specs.State.{SwitchValue}
+use Rattle.std.proofs.Common.{◌∙◌, ap, sym}
+use Rattle.failover.specs.Exports.{no_links}
+use Rattle.switch_core.specs.Exports.{SwitchValue, incoming_packet}
 use Rattle.switch_core.proofs.AdmittedPackets.{not_admitted, was_admitted}
 use Rattle.switch_core.proofs.LookupAnswers.{entry_uncached}
 use Rattle.switch_core.proofs.switch.Switch.admit.Goals as goal

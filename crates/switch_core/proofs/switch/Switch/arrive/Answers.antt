@@ -1,9 +1,6 @@
-use Rattle.std.proofs.Common.{◌≡◌, ◌∙◌, ap, subst}
-use Rattle.tunnel.specs.Tunnel.{TunnelValue}
-use Rattle.switch_core.specs.Answering.{arrived_on, packet_of, received}
-use Rattle.switch_core.specs.Answers.{arrival_of}
-use Rattle.switch_core.specs.Ends.{around}
-use Rattle.switch_core.specs.Forwarding.{answer_of}
+use Rattle.std.proofs.Common.{◌∙◌, ◌≡◌, ap, subst}
+use Rattle.tunnel.specs.Exports.{TunnelValue}
+use Rattle.switch_core.specs.Exports.{answer_of, around, arrival_of, arrived_on, packet_of, received}
 use Rattle.switch_core.specs.declared.tunnel_calls.Packet.{Packet}
 use Rattle.switch_core.proofs.switch.Switch.arrive.Goals as goal
 

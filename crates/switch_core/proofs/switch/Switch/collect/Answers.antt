@@ -1,9 +1,8 @@
 use Rattle.std.proofs.Common.{◌≡◌, filter, nat_lt, rules}
-use Rattle.std.proofs.lemmas.Fn.{filter_same}
-use Rattle.std.proofs.lemmas.List.Elements.{All-filter}
-use Rattle.switch_table.specs.Tables.{AreSoundTables}
+use Rattle.base.proofs.Exports.{All-filter, filter_same}
+use Rattle.switch_table.specs.Exports.{AreSoundTables}
 use Rattle.switch_table.specs.declared.tables.Tables.{Tables}
-use Rattle.switch_core.specs.Hearing.{collected_to}
+use Rattle.switch_core.specs.Exports.{collected_to}
 use Rattle.switch_core.proofs.switch.Switch.collect.Goals as goal
 use Rattle.switch_core.proofs.switch.Switch.collect.Goals.{After-retain}
 

@@ -1,8 +1,5 @@
-use Rattle.std.proofs.Common.{◌≡◌, Option, None, Some, ap, option_map, refl}
-use Rattle.switch_core.specs.Answers.{Answer, Answered, entry_of}
-use Rattle.switch_core.specs.Answering.{admitted, incoming_packet}
-use Rattle.switch_core.specs.Ends.{around}
-use Rattle.switch_core.specs.State.{SwitchValue}
+use Rattle.std.proofs.Common.{◌≡◌, None, Option, Some, ap, option_map, refl}
+use Rattle.switch_core.specs.Exports.{Answer, Answered, SwitchValue, admitted, around, entry_of, incoming_packet}
 use Rattle.switch_core.proofs.AdmittedPackets.{answered, by_lookup}
 use Rattle.switch_core.proofs.LookupAnswers.{entry_uncached}
 use Rattle.switch_core.proofs.switch.Switch.enter.Goals as goal

@@ -1,8 +1,6 @@
-use Rattle.std.proofs.Common.{◌≡◌, Option, Some, ℕ, ap, subst, sym, ◌∙◌}
-use Rattle.switch_core.specs.Moving.{Moved, hop_answer, link_found_down, rerouted_here}
-use Rattle.switch_core.specs.State.{SwitchValue}
-use Rattle.tunnel.specs.Moves.{marked_down, next}
-use Rattle.tunnel.specs.Tunnel.{TunnelValue}
+use Rattle.std.proofs.Common.{◌∙◌, ◌≡◌, Option, Some, ap, subst, sym, ℕ}
+use Rattle.switch_core.specs.Exports.{Moved, SwitchValue, hop_answer, link_found_down, rerouted_here}
+use Rattle.tunnel.specs.Exports.{TunnelValue, marked_down, next}
 use Rattle.switch_core.proofs.NextSwitch.{hop_down, is_down}
 use Rattle.switch_core.proofs.switch.Switch.hop.Goals as goal
 use Rattle.switch_core.proofs.switch.Switch.hop.Goals.{After-reroute}

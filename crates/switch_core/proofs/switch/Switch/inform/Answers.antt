@@ -1,5 +1,5 @@
-use Rattle.std.proofs.Common.{◌≡◌, ◌∙◌, true, sym}
-use Rattle.switch_core.specs.Hearing.{is_news_here}
+use Rattle.std.proofs.Common.{◌∙◌, ◌≡◌, sym, true}
+use Rattle.switch_core.specs.Exports.{is_news_here}
 use Rattle.switch_core.proofs.OwnAdverts.{news_is_of_another, own_others}
 use Rattle.switch_core.proofs.switch.Switch.inform.Goals as goal
 

@@ -1,6 +1,6 @@
-use Rattle.std.proofs.Common.{◌≡◌, ◌++◌, ◌∷◌, [], rules}
-use Rattle.std.proofs.lemmas.List.Elements.{All-push}
-use Rattle.switch_table.specs.Tables.{AreSoundTables}
+use Rattle.std.proofs.Common.{[], ◌++◌, ◌∷◌, ◌≡◌, rules}
+use Rattle.base.proofs.Exports.{All-push}
+use Rattle.switch_table.specs.Exports.{AreSoundTables}
 use Rattle.switch_core.proofs.switch.Switch.install.Goals as goal
 
 pub invariant_of-self-2 : goal.invariant_of-self-2

@@ -1,4 +1,4 @@
-use Rattle.std.proofs.Common.{◌≡◌, ◌≢◌, ◌<◌, subst, sym, ◌∙◌}
+use Rattle.std.proofs.Common.{◌<◌, ◌∙◌, ◌≡◌, ◌≢◌, subst, sym}
 use Rattle.switch_core.proofs.NextSwitch.{next_apart}
 use Rattle.switch_core.proofs.switch.Switch.pass.Goals as goal
 

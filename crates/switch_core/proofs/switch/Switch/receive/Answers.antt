@@ -1,6 +1,5 @@
-use Rattle.std.proofs.Common.{ap, sym, ◌∙◌}
-use Rattle.switch_core.specs.Answering.{arrived_on}
-use Rattle.switch_core.specs.Deciding.{packet_with}
+use Rattle.std.proofs.Common.{◌∙◌, ap, sym}
+use Rattle.switch_core.specs.Exports.{arrived_on, packet_with}
 use Rattle.switch_core.proofs.AdmittedPackets.{answer_counted}
 use Rattle.switch_core.proofs.switch.Switch.receive.Goals as goal
 

@@ -1,8 +1,6 @@
-use Rattle.std.proofs.Common.{◌∙◌, ◌∷◌, [], ◌++◌, ap, arith, drop, length, rules, sym}
-use Rattle.std.specs.List.{list_any}
-use Rattle.std.proofs.lemmas.List.{length-map}
-use Rattle.switch_table.specs.Cache.{CacheValue, after_accept, same_key}
-use Rattle.switch_table.specs.Keys.{kept_entries, kept_entry}
+use Rattle.std.proofs.Common.{[], ◌++◌, ◌∙◌, ◌∷◌, ap, arith, drop, length, rules, sym}
+use Rattle.base.proofs.Exports.{length-map, list_any}
+use Rattle.switch_table.specs.Exports.{CacheValue, after_accept, kept_entries, kept_entry, same_key}
 use Rattle.switch_table.proofs.CacheLemmas.{first_evicted, length-rest}
 use Rattle.switch_table.proofs.PairLemmas.{entries_pushed, entries_removed, first_removed, holds_pushed, holds_removed}
 use Rattle.switch_table.proofs.cache.Cache.accept.Goals as goal

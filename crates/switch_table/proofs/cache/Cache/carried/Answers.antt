@@ -1,7 +1,5 @@
-use Rattle.std.proofs.Common.{◌≡◌, ◌∙◌, ◌∷◌, [], ◌++◌, ap, append_assoc, filter_map, subst, sym}
-use Rattle.switch_table.specs.Cache.{HaveDistinctKeys}
-use Rattle.switch_table.specs.Carried.{carried_entry}
-use Rattle.switch_table.specs.Keys.{has_key}
+use Rattle.std.proofs.Common.{[], ◌++◌, ◌∙◌, ◌∷◌, ◌≡◌, ap, append_assoc, filter_map, subst, sym}
+use Rattle.switch_table.specs.Exports.{HaveDistinctKeys, carried_entry, has_key}
 use Rattle.switch_table.proofs.CarryLemmas.{carried_distinct, left_absent, left_in, left_out}
 use Rattle.switch_table.proofs.cache.Cache.carried.Goals as goal
 use Rattle.switch_table.proofs.cache.Cache.carried.Goals.{After-carried_entry}

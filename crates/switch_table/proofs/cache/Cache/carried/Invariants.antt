@@ -1,6 +1,5 @@
-use Rattle.std.proofs.Common.{◌≡◌, ◌++◌, filter_map, map}
-use Rattle.switch_table.specs.Carried.{carried_entry}
-use Rattle.switch_table.specs.Keys.{pair_of}
+use Rattle.std.proofs.Common.{◌++◌, ◌≡◌, filter_map, map}
+use Rattle.switch_table.specs.Exports.{carried_entry, pair_of}
 use Rattle.switch_table.proofs.cache.Cache.carried.Given as goal
 
 -- what is left of the entries that came is there, in order, and the others are to come

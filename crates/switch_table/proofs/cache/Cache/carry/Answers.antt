@@ -1,8 +1,5 @@
-use Rattle.std.proofs.Common.{◌≡◌, ◌∙◌, ◌+◌, ◌-◌, ◌<◌, All, ap, arith, filter, filter_map, map, subst, sym}
-use Rattle.switch_table.specs.Cache.{CacheValue}
-use Rattle.switch_table.specs.Carried.{after_carry, carried_entry}
-use Rattle.switch_table.specs.Keys.{Pair, kept_entries, is_carried_key, pair_of}
-use Rattle.switch_table.specs.Pairs.{AreUpTo, HaveVersions, HoldsEntries}
+use Rattle.std.proofs.Common.{◌+◌, ◌-◌, ◌<◌, ◌∙◌, ◌≡◌, All, ap, arith, filter, filter_map, map, subst, sym}
+use Rattle.switch_table.specs.Exports.{AreUpTo, CacheValue, HaveVersions, HoldsEntries, Pair, after_carry, carried_entry, is_carried_key, kept_entries, pair_of}
 use Rattle.switch_table.proofs.CarryLemmas.{left_few}
 use Rattle.switch_table.proofs.OverLemmas.{IsBelow, below_newest, carried_pairs, masked_carried, pairs_over, up_to_carried, versions_over}
 use Rattle.switch_table.proofs.PairLemmas.{entries_of_pairs, holds_of, versions_of_pairs}

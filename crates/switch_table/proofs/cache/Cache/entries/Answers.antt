@@ -1,5 +1,5 @@
 use Rattle.std.proofs.Common.{subst}
-use Rattle.switch_table.specs.Cache.{IsCache}
+use Rattle.switch_table.specs.Exports.{IsCache}
 use Rattle.switch_table.proofs.PairLemmas.{entries_distinct}
 use Rattle.switch_table.proofs.cache.Cache.entries.Goals as goal
 

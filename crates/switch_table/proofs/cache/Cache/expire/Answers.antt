@@ -1,7 +1,6 @@
 use Rattle.std.proofs.Common.{◌∙◌, ap, arith, option_map, slice_get, sym}
-use Rattle.std.proofs.lemmas.Option.{slice_get-map}
-use Rattle.switch_table.specs.Cache.{CacheValue}
-use Rattle.switch_table.specs.Keys.{kept_entries, kept_entry}
+use Rattle.base.proofs.Exports.{slice_get-map}
+use Rattle.switch_table.specs.Exports.{CacheValue, kept_entries, kept_entry}
 use Rattle.switch_table.specs.declared.cache.CacheEntry.{CacheEntry}
 use Rattle.switch_table.proofs.PairLemmas.{few_removed, holds_removed}
 use Rattle.switch_table.proofs.cache.Cache.expire.Goals as goal

@@ -1,12 +1,7 @@
-use Rattle.std.proofs.Common.{◌≡◌, ◌∙◌, ◌+◌, ◌&&◌, Option, Some, None, IfSome, ap, eqb, find, option_map, rules, subst, sym}
-use Rattle.std.proofs.lemmas.Iterator.Adapters.{option_map_id}
-use Rattle.std.proofs.lemmas.Iterator.Consumers.{YieldsList-from_first}
-use Rattle.std.proofs.lemmas.Iterator.Search.{find_from_yields_List}
-use Rattle.base.proofs.ListsFound.{found_is}
-use Rattle.ternary.specs.Word.{holds}
-use Rattle.switch_table.specs.Cache.{CacheValue, first_entry}
-use Rattle.switch_table.specs.Keys.{Pair, kept_entries, kept_entry, is_hit}
-use Rattle.switch_table.specs.Pairs.{AreMasked}
+use Rattle.std.proofs.Common.{◌&&◌, ◌+◌, ◌∙◌, ◌≡◌, IfSome, None, Option, Some, ap, eqb, find, option_map, rules, subst, sym}
+use Rattle.base.proofs.Exports.{YieldsList-from_first, find_from_yields_List, found_is, option_map_id}
+use Rattle.ternary.specs.Exports.{holds}
+use Rattle.switch_table.specs.Exports.{AreMasked, CacheValue, Pair, first_entry, is_hit, kept_entries, kept_entry}
 use Rattle.switch_table.specs.declared.cache.CacheEntry.{CacheEntry}
 use Rattle.switch_table.proofs.FirstLemmas.{first_by_hits}
 use Rattle.switch_table.proofs.PairLemmas.{HasVersion}

@@ -1,7 +1,6 @@
 use Rattle.std.proofs.Common.{◌∙◌, ap}
-use Rattle.std.specs.List.{list_any}
-use Rattle.switch_table.specs.Cache.{CacheValue, same_key}
-use Rattle.switch_table.specs.Keys.{has_key}
+use Rattle.base.proofs.Exports.{list_any}
+use Rattle.switch_table.specs.Exports.{CacheValue, has_key, same_key}
 use Rattle.switch_table.proofs.PairLemmas.{has_key_of_entry}
 use Rattle.switch_table.proofs.cache.Cache.has_key_of.Goals as goal
 

@@ -1,7 +1,5 @@
-use Rattle.std.proofs.Common.{◌≡◌, ◌∙◌, ◌+◌, ap, filter, leb, subst, sym}
-use Rattle.switch_table.specs.Cache.{after_raise}
-use Rattle.switch_table.specs.Keys.{Pair, kept_entries}
-use Rattle.switch_table.specs.Pairs.{HoldsEntries}
+use Rattle.std.proofs.Common.{◌+◌, ◌∙◌, ◌≡◌, ap, filter, leb, subst, sym}
+use Rattle.switch_table.specs.Exports.{HoldsEntries, Pair, after_raise, kept_entries}
 use Rattle.switch_table.proofs.PairLemmas.{entries_from, holds_from}
 use Rattle.switch_table.proofs.cache.Cache.raise.Goals as goal
 use Rattle.switch_table.proofs.cache.Cache.raise.Goals.{After-keep_from}

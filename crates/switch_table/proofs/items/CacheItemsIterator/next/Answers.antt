@@ -1,7 +1,6 @@
-use Rattle.std.proofs.Common.{ℕ, ◌+◌, ◌<◌, ◌≤◌, ◌^◌, subst}
-use Rattle.std.proofs.lemmas.List.Elements.{All-head, All-tail}
-use Rattle.switch_table.specs.Keys.{Pair}
-use Rattle.switch_table.specs.Pairs.{HaveVersions}
+use Rattle.std.proofs.Common.{◌+◌, ◌<◌, ◌^◌, ◌≤◌, subst, ℕ}
+use Rattle.base.proofs.Exports.{All-head, All-tail}
+use Rattle.switch_table.specs.Exports.{HaveVersions, Pair}
 use Rattle.switch_table.proofs.items.CacheItemsIterator.next.Goals as goal
 
 abbrev IsVersioned : ℕ → Pair → Type 0

@@ -1,5 +1,5 @@
 use Rattle.std.proofs.Common.{◌≡◌, length}
-use Rattle.switch_table.specs.Slots.{live_pairs}
+use Rattle.switch_table.specs.Exports.{live_pairs}
 use Rattle.switch_table.proofs.items.SlotItemsIterator.next.Given as goal
 
 -- no live slot has been passed

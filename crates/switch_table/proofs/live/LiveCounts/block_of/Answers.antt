@@ -1,5 +1,5 @@
 use Rattle.std.proofs.Common.{subst, sym}
-use Rattle.switch_table.specs.Live.{AreBlocks}
+use Rattle.switch_table.specs.Exports.{AreBlocks}
 use Rattle.switch_table.proofs.LiveLemmas.{block_holds}
 use Rattle.switch_table.proofs.live.LiveCounts.block_of.Goals as goal
 

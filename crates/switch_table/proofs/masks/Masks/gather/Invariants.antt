@@ -1,5 +1,5 @@
-use Rattle.std.proofs.Common.{◌≡◌, ◌++◌, All}
-use Rattle.switch_table.specs.Masks.{HasMaskIn}
+use Rattle.std.proofs.Common.{◌++◌, ◌≡◌, All}
+use Rattle.switch_table.specs.Exports.{HasMaskIn}
 use Rattle.switch_table.specs.declared.cache.CacheEntry.{CacheEntry}
 use Rattle.switch_table.proofs.masks.Masks.gather.Given as goal
 

@@ -1,6 +1,6 @@
 use Rattle.std.proofs.Common.{◌∙◌, ap, sym}
-use Rattle.base.proofs.ListLemmas.{none_from_not_some}
-use Rattle.switch_table.specs.Keys.{equal_keys, has_key}
+use Rattle.base.proofs.Exports.{none_from_not_some}
+use Rattle.switch_table.specs.Exports.{equal_keys, has_key}
 use Rattle.switch_table.proofs.SlotPushLemmas.{absent_live, found_live}
 use Rattle.switch_table.proofs.slots.Slots.contains.Goals as goal
 

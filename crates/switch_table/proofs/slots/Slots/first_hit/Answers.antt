@@ -1,7 +1,6 @@
-use Rattle.std.proofs.Common.{◌∙◌, ap, find, min, sym, take_all, arith}
-use Rattle.std.specs.List.{position_or_len}
-use Rattle.base.proofs.ListsFound.{place_none}
-use Rattle.switch_table.specs.Keys.{Pair, is_hit}
+use Rattle.std.proofs.Common.{◌∙◌, ap, arith, find, min, sym, take_all}
+use Rattle.base.proofs.Exports.{place_none, position_or_len}
+use Rattle.switch_table.specs.Exports.{Pair, is_hit}
 use Rattle.switch_table.proofs.SlotHitLemmas.{hit_at, hit_live, hit_more}
 use Rattle.switch_table.proofs.slots.Slots.first_hit.Goals as goal
 

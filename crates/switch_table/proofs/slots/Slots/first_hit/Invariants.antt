@@ -1,5 +1,5 @@
 use Rattle.std.proofs.Common.{◌≡◌, take}
-use Rattle.std.specs.List.{position_or_len}
+use Rattle.base.proofs.Exports.{position_or_len}
 use Rattle.switch_table.proofs.SlotHitLemmas.{hit_live}
 use Rattle.switch_table.proofs.slots.Slots.first_hit.Given as goal
 

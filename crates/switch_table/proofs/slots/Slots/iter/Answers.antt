@@ -1,6 +1,5 @@
 use Rattle.std.proofs.Common.{◌∙◌, ap, subst}
-use Rattle.switch_table.specs.Keys.{HaveOwnKeys, equal_keys}
-use Rattle.switch_table.specs.Slots.{live_pairs}
+use Rattle.switch_table.specs.Exports.{HaveOwnKeys, equal_keys, live_pairs}
 use Rattle.switch_table.proofs.SlotPushLemmas.{distinct_live}
 use Rattle.switch_table.proofs.SlotRemoveLemmas.{past_dead}
 use Rattle.switch_table.proofs.slots.Slots.iter.Goals as goal

@@ -1,7 +1,6 @@
-use Rattle.std.proofs.Common.{◌≡◌, ◌∙◌, ap, filter, rules}
+use Rattle.std.proofs.Common.{◌∙◌, ◌≡◌, ap, filter, rules}
 use Rattle.indexmap.proofs.CallerLemmas.{filter-RetainsPairs}
-use Rattle.switch_table.specs.Keys.{Pair, is_carried_key}
-use Rattle.switch_table.specs.Slots.{live_pairs}
+use Rattle.switch_table.specs.Exports.{Pair, is_carried_key, live_pairs}
 use Rattle.switch_table.proofs.SlotRemoveLemmas.{is_kept, kept_pairs, kept_slots}
 use Rattle.switch_table.proofs.slots.Slots.keep_carried.Goals as goal
 use Rattle.switch_table.proofs.slots.Slots.keep_carried.Goals.{After-retain}

@@ -1,7 +1,6 @@
-use Rattle.std.proofs.Common.{◌≡◌, ◌∙◌, ap, filter, leb, rules}
+use Rattle.std.proofs.Common.{◌∙◌, ◌≡◌, ap, filter, leb, rules}
 use Rattle.indexmap.proofs.CallerLemmas.{filter-RetainsPairs}
-use Rattle.switch_table.specs.Keys.{Pair}
-use Rattle.switch_table.specs.Slots.{live_pairs}
+use Rattle.switch_table.specs.Exports.{Pair, live_pairs}
 use Rattle.switch_table.specs.declared.key.CacheKey.{CacheKey}
 use Rattle.switch_table.proofs.SlotRemoveLemmas.{is_kept, kept_pairs, kept_slots}
 use Rattle.switch_table.proofs.slots.Slots.keep_from.Goals as goal

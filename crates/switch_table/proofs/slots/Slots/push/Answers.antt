@@ -1,8 +1,7 @@
-use Rattle.std.proofs.Common.{◌≡◌, ◌∙◌, ◌++◌, ◌∷◌, [], List, ap, length, subst, sym, true}
-use Rattle.std.proofs.lemmas.List.{length-map}
+use Rattle.std.proofs.Common.{[], ◌++◌, ◌∙◌, ◌∷◌, ◌≡◌, List, ap, length, subst, sym, true}
+use Rattle.base.proofs.Exports.{length-map}
 use Rattle.indexmap.proofs.CallerLemmas.{insert_entry-new}
-use Rattle.switch_table.specs.Keys.{equal_keys}
-use Rattle.switch_table.specs.Slots.{AreSlots, SlotPair, flags_of, is_live, live_pairs}
+use Rattle.switch_table.specs.Exports.{AreSlots, SlotPair, equal_keys, flags_of, is_live, live_pairs}
 use Rattle.switch_table.proofs.SlotPushLemmas.{pushed_pairs, pushed_slots, with_counts}
 use Rattle.switch_table.proofs.slots.Slots.push.Goals as goal
 use Rattle.switch_table.proofs.slots.Slots.push.Goals.{In_ok-insert}

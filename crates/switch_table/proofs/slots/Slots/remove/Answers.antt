@@ -1,5 +1,5 @@
-use Rattle.std.proofs.Common.{◌≡◌, ◌∙◌, ap, arith, inl, inr, length, refl, remove, slice_get, subst, sym}
-use Rattle.switch_table.specs.Slots.{AreNamed, AreSlots, is_live, live_pairs}
+use Rattle.std.proofs.Common.{◌∙◌, ◌≡◌, ap, arith, inl, inr, length, refl, remove, slice_get, subst, sym}
+use Rattle.switch_table.specs.Exports.{AreNamed, AreSlots, is_live, live_pairs}
 use Rattle.switch_table.proofs.SlotKeyLemmas.{named_kept}
 use Rattle.switch_table.proofs.SlotPushLemmas.{count_live, swept_pairs, swept_slots}
 use Rattle.switch_table.proofs.SlotRemoveLemmas.{all_fit, nth_killed, nth_pair, slots_killed}

@@ -1,7 +1,5 @@
-use Rattle.std.proofs.Common.{◌≡◌, ◌==◌, ◌∙◌, find, ap, subst, sym}
-use Rattle.std.specs.Bool.{IsTrue}
-use Rattle.std.specs.Option.{IsSomeAnd, option_and_then}
-use Rattle.policy_rules.specs.Hosted.{is_in}
+use Rattle.std.proofs.Common.{◌==◌, ◌∙◌, ◌≡◌, IsSomeAnd, IsTrue, ap, find, option_and_then, subst, sym}
+use Rattle.policy_rules.specs.Exports.{is_in}
 use Rattle.policy_rules.specs.declared.rules.Partition.{Partition}
 use Rattle.switch_table.specs.declared.tables.Tables.{Tables}
 use Rattle.table_tree.specs.Finding.{FinderValue}

@@ -1,7 +1,6 @@
-use Rattle.std.proofs.Common.{◌∙◌, ap, get_or, position, slice_get, sym}
-use Rattle.std.specs.Option.{option_and_then}
-use Rattle.five_tuple.specs.Header.{number_of}
-use Rattle.policy_rules.specs.Rules.{is_held}
+use Rattle.std.proofs.Common.{◌∙◌, ap, get_or, option_and_then, position, slice_get, sym}
+use Rattle.five_tuple.specs.Exports.{number_of}
+use Rattle.policy_rules.specs.Exports.{is_held}
 use Rattle.switch_table.specs.declared.tables.Tables.{Tables}
 use Rattle.table_tree.specs.declared.trees.Trees.{Trees}
 use Rattle.table_tree.specs.Finding.{FinderValue}

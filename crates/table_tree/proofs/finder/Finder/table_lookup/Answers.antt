@@ -1,9 +1,7 @@
-use Rattle.std.proofs.Common.{◌<◌, ◌==◌, ◌∙◌, List, length, get_or, find, position, slice_get, ap, sym, subst}
-use Rattle.std.specs.Bool.{IsTrue}
-use Rattle.std.specs.Option.{IsSomeAnd, option_and_then}
-use Rattle.policy_rules.specs.Hosted.{is_in}
+use Rattle.std.proofs.Common.{◌<◌, ◌==◌, ◌∙◌, IsSomeAnd, IsTrue, List, ap, find, get_or, length, option_and_then, position, slice_get, subst, sym}
+use Rattle.policy_rules.specs.Exports.{is_in}
 use Rattle.policy_rules.specs.declared.rules.Partition.{Partition}
-use Rattle.switch_table.specs.Lookup.{table_lookup}
+use Rattle.switch_table.specs.Exports.{table_lookup}
 use Rattle.switch_table.specs.declared.search.Found.TheVariants.{Authority, Redirect}
 use Rattle.switch_table.specs.declared.tables.PartRow.{PartRow}
 use Rattle.switch_table.specs.declared.tables.Tables.{Tables}

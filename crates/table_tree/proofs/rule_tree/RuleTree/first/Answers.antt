@@ -1,4 +1,4 @@
-use Rattle.five_tuple.specs.Header.{number_of}
+use Rattle.five_tuple.specs.Exports.{number_of}
 use Rattle.table_tree.proofs.RuleLemmas.{first_is}
 use Rattle.table_tree.proofs.rule_tree.RuleTree.first.Goals as goal
 

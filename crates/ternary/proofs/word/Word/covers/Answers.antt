@@ -1,5 +1,5 @@
 use Rattle.std.proofs.Common.{rules}
-use Rattle.ternary.specs.Meets.{covers_of}
+use Rattle.ternary.specs.Exports.{covers_of}
 use Rattle.ternary.proofs.WordLemmas.{inclusion_as}
 use Rattle.ternary.proofs.word.Word.covers.Goals as goal
 

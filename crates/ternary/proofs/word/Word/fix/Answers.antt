@@ -1,6 +1,5 @@
-use Rattle.std.proofs.Common.{ap, subst, sym, ◌∙◌}
-use Rattle.ternary.specs.Word.{holds}
-use Rattle.ternary.specs.WordBits.{IsWord}
+use Rattle.std.proofs.Common.{◌∙◌, ap, subst, sym}
+use Rattle.ternary.specs.Exports.{IsWord, holds}
 use Rattle.ternary.proofs.WordLemmas.{set_fix, fix_holds, fix_word}
 use Rattle.ternary.proofs.word.Word.fix.Goals as goal
 

@@ -1,5 +1,5 @@
 use Rattle.std.proofs.Common.{◌↔◌, IsTrue, subst, sym}
-use Rattle.ternary.specs.Meets.{AgreesOnMask}
+use Rattle.ternary.specs.Exports.{AgreesOnMask}
 use Rattle.ternary.proofs.WordLemmas.{masked_holds, holds_decides}
 use Rattle.ternary.proofs.word.Word.holds.Goals as goal
 

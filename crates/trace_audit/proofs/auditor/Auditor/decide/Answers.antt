@@ -1,9 +1,9 @@
-use Rattle.std.proofs.Common.{◌∙◌, refl, sym, subst, rules, arith}
-use Rattle.base.proofs.OptionsMade.{none_made_of}
-use Rattle.policy_rules.specs.Policy.{IsFirstMatch}
-use Rattle.policy_rules.specs.declared.policy.Hit.{Hit}
+use Rattle.std.proofs.Common.{◌∙◌, arith, refl, rules, subst, sym}
+use Rattle.base.proofs.Exports.{none_made_of}
+use Rattle.policy_rules.specs.Exports.{IsFirstMatch}
+use Rattle.update_machine.specs.Exports.{Hit}
 use Rattle.policy_rules.proofs.CallerLemmas.{none_from_not_some}
-use Rattle.trace_audit.specs.Seen.{packet_seen}
+use Rattle.trace_audit.specs.Exports.{packet_seen}
 use Rattle.trace_audit.proofs.LineMoves.{not_decided, policy_there, put_after}
 use Rattle.trace_audit.proofs.auditor.Auditor.decide.Goals as goal
 

@@ -1,6 +1,6 @@
-use Rattle.std.proofs.Common.{refl, sym, rules}
+use Rattle.std.proofs.Common.{refl, rules, sym}
 use Rattle.policy_rules.proofs.CallerLemmas.{none_from_not_some}
-use Rattle.trace_audit.specs.Seen.{packet_seen}
+use Rattle.trace_audit.specs.Exports.{packet_seen}
 use Rattle.trace_audit.proofs.LineMoves.{put_after}
 use Rattle.trace_audit.proofs.auditor.Auditor.end.Goals as goal
 

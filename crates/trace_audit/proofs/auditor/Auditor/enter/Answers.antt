@@ -1,6 +1,6 @@
 use Rattle.std.proofs.Common.{refl, rules}
-use Rattle.base.proofs.OptionsMade.{none_seen}
-use Rattle.trace_audit.specs.Seen.{packet_seen}
+use Rattle.base.proofs.Exports.{none_seen}
+use Rattle.trace_audit.specs.Exports.{packet_seen}
 use Rattle.trace_audit.proofs.LineMoves.{put_after}
 use Rattle.trace_audit.proofs.auditor.Auditor.enter.Goals as goal
 

@@ -1,5 +1,5 @@
 use Rattle.std.proofs.Common.{subst, sym}
-use Rattle.trace_audit.specs.Seen.{IsTaken, state_seen, told_seen}
+use Rattle.trace_audit.specs.Exports.{IsTaken, state_seen, told_seen}
 use Rattle.trace_audit.proofs.auditor.Auditor.take.Goals as goal
 
 pub returns-in-Retired : goal.returns-in-Retired

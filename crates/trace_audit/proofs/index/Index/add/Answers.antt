@@ -1,6 +1,6 @@
-use Rattle.std.proofs.Common.{◌≡◌, ◌∙◌, List, Some, ap, refl, set, slice_get, subst, sym}
-use Rattle.std.proofs.lemmas.Option.{slice_get_read}
-use Rattle.trace_audit.specs.Index.{HasShape, slot_of_row}
+use Rattle.std.proofs.Common.{◌∙◌, ◌≡◌, List, Some, ap, refl, set, slice_get, subst, sym}
+use Rattle.base.proofs.Exports.{slice_get_read}
+use Rattle.trace_audit.specs.Exports.{HasShape, slot_of_row}
 use Rattle.trace_audit.specs.declared.index.Shape.{Shape}
 use Rattle.trace_audit.proofs.IndexedRows.{has_shape, next_indexed}
 use Rattle.trace_audit.proofs.index.Index.add.Goals as goal

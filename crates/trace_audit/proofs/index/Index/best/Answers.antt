@@ -1,7 +1,7 @@
-use Rattle.std.proofs.Common.{◌≡◌, ◌∙◌, List, length, get_or, slice_get, sym, subst, ap, arith}
-use Rattle.std.proofs.lemmas.Option.{slice_get-get_or}
-use Rattle.five_tuple.specs.Header.{AddressBlock}
-use Rattle.trace_audit.specs.Index.{IsBetter, slot_of}
+use Rattle.std.proofs.Common.{◌∙◌, ◌≡◌, List, ap, arith, get_or, length, slice_get, subst, sym}
+use Rattle.base.proofs.Exports.{slice_get-get_or}
+use Rattle.five_tuple.specs.Exports.{AddressBlock}
+use Rattle.trace_audit.specs.Exports.{IsBetter, slot_of}
 use Rattle.trace_audit.specs.declared.index.Shape.{Shape}
 use Rattle.trace_audit.proofs.IndexedRows.{IsSought, sought_all, sought_more}
 use Rattle.trace_audit.proofs.index.Index.best.Goals as goal

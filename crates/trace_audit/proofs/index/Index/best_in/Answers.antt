@@ -1,4 +1,4 @@
-use Rattle.std.proofs.Common.{◌≡◌, None, subst, rules}
+use Rattle.std.proofs.Common.{◌≡◌, None, rules, subst}
 use Rattle.trace_audit.proofs.IndexedRows.{IsWalked, walk_ends, walk_falls, walk_on}
 use Rattle.trace_audit.proofs.index.Index.best_in.Goals as goal
 

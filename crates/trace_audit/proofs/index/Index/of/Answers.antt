@@ -1,6 +1,5 @@
-use Rattle.std.proofs.Common.{Global, Vec, subst}
-use Rattle.std.specs.Prelude.{IfSome, Option}
-use Rattle.trace_audit.specs.Index.{AreShapesOf}
+use Rattle.std.proofs.Common.{Global, IfSome, Option, Vec, subst}
+use Rattle.trace_audit.specs.Exports.{AreShapesOf}
 use Rattle.trace_audit.specs.declared.index.Shape.{Shape}
 use Rattle.trace_audit.proofs.index.Index.of.Goals as goal
 

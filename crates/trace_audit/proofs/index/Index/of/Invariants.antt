@@ -1,4 +1,4 @@
-use Rattle.trace_audit.specs.Index.{IsIndexUpTo}
+use Rattle.trace_audit.specs.Exports.{IsIndexUpTo}
 use Rattle.trace_audit.proofs.index.Index.of.Given as goal
 
 abbrev pub invariant-loop-place : goal.invariant-loop-place

@@ -1,8 +1,7 @@
-use Rattle.std.proofs.Common.{◌∙◌, sym, subst}
-use Rattle.five_tuple.specs.Header.{fields_of}
-use Rattle.policy_rules.specs.Policy.{IsFirstMatch}
-use Rattle.policy_rules.specs.SoundPolicies.{IsPolicy}
-use Rattle.trace_audit.specs.Index.{IsBest}
+use Rattle.std.proofs.Common.{◌∙◌, subst, sym}
+use Rattle.five_tuple.specs.Exports.{fields_of}
+use Rattle.policy_rules.specs.Exports.{IsFirstMatch, IsPolicy}
+use Rattle.trace_audit.specs.Exports.{IsBest}
 use Rattle.trace_audit.proofs.IndexedRows.{best_first}
 use Rattle.trace_audit.proofs.index.IndexedPolicy.first_match.Goals as goal
 

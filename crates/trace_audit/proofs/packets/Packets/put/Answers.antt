@@ -1,10 +1,6 @@
-use Rattle.std.proofs.Common.{◌≡◌, ◌∙◌, ℕ, ◌-◌, ◌<◌, Option, None, length, set, nat_cmp, sym, ap, arith}
-use Rattle.std.specs.BTreeMap.{get}
-use Rattle.std.specs.Cmp.{unsigned_tied}
-use Rattle.std.specs.Option.{option_or}
-use Rattle.std.proofs.lemmas.Bool.{eqb-true, ne_eqb}
-use Rattle.std.proofs.lemmas.List.{nil_from_length}
-use Rattle.trace_audit.specs.Seen.{packet_seen, run_get}
+use Rattle.std.proofs.Common.{◌-◌, ◌<◌, ◌∙◌, ◌≡◌, None, Option, ap, arith, eqb-true, length, nat_cmp, ne_eqb, set, sym, ℕ}
+use Rattle.base.proofs.Exports.{get, nil_from_length, option_or, unsigned_tied}
+use Rattle.trace_audit.specs.Exports.{packet_seen, run_get}
 use Rattle.trace_audit.specs.declared.packets.TracePacket.{TracePacket}
 use Rattle.trace_audit.proofs.NumberedItems.{push_here, push_there, run_below, run_past, seen_put, set_here, set_there}
 use Rattle.trace_audit.proofs.packets.Packets.put.Goals as goal

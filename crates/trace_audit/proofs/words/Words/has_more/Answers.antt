@@ -1,5 +1,5 @@
-use Rattle.std.proofs.Common.{◌≡◌, ◌∷◌, [], MatchBool, List, ℕ, subst, sym}
-use Rattle.trace_audit.specs.Told.{words_left}
+use Rattle.std.proofs.Common.{[], ◌∷◌, ◌≡◌, List, MatchBool, subst, sym, ℕ}
+use Rattle.trace_audit.specs.Exports.{words_left}
 use Rattle.trace_audit.proofs.FirstWords.{more_left}
 use Rattle.trace_audit.proofs.words.Words.has_more.Goals as goal
 

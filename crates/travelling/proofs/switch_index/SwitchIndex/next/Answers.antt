@@ -1,4 +1,4 @@
-use Rattle.std.proofs.Common.{◌+◌, ◌*◌, ◌/◌, ◌≤◌, ◌≡◌, ℕ, None, false, subst}
+use Rattle.std.proofs.Common.{◌*◌, ◌+◌, ◌/◌, ◌≡◌, ◌≤◌, None, false, subst, ℕ}
 use Rattle.travelling.specs.SwitchIndex.{IsLeastMarked, IsNextInBlock, is_marked}
 use Rattle.travelling.proofs.MarkBlocks.{least_beyond, none_beyond}
 use Rattle.travelling.proofs.switch_index.SwitchIndex.next.Goals as goal

@@ -1,4 +1,4 @@
-use Rattle.std.proofs.Common.{◌<◌, ap, length, arith}
+use Rattle.std.proofs.Common.{◌<◌, ap, arith, length}
 use Rattle.travelling.specs.Travelling.{HasPlace}
 use Rattle.travelling.proofs.StandingMasks.{within_and}
 use Rattle.travelling.proofs.travelling.Travelling.move_to.Goals as goal

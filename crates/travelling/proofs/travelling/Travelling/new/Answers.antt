@@ -1,4 +1,4 @@
-use Rattle.std.proofs.Common.{length, sym, ◌∙◌, ap, arith}
+use Rattle.std.proofs.Common.{◌∙◌, ap, arith, length, sym}
 use Rattle.travelling.specs.SwitchIndex.{is_marked}
 use Rattle.travelling.specs.Travelling.{Flights, stands_at, flight}
 use Rattle.travelling.proofs.StandingMasks.{none_marked}

@@ -1,6 +1,5 @@
-use Rattle.std.proofs.Common.{ℕ, ◌≡◌, ◌<◌, ◌≤◌, ◌∙◌, inl, inr, None, refl, ap, arith, length, length-set, get_or-set_other}
-use Rattle.std.proofs.lemmas.Bool.{cases_lt}
-use Rattle.std.proofs.lemmas.List.{get_or_past}
+use Rattle.std.proofs.Common.{◌<◌, ◌∙◌, ◌≡◌, ◌≤◌, None, ap, arith, get_or-set_other, inl, inr, length, length-set, refl, ℕ}
+use Rattle.base.proofs.Exports.{cases_lt, get_or_past}
 use Rattle.travelling.specs.Travelling.{Flights, stands_at, flight}
 use Rattle.travelling.proofs.StandingMasks.{marked_on, room_on}
 use Rattle.travelling.proofs.travelling.Travelling.put.Goals.{then-self-len, else-self-len}

@@ -1,5 +1,4 @@
-use Rattle.std.proofs.Common.{◌≡◌, ◌<◌, true, ap, length, arith}
-use Rattle.std.specs.Prelude.{is_some}
+use Rattle.std.proofs.Common.{◌<◌, ◌≡◌, ap, arith, is_some, length, true}
 use Rattle.travelling.specs.Travelling.{flight}
 use Rattle.travelling.proofs.StandingMasks.{within_some}
 use Rattle.travelling.proofs.travelling.Travelling.remove.Goals as goal

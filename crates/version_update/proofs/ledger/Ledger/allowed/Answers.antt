@@ -1,6 +1,5 @@
-use Rattle.std.proofs.Common.{◌≡◌, ◌≤◌, ap, ◌∙◌, arith}
-use Rattle.std.specs.Prelude.{unwrap_or}
-use Rattle.version_update.specs.Marks.{MarksValue, acked_stamps, least_of}
+use Rattle.std.proofs.Common.{◌∙◌, ◌≡◌, ◌≤◌, ap, arith, unwrap_or}
+use Rattle.version_update.specs.Exports.{MarksValue, acked_stamps, least_of}
 use Rattle.version_update.proofs.LeastStamp.{least_stamp-version}
 use Rattle.version_update.proofs.ledger.Ledger.allowed.Goals as goal
 use Rattle.version_update.proofs.ledger.Ledger.allowed.Goals.{After-unwrap_or}

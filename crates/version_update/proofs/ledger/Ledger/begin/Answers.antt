@@ -1,7 +1,7 @@
-use Rattle.std.proofs.Common.{ℕ, ◌≡◌, ◌≤◌, List, ap, ◌∙◌, take, replicate}
+use Rattle.std.proofs.Common.{◌∙◌, ◌≡◌, ◌≤◌, List, ap, replicate, take, ℕ}
 use Rattle.version_update.specs.declared.record.SwitchRecord.{SwitchRecord}
-use Rattle.std.proofs.lemmas.List.{take-replicate}
-use Rattle.version_update.specs.Record.{first_record}
+use Rattle.base.proofs.Exports.{take-replicate}
+use Rattle.version_update.specs.Exports.{first_record}
 use Rattle.version_update.proofs.OpenedSwitches.{first-bounded}
 use Rattle.version_update.proofs.ledger.Ledger.begin.Goals as goal
 

@@ -1,6 +1,6 @@
 use Rattle.version_update.proofs.OpenedSwitches.{opened-bounded}
 use Rattle.version_update.proofs.ledger.Ledger.open_joining.Goals as goal
-use Rattle.base.proofs.ListsByPlace.{take_put_back}
+use Rattle.base.proofs.Exports.{take_put_back}
 
 pub invariant_of-self : goal.invariant_of-self
 invariant_of-self c =

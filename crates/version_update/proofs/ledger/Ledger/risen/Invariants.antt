@@ -1,6 +1,5 @@
-use Rattle.std.proofs.Common.{ℕ, ◌-◌, ◌<◌, ◌≤◌}
-use Rattle.std.specs.Prelude.{IsTrue}
-use Rattle.version_update.specs.Marks.{all_have_acked}
+use Rattle.std.proofs.Common.{◌-◌, ◌<◌, ◌≤◌, IsTrue, ℕ}
+use Rattle.version_update.specs.Exports.{all_have_acked}
 use Rattle.version_update.proofs.ledger.Ledger.risen.Given as goal
 
 -- each member acknowledged every version from the old mark up to this one

@@ -1,7 +1,6 @@
-use Rattle.std.proofs.Common.{◌<◌, ap, ◌∙◌, arith, set, length}
-use Rattle.std.proofs.Math.Seq.{take-set-lt}
-use Rattle.std.proofs.lemmas.List.{length-take}
-use Rattle.version_update.specs.Marks.{MarksValue}
+use Rattle.std.proofs.Common.{◌<◌, ◌∙◌, ap, arith, length, length-take, set}
+use Rattle.base.proofs.Exports.{take-set-lt}
+use Rattle.version_update.specs.Exports.{MarksValue}
 use Rattle.version_update.proofs.ledger.Ledger.set_record.Goals as goal
 
 pub returns : goal.returns

@@ -1,7 +1,6 @@
-use Rattle.std.proofs.Common.{subst, sym, ap, ◌∙◌, length}
-use Rattle.std.proofs.lemmas.List.{length-map}
-use Rattle.version_update.specs.Marks.{MarksValue}
-use Rattle.version_update.specs.Settling.{RisesTo}
+use Rattle.std.proofs.Common.{◌∙◌, ap, length, subst, sym}
+use Rattle.base.proofs.Exports.{length-map}
+use Rattle.version_update.specs.Exports.{MarksValue, RisesTo}
 use Rattle.version_update.proofs.OpenedSwitches.{settled_by}
 use Rattle.version_update.proofs.ledger.Ledger.settle.Goals as goal
 

@@ -1,5 +1,5 @@
 use Rattle.std.proofs.Common.{subst, sym}
-use Rattle.version_update.specs.Marks.{AreMarksSettled}
+use Rattle.version_update.specs.Exports.{AreMarksSettled}
 use Rattle.version_update.proofs.OpenedSwitches.{first-settled}
 use Rattle.version_update.proofs.marks.Marks.begin.Goals as goal
 

@@ -1,7 +1,6 @@
-use Rattle.std.proofs.Common.{◌≤◌, ap, subst, sym, arith}
+use Rattle.std.proofs.Common.{◌≤◌, ap, arith, subst, sym}
 use Rattle.version_update.specs.declared.record.SwitchRecord.{SwitchRecord}
-use Rattle.version_update.specs.Record.{IsSoundRecord}
-use Rattle.version_update.specs.Marks.{MarksValue}
+use Rattle.version_update.specs.Exports.{IsSoundRecord, MarksValue}
 use Rattle.version_update.proofs.OpenedSwitches.{installed-sound}
 use Rattle.version_update.proofs.marks.Marks.installed.Goals as goal
 

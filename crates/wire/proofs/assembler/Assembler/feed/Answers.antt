@@ -1,7 +1,6 @@
-use Rattle.std.proofs.Common.{subst}
-use Rattle.std.specs.Prelude.{IfErr, OnOk}
-use Rattle.base.specs.Refusals.{IfRefused}
-use Rattle.wire.specs.Assembly.{IsRefusedFrame}
+use Rattle.std.proofs.Common.{IfErr, OnOk, subst}
+use Rattle.base.specs.Exports.{IfRefused}
+use Rattle.wire.specs.Exports.{IsRefusedFrame}
 use Rattle.wire.proofs.assembler.Assembler.feed.Goals as goal
 
 pub returns-clause-refused : goal.returns-clause-refused

@@ -1,6 +1,6 @@
-use Rattle.std.proofs.Common.{◌≡◌, ◌<◌, None, Some, ap, get_or, length, sym, subst, ◌∙◌, arith}
-use Rattle.std.proofs.lemmas.List.{get_or_default}
-use Rattle.world.specs.Files.{FilesValue, IsMade, made_at}
+use Rattle.std.proofs.Common.{◌<◌, ◌∙◌, ◌≡◌, None, Some, ap, arith, get_or, length, subst, sym}
+use Rattle.base.proofs.Exports.{get_or_default}
+use Rattle.world.specs.Exports.{FilesValue, IsMade, made_at}
 use Rattle.world.proofs.KeptFiles.{kept_with, made_at_place}
 use Rattle.world.proofs.files.Files.compiled.Goals as goal
 use Rattle.world.proofs.files.Files.compiled.Goals.{In_ok-compiled}

@@ -1,7 +1,7 @@
-use Rattle.std.proofs.Common.{ℕ, ◌≡◌, ◌-◌, ◌≤◌, [], ◌∷◌, None, Some, length, get_or}
+use Rattle.std.proofs.Common.{[], ◌-◌, ◌∷◌, ◌≡◌, ◌≤◌, None, Some, get_or, length, ℕ}
 use Rattle.world.specs.declared.files.Compiled.TheVariants.{Planned}
 use Rattle.world.proofs.files.Files.new.Given as goal
-use Rattle.switch_table.specs.Carried.{all_touched}
+use Rattle.switch_table.specs.Exports.{all_touched}
 
 -- what is pushed behind the first says nothing
 abbrev pub invariant-loop-compiled : goal.invariant-loop-compiled

@@ -1,7 +1,6 @@
-use Rattle.std.proofs.Common.{subst, ◌∙◌}
-use Rattle.policy_rules.specs.declared.file.PolicyFile.{PolicyFile}
-use Rattle.std.specs.Prelude.{List}
-use Rattle.world.specs.Files.{IsMade, KeepsWhole, Making, file_or_none}
+use Rattle.std.proofs.Common.{◌∙◌, List, subst}
+use Rattle.update_machine.specs.Exports.{PolicyFile}
+use Rattle.world.specs.Exports.{IsMade, KeepsWhole, Making, file_or_none}
 use Rattle.world.proofs.KeptFiles.{own_made}
 use Rattle.world.proofs.files.Files.set_newest.Goals as goal
 

@@ -1,11 +1,9 @@
-use Rattle.std.proofs.Common.{List, refl, sym, subst, ◌∙◌, arith}
-use Rattle.controller.specs.Controller.{ControllerValue, current_touched}
-use Rattle.controller.specs.Sends.{settling_acts}
+use Rattle.std.proofs.Common.{◌∙◌, List, arith, refl, subst, sym}
+use Rattle.controller.specs.Exports.{ControllerValue, current_touched, settling_acts}
 use Rattle.controller.specs.declared.sends.Act.{Act}
 use Rattle.journal.specs.declared.item.Item.TheVariants as item
-use Rattle.version_update.specs.Marks.{at_switch}
-use Rattle.version_update.specs.Record.{after_over}
-use Rattle.world_log.specs.Sending.{MayNote}
+use Rattle.version_update.specs.Exports.{after_over, at_switch}
+use Rattle.world_log.specs.Exports.{MayNote}
 use Rattle.world.proofs.StepFrame.{follows, goes_nothing, net_stays, none_in, nothing_goes}
 use Rattle.world.proofs.GoesTold.{goes_acting}
 use Rattle.world.proofs.OverSwitches.{known_in, place_in}

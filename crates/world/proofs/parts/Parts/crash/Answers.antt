@@ -1,19 +1,14 @@
-use Rattle.std.proofs.Common.{◌≡◌, ◌+◌, ◌++◌, ◌∷◌, true, List, map, set, refl, ap, sym, subst, ◌∙◌, append_assoc, length, arith}
-use Rattle.std.proofs.lemmas.List.{length-set}
-use Rattle.std.proofs.lemmas.Result.{on_err_weaker, on_ok_weaker}
-use Rattle.base.proofs.ResultsMade.{on_err, on_ok_failed, three_ok}
-use Rattle.message_bag.specs.Posts.{new_post}
-use Rattle.ctrl_msg.specs.declared.message.Message.{Message}
-use Rattle.controller.specs.Controller.{newest_policy}
+use Rattle.std.proofs.Common.{◌++◌, ◌+◌, ◌∙◌, ◌∷◌, ◌≡◌, List, ap, append_assoc, arith, length, length-set, map, refl, set, subst, sym, true}
+use Rattle.base.proofs.Exports.{on_err, on_err_weaker, on_ok_failed, on_ok_weaker, three_ok}
+use Rattle.message_bag.specs.Exports.{new_post}
+use Rattle.update_machine.specs.Exports.{Crash, Message, sent_from}
+use Rattle.controller.specs.Exports.{newest_policy}
 use Rattle.journal.specs.declared.item.Item.TheVariants as item
-use Rattle.steps.specs.declared.step.Step.TheVariants.{Crash}
-use Rattle.switch_core.specs.State.{SwitchValue}
-use Rattle.update_machine.specs.Messages.{sent_from}
-use Rattle.world_log.specs.Linking.{all_adverts_sent, near_all}
-use Rattle.world.specs.Parts.{setting_in, state_in}
-use Rattle.refinement.specs.Refinement.{RefineJournal}
+use Rattle.switch_core.specs.Exports.{SwitchValue}
+use Rattle.world_log.specs.Exports.{IsPart, all_adverts_sent, near_all}
+use Rattle.world.specs.Exports.{setting_in, state_in}
+use Rattle.refinement.specs.Exports.{RefineJournal}
 use Rattle.travelling.specs.Travelling.{WithoutAt, numbers_at}
-use Rattle.world_log.specs.Writing.{IsPart}
 use Rattle.refinement.proofs.CrashWrites.{crash_may, crash_next, crash_piece, crash_refines, same_switch, stays_down}
 use Rattle.world.proofs.StepFrame.{follows, goes, goes_nothing, net_stays, nothing_goes}
 use Rattle.world.proofs.GoesTold.{relinked_refines}

@@ -1,21 +1,13 @@
-use Rattle.std.proofs.Common.{◌≡◌, ◌+◌, ◌<◌, ◌++◌, ◌∷◌, List, OnOk, OnErr, get_or, length, map, set, refl, ap, sym, subst, ◌∙◌, arith}
-use Rattle.std.specs.Prelude.{is_some}
-use Rattle.message_bag.specs.Deliveries.{delivered_status}
-use Rattle.std.proofs.lemmas.List.{length-set}
-use Rattle.std.proofs.lemmas.Result.{on_ok_weaker}
-use Rattle.base.proofs.ResultsMade.{both_ok}
-use Rattle.message_bag.specs.Posts.{new_post, with_delivered, with_status}
+use Rattle.std.proofs.Common.{◌++◌, ◌+◌, ◌<◌, ◌∙◌, ◌∷◌, ◌≡◌, List, OnErr, OnOk, ap, arith, get_or, is_some, length, length-set, map, refl, set, subst, sym}
+use Rattle.message_bag.specs.Exports.{delivered_status, new_post, with_delivered, with_status}
+use Rattle.base.proofs.Exports.{both_ok, on_ok_weaker}
 use Rattle.message_bag.proofs.NumberedPosts.{length_changed}
-use Rattle.controller.specs.Controller.{ControllerValue, newest_policy}
-use Rattle.controller.specs.Sends.{hear_acts}
-use Rattle.ctrl_msg.specs.declared.message.Message.{Message}
+use Rattle.controller.specs.Exports.{ControllerValue, hear_acts, newest_policy}
+use Rattle.update_machine.specs.Exports.{Message, sent_from}
 use Rattle.journal.specs.declared.item.Item.TheVariants as item
-use Rattle.switch_core.specs.Hearing.{IsSoundBody, replies}
-use Rattle.update_machine.specs.Messages.{sent_from}
-use Rattle.world_log.specs.Linking.{all_adverts_sent, near_all}
-use Rattle.world_log.specs.Sending.{MayNote, MaySend, act_items, act_posts}
+use Rattle.switch_core.specs.Exports.{IsSoundBody, replies}
+use Rattle.world_log.specs.Exports.{IsPart, MayNote, MaySend, act_items, act_posts, all_adverts_sent, near_all}
 use Rattle.refinement.proofs.BagDeliveries.{found_there}
-use Rattle.world_log.specs.Writing.{IsPart}
 use Rattle.world.proofs.GoesTold.{first_goes, goes_told, relinked_refines}
 use Rattle.refinement.proofs.HeardBy.{control_may, control_piece, control_refines, first_piece, names_known, shut_may, shut_piece, shut_refines, undelivered}
 use Rattle.world.proofs.OverSwitches.{few_in}

@@ -1,4 +1,4 @@
-use Rattle.std.proofs.Common.{Some, None, refl, sym, ◌∙◌}
+use Rattle.std.proofs.Common.{◌∙◌, None, Some, refl, sym}
 use Rattle.journal.specs.declared.item.Item.TheVariants as item
 use Rattle.refinement.proofs.ExpiringRules.{expired_refines}
 use Rattle.world.proofs.StepFrame.{files_stay, goes_one, none_in, plane_stays}

@@ -1,7 +1,7 @@
 -- A packet on its way: its switch can be asked, and answers as the journal's definitions say.
-use Rattle.std.proofs.Common.{◌≡◌, ◌++◌, arith, drop, length, refl, subst, take}
-use Rattle.std.proofs.Math.Seq.{take-append_seam}
-use Rattle.tunnel.specs.Moves.{here}
+use Rattle.std.proofs.Common.{◌++◌, ◌≡◌, arith, drop, length, refl, subst, take}
+use Rattle.base.proofs.Exports.{take-append_seam}
+use Rattle.tunnel.specs.Exports.{here}
 use Rattle.travelling.specs.Travelling.{flight}
 use Rattle.refinement.proofs.AskingSwitch.{within_here}
 use Rattle.world.proofs.OverParts.{hop_goes, may_go_on}

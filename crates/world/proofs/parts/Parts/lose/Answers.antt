@@ -1,13 +1,13 @@
-use Rattle.std.proofs.Common.{◌∷◌, ◌++◌, [], ap, refl, subst, sym, ◌∙◌}
-use Rattle.std.proofs.lemmas.Result.{on_err_weaker, on_ok_weaker}
+use Rattle.std.proofs.Common.{[], ◌++◌, ◌∙◌, ◌∷◌, ap, refl, subst, sym}
+use Rattle.base.proofs.Exports.{on_err_weaker, on_ok_weaker}
 use Rattle.journal.specs.declared.item.Item.TheVariants as item
-use Rattle.steps.specs.declared.step.Step.TheVariants.{Lose}
-use Rattle.world.specs.Parts.{setting_in}
+use Rattle.update_machine.specs.Exports.{Lose}
+use Rattle.world.specs.Exports.{setting_in}
 use Rattle.world.proofs.StepFrame.{goes_nothing, goes_quiet, files_stay, none_in, plane_stays, with_posts}
 use Rattle.world_log.proofs.StepWrites.{part_none}
 use Rattle.world_log.specs.declared.log.Log.{Log}
 use Rattle.refinement.proofs.LostPacket.{lost, lost_piece, not_lost}
-use Rattle.refinement.specs.Refinement.{RefineJournal}
+use Rattle.refinement.specs.Exports.{RefineJournal}
 use Rattle.world.proofs.parts.Parts.lose.Goals as goal
 
 pub returns-then-not-has : goal.returns-then-not-has

@@ -1,4 +1,4 @@
-use Rattle.std.proofs.Common.{refl, arith}
+use Rattle.std.proofs.Common.{arith, refl}
 use Rattle.refinement.proofs.AskingSwitch.{can_look_up}
 use Rattle.refinement.proofs.IncomingTie.{come_fits}
 use Rattle.world.proofs.OverParts.{packet_goes}

@@ -1,8 +1,7 @@
 -- Each kind of step behind its row.
-use Rattle.std.proofs.Common.{◌≡◌}
-use Rattle.std.specs.Prelude.{Result}
-use Rattle.steps.specs.declared.step.Step.{Step}
-use Rattle.world.specs.Parts.{Goes, HasBegun, Plays}
+use Rattle.std.proofs.Common.{◌≡◌, Result}
+use Rattle.update_machine.specs.Exports.{Step}
+use Rattle.world.specs.Exports.{Goes, HasBegun, Plays}
 use Rattle.world.specs.declared.parts.Parts.{Parts}
 use Rattle.world.proofs.StepFrame.{begun, played, with_journal}
 use Rattle.world.proofs.parts.Parts.play.Goals as goal

@@ -1,11 +1,10 @@
-use Rattle.std.proofs.Common.{◌≡◌, ◌+◌, ◌++◌, ◌∷◌, ◌==◌, Bool, false, true, List, ap, get_or, length, map, refl, sym, subst, ◌∙◌, arith}
-use Rattle.std.proofs.lemmas.Result.{on_ok_weaker}
-use Rattle.controller.specs.Sends.{resend_acts}
+use Rattle.std.proofs.Common.{◌++◌, ◌+◌, ◌==◌, ◌∙◌, ◌∷◌, ◌≡◌, Bool, List, ap, arith, false, get_or, length, map, refl, subst, sym, true}
+use Rattle.base.proofs.Exports.{on_ok_weaker}
+use Rattle.controller.specs.Exports.{resend_acts}
 use Rattle.controller.specs.declared.sends.Act.{Act}
 use Rattle.controller.specs.declared.sends.Act.TheVariants.{Post}
 use Rattle.journal.specs.declared.item.Item.TheVariants as item
-use Rattle.world_log.specs.Linking.{adverts_again}
-use Rattle.world_log.specs.Sending.{MayNote, act_items}
+use Rattle.world_log.specs.Exports.{MayNote, act_items, adverts_again}
 use Rattle.world.proofs.StepFrame.{files_stay, goes_nothing, goes_quiet, net_stays, none_in, nothing_goes, plane_stays}
 use Rattle.world.proofs.GoesTold.{as_noted}
 use Rattle.world.proofs.OverSwitches.{few_in, known_in, place_in, switch_in}

@@ -1,12 +1,10 @@
-use Rattle.std.proofs.Common.{◌≡◌, ◌+◌, ◌<◌, ◌++◌, ◌∷◌, [], OnOk, false, length, refl, ap, sym, subst, ◌∙◌, arith}
-use Rattle.std.proofs.lemmas.List.{get_or_default}
-use Rattle.std.proofs.lemmas.Result.{on_err_weaker, on_ok_weaker}
-use Rattle.message_bag.specs.Posts.{new_post}
-use Rattle.ctrl_msg.specs.declared.message.Body.TheVariants.{Hello}
-use Rattle.ctrl_msg.specs.Kinds.{to_controller}
-use Rattle.message_bag.specs.Feeding.{HasShortSpelling}
+use Rattle.std.proofs.Common.{[], ◌++◌, ◌+◌, ◌<◌, ◌∙◌, ◌∷◌, ◌≡◌, OnOk, ap, arith, false, length, refl, subst, sym}
+use Rattle.base.proofs.Exports.{get_or_default, on_err_weaker, on_ok_weaker}
+use Rattle.message_bag.specs.Exports.{HasShortSpelling, new_post}
+use Rattle.update_machine.specs.Exports.{Hello}
+use Rattle.ctrl_msg.specs.Exports.{to_controller}
 use Rattle.journal.specs.declared.item.Item.TheVariants as item
-use Rattle.switch_core.specs.State.{SwitchValue}
+use Rattle.switch_core.specs.Exports.{SwitchValue}
 use Rattle.refinement.proofs.SendableMessages.{hello_spelled}
 use Rattle.refinement.proofs.BootingSwitch.{boot_next, boot_piece, boot_refines, up_already}
 use Rattle.world.proofs.StepFrame.{follows, goes_nothing, net_stays, none_in, nothing_goes}

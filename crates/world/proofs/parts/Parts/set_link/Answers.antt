@@ -1,17 +1,13 @@
-use Rattle.std.proofs.Common.{ℕ, ◌≡◌, ◌+◌, ◌<◌, ◌++◌, ◌∷◌, [], Bool, true, false, List, length, map, max, min, refl, ap, sym, ◌∙◌, arith}
-use Rattle.std.specs.Bool.{beq}
-use Rattle.base.proofs.ResultsMade.{both_ok}
-use Rattle.message_bag.specs.Posts.{new_post}
-use Rattle.ctrl_msg.specs.declared.message.Message.{Message}
-use Rattle.controller.specs.Controller.{newest_policy}
-use Rattle.journal.specs.declared.item.Item.{Item}
+use Rattle.std.proofs.Common.{[], ◌++◌, ◌+◌, ◌<◌, ◌∙◌, ◌∷◌, ◌≡◌, Bool, List, ap, arith, false, length, map, max, min, refl, sym, true, ℕ}
+use Rattle.base.proofs.Exports.{beq, both_ok}
+use Rattle.message_bag.specs.Exports.{new_post}
+use Rattle.update_machine.specs.Exports.{Item, Message, sent_from}
+use Rattle.controller.specs.Exports.{newest_policy}
 use Rattle.journal.specs.declared.item.Item.TheVariants as item
-use Rattle.update_machine.specs.Messages.{sent_from}
-use Rattle.refinement.specs.Links.{link_step}
-use Rattle.world_log.specs.Linking.{all_adverts_sent, near_all}
-use Rattle.world.specs.Parts.{HasBegun}
+use Rattle.refinement.specs.Exports.{link_step}
+use Rattle.world_log.specs.Exports.{all_adverts_sent, near_all}
+use Rattle.world.specs.Exports.{HasBegun, comes_in}
 use Rattle.world.specs.declared.parts.Parts.{Parts}
-use Rattle.world.specs.State.{comes_in}
 use Rattle.world.proofs.StepFrame.{follows, goes_nothing, net_stays, nothing_goes}
 use Rattle.world.proofs.GoesTold.{goes_told, relinked_refines}
 use Rattle.world.proofs.OverSwitches.{few_in}

@@ -1,26 +1,14 @@
-use Rattle.std.proofs.Common.{ℕ, ◌≡◌, ◌≢◌, ◌+◌, ◌-◌, ◌++◌, ◌∷◌, [], List, Err, Some, inl, inr, refl, ap, sym, subst, ◌∙◌, ◌≤◌, arith, length, rules}
-use Rattle.std.specs.Prelude.{OnErr, OnOk, Result, slice_get}
-use Rattle.refinement.specs.Controller.{IsPlanOfNext}
-use Rattle.base.specs.declared.error.Failure.TheVariants.{Refused}
-use Rattle.base.proofs.ResultsMade.{ok_is_not_err}
-use Rattle.controller.specs.Controller.{ControllerValue}
-use Rattle.controller.specs.Plan.{PlanValue}
-use Rattle.controller.specs.Sends.{submit_acts}
+use Rattle.std.proofs.Common.{[], ◌++◌, ◌+◌, ◌-◌, ◌∙◌, ◌∷◌, ◌≡◌, ◌≢◌, ◌≤◌, Err, List, OnErr, OnOk, Result, Some, ap, arith, inl, inr, length, refl, rules, slice_get, subst, sym, ℕ}
+use Rattle.refinement.specs.Exports.{IsPlanOfNext}
+use Rattle.update_machine.specs.Exports.{Inapplicable, Item, Refused, Row, Update, made_by, piece, touched_of, update_code}
+use Rattle.base.proofs.Exports.{ok_is_not_err}
+use Rattle.controller.specs.Exports.{ControllerValue, PlanValue, next_kept, submit_acts}
 use Rattle.controller.specs.declared.sends.Act.{Act}
-use Rattle.controller.specs.Submit.{next_kept}
-use Rattle.journal.specs.declared.item.Item.{Item}
 use Rattle.journal.specs.declared.item.Item.TheVariants as item
-use Rattle.policy_rules.specs.declared.applying.Inapplicable.{Inapplicable}
-use Rattle.policy_rules.specs.declared.policy.Row.{Row}
-use Rattle.steps.specs.declared.step.Step.TheVariants.{Update}
 use Rattle.version_update.specs.declared.marks.SubmitError.TheVariants.{TooManyLive, TooManyVersions}
-use Rattle.world.specs.Files.{FilesValue, IsMade, Making, made_at}
-use Rattle.update_machine.specs.Pieces.{piece, update_code}
-use Rattle.update_machine.specs.Setting.{made_by}
-use Rattle.update_machine.specs.Touched.{touched_of}
-use Rattle.world.specs.Parts.{BeginsStep, Goes, KeepNet, setting_in}
+use Rattle.world.specs.Exports.{BeginsStep, FilesValue, Goes, IsMade, KeepNet, Making, made_at, setting_in}
 use Rattle.world.specs.declared.parts.Parts.{Parts}
-use Rattle.world_log.specs.Sending.{MayNote}
+use Rattle.world_log.specs.Exports.{MayNote}
 use Rattle.world.proofs.KeptFiles.{file_there}
 use Rattle.world.proofs.StepFrame.{files_stay, goes_one, net_stays, none_in, nothing_goes, plane_stays}
 use Rattle.world.proofs.GoesTold.{goes_acting}

@@ -1,9 +1,7 @@
-use Rattle.std.proofs.Common.{◌≡◌, Some, ap, sym, ◌∙◌}
-use Rattle.std.specs.Prelude.{Ok}
-use Rattle.controller.specs.Controller.{newest_policy}
-use Rattle.controller.specs.Plan.{PlanValue}
+use Rattle.std.proofs.Common.{◌∙◌, ◌≡◌, Ok, Some, ap, sym}
+use Rattle.controller.specs.Exports.{PlanValue, newest_policy}
 use Rattle.partition.specs.Plan.{plan_of}
-use Rattle.world.specs.Files.{FilesValue, first_policy}
+use Rattle.world.specs.Exports.{FilesValue, first_policy}
 use Rattle.world.proofs.BegunWorld.{as_begun, plan_copied, net_begun, owners_begun}
 use Rattle.world.proofs.KeptFiles.{first_whole}
 use Rattle.refinement.proofs.StartingWorld.{begun_refines}

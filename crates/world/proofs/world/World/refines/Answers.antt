@@ -1,4 +1,4 @@
-use Rattle.world.specs.State.{RefinesJournal}
+use Rattle.world.specs.Exports.{RefinesJournal}
 use Rattle.world.proofs.ViewedParts.{by_view}
 use Rattle.world.proofs.world.World.refines.Goals as goal
 

@@ -1,17 +1,11 @@
-use Rattle.std.proofs.Common.{◌≡◌, ◌≤◌, List, ap, subst, sym, ◌∙◌, arith, length}
-use Rattle.journal.specs.declared.item.Item.{Item}
-use Rattle.net_file.specs.declared.net.Net.{Net}
-use Rattle.policy_rules.specs.declared.file.PolicyFile.{PolicyFile}
-use Rattle.update_machine.specs.Full.{HasRoom, IsFull}
-use Rattle.update_machine.specs.Packets.{next_packet}
-use Rattle.update_machine.specs.Setting.{setting_of}
-use Rattle.steps.specs.Steps.{IsStep}
-use Rattle.world.specs.State.{WorldValue, setting_at}
+use Rattle.std.proofs.Common.{◌∙◌, ◌≡◌, ◌≤◌, List, ap, arith, length, subst, sym}
+use Rattle.update_machine.specs.Exports.{HasRoom, IsFull, Item, Net, PolicyFile, next_packet, setting_of}
+use Rattle.steps.specs.Exports.{IsStep}
+use Rattle.world.specs.Exports.{KeepNet, WorldValue, setting_at, setting_in, world_value}
 use Rattle.world.proofs.JournalRoom.{has_room, is_full, not_full}
 use Rattle.world.proofs.SoFar.{part_so_far, so_far_in, step_so_far}
-use Rattle.world.specs.Parts.{KeepNet, setting_in, world_value}
 use Rattle.world.specs.declared.parts.Parts.{Parts}
-use Rattle.packet_laws.specs.OnTheWay.{HoldsSoFar}
+use Rattle.packet_laws.specs.Exports.{HoldsSoFar}
 use Rattle.world.proofs.world.World.step.Goals as goal
 use Rattle.world.proofs.world.World.step.Goals.{After-play}
 

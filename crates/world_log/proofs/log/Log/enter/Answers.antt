@@ -1,14 +1,9 @@
 -- What was written of a packet that enters is its switch's answer.
-use Rattle.std.proofs.Common.{ℕ, ◌≡◌, ◌+◌, ◌∷◌, [], append-nil, length, option_map, refl, subst, sym, Option, Some, None}
-use Rattle.std.specs.Prelude.{Result}
+use Rattle.std.proofs.Common.{[], ◌+◌, ◌∷◌, ◌≡◌, None, Option, Result, Some, append-nil, length, option_map, refl, subst, sym, ℕ}
 use Rattle.journal.specs.declared.item.Item.TheVariants as item
-use Rattle.switch_core.specs.Answering.{admitted, incoming_packet}
-use Rattle.switch_core.specs.Answers.{Answer, Answered, Arrival}
-use Rattle.switch_core.specs.Ends.{site_of}
-use Rattle.switch_core.specs.Forwarding.{answer_of}
+use Rattle.switch_core.specs.Exports.{Answer, Answered, Arrival, admitted, answer_of, incoming_packet, site_of}
 use Rattle.travelling.specs.Travelling.{Standing}
-use Rattle.world_log.specs.Packets.{coming_in}
-use Rattle.world_log.specs.Writing.{LogAfter, arrived_flight, arrived_items, arrived_posts, entered_items, entered_posts, entered_flight, packet_standing}
+use Rattle.world_log.specs.Exports.{LogAfter, arrived_flight, arrived_items, arrived_posts, coming_in, entered_flight, entered_items, entered_posts, packet_standing}
 use Rattle.world_log.specs.declared.log.Log.{Log}
 use Rattle.world_log.proofs.LogCalls.{log_behind, log_unwritten}
 use Rattle.world_log.proofs.log.Log.enter.Goals as goal

@@ -1,18 +1,12 @@
 -- A packet moves to the second switch of its route, or has arrived.
-use Rattle.std.proofs.Common.{ℕ, ◌≡◌, ◌+◌, ◌<◌, ◌∷◌, [], Option, Some, None, ap, length, refl, subst, sym, ◌∙◌}
-use Rattle.std.specs.Prelude.{Result, slice_get}
-use Rattle.std.proofs.lemmas.Option.{slice_get_within}
-use Rattle.std.proofs.lemmas.Result.{on_ok_weaker}
+use Rattle.std.proofs.Common.{[], ◌+◌, ◌<◌, ◌∙◌, ◌∷◌, ◌≡◌, None, Option, Result, Some, ap, length, refl, slice_get, subst, sym, ℕ}
+use Rattle.base.proofs.Exports.{on_ok_weaker, slice_get_within}
 use Rattle.journal.specs.declared.item.Item.TheVariants as item
-use Rattle.net_file.specs.declared.ports.Ports.{Ports}
-use Rattle.switch_core.specs.Answering.{IsAtAuthority}
-use Rattle.switch_core.specs.Ends.{around}
-use Rattle.switch_core.specs.Moving.{StandsAt, move_answer}
-use Rattle.switch_core.specs.State.{SwitchValue}
+use Rattle.update_machine.specs.Exports.{Ports}
+use Rattle.switch_core.specs.Exports.{IsAtAuthority, StandsAt, SwitchValue, around, move_answer}
 use Rattle.travelling.specs.Travelling.{Flight, Standing, WithOne, placed_at, standing_at, standing_kept}
-use Rattle.tunnel.specs.Moves.{next}
-use Rattle.world_log.specs.Packets.{ended_flight, ended_items, ended_posts, ended_switch, followed, followed_flight, followed_items, followed_posts}
-use Rattle.world_log.specs.Writing.{LogAfter}
+use Rattle.tunnel.specs.Exports.{next}
+use Rattle.world_log.specs.Exports.{LogAfter, ended_flight, ended_items, ended_posts, ended_switch, followed, followed_flight, followed_items, followed_posts}
 use Rattle.world_log.specs.declared.log.Log.{Log}
 use Rattle.world_log.proofs.LogCalls.{log_one, log_unwritten}
 use Rattle.world_log.proofs.HopLogs.{arrival_log, placed}

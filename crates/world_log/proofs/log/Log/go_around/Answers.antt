@@ -1,25 +1,15 @@
 -- A packet goes around a link that is down.
-use Rattle.std.proofs.Common.{ℕ, ◌≡◌, ◌+◌, ◌++◌, ◌∷◌, [], List, Option, None, Some, ap, length, refl, subst, sym, ◌∙◌}
-use Rattle.std.specs.Option.{option_copied}
-use Rattle.std.specs.Prelude.{Err, IsErr, Result, unwrap_or}
-use Rattle.std.proofs.lemmas.Result.{on_ok_weaker}
-use Rattle.base.specs.Refusals.{IfRefused}
-use Rattle.base.proofs.ListsJoined.{both_written}
-use Rattle.base.proofs.ResultsMade.{on_ok_failed}
-use Rattle.failover.specs.Links.{no_links}
-use Rattle.failover.specs.Routes.{route_of}
-use Rattle.switch_core.specs.Ends.{cause_of}
-use Rattle.journal.specs.declared.item.Item.{Item}
+use Rattle.std.proofs.Common.{[], ◌++◌, ◌+◌, ◌∙◌, ◌∷◌, ◌≡◌, Err, IsErr, List, None, Option, Result, Some, ap, length, option_copied, refl, subst, sym, unwrap_or, ℕ}
+use Rattle.base.proofs.Exports.{both_written, on_ok_failed, on_ok_weaker}
+use Rattle.base.specs.Exports.{IfRefused}
+use Rattle.failover.specs.Exports.{no_links, route_of}
+use Rattle.switch_core.specs.Exports.{IsAtAuthority, StandsAt, SwitchValue, cause_of}
+use Rattle.update_machine.specs.Exports.{Item, Leg}
 use Rattle.journal.specs.declared.item.Item.TheVariants as item
-use Rattle.policy_rules.specs.declared.packet.Leg.{Leg}
-use Rattle.switch_core.specs.Answering.{IsAtAuthority}
-use Rattle.switch_core.specs.Moving.{StandsAt}
-use Rattle.switch_core.specs.State.{SwitchValue}
 use Rattle.travelling.specs.Travelling.{Flight, Standing, begun_at, marked_at, standing_kept, travels_by}
 use Rattle.travelling.specs.declared.standing.Standing as packet
-use Rattle.tunnel.specs.Moves.{next}
-use Rattle.world_log.specs.Packets.{HasHopped, MeetsDownLink, ended_switch, followed, followed_flight, followed_items, followed_posts}
-use Rattle.world_log.specs.Writing.{LogAfter}
+use Rattle.tunnel.specs.Exports.{next}
+use Rattle.world_log.specs.Exports.{HasHopped, LogAfter, MeetsDownLink, ended_switch, followed, followed_flight, followed_items, followed_posts}
 use Rattle.world_log.specs.declared.log.Log.{Log}
 use Rattle.world_log.proofs.HopsAround.{last_here, stuck_log, stuck_switch, turned_log, turned_switch}
 use Rattle.world_log.proofs.LogCalls.{log_failed, log_unwritten}

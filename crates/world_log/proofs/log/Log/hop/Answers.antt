@@ -1,18 +1,12 @@
 -- A packet goes on as it is kept.
-use Rattle.std.proofs.Common.{ℕ, ◌≡◌, ◌≢◌, ◌+◌, ◌<◌, Option, Some, None, ap, get_or, length, refl, set, subst, sym, ◌∙◌}
-use Rattle.std.specs.Option.{option_copied}
-use Rattle.std.specs.Prelude.{IsErr, IsSomeAnd, Result, slice_get, slice_index}
-use Rattle.std.proofs.lemmas.Option.{slice_get-get_or, slice_get_within}
-use Rattle.base.proofs.ResultsMade.{on_ok_failed}
-use Rattle.switch_core.specs.Answering.{IsAtAuthority}
-use Rattle.switch_core.specs.Ends.{around}
-use Rattle.switch_core.specs.Moving.{Moved, StandsAt, onward_to}
-use Rattle.switch_core.specs.State.{SwitchValue, call_counted}
+use Rattle.std.proofs.Common.{◌+◌, ◌<◌, ◌∙◌, ◌≡◌, ◌≢◌, IsErr, IsSomeAnd, None, Option, Result, Some, ap, get_or, length, option_copied, refl, set, slice_get, slice_index, subst, sym, ℕ}
+use Rattle.base.proofs.Exports.{on_ok_failed, slice_get-get_or, slice_get_within}
+use Rattle.switch_core.specs.Exports.{IsAtAuthority, Moved, StandsAt, SwitchValue, around, call_counted, onward_to}
 use Rattle.switch_core.specs.declared.packet.Onward.{Onward}
 use Rattle.switch_core.proofs.NextSwitch.{ends, goes, is_down}
 use Rattle.travelling.specs.Travelling.{Flight, HasPlace, Standing, standing_at, standing_kept, flight}
-use Rattle.tunnel.specs.Moves.{here, next}
-use Rattle.world_log.specs.Packets.{HasHopped, Hops, MayGoOn, MeetsDownLink}
+use Rattle.tunnel.specs.Exports.{here, next}
+use Rattle.world_log.specs.Exports.{HasHopped, Hops, MayGoOn, MeetsDownLink}
 use Rattle.world_log.specs.declared.log.Log.{Log}
 use Rattle.world_log.proofs.HoppedPacket.{authority_counted}
 use Rattle.world_log.proofs.HopLogs.{arrival_log, free_hop, move_hop, passed_by, passed_hop, placed}

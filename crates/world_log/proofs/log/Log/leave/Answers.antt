@@ -1,15 +1,11 @@
 -- What was written of a packet that was decided is the way that its decision says.
-use Rattle.std.proofs.Common.{ℕ, ◌≡◌, ◌∙◌, ◌∷◌, [], None, List, true, false, eq-eqb, ne_eqb, subst, sym}
-use Rattle.std.specs.Prelude.{Result}
-use Rattle.journal.specs.declared.item.Item.{Item}
-use Rattle.policy_rules.specs.declared.packet.Cause.{Cause}
-use Rattle.policy_rules.specs.declared.packet.Leg.TheVariants.{Exit as ExitLeg}
-use Rattle.policy_rules.specs.declared.policy.Action.TheVariants.{Drop, Out as OutBy}
-use Rattle.switch_core.specs.Ends.{next_of, set_out, site_of}
+use Rattle.std.proofs.Common.{[], ◌∙◌, ◌∷◌, ◌≡◌, List, None, Result, eq-eqb, false, ne_eqb, subst, sym, true, ℕ}
+use Rattle.update_machine.specs.Exports.{Cause, Drop, Exit as ExitLeg, Item, Out as OutBy}
+use Rattle.switch_core.specs.Exports.{next_of, set_out, site_of}
 use Rattle.switch_core.specs.declared.deciding.Decision.{Decision}
 use Rattle.travelling.specs.Travelling.{standing_kept}
-use Rattle.tunnel.specs.Tunnel.{TunnelValue}
-use Rattle.world_log.specs.Writing.{LogAfter, packet_standing, set_item, set_flight}
+use Rattle.tunnel.specs.Exports.{TunnelValue}
+use Rattle.world_log.specs.Exports.{LogAfter, packet_standing, set_flight, set_item}
 use Rattle.world_log.proofs.WrittenGoing.{by_action, exits, owned, unowned}
 use Rattle.world_log.proofs.log.Log.leave.Goals as goal
 

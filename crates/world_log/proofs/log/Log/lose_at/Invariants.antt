@@ -1,5 +1,5 @@
-use Rattle.std.proofs.Common.{◌≡◌, ◌-◌, length}
-use Rattle.world_log.specs.Losing.{AreLostBelow}
+use Rattle.std.proofs.Common.{◌-◌, ◌≡◌, length}
+use Rattle.world_log.specs.Exports.{AreLostBelow}
 use Rattle.world_log.proofs.log.Log.lose_at.Given as goal
 
 -- those so far are lost

@@ -1,6 +1,5 @@
-use Rattle.std.proofs.Common.{subst, sym}
-use Rattle.std.proofs.lemmas.List.{map-id}
-use Rattle.world_log.specs.Sending.{HasNoted, MayNote}
+use Rattle.std.proofs.Common.{map-id, subst, sym}
+use Rattle.world_log.specs.Exports.{HasNoted, MayNote}
 use Rattle.world_log.proofs.log.Log.note_acts.Goals as goal
 
 pub note_each-requires : goal.note_each-requires

@@ -1,7 +1,6 @@
-use Rattle.std.proofs.Common.{◌+◌, ◌∙◌, refl, subst, sym, length, map, arith}
-use Rattle.base.proofs.ListsOfAll.{holds_next}
-use Rattle.world_log.specs.Sending.{IsSpelled, act_items}
-use Rattle.world_log.specs.Writing.{IsPart}
+use Rattle.std.proofs.Common.{◌+◌, ◌∙◌, arith, length, map, refl, subst, sym}
+use Rattle.base.proofs.Exports.{holds_next}
+use Rattle.world_log.specs.Exports.{IsPart, IsSpelled, act_items}
 use Rattle.world_log.proofs.MessageLogs.{AreDone, acts_of, come_all, come_more, come_next, done_begun, done_few, done_part, noted_more, noting_failed}
 use Rattle.world_log.proofs.log.Log.note_each.Goals as goal
 

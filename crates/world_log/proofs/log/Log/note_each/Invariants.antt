@@ -1,5 +1,5 @@
 use Rattle.std.proofs.Common.{◌≡◌, map}
-use Rattle.std.specs.Vec.Iter.{into_iter_items, into_iter_len}
+use Rattle.base.proofs.Exports.{into_iter_items, into_iter_len}
 use Rattle.world_log.proofs.MessageLogs.{AreDone, HaveCome}
 use Rattle.world_log.proofs.log.Log.note_each.Given as goal
 

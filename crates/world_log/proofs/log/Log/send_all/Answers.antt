@@ -1,7 +1,7 @@
-use Rattle.std.proofs.Common.{◌≡◌, ◌+◌, ◌++◌, OnErr, OnOk, ap, subst, length, arith}
-use Rattle.std.proofs.lemmas.List.{length-map}
-use Rattle.message_bag.specs.Posts.{new_post}
-use Rattle.world_log.specs.Writing.{IsPart}
+use Rattle.std.proofs.Common.{◌++◌, ◌+◌, ◌≡◌, OnErr, OnOk, ap, arith, length, subst}
+use Rattle.base.proofs.Exports.{length-map}
+use Rattle.message_bag.specs.Exports.{new_post}
+use Rattle.world_log.specs.Exports.{IsPart}
 use Rattle.world_log.proofs.MessageLogs.{posts_as_acts, sent_as_acts, spelled_as_acts}
 use Rattle.world_log.proofs.log.Log.send_all.Goals as goal
 

@@ -1,6 +1,5 @@
-use Rattle.std.proofs.Common.{◌∙◌, OnOk, length, map, ◌+◌, ◌++◌}
-use Rattle.std.proofs.lemmas.Result.{on_err_weaker, on_ok_weaker}
-use Rattle.base.proofs.ResultsMade.{both_ok}
+use Rattle.std.proofs.Common.{◌++◌, ◌+◌, ◌∙◌, OnOk, length, map}
+use Rattle.base.proofs.Exports.{both_ok, on_err_weaker, on_ok_weaker}
 use Rattle.controller.specs.declared.sends.Act.TheVariants.{Post}
 use Rattle.world_log.proofs.MessageLogs.{AreDone, done_both, first_part, later_part, may_first, may_later, noting_failed}
 use Rattle.world_log.proofs.log.Log.send_and_note.Goals as goal

@@ -1,15 +1,12 @@
 -- The rule of a decision is sent under the next number, and nothing where there is no word.
-use Rattle.std.proofs.Common.{◌≡◌, ◌+◌, ◌++◌, ◌∷◌, [], sym, subst, length, append-nil, map}
-use Rattle.std.specs.Prelude.{Option, OnOk}
-use Rattle.ctrl_msg.specs.declared.message.Body.{Body}
+use Rattle.std.proofs.Common.{[], ◌++◌, ◌+◌, ◌∷◌, ◌≡◌, OnOk, Option, append-nil, length, map, subst, sym}
+use Rattle.update_machine.specs.Exports.{Body, sent_from}
 use Rattle.ctrl_msg.specs.declared.message.Place.TheVariants as receiver
 use Rattle.journal.specs.declared.item.Item.TheVariants as item
-use Rattle.message_bag.specs.Feeding.{HasShortSpelling}
-use Rattle.message_bag.specs.Posts.{new_post}
-use Rattle.switch_core.specs.Forwarding.{cached_by}
-use Rattle.ternary.specs.Word.{WordValue}
-use Rattle.update_machine.specs.Messages.{sent_from}
-use Rattle.world_log.specs.Writing.{cache_message, message_list}
+use Rattle.message_bag.specs.Exports.{HasShortSpelling, new_post}
+use Rattle.switch_core.specs.Exports.{cached_by}
+use Rattle.ternary.specs.Exports.{WordValue}
+use Rattle.world_log.specs.Exports.{cache_message, message_list}
 use Rattle.world_log.proofs.WrittenGoing.{rule_spelled}
 use Rattle.world_log.proofs.log.Log.send_rule.Goals as goal
 

@@ -1,18 +1,13 @@
 -- A packet sets out by the route that its switch finds, or is stuck.
-use Rattle.std.proofs.Common.{ℕ, ◌≡◌, ◌∷◌, [], List, Option, Some, None, ap, refl, subst, ◌∙◌}
-use Rattle.std.specs.Option.{option_copied}
-use Rattle.std.specs.Prelude.{Result, unwrap_or}
-use Rattle.base.specs.Refusals.{IfRefused}
-use Rattle.failover.specs.Links.{no_links}
-use Rattle.journal.specs.declared.item.Item.{Item}
-use Rattle.policy_rules.specs.declared.packet.Cause.{Cause}
-use Rattle.failover.specs.Routes.{route_of}
-use Rattle.switch_core.specs.Ends.{cause_of}
+use Rattle.std.proofs.Common.{[], ◌∙◌, ◌∷◌, ◌≡◌, List, None, Option, Result, Some, ap, option_copied, refl, subst, unwrap_or, ℕ}
+use Rattle.base.specs.Exports.{IfRefused}
+use Rattle.failover.specs.Exports.{no_links, route_of}
+use Rattle.update_machine.specs.Exports.{Cause, Item, takes_route}
+use Rattle.switch_core.specs.Exports.{cause_of}
 use Rattle.world_log.specs.declared.log.Log.{Log}
 use Rattle.travelling.specs.Travelling.{Flight, WithOne, begun_at, standing_kept, travels_by}
-use Rattle.tunnel.specs.Tunnel.{TunnelValue}
-use Rattle.update_machine.specs.Moves.{takes_route}
-use Rattle.world_log.specs.Writing.{LogAfter, packet_standing, set_flight, set_item}
+use Rattle.tunnel.specs.Exports.{TunnelValue}
+use Rattle.world_log.specs.Exports.{LogAfter, packet_standing, set_flight, set_item}
 use Rattle.world_log.proofs.WrittenGoing.{none_known, route_known}
 use Rattle.world_log.proofs.LogCalls.{log_one}
 use Rattle.world_log.proofs.log.Log.set_out.Goals as goal

@@ -1,15 +1,13 @@
 -- What was written of a packet is its switch's answer.
-use Rattle.std.proofs.Common.{◌+◌, ◌∷◌, [], List, None, length, map, subst, sym, ◌∙◌}
-use Rattle.base.proofs.ListsJoined.{both_written}
-use Rattle.journal.specs.declared.item.Item.{Item}
+use Rattle.std.proofs.Common.{[], ◌+◌, ◌∙◌, ◌∷◌, List, None, length, map, subst, sym}
+use Rattle.base.proofs.Exports.{both_written}
+use Rattle.update_machine.specs.Exports.{Item, sent_from}
 use Rattle.journal.specs.declared.item.Item.TheVariants as item
-use Rattle.message_bag.specs.Posts.{Post, new_post}
-use Rattle.switch_core.specs.Ends.{set_out, site_of}
-use Rattle.switch_core.specs.Forwarding.{answer_of, cached_by}
+use Rattle.message_bag.specs.Exports.{Post, new_post}
+use Rattle.switch_core.specs.Exports.{answer_of, cached_by, set_out, site_of}
 use Rattle.switch_core.specs.declared.forwarding.Forwarding.{Forwarding}
 use Rattle.travelling.specs.Travelling.{standing_kept}
-use Rattle.update_machine.specs.Messages.{sent_from}
-use Rattle.world_log.specs.Writing.{LogAfter, arrived_flight, arrived_items, arrived_posts, cache_message, message_list, packet_standing}
+use Rattle.world_log.specs.Exports.{LogAfter, arrived_flight, arrived_items, arrived_posts, cache_message, message_list, packet_standing}
 use Rattle.world_log.proofs.WrittenGoing.{sought}
 use Rattle.world_log.proofs.LogCalls.{log_ends, log_failed, log_unwritten}
 use Rattle.world_log.proofs.StepWrites.{part_first}

@@ -1,7 +1,7 @@
-use Rattle.std.proofs.Common.{None, [], ◌∷◌, refl, subst}
+use Rattle.std.proofs.Common.{[], ◌∷◌, None, refl, subst}
 use Rattle.journal.specs.declared.item.Item.TheVariants as item
 use Rattle.travelling.specs.Travelling.{Flights}
-use Rattle.world_log.specs.Writing.{LogAfter}
+use Rattle.world_log.specs.Exports.{LogAfter}
 use Rattle.world_log.proofs.LogCalls.{log_unwritten}
 use Rattle.world_log.proofs.log.Log.stuck.Goals as goal
 
