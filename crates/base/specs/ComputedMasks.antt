@@ -3,7 +3,7 @@ use Rattle.std.specs.Prelude.{[], if◌then◌else◌, ◌+◌, ◌^◌, ◌∷�
 use Rattle.std.specs.Int.{trailing_zeros, w64}
 use Rattle.base.specs.Masks.{switches}
 
--- the set of this one number, or of none
+-- the set of this number if the test is true, otherwise the empty set
 abbrev pub only_if : Bool → ℕ → ℕ
 only_if test k = if test then 2 ^ k else 0
 

@@ -1,12 +1,12 @@
--- A list in the first of many places, with 0 in the others.
+-- Arrays that begin with a list and are 0 after it.
 use Rattle.std.specs.Prelude.{◌++◌, ◌-◌, ◌≡◌, ◌≤◌, List, drop, length, replicate, take, ℕ}
 use Rattle.std.proofs.Common.{◌∙◌, ap, arith, length-take, sym, take-append-drop}
 
--- the places that contain this list
+-- an array of `most` places: the list, and then zeros
 abbrev pub filled_places : ℕ → List ℕ → List ℕ
 filled_places most xs = xs ++ replicate (most - length xs) 0
 
--- places that are 0 beyond this many are those that contain their first this many
+-- an array that is 0 from place `len` on is its first `len` places, and then zeros
 pub filled-take : (most len : ℕ) (places : List ℕ) → length places ≡ most → len ≤ most
     → drop len places ≡ replicate (most - len) 0
     → (length (take len places) ≡ len) × (filled_places most (take len places) ≡ places)

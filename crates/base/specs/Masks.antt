@@ -1,5 +1,5 @@
--- First tier. Sets of numbers below 64, as those of switches and of ports, as masks: k is in the
--- set if bit k of the mask is 1.
+-- First tier. Sets of numbers below 64, such as switches or ports, as masks: k is in the set if bit
+-- k of the mask is 1.
 use Rattle.std.specs.Prelude.{◌==◌, Bool, List, ℕ}
 use Rattle.std.specs.Int.{bit_at}
 use Rattle.std.specs.List.{range_with_len}

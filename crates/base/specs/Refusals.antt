@@ -1,4 +1,4 @@
--- What a call refuses, and the result of reading a text that may be refused in a row.
+-- Facts about the error of a call, and the row in which a text is refused.
 use Rattle.std.specs.Prelude.{◌≡◌, Err, Ok, Result, ℕ, ⊤}
 use Rattle.base.specs.declared.error.Failure.{Failure}
 use Rattle.base.specs.declared.error.Failure.TheVariants.{Refused, NoMemory}

@@ -9,7 +9,7 @@ use thiserror::Error;
 #[derive(Clone, Copy, Debug, PartialEq, Eq, Error)]
 #[error_bound(R: Display)]
 pub enum Failure<R> {
-    /// What was given is refused, for this.
+    /// The call refuses its input, for this reason.
     #[error("{0}")]
     Refused(R),
     #[error("no memory")]

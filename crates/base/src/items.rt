@@ -18,7 +18,7 @@ impl<T> Model for Items<T> {
 }
 
 impl<T: Drop> Items<T> {
-    /// The list of no items; it allocates nothing yet.
+    /// An empty list; it allocates nothing yet.
     pub fn new(alloc: Global) -> Self
         ensures { result ≡ [] }
     {
@@ -34,7 +34,7 @@ impl<T: Drop> Items<T> {
         Items { items }
     }
 
-    /// Writes an item at the end.
+    /// Appends an item.
     ///
     /// # Errors
     /// Only out of memory; then the list is unchanged.
@@ -47,14 +47,14 @@ impl<T: Drop> Items<T> {
         Ok(())
     }
 
-    /// The items, the first one first.
+    /// The items, in order.
     pub fn items(&self) -> &[T]
         ensures { result.now ≡ self.now }
     {
         &self.items
     }
 
-    /// The items, the first one first, to be taken apart.
+    /// The items as a `Vec`, in order.
     pub fn into_items(self) -> Vec<T>
         ensures { result.items ≡ self }
     {

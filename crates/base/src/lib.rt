@@ -1,11 +1,11 @@
 //! Why a call returns no value; lists and shared values for the other crates; sets of small
 //! numbers; and the limits of a network.
 //!
-//! `Failure` says what a call refuses, by a type of its own with its message, or out of memory;
-//! `?` makes one of a failure of memory. A reader of a text returns `InRow` of its refusals. A
-//! `Items` owns its items; the clones of a `SharedList` share its items, and those of a `Shared`
-//! its value, so that contracts see what is in them and nothing of how it is held. A mask is a set
-//! of numbers below 64, as of switches and of ports, held as the bits of a number.
+//! A `Failure` is out of memory, or a refusal: each call has its own type of refusals, with their
+//! messages. `?` turns an `AllocError` into a `Failure`. A reader of a text returns its refusals as
+//! `InRow`. `Items` own their items; the clones of a `SharedList` share its items, and those of a
+//! `Shared` its value. Contracts see only the items and the value. A mask is a set of numbers below
+//! 64, such as switches or ports, kept as the bits of a number.
 //!
 //! ```text
 //! pub fn build(alloc: Global, rules: &[Rule], cap: u32) -> Result<Tree, Failure<TooManyLeaves>>

@@ -1,7 +1,7 @@
-//! Limits of a network, of which several crates speak.
+//! Limits of a network that several crates use.
 
-/// The most switches of a network: their numbers are below it.
+/// The most switches that a network has; their numbers are below this.
 pub const MAX_SWITCHES: u32 = 64;
 
-/// The most versions of the policies of a run.
+/// The most versions of the policy in one run.
 pub const MAX_VERSIONS: u32 = 64;

@@ -1,4 +1,4 @@
-//! Sets of numbers below 64, as of switches and of ports, held as the bits of a number.
+//! Sets of numbers below 64, such as switches or ports, kept as the bits of a number.
 //!
 //! ```text
 //! let ends = with(only_if(true, 3), 5); // 0b101000
@@ -20,7 +20,7 @@ pub fn has(mask: u64, k: u32) -> bool
     (mask >> k) & 1 == 1
 }
 
-/// The set of this one number, or of none.
+/// The set of this number if the test is true, otherwise the empty set.
 #[tactic(auto, using(std::proofs::lemmas::Nat::one_shl))]
 pub fn only_if(test: bool, k: u32) -> u64
     requires { k < 64 }

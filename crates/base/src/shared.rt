@@ -17,7 +17,7 @@ impl<T> Model for Shared<T> {
 }
 
 impl<T: Drop> Shared<T> {
-    /// This value, to be shared.
+    /// Shares this value.
     ///
     /// # Errors
     /// Only out of memory.

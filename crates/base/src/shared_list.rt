@@ -20,7 +20,7 @@ impl<T> Model for SharedList<T> {
 }
 
 impl<T: Drop> SharedList<T> {
-    /// The list of these items, to be shared.
+    /// Shares the list of these items.
     ///
     /// # Errors
     /// Only out of memory.

@@ -1,9 +1,9 @@
 //! The records of a CSV text in memory, one after another, as the crate `csv` reads them with its
 //! presets.
 //!
-//! Which bytes make a record is what that crate defines: a byte-order mark, quotes, line ends and
-//! blank lines are as it reads them. Records may have any width, none is taken for column names,
-//! and no field is trimmed.
+//! That crate defines which bytes make a record, and how it reads a byte-order mark, quotes, line
+//! ends and blank lines. Records may have any width, none is taken as column names, and no field is
+//! trimmed.
 //!
 //! Contracts see a `Records` as the list of the records that remain to be read, so a caller
 //! reasons about a plain list:
@@ -12,7 +12,7 @@
 //! let mut records = Records::new(alloc, text);
 //! let mut record = ByteRecord::new(alloc);
 //! while records.read_next(&mut record)? {
-//!     // `record` was the first of the records left, and is so no more
+//!     // `record` was the first of the records left; now only the others are left
 //! }
 //! ```
 #![tactic(auto)]

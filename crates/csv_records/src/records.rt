@@ -59,7 +59,7 @@ impl<'a> Records<'a> {
                 Ok(found)
             }
             Err(error) => match error.into_kind() {
-                // Reading a slice can't fail, but `csv` doesn't say so of `Io`.
+                // Reading a slice can't fail, but the contract of `csv` doesn't exclude `Io`.
                 ErrorKind::OutOfMemory | ErrorKind::Io(_) => Err(AllocError),
                 _ => unreachable!(),
             },

@@ -9,7 +9,7 @@ use Rattle.five_tuple.specs.Header.{PortRangeValue}
 abbrev pub Block : Type 0
 Block = ℕ × ℕ
 
--- value and mask have 16 bits, and the value none outside the mask
+-- value and mask have 16 bits, and no bit of the value is outside the mask
 pub record IsPortBlock (block : Block) : Type 0 where
   pub value : block.0 < 2 ^ 16
   pub mask : block.1 < 2 ^ 16
@@ -41,21 +41,21 @@ largest_up_to zero first high = 0
 largest_up_to (suc exponent) first high =
     if fits_at first high (suc exponent) then suc exponent else largest_up_to exponent first high
 
--- blocks from `low` on, each the largest that begins where the one before it ends, until no port
--- is left, or this many blocks
+-- at most this many blocks from `low` on, each the largest that begins where the one before it
+-- ends, until no port is left
 abbrev pub blocks_from : ℕ → ℕ → ℕ → List Block
 blocks_from zero low high = []
 blocks_from (suc most) low high =
     if nat_lt high low then [] else (let exponent = largest_up_to 16 low high in
     block_at low exponent ∷ blocks_from most (low + 2 ^ exponent) high)
 
--- the blocks of a range: no more than it has ports
+-- the blocks of a range; there are at most as many as ports
 unfoldable pub cover_of : PortRangeValue → List Block
 cover_of range = blocks_from (range.high + 1 - range.low) range.low range.high
 
 -- ---- the same, as a relation
 
--- the block of this size that begins at `first` is aligned and ends at or below `high`
+-- the block of 2 ^ exponent ports from `first` on is aligned and ends at or below `high`
 pub record IsBlock (first high exponent : ℕ) : Type 0 where
   pub aligned : first % 2 ^ exponent ≡ 0
   pub fits : first + 2 ^ exponent ≤ high + 1

@@ -32,7 +32,7 @@ pub record AddressBlock : Type 0 where
 abbrev pub prefix_matches : AddressBlock → ℕ → Bool
 prefix_matches p address = address / 2 ^ (32 - p.len) == p.address / 2 ^ (32 - p.len)
 
--- a range of ports, both ends among them
+-- a range of ports, both ends included
 pub record PortRangeValue : Type 0 where
   pub low : ℕ
   pub high : ℕ

@@ -1,4 +1,4 @@
--- The header of five fields and that of a number, and when two headers are the same.
+-- The header that has five fields or a number, and when two headers are the same.
 use Rattle.std.specs.Prelude.{◌%◌, ◌&&◌, ◌/◌, ◌==◌, ◌^◌, Bool, ℕ}
 use Rattle.five_tuple.specs.declared.header.Fields.{Fields}
 use Rattle.five_tuple.specs.declared.header.Header.{Header}

@@ -11,7 +11,7 @@ use Rattle.five_tuple.specs.Printing.{address_text, proto_number_text}
 use Rattle.five_tuple.specs.HeaderNumbers.{header_numbered, header_eq}
 use Rattle.five_tuple.specs.RowPrinting.{is_plain_char, prefix_text, range_text, proto_text}
 
--- each number below 2 ^ 104 is that of exactly one header
+-- each number below 2 ^ 104 belongs to exactly one header
 pub record HeaderLaws : Type 0 where
   pub header : (n : ℕ) → n < 2 ^ 104 → IsHeader (header_numbered n)
   pub bound : (h : Header) → IsHeader h → number_of h < 2 ^ 104
@@ -20,9 +20,9 @@ pub record HeaderLaws : Type 0 where
   pub equal : (a b : Header) → IsTrue (header_eq a b) ↔ (a ≡ b)
   pub same : (a b : Header) → IsHeader a → IsHeader b → number_of a ≡ number_of b → a ≡ b
 
--- the blocks of a range are ..
+-- what is true of the blocks of a range
 pub record IsCoverOf (range : PortRangeValue) (blocks : List Block) : Type 0 where
-  -- .. exactly its ports, each in one block
+  -- they have exactly its ports, each in one block
   pub exact : (port : ℕ) → port < 2 ^ 16
       → list_any (block_holds port) blocks ≡ range_matches range port
   pub disjoint : AllPairs AreBlocksApart blocks

@@ -1,4 +1,4 @@
--- First tier. The printed forms of a policy's and a packet's fields: each is read back to it.
+-- First tier. The printed forms of the fields of policies and packets; each is read back.
 use Rattle.std.specs.Prelude.{[], if◌then◌else◌, ◌%◌, ◌/◌, ◌==◌, ◌^◌, ◌∷◌, List, codes, decimal, ℕ}
 use Rattle.std.specs.List.{join_with_byte}
 use Rattle.five_tuple.specs.declared.header.Fields.{Fields}

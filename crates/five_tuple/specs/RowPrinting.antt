@@ -1,4 +1,4 @@
--- The printed forms of the fields of a policy's row: each is read back to the field.
+-- The printed forms of the fields of a policy's row; each is read back.
 use Rattle.std.specs.Prelude.{[], if◌then◌else◌, ◌&&◌, ◌==◌, ◌||◌, ◌∷◌, Bool, List, codes, decimal, ℕ}
 use Rattle.std.specs.Char.{is_ascii_digit, is_ascii_lowercase}
 use Rattle.std.specs.List.{join_with_byte}

@@ -1,7 +1,6 @@
 -- The texts of a policy's and a packet's fields, as they are read. An address is in dotted decimal
 -- (RFC 1123, section 2.1), and a block has a slash and its length after it (RFC 4632, section 3.1).
--- That a number has neither sign nor leading zero, and the keywords and the dash, are this
--- project's own.
+-- The keywords, the dash, and that numbers have no sign and no leading zero are this project's own.
 use Rattle.std.specs.Prelude.{[], if◌then◌else◌, ◌&&◌, ◌*◌, ◌+◌, ◌-◌, ◌/◌, ◌==◌, ◌^◌, ◌∷◌, ◌≡◌, Bool, List, None, Option, Some, bytes_eq, codes, length, nat_le, nat_lt, not, option_map, slice_index, ℕ}
 use Rattle.std.specs.List.{list_all, slice_split}
 use Rattle.std.specs.Char.{is_ascii_digit}
@@ -35,13 +34,13 @@ abbrev pub address_from : Option ℕ → Option ℕ → Option ℕ → Option �
 address_from (Some a) (Some b) (Some c) (Some d) = Some (a * 2 ^ 24 + b * 2 ^ 16 + c * 2 ^ 8 + d)
 address_from _ _ _ _ = None
 
--- the text begins with this number from 0 to 255 and a dot, and this follows the dot
+-- the text begins with this number from 0 to 255 and a dot, and `rest` follows the dot
 pub record IsByteBefore (text : List ℕ) (byte : ℕ) (rest : List ℕ) : Type 0 where
   pub part : List ℕ
   pub parts : parts_round 46 text ≡ part ∷ parts_round 46 rest
   pub number : number_up_to 255 part ≡ Some byte
 
--- no number from 0 to 255 comes before a first dot
+-- the text has no dot, or no number from 0 to 255 before the first one
 abbrev pub LacksByte : List ℕ → Type 0
 LacksByte text = (part next : List ℕ) (others : List (List ℕ))
     → parts_round 46 text ≡ part ∷ next ∷ others → number_up_to 255 part ≡ None

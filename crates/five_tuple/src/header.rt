@@ -36,14 +36,14 @@ impl Header {
         Header { fields: *fields }
     }
 
-    /// The fields of this header; `pack` leads back to it.
+    /// The fields of this header; `pack` makes the same header of them.
     pub fn fields(&self) -> Fields
         ensures { result ≡ fields_of self.now }
     {
         self.fields
     }
 
-    /// The number that packs the fields: each number below 2^104 is that of exactly one header.
+    /// The number that packs the fields. Each number below 2^104 belongs to exactly one header.
     pub fn number(&self) -> u128
         ensures number { result ≡ number_of self.now }
         ensures bound { result < 2 ^ 104 }
@@ -65,7 +65,7 @@ impl Header {
     }
 }
 
-/// Each number below 2^104 is that of exactly one header.
+/// Each number below 2^104 belongs to exactly one header.
 pub fn header_laws()
     ensures { HeaderLaws }
 {}

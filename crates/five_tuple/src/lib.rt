@@ -1,10 +1,10 @@
 //! Headers of IPv4 five-tuples, the fields that match them, and the texts of both.
 //!
-//! A header is one number of 104 bits that packs source, destination, ports and protocol; each
-//! number is that of one header. Prefixes, port ranges and protocols match as RFC 4632 and the
-//! field's tables say, each text is read exactly if its grammar has it, and each printed form is
-//! read back. The blocks that cover a range of ports have exactly its ports, each in one block, in
-//! at most 30 blocks. Laws, functions with an empty body, ensure the same for proofs in which no
+//! A header is also one number of 104 bits that packs source, destination, ports and protocol; each
+//! such number belongs to one header. Prefixes match as RFC 4632 says, ranges of ports include both
+//! ends, and a protocol matches by its number. Each text is read exactly if its grammar has it, and
+//! each printed form is read back. At most 30 blocks cover a range: they have exactly its ports,
+//! each in one block. Laws, functions with an empty body, ensure the same for proofs in which no
 //! call runs.
 //!
 //! A caller, which imports `option_map` from std, `prefix_matches` from `specs/Matching.antt` and

@@ -51,7 +51,7 @@ impl Prefix {
     }
 }
 
-/// The ports from `low` to `high`, both among them; `low` is at most `high`.
+/// The ports from `low` to `high`, both included; `low` is at most `high`.
 #[derive(Clone, Copy, Debug, PartialEq, Eq)]
 pub struct PortRange {
     pub low: u16,
@@ -88,7 +88,7 @@ pub enum Proto {
 }
 
 impl Proto {
-    /// Whether the protocol number is this one, or any number matches.
+    /// Whether this is any protocol, or the one with this number.
     pub fn matches(&self, number: u8) -> bool
         ensures { result ≡ proto_matches self.now number }
     {

@@ -4,11 +4,11 @@ ghost use Rattle.five_tuple.specs.Exports.{CoverLaws, IsCoverOf, IsLargestBlock,
 use crate::matching::PortRange;
 use std::alloc::{AllocError, Global};
 
-/// A block of ports as a value and a mask: it has the ports that agree with the value in the bits
+/// A block of ports as a value and a mask: it has the ports that agree with the value on each bit
 /// of the mask.
 pub type PortBlock = (u16, u16);
 
-/// The largest power of two, by its exponent, whose aligned block begins at `first` and ends at or
+/// The exponent of the largest power of two whose aligned block begins at `first` and ends at or
 /// below `high`.
 fn largest_block(first: u32, high: u32) -> u32
     requires ordered { first ≤ high }
@@ -21,7 +21,7 @@ fn largest_block(first: u32, high: u32) -> u32
     aligned.min(fitting)
 }
 
-/// The blocks of a range, ascending: an iterator that allocates nothing.
+/// An iterator over the blocks of a range, ascending; it allocates nothing.
 #[derive(Clone, Copy, Debug)]
 pub struct Blocks {
     next: u32,
@@ -70,6 +70,9 @@ impl PortRange {
 ///
 /// From the low end on, each block is the largest that begins at the first port not yet covered
 /// and ends at or below the high end. A block of 2^k ports has the mask 65536 - 2^k.
+///
+/// # Errors
+/// Only out of memory.
 pub fn cover(alloc: Global, range: &PortRange) -> Result<Vec<PortBlock>, AllocError>
     ensures cover { IfOk result (λ v. v.items ≡ cover_of range.now) }
     ensures blocks { IfOk result (λ v. IsCoverOf range.now v.items) }

@@ -40,14 +40,14 @@ fn has_leading_zero(text: &[u8]) -> bool
     text.len() > 1 && text[0] == b'0'
 }
 
-/// The place of the first such byte.
+/// The place of the first `byte`; `None` if there is none.
 fn place_of(text: &[u8], byte: u8) -> Option<usize>
     ensures { result ≡ position (λ b. b == byte) text.now }
 {
     text.iter().position(|b| *b == byte)
 }
 
-/// What is before and after the first such byte; `None` if there is none.
+/// The text before and after the first `byte`; `None` if there is none.
 fn cut(text: &[u8], byte: u8) -> Option<(&[u8], &[u8])>
     ensures { MatchOption result
         (parts_round byte text.now ≡ text.now ∷ [])
@@ -73,7 +73,7 @@ pub fn read_port(text: &[u8]) -> Option<u16>
     Some(number as u16)
 }
 
-/// Whether there are digits, and the first one is 0 only if it is the only one.
+/// Whether there are digits, without a leading zero.
 fn are_plain(digits: &[u8]) -> bool
     ensures { result ≡ (nat_lt 0 (length digits.now) && not (has_leading_zero digits.now)) }
 {
@@ -177,7 +177,7 @@ pub fn read_range(text: &[u8]) -> Option<PortRange>
 }
 
 /// The protocol's number: `icmp`, `tcp` and `udp` mean 1, 6 and 17, and each number from 0 to 255
-/// itself.
+/// itself; `None` for any other text.
 #[tactic(auto, unfolding(crate::specs::Texts::proto_number_of))]
 pub fn read_proto_number(text: &[u8]) -> Option<u8>
     ensures value { result ≡ proto_number_of text.now }
@@ -195,7 +195,7 @@ pub fn read_proto_number(text: &[u8]) -> Option<u8>
     read_byte(text)
 }
 
-/// Any protocol, written `any`, or one by its name or number.
+/// Any protocol, written `any`, or one by its name or number; `None` for any other text.
 #[tactic(auto, unfolding(crate::specs::Texts::proto_of))]
 pub fn read_proto(text: &[u8]) -> Option<Proto>
     ensures value { result ≡ proto_of text.now }
@@ -208,7 +208,7 @@ pub fn read_proto(text: &[u8]) -> Option<Proto>
     }
 }
 
-/// The fields of a packet, each from its text; `None` if one of the texts states none.
+/// The fields of a packet, each from its text; `None` if one of them can't be read.
 ///
 /// The addresses have no length, and the protocol isn't `any`.
 pub fn read_fields(

@@ -119,7 +119,7 @@ pub fn write_prefix(alloc: Global, prefix: &Prefix) -> Result<Vec<u8>, AllocErro
     ensures text { IfOk result (λ t. t.items ≡ prefix_text prefix.now) }
     ensures read_back { IfOk result (λ t. prefix_of t.items ≡ Some prefix.now) }
 {
-    // For the proof: a block that is read is sound.
+    // For the proof: reading a field yields the invariant `IsAddressBlock`.
     let _ = &prefix.len;
     Ok(prefix.to_string(alloc)?.into_bytes())
 }
@@ -130,7 +130,7 @@ pub fn write_range(alloc: Global, range: &PortRange) -> Result<Vec<u8>, AllocErr
     ensures text { IfOk result (λ t. t.items ≡ range_text range.now) }
     ensures read_back { IfOk result (λ t. range_of t.items ≡ Some range.now) }
 {
-    // For the proof: a range that is read is sound.
+    // For the proof: reading a field yields the invariant `IsPortRange`.
     let _ = &range.low;
     Ok(range.to_string(alloc)?.into_bytes())
 }

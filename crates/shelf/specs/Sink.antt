@@ -15,7 +15,7 @@ pub record SinkState : Type 0 where
   pub bytes : Option (List ℕ)
   pub faults : ℕ
 
--- what is known of a sink once it gained a piece: if its bytes are known, these and the piece
+-- what is known of a sink that gained a piece: its bytes, if they were known, and the piece
 abbrev pub with_gained : Option (List ℕ) → List ℕ → Option (List ℕ)
 with_gained None piece = None
 with_gained (Some bytes) piece = Some (bytes ++ piece)

@@ -6,13 +6,13 @@ use Rattle.shelf.specs.declared.output.SinkError.TheVariants.{Failed, NoMemory}
 use Rattle.shelf.specs.Scripts.{CallScript}
 use Rattle.shelf.specs.Sink.{SinkState, with_gained, GainedPart, Rose}
 
--- two gains are one gain of the bytes together
+-- gaining two pieces is gaining both as one
 pub gained-gained : (before : Option (List ℕ)) (first next : List ℕ)
     → with_gained (with_gained before first) next ≡ with_gained before (first ++ next)
 gained-gained None first next = refl
 gained-gained (Some bytes) first next = ap Some (append_assoc bytes first next)
 
--- of a text that is written in blocks the first bytes were written, and the others wait
+-- the first bytes of a text are written, and the others wait in a block
 pub record IsGathered (text : List ℕ) (before now : Option (List ℕ)) (waiting : List ℕ)
     : Type 0 where
   pub written : ℕ
@@ -21,8 +21,8 @@ pub record IsGathered (text : List ℕ) (before now : Option (List ℕ)) (waitin
   pub waits : waiting ≡ drop written text
 
 -- a sink after a write of these bytes: it gained all of them if the write succeeded, otherwise a
--- part; and each error has its cause. No fault is counted unless it failed, so a write is not
--- tried again after a fault
+-- part; and each error has its cause. Only a failed write counts a fault, so a write is not tried
+-- again after a fault
 pub record IsAfterWrite (bytes : List ℕ) (takes_memory : Bool) (old new : SinkState)
     (result : Result (⊤) SinkError) : Type 0 where
   pub whole : OnOk result (new.bytes ≡ with_gained old.bytes bytes)

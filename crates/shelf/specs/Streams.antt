@@ -1,4 +1,4 @@
--- What a read of a reader of std returns, and a writer of std after a write to it.
+-- What a read from a reader of std returns, and what a write to a writer of std changes.
 use Rattle.std.specs.Prelude.{◌++◌, ◌<◌, ◌≡◌, ◌≤◌, Err, IfSome, List, Ok, Option, Result, Vec, length, take, ℕ, ⊤}
 use Rattle.std.specs.Global.{Global}
 use Rattle.std.specs.Io.KnownBytes.{Appends}

@@ -6,11 +6,11 @@ ghost use Rattle.shelf.specs.SinkWrites.{IsAfterWrite, IsGathered};
 use crate::output::{Sink, SinkError, write_whole};
 use std::marker::Model;
 
-/// How many bytes a block has at most.
+/// The most bytes of a block.
 const BLOCK_BYTES: usize = 65_536;
 
-/// The bytes of a text that wait to be written: pieces that are written together, so that a sink
-/// of the system is called once for many of them. It allocates nothing. Contracts see these bytes.
+/// The bytes of a text that aren't written yet. A block gathers pieces, so that one call of the
+/// system writes many of them, and it allocates nothing. Contracts see these bytes.
 #[derive(Drop)]
 pub struct Block {
     bytes: [u8; BLOCK_BYTES],
@@ -38,7 +38,7 @@ impl Block {
         }
     }
 
-    // The bytes that wait.
+    // The bytes that aren't written yet.
     fn bytes(&self) -> &[u8]
         ensures { result.now ≡ self.now }
     {
@@ -55,8 +55,8 @@ impl Block {
         self.len = end;
     }
 
-    /// Adds the next piece of a text. If there is no room for it, what waits is written first; on
-    /// an error the sink has gained a part of the text, and the block is unchanged.
+    /// Adds the next piece of a text. If there is no room for it, the block is written first; on an
+    /// error the sink has gained a part of the text, and the block is unchanged.
     pub fn push<K: Sink>(&mut self, piece: &[u8], sink: &mut K) -> Result<(), SinkError>
         requires { length piece.now ≤ 65536 }
         ensures gathered { (text : List ℕ) (before : Option (List ℕ))
@@ -83,7 +83,7 @@ impl Block {
         Ok(())
     }
 
-    /// Writes what the block still has: the end of a text.
+    /// Writes the rest of a text. On an error the sink has gained only a part of the text.
     pub fn finish<K: Sink>(self, sink: &mut K) -> Result<(), SinkError>
         ensures whole { (text : List ℕ) (before : Option (List ℕ))
             → IsGathered text before (K.state sink.old).bytes self

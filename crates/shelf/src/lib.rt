@@ -1,11 +1,11 @@
 //! The edge of a program: a source of whole files, and a sink of bytes.
 //!
-//! Both are traits, so that the crates above run over real files and streams as over files and
+//! Both are traits, so that the crates above run over real files and streams, or over files and
 //! bytes in memory. Contracts know the content of a shelf or a sink if its kind allows it; each
-//! kind counts faults and the reads of a shelf. The promises are exact if the content is known: a
-//! read returns the named file or says why not, and a write appends what it accepted. If it isn't
+//! kind counts its faults, and a shelf its reads. If the content is known, the contracts are exact:
+//! a read returns the named file or says why not, and a write appends what it accepted. If it isn't
 //! known, an error other than out of memory occurs only if the count of faults rose. No shelf
-//! returns more bytes than it was asked for.
+//! returns more bytes than the caller's limit.
 //!
 //! A `Block` gathers the pieces of a text in a fixed array, so that they are written together.
 //!

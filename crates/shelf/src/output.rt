@@ -47,12 +47,11 @@ pub trait Sink {
             → Rose (state self.old).faults (state self.new).faults }
         ensures no_memory { IsErrOf result SinkError.NoMemory → IsTrue takes_memory }
 
-        // No fault is counted for a call that didn't fail and that accepted some of any piece with
-        // bytes.
+        // A call that doesn't fail, and accepts some of a piece that has bytes, counts no fault.
         ensures calm { result ≢ Err SinkError.Failed → (result ≡ Ok 0 → piece.now ≡ [])
             → (state self.new).faults ≡ (state self.old).faults }
 
-        // A sink that accepts nothing of a piece has failed too.
+        // A call that accepts nothing of a piece that has bytes counts a fault, too.
         ensures stuck { result ≡ Ok 0 → 0 < length piece.now
             → Rose (state self.old).faults (state self.new).faults };
 }

@@ -58,7 +58,7 @@ impl Script {
     }
 }
 
-/// Files in memory, at which the calls fail that its maker listed.
+/// Files in memory; the calls whose numbers were given to `new` fail.
 ///
 /// Calls are counted from 1. The count of faults rises at the listed calls, and at no other.
 #[derive(Drop)]
@@ -78,7 +78,7 @@ impl Model for MemShelf {
 impl MemShelf {
     ghost use Rattle.shelf.specs.Shelf.{files_of};
 
-    /// A shelf of these files, at which the calls with these numbers fail.
+    /// A shelf of these files; the calls with these numbers fail.
     ///
     /// Of two files of one name the first counts.
     pub fn new(alloc: Global, files: Vec<(String, Vec<u8>)>, failing: Vec<u64>) -> Self
@@ -121,7 +121,7 @@ impl Shelf for MemShelf {
     }
 }
 
-/// Bytes in memory, at which the calls fail that its maker listed.
+/// Bytes in memory; the calls whose numbers were given to `new` fail.
 ///
 /// Calls are counted from 1. The count of faults rises at the listed calls and when a call accepts
 /// nothing of a piece that has bytes, and at no other call.
@@ -141,8 +141,7 @@ impl Model for MemSink {
 }
 
 impl MemSink {
-    /// An empty sink that accepts at most `most` bytes a call, and at which the calls with these
-    /// numbers fail.
+    /// An empty sink that accepts at most `most` bytes a call; the calls with these numbers fail.
     pub fn new(alloc: Global, most: u64, failing: Vec<u64>) -> Self
         ensures { result ≡ record { bytes = []; most = most; script = script_of failing.items } }
     {

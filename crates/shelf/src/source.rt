@@ -52,7 +52,7 @@ impl ShelfError {
         }
     }
 
-    /// Why a file can't be opened: out of memory, otherwise there is none of this name.
+    /// Why a file can't be opened: out of memory, otherwise `Missing`.
     pub fn of_open(error: &io::Error) -> ShelfError
         ensures { result ≡ cause_by_kind (error_kind error.now) Missing }
     {
@@ -84,7 +84,7 @@ pub trait Shelf {
 
         ensures within { IfOk result (λ content. length content.items ≤ limit) }
 
-        // If the files are known, they decide what a call returns that succeeds.
+        // If the files are known, they decide the content, `Missing` and `TooLong`.
         ensures content { IfOk result (λ content.
             ForSome (state self.old).files (λ files.
             HasFile files name.now limit content.items)) }
@@ -94,7 +94,7 @@ pub trait Shelf {
             IsNoFault result
             → (IsErrOf result ShelfError.TooLong ↔ HasLongerFile files name.now limit)) }
 
-        // If they aren't, the count does.
+        // If they aren't known, `Missing` and `TooLong` count as faults.
         ensures missing_unknown { ForNone (state self.old).files
             (IsErrOf result ShelfError.Missing
             → Rose (state self.old).faults (state self.new).faults) }
@@ -145,7 +145,7 @@ impl HeldFiles {
         HeldFiles { alloc, files }
     }
 
-    /// A copy of the file of this name, if it has at most `limit` bytes.
+    /// A copy of the file; an error if there is none, if it is too long, or out of memory.
     pub(crate) fn copy(&self, name: &str, limit: u64) -> Result<Vec<u8>, ShelfError>
         ensures no_fault { is_read_fault result ≡ false }
         ensures content { IfOk result (λ content. HasFile self.now name.now limit content.items) }

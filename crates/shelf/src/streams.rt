@@ -1,4 +1,4 @@
-//! What a reader has left, read whole; and pieces written by a writer of std.
+//! Reads what a reader has left, and writes pieces to a writer of std.
 //!
 //! Contracts see the bytes that a reader of std has left (`remaining`) and those that a writer has
 //! (`contents`), if its type says them. Contracts don't see whether a call of std fails. So a
@@ -16,7 +16,7 @@ use std::io;
 use std::io::{ErrorKind, Read, Write};
 use std::marker::Model;
 
-/// What bytes can be read from, once: an open file, or bytes in memory.
+/// A source of bytes that are read once: an open file, or bytes in memory.
 pub trait Reader {
     /// What contracts see: the bytes that are left, if they are known, and the count of faults.
     ghost state: { Self → ReaderState };
@@ -24,15 +24,15 @@ pub trait Reader {
     /// Adds all that is left to the content, or the first `most` bytes of it.
     ///
     /// # Errors
-    /// The reader's own, which is a fault, or out of memory, by its kind. Then the
-    /// content has some of the bytes.
+    /// Out of memory, or another error, which counts as a fault. Then the content may have
+    /// some of the bytes.
     fn read_front(&mut self, most: u64, content: &mut Vec<u8>) -> io::Result<()>
         ensures front { HasFront (state self.old).left most content.old.items content.new.items result }
         ensures faults { (state self.new).faults
             ≡ counted_fault (state self.old).faults result };
 }
 
-/// Bytes in memory, of which no read fails.
+/// Bytes in memory; a read fails only out of memory.
 impl Reader for &[u8] {
     ghost use Rattle.std.specs.Prelude.{Some};
 
@@ -69,7 +69,7 @@ impl<R: Read + Drop> CountedReader<R> {
     }
 }
 
-// Adds all that a reader of std has left to the content.
+// Reads all that a reader of std has left to the end of the content.
 fn append_left<R: Read + Drop>(mut reader: R, content: &mut Vec<u8>) -> io::Result<()>
     ensures { OnOk result (IfSome (R.remaining reader) (λ left.
         content.new.items ≡ content.old.items ++ left)) }

@@ -1,8 +1,8 @@
 //! The edge: files, standard output and standard error of the system.
 //!
-//! Nothing is known here of what is in a file or of what reaches a stream of the system, so
-//! contracts know neither. For readers and writers whose bytes are known, these lines are proved:
-//! what `read_up_to` returns, and what a `StdSink` accepts.
+//! Contracts know neither what is in a file nor what reaches a stream of the system. For readers
+//! and writers whose bytes are known, it is proved what `read_up_to` returns and what a `StdSink`
+//! accepts.
 ghost use Rattle.std.specs.Prelude.{◌≡◌, ◌≤◌, None, false, length, IfOk, ◌≢◌, if◌then◌else◌};
 ghost use Rattle.shelf.specs.Sink.{next_count};
 
@@ -16,9 +16,9 @@ use std::rt::Files;
 
 /// The files of a system, by their paths.
 ///
-/// A file that can't be opened is missing, and one that is opened but can't be read, as a folder,
-/// is a failure. Its model is the count of its faults, which rises at each error except out of
-/// memory, and the count of its reads.
+/// A file that can't be opened is `Missing`; one that is opened but can't be read, such as a
+/// folder, is `Failed`. The model is the count of faults, which rises at each error except out of
+/// memory, and the count of reads.
 #[derive(Drop)]
 pub struct DiskShelf<R: Files + AllocGlobal + Drop> {
     system: R,
@@ -80,12 +80,12 @@ impl<R: Files + AllocGlobal + Drop> Shelf for DiskShelf<R> {
     }
 }
 
-/// A stream of the system, as its standard output or its standard error.
+/// A stream of the system, such as standard output or standard error.
 ///
-/// Its model is the bytes that the stream has, if its type says them, and the count of its faults,
+/// The model is the bytes that the stream has, if its type says them, and the count of faults,
 /// which rises at each error and when the stream accepts nothing of a piece that has bytes. A
-/// write that a signal interrupts is no error, and is tried again. Its writes allocate nothing. As
-/// a sink its bytes aren't known, because an error may leave a part of a piece in the stream.
+/// write that a signal interrupts is no error, and is tried again. Writes allocate nothing. As a
+/// sink its bytes aren't known, because an error may leave a part of a piece in the stream.
 #[derive(Drop)]
 pub struct StdSink<W: Write + Drop> {
     stream: W,
@@ -101,7 +101,7 @@ impl<W: Write + Drop> Model for StdSink<W> {
 }
 
 impl<W: Write + Drop> StdSink<W> {
-    /// A sink into this stream, as `rt.stdout()` or `rt.stderr()`.
+    /// A sink into this stream, such as `rt.stdout()` or `rt.stderr()`.
     pub fn new(stream: W) -> Self
         ensures { result ≡ record { bytes = W.contents stream; faults = 0 } }
     {

@@ -24,14 +24,14 @@ pub record AnyLaws : Type 0 where
 
 pub record ExactLaws : Type 0 where
   pub word : (h : ℕ) → h < 2 ^ 104 → IsWord (exact_word h)
-  -- of the headers, the word of one holds this one
+  -- the word of one header holds only this header
   pub holds : (h x : ℕ) → h < 2 ^ 104 → x < 2 ^ 104 → IsTrue (holds (exact_word h) x) ↔ (x ≡ h)
   pub no_free_bit : (h k : ℕ) → k < 104 → IsTrue (is_fixed_of (exact_word h) k)
 
 pub record CoversLaws : Type 0 where
-  -- the test is this fact, bit by bit
+  -- a word covers another if each bit that it fixes is fixed to the same in the other
   pub bitwise : (a b : WordValue) → IsTrue (covers_of a b) ↔ IsFixedIn a b
-  -- what is covered is held
+  -- a word holds each header of a word that it covers
   pub held : (a b : WordValue) (h : ℕ) → IsTrue (covers_of a b) → IsTrue (holds b h)
       → IsTrue (holds a h)
   pub reflexive : (a : WordValue) → IsTrue (covers_of a a)
@@ -40,17 +40,17 @@ pub record CoversLaws : Type 0 where
   pub antisymmetric : (a b : WordValue) → IsWord a → IsWord b → IsTrue (covers_of a b)
       → IsTrue (covers_of b a) → a ≡ b
   pub any : (w : WordValue) → IsTrue (covers_of any_word w)
-  -- the word of one header is covered if the header is held
+  -- a word covers the word of one header exactly if it holds the header
   pub exact : (w : WordValue) (h : ℕ) → IsWord w → h < 2 ^ 104
       → covers_of w (exact_word h) ≡ holds w h
-  -- a word without a free bit is covered by what it meets
+  -- a word covers each word without a free bit that it meets
   pub no_free_bit : (a b : WordValue) → IsWord a → ((k : ℕ) → k < 104 → IsTrue (is_fixed_of b k))
       → IsTrue (meets a b) → IsTrue (covers_of a b)
 
 pub record MeetLaws : Type 0 where
   -- words meet if no bit is fixed in both to different values
   pub bitwise : (a b : WordValue) → IsTrue (meets a b) ↔ AgreesOnBoth a b
-  -- the meet holds what both hold, and there is none if both hold nothing
+  -- the meet holds what both hold, and there is none if both hold no header
   pub both : (a b m : WordValue) → meet_of a b ≡ Some m → IsMeet a b m
   pub none : (a b : WordValue) (h : ℕ) → meet_of a b ≡ None → (holds a h && holds b h) ≡ false
   pub some : (a b : WordValue) → is_some (meet_of a b) ≡ meets a b
@@ -69,10 +69,10 @@ pub record MeetLaws : Type 0 where
       → covers_of m c ≡ (covers_of a c && covers_of b c)
   pub covered : (a b : WordValue) → IsWord b → IsTrue (covers_of a b) ↔ (meet_of a b ≡ Some b)
   pub meets_cover : (a b : WordValue) → IsTrue (covers_of a b) → IsTrue (meets b a)
-  -- what a word does not meet, no word that it covers meets
+  -- if a word doesn't meet c, no word that it covers does
   pub monotone : (a b c : WordValue) → IsTrue (covers_of a b) → meet_of a c ≡ None
       → meet_of b c ≡ None
-  -- narrowed to a, and then to what a covers, is narrowed to the latter at once
+  -- narrowing to a, and then to a word that a covers, is narrowing to the latter
   pub narrowed : (w a b : WordValue) → IsTrue (covers_of a b)
       → option_and_then (λ m. meet_of m b) (meet_of w a) ≡ meet_of w b
 
@@ -89,7 +89,7 @@ pub record FixLaws : Type 0 where
   pub same_bit : (w : WordValue) (k : ℕ) (one : Bool) → IsTrue (is_fixed_of (fix_of w k one) k)
   pub other_bit : (w : WordValue) (k j : ℕ) (one : Bool) → j ≢ k
       → is_fixed_of (fix_of w k one) j ≡ is_fixed_of w j
-  -- a word and a header's bit, and a half of r
+  -- the bit of a header that w holds; whether w meets or covers a half of r
   pub admits_bit : (w : WordValue) (k : ℕ) (one : Bool) (h : ℕ) → IsTrue (holds w h)
       → bit_at h k ≡ from_bool one → IsTrue (admits w k one)
   pub meets_half : (w r : WordValue) (k : ℕ) (one : Bool) → IsFalse (is_fixed_of r k)
@@ -107,13 +107,13 @@ pub record FreeLaws : Type 0 where
   pub word : (w : WordValue) (k : ℕ) → IsWord w → IsWord (free_of w k)
   pub same_bit : (w : WordValue) (k : ℕ) → IsFalse (is_fixed_of (free_of w k) k)
   pub other_bit : (w : WordValue) (k j : ℕ) → j ≢ k → is_fixed_of (free_of w k) j ≡ is_fixed_of w j
-  -- a freed bit that was free, or one that had been fixed before
+  -- freeing a free bit changes nothing; freeing and fixing a bit undo each other
   pub unfixed : (w : WordValue) (k : ℕ) → IsWord w → IsFalse (is_fixed_of w k) → free_of w k ≡ w
   pub undone : (w : WordValue) (k : ℕ) (one : Bool) → IsWord w → IsFalse (is_fixed_of w k)
       → free_of (fix_of w k one) k ≡ w
   pub restored : (w : WordValue) (k : ℕ) (one : Bool) → IsWord w → IsTrue (is_fixed_of w k)
       → bit_at w.value k ≡ from_bool one → fix_of (free_of w k) k one ≡ w
-  -- one bit apart from the others
+  -- one bit is tested apart from the others
   pub meets_bit : (a b : WordValue) (k : ℕ) → meets a b ≡ (meets (free_of a k) b && agrees_at a b k)
   pub covers_bit : (a b : WordValue) (k : ℕ)
       → covers_of a b ≡ (covers_of (free_of a k) b && includes_at a b k)
@@ -126,7 +126,7 @@ pub record FreeLaws : Type 0 where
       → meets (free_of a k) b ≡ meets (free_of a k) (free_of b k)
   pub covers_freed : (a b : WordValue) (k : ℕ)
       → covers_of (free_of a k) b ≡ covers_of (free_of a k) (free_of b k)
-  -- what covers a freed word leaves its bit free
+  -- a word that covers a freed word leaves the bit free
   pub freed_covered : (a b : WordValue) (k : ℕ)
       → covers_of a (free_of b k) ≡ (not (is_fixed_of a k) && covers_of a b)
 
@@ -136,7 +136,7 @@ pub record FreeBitsLaws : Type 0 where
   pub ascending : (w : WordValue) → IsStrictlyIncreasing (free_bits w)
   pub any : length (free_bits any_word) ≡ 104
   pub exact : (h : ℕ) → free_bits (exact_word h) ≡ []
-  -- the fixed bit is removed, and only it
+  -- fixing a bit removes only it
   pub fixed : (w : WordValue) (k : ℕ) (one : Bool)
       → free_bits (fix_of w k one) ≡ filter (λ j. not (j == k)) (free_bits w)
   pub shorter : (w : WordValue) (k : ℕ) (one : Bool) → k < 104 → IsFalse (is_fixed_of w k)

@@ -12,7 +12,7 @@ AgreesOnMask w h = (k : ℕ) → bit_at w.mask k ≡ 1 → bit_at h k ≡ bit_at
 abbrev pub Includes : WordValue → WordValue → Type 0
 Includes a b = (h : ℕ) → h < 2 ^ 104 → IsTrue (holds b h) → IsTrue (holds a h)
 
--- no header is held by both
+-- no header is in both
 abbrev pub AreDisjoint : WordValue → WordValue → Type 0
 AreDisjoint a b = (h : ℕ) → h < 2 ^ 104 → IsTrue (holds a h) → IsTrue (holds b h) → ⊥
 
@@ -90,7 +90,7 @@ free_of w k = record { value = without_bit w.value k; mask = without_bit w.mask 
 unfoldable pub agrees_at : WordValue → WordValue → ℕ → Bool
 agrees_at a b k = not (is_fixed_of a k && is_fixed_of b k) || (bit_at a.value k == bit_at b.value k)
 
--- bit k is fixed in b, and to the same, if a fixes it
+-- if a fixes bit k, b fixes it to the same
 unfoldable pub includes_at : WordValue → WordValue → ℕ → Bool
 includes_at a b k =
     not (is_fixed_of a k) || (is_fixed_of b k && (bit_at b.value k == bit_at a.value k))

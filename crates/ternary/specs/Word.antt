@@ -15,7 +15,7 @@ fixed_value w = bit_and w.value w.mask
 
 -- ---- headers of a word
 
--- the word holds h: under the mask, h is the value
+-- the word holds h: h agrees with the value on each bit of the mask
 unfoldable pub holds : WordValue → ℕ → Bool
 holds w h = bit_and h w.mask == fixed_value w
 

@@ -1,7 +1,7 @@
 ghost use Rattle.ternary.specs.Laws.{HoldsLaws, AnyLaws, ExactLaws, CoversLaws, MeetLaws, FixLaws, FreeLaws, FreeBitsLaws};
 
-/// A word holds what agrees with its value on each fixed bit, so it holds its value; words of the
-/// same headers are equal.
+/// A word holds the headers that agree with its value on each fixed bit, so it holds its value;
+/// words that hold the same headers are equal.
 pub fn holds_laws()
     ensures { HoldsLaws }
 {}
@@ -11,19 +11,19 @@ pub fn any_laws()
     ensures { AnyLaws }
 {}
 
-/// The word of one header fixes each bit, and of all headers holds this one.
+/// The word of one header fixes each bit, and holds only this header.
 pub fn exact_laws()
     ensures { ExactLaws }
 {}
 
-/// `covers` orders the words. A word covers that of one header if it holds this header, and a word
-/// that it meets if that has no free bit.
+/// `covers` is a partial order. A word covers the word of one header exactly if it holds the
+/// header, and it covers each word without a free bit that it meets.
 pub fn covers_laws()
     ensures { CoversLaws }
 {}
 
-/// `meet` returns the greatest word that both cover. To narrow a word to `a`, and then to what `a`
-/// covers, is to narrow it to the latter at once.
+/// `meet` returns the greatest word that both cover. Narrowing a word to `a`, and then to a word
+/// that `a` covers, is the same as narrowing it to the latter.
 pub fn meet_laws()
     ensures { MeetLaws }
 {}
@@ -33,13 +33,13 @@ pub fn fix_laws()
     ensures { FixLaws }
 {}
 
-/// A freed bit widens a word, and keeps the order of two words. Two words meet, or one covers the
-/// other, if they do with a bit freed and that bit agrees.
+/// Freeing a bit widens a word, and keeps the order of words. Two words meet exactly if they meet
+/// with a bit freed and agree on that bit; the same is true of covering.
 pub fn free_laws()
     ensures { FreeLaws }
 {}
 
-/// The free bits of a word as an ascending list: to fix one removes it, and only it.
+/// The free bits of a word as an ascending list: fixing one removes only it.
 pub fn free_bits_laws()
     ensures { FreeBitsLaws }
 {}

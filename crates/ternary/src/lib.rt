@@ -2,9 +2,9 @@
 //! matches them.
 //!
 //! A word fixes some bits and leaves the others free. Each operation is exact about the headers
-//! that a word holds, and allocates nothing. What is true of all words is ensured by the laws,
-//! functions with an empty body, for proofs in which no call runs; a map whose keys are words
-//! compares them by `word_eq`.
+//! that a word holds, and allocates nothing. The laws, functions with an empty body, ensure what is
+//! true of all words, for proofs in which no call runs. A map whose keys are words compares them by
+//! `word_eq`.
 //!
 //! A caller, which imports `IfSome` and `IsNone` from std, `AreDisjoint` and `IsMeet` from
 //! `specs/Meets.antt`:

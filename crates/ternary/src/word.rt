@@ -35,8 +35,8 @@ impl Model for Word {
 }
 
 impl Word {
-    /// The word of this pair; `None` if the value has a bit outside the mask, or the mask one from
-    /// bit 104 on.
+    /// The word of this pair; `None` if the value has a bit outside the mask, or the mask has a bit
+    /// above bit 103.
     pub fn new(value: u128, mask: u128) -> Option<Word>
         ensures pair { IfSome result (λ w. (w ≡ record { value = value; mask = mask }) × IsWord w) }
         ensures taken { let pair : WordValue = record { value = value; mask = mask } in
@@ -99,7 +99,7 @@ impl Word {
         h & self.mask == self.value
     }
 
-    /// The word of the headers that both hold; `None` if there is no such header.
+    /// The word of the headers that both words hold; `None` if there are none.
     pub fn meet(&self, other: &Word) -> Option<Word>
         ensures pair { result ≡ meet_of self.now other.now }
         ensures both { IfSome result (λ m. IsMeet self.now other.now m × IsWord m) }
@@ -127,7 +127,7 @@ impl Word {
         self.mask & other.mask == self.mask && other.value & self.mask == self.value
     }
 
-    /// Whether some header is held by both words.
+    /// Whether both words hold some header.
     #[tactic(auto, using(crate::proofs::CallerLemmas::meet_is_some))]
     pub fn meets(&self, other: &Word) -> bool
         ensures { result ≡ meets self.now other.now }
@@ -188,7 +188,7 @@ impl fmt::Display for Word {
 }
 
 // A number below 2^104, printed in 26 hexadecimal digits: 10 digits, and 16 for the low 64 bits,
-// since the contract of `{:x}` reaches no further.
+// because the contract of `{:x}` covers at most 64 bits.
 #[derive(Drop)]
 struct Hex {
     number: u128,
