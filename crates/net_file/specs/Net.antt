@@ -32,12 +32,12 @@ pub record IsSwitchRow (row : SwitchRow) : Type 0 where
   pub ports : row.ports < 2 ^ 64
   pub room : row.room ≤ 8192
 
--- names and ports are not shared
+-- the switches have different names, and no port in common
 pub record AreApart (a b : SwitchRow) : Type 0 where
   pub names : IsFalse (bytes_eq a.name b.name)
   pub ports : (port : ℕ) → IsTrue (has_port port a) → IsFalse (has_port port b)
 
--- a link between two different switches of this many
+-- a link between two different switches, if there are this many
 pub record IsLink (count : ℕ) (link : LinkRow) : Type 0 where
   pub one : link.one < count
   pub two : link.two < count
@@ -61,7 +61,7 @@ pub record IsNet (net : Net) : Type 0 where
   pub backups : net.backups ≤ 3
   pub cache : net.cache ≤ 65536
 
--- one switch with all ports, and the greatest leaves
+-- one switch with all ports, and leaves of the greatest size
 abbrev pub solo_net : Net
 solo_net = record {
   switches = record { name = codes "s0"; ports = 2 ^ 64 - 1; room = 8192 } ∷ [];
@@ -71,7 +71,7 @@ solo_net = record {
   cache = 256;
 }
 
--- the name of the switch of this number; a number that the network lacks has none
+-- the name of the switch of this number; empty if there is no such switch
 abbrev pub name_of : Net → ℕ → List ℕ
 name_of net s = option_map_or (λ row. row.name) (slice_get net.switches s) []
 

@@ -6,7 +6,7 @@ use Rattle.toml.specs.View.{view}
 use Rattle.toml.specs.declared.value.Value.{Value}
 use Rattle.net_file.specs.declared.error.NetRefusal.{NetRefusal}
 
--- the part is read as what contracts see of the value, or has this refusal
+-- a result as it is defined: the value, as contracts see it, or the same refusal
 abbrev pub IsRead : {X Y : Type 0} → (Y → X) → Result X NetRefusal → Result Y NetRefusal → Type 0
 IsRead seen read (Ok value) = read ≡ Ok (seen value)
 IsRead seen read (Err refusal) = read ≡ Err refusal

@@ -3,7 +3,7 @@ use Rattle.std.specs.Prelude.{if◌then◌else◌, Bool, Err, Ok, Result, ℕ}
 use Rattle.net_file.specs.declared.error.NetRefusal.{NetRefusal}
 use Rattle.net_file.specs.declared.error.NetRefusal.TheVariants as refusal
 
--- the numbers by which refusals are known outside
+-- the codes of the refusals
 abbrev pub net_code : NetRefusal → ℕ
 net_code refusal.Toml = 1
 net_code refusal.MissingKey = 2
@@ -16,7 +16,7 @@ net_code refusal.SelfLink = 8
 net_code refusal.DuplicateLink = 9
 net_code refusal.TooMany = 10
 
--- what follows from a value; or its refusal
+-- what follows from a value, or the refusal if there is no value
 abbrev pub with_value : {X Y E : Type 0} → Result X E → (X → Result Y E) → Result Y E
 with_value (Ok value) next = next value
 with_value (Err refusal) next = Err refusal

@@ -26,7 +26,7 @@ pub enum NetRefusal {
     /// An earlier switch has the name.
     #[error("an earlier switch has the name")]
     DuplicateName = 6,
-    /// A port is named before in this switch or in an earlier one.
+    /// The port occurs before, in this switch or in an earlier one.
     #[error("the port occurs twice")]
     DuplicatePort = 7,
     /// Both ends of a link are one switch.
@@ -49,7 +49,7 @@ impl NetRefusal {
     }
 }
 
-/// Why a text is read as no network.
+/// Why a text isn't read as a network: a refusal in a row, or out of memory.
 ///
 /// The row of a refusal is 0 for the keys of the document, k for the k-th switch and 100 + k for
 /// the k-th link, both counted from 1.

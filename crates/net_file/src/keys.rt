@@ -14,7 +14,7 @@ pub fn value_at<'a>(table: &'a Table, key: &str) -> Option<&'a Value>
     table.get(key)
 }
 
-/// The number, if it lies from low to high.
+/// The number, if it is from `low` to `high`.
 pub fn within(low: u32, high: u32, number: i64) -> Option<u32>
     ensures { result ≡ integer_within low high number }
 {
@@ -24,7 +24,7 @@ pub fn within(low: u32, high: u32, number: i64) -> Option<u32>
     Some(number as u32)
 }
 
-/// The number that a value must be, from low to high.
+/// The number that a value states. `WrongType` if it is none, `Range` if not from `low` to `high`.
 pub fn number_in(low: u32, high: u32, value: &Value) -> Result<u32, NetRefusal>
     ensures { result ≡ number_stated low high (view value.now) }
 {
@@ -32,7 +32,7 @@ pub fn number_in(low: u32, high: u32, value: &Value) -> Result<u32, NetRefusal>
     within(low, high, number).ok_or(NetRefusal::Range)
 }
 
-/// The number at a key, from low to high, or the default if the key is absent.
+/// The number at a key, as `number_in` reads it, or the default if the key is absent.
 pub fn setting_of(
     table: &Table,
     key: &str,
@@ -48,7 +48,7 @@ pub fn setting_of(
     }
 }
 
-/// The values of an array.
+/// The values of an array; `WrongType` if the value is none.
 pub fn array_in(value: &Value) -> Result<&[Value], NetRefusal>
     ensures { IsRead seen_values (array_in (view value.now)) result }
 {
@@ -58,7 +58,7 @@ pub fn array_in(value: &Value) -> Result<&[Value], NetRefusal>
     }
 }
 
-/// The keys of a table.
+/// The keys of a table; `WrongType` if the value is none.
 pub fn table_in(value: &Value) -> Result<&Table, NetRefusal>
     ensures { IsRead (λ keys. table_view keys.now) (of_type (as_table (view value.now))) result }
 {
@@ -68,7 +68,7 @@ pub fn table_in(value: &Value) -> Result<&Table, NetRefusal>
     }
 }
 
-/// The text that a value must be.
+/// The text of a value; `WrongType` if the value is none.
 pub fn text_in(value: &Value) -> Result<&str, NetRefusal>
     ensures { IsRead (λ text. text.now) (of_type (as_str (view value.now))) result }
 {

@@ -8,7 +8,7 @@ pub fn name_laws()
     ensures { NameLaws }
 {}
 
-/// A port has one owner, and the mask of all ports has exactly those with one.
+/// A port has at most one owner, and the mask of all ports has exactly those with an owner.
 pub fn port_laws()
     ensures { PortLaws }
 {}
@@ -18,7 +18,7 @@ pub fn link_laws()
     ensures { NetLinkLaws }
 {}
 
-/// The network that a text states is sound, and so is the one of one switch.
+/// The network that a text states satisfies `IsNet`, and so does the network of one switch.
 pub fn net_laws()
     ensures stated { (bytes : List ℕ) (net : Net) → net_of bytes ≡ Ok net → IsNet net }
     ensures solo { IsNet solo_net }

@@ -1,7 +1,7 @@
 //! Networks as TOML text: switches with their ports and rooms, links, and three settings.
 //!
-//! `read_net` promises the network that a text states, or the text's first refusal and its row.
-//! `Net` returns which switch has a name or a port and which switches links join, without
+//! `read_net` returns the network that a text states, or the text's first refusal and its row.
+//! `Net` looks up which switch has a name or a port, and which switches links join, without
 //! allocating.
 //!
 //! ```text

@@ -11,13 +11,13 @@ use base::InRow;
 use std::alloc::Global;
 use toml::{Table, Value};
 
-/// The row of a link is its number above this.
+/// The row of the k-th link, counted from 1, is this plus k.
 const LINK_ROWS: u32 = 100;
 
 /// The most links of a network.
 const MAX_LINKS: usize = 256;
 
-/// The values of the array `link`.
+/// The values of the array `link`; none without the key. `TooMany` if there are more than 256.
 pub fn link_array(table: &Table) -> Result<&[Value], NetRefusal>
     ensures values { IsRead seen_values (link_array (table_view table.now)) result }
     ensures few { IfOk result (λ values. length values.now ≤ 256) }
@@ -32,7 +32,7 @@ pub fn link_array(table: &Table) -> Result<&[Value], NetRefusal>
     Ok(values)
 }
 
-// The two names that a value must be.
+// The two names that a value states; `WrongType` for any other value.
 fn ends_in(value: &Value) -> Result<(&str, &str), NetRefusal>
     ensures { IsRead (λ ends. (ends.0.now, ends.1.now)) (ends_in (view value.now)) result }
 {
@@ -45,7 +45,7 @@ fn ends_in(value: &Value) -> Result<(&str, &str), NetRefusal>
     }
 }
 
-// The number of the switch with this name.
+// The number of the switch with this name; `UnknownName` if there is none.
 fn end_of(switches: &[SwitchRow], name: &str) -> Result<u32, NetRefusal>
     requires { length switches.now ≤ 64 }
     ensures { result ≡ end_read switches.now name.now }
@@ -60,7 +60,7 @@ fn are_linked(links: &[LinkRow], one: u32, two: u32) -> bool
     links.iter().any(|link| link.joins(one, two))
 }
 
-// The link that a value states, after the earlier links.
+// The link that a value states, or its first refusal; `earlier` are the links before it.
 fn read_link(
     switches: &[SwitchRow],
     earlier: &[LinkRow],
@@ -87,7 +87,7 @@ fn read_link(
 /// The links that the values of the array `link` state.
 ///
 /// # Errors
-/// The first refusal, in the row of its link, or that memory ran out.
+/// The first refusal, in the row of its link, or out of memory.
 pub fn read_links(
     alloc: Global,
     switches: &[SwitchRow],

@@ -8,7 +8,7 @@ use std::fmt::Write;
 use std::str;
 
 impl Net {
-    /// The name of the switch of this number, or an empty text if the network lacks it.
+    /// The name of the switch of this number, or an empty text if there is no such switch.
     pub fn name(&self, s: u32) -> &str
         requires { IsNet self.now }
         ensures { result.now ≡ name_of self.now s }

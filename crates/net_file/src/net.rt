@@ -43,14 +43,14 @@ pub type Switches = Items<SwitchRow>;
 /// The links of a network in the order of its text.
 pub type Links = Items<LinkRow>;
 
-/// A network, with the settings of the trees that are cut for it.
+/// A network, with the settings of its plans and its caches.
 #[derive(Drop)]
 pub struct Net {
     pub switches: Switches,
     pub links: Links,
     /// The most rules of a leaf of a cut tree.
     pub leaf_rules: u32,
-    /// How many switches besides the first one host each region.
+    /// How many backups each partition has.
     pub backups: u32,
     /// The most entries of a switch's cache.
     pub cache: u32,
@@ -64,7 +64,7 @@ impl LinkRow {
         (self.one == one && self.two == two) || (self.one == two && self.two == one)
     }
 
-    // The end of the link that is not this switch, if the other one is.
+    // The other end of the link; `None` if neither end is this switch.
     fn other_end(&self, switch: u32) -> Option<u32>
         requires { IsLink 64 self.now }
         ensures small { IfSome result (λ other. other < 64) }
@@ -101,7 +101,7 @@ impl Name {
     }
 }
 
-// The place of the switch with this name.
+// The place of the switch with this name; `None` if no switch has it.
 fn place_of(switches: &[SwitchRow], name: &[u8]) -> Option<usize>
     ensures place { result ≡ switch_number switches.now name.now }
     ensures there { IfSome result (λ place. place < length switches.now) }
@@ -109,7 +109,7 @@ fn place_of(switches: &[SwitchRow], name: &[u8]) -> Option<usize>
     switches.iter().position(|row| row.name.bytes() == name)
 }
 
-/// The number of the switch with this name.
+/// The number of the switch with this name; `None` if no switch has it.
 pub(crate) fn number_in(switches: &[SwitchRow], name: &[u8]) -> Option<u32>
     requires { length switches.now ≤ 64 }
     ensures { result ≡ switch_number switches.now name.now }
@@ -120,7 +120,7 @@ pub(crate) fn number_in(switches: &[SwitchRow], name: &[u8]) -> Option<u32>
     }
 }
 
-// The place of the switch that has the port.
+// The place of the switch that has the port; `None` if no switch has it.
 fn owner_place(switches: &[SwitchRow], port: u32) -> Option<usize>
     requires { port < 64 }
     ensures place { result ≡ owner_of switches.now port }
@@ -129,7 +129,7 @@ fn owner_place(switches: &[SwitchRow], port: u32) -> Option<usize>
     switches.iter().position(|row| has(row.ports, port))
 }
 
-/// The number of the switch that has the port.
+/// The number of the switch that has the port; `None` if no switch has it.
 pub(crate) fn owner_in(switches: &[SwitchRow], port: u32) -> Option<u32>
     requires few { length switches.now ≤ 64 }
     requires port { port < 64 }
@@ -142,7 +142,7 @@ pub(crate) fn owner_in(switches: &[SwitchRow], port: u32) -> Option<u32>
     }
 }
 
-/// The network of one switch `s0` with all ports, for trees of one leaf.
+/// The network of one switch `s0` with all ports; its trees have one leaf.
 ///
 /// # Errors
 /// Only out of memory.

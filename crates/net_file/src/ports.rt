@@ -13,7 +13,7 @@ pub struct Ports {
 }
 
 impl Ports {
-    /// The number of the switch that has the port, if one has.
+    /// The number of the switch that has the port; `None` if no switch has it.
     pub fn owner(&self, port: u32) -> Option<u32>
         ensures { result ≡ port_owner self.now port }
     {

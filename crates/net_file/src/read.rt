@@ -12,7 +12,7 @@ use crate::switches::{read_switches, switch_array};
 use std::alloc::Global;
 use toml::Table;
 
-// The network that a document states.
+// The network that a document states, or its first refusal.
 fn read_table(alloc: Global, table: &Table) -> Result<Net, NetError>
     ensures net { IfOk result (λ net. net_read (table_view table.now) ≡ Ok net) }
     ensures refused { IfErr result (IsRefusal (net_read (table_view table.now))) }
@@ -31,7 +31,7 @@ fn read_table(alloc: Global, table: &Table) -> Result<Net, NetError>
     })
 }
 
-// The document of the bytes.
+// The TOML document of the bytes; `Toml` in row 0 if they are none.
 fn read_document(alloc: Global, bytes: &[u8]) -> Result<Table, NetError>
     ensures document { IfOk result (λ table. document_of bytes.now ≡ Some (table_view table)) }
     ensures refused { IfErr result (IsRefusal (in_row 0 (ok_or (document_of bytes.now) Toml))) }
@@ -46,7 +46,7 @@ fn read_document(alloc: Global, bytes: &[u8]) -> Result<Table, NetError>
 /// The network that the text states.
 ///
 /// # Errors
-/// The first refusal of the text and its row, or that memory ran out.
+/// The first refusal of the text and its row, or out of memory.
 #[tactic(auto, unfolding(crate::specs::Reading::net_of))]
 pub fn read_net(alloc: Global, bytes: &[u8]) -> Result<Net, NetError>
     ensures net { IfOk result (λ net. net_of bytes.now ≡ Ok net) }

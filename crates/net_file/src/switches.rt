@@ -19,7 +19,8 @@ const MAX_ROOM: u32 = 8192;
 /// The most bytes of a name after its first.
 const MAX_MORE: usize = 15;
 
-/// The values of the array `switch`.
+/// The values of the array `switch`. `MissingKey` without the key, `TooMany` if there are more than
+/// 64, `Range` if there are none.
 pub fn switch_array(table: &Table) -> Result<&[Value], NetRefusal>
     ensures values { IsRead seen_values (switch_array (table_view table.now)) result }
     ensures few { IfOk result (λ values. length values.now ≤ 64) }
@@ -71,7 +72,7 @@ pub fn is_name(name: &[u8]) -> bool
     is_label(name) && name != b"controller".as_slice()
 }
 
-// The name of a switch.
+// The name of a switch; `MissingKey` without the key, `Range` if it can't be a name.
 fn read_name(keys: &Table) -> Result<&str, NetRefusal>
     ensures { IsRead (λ name. name.now) (name_at (table_view keys.now)) result }
 {
@@ -107,7 +108,7 @@ fn are_ports(values: &[Value]) -> bool
     values.iter().all(|value| port_of(value).is_some())
 }
 
-// The values of the array `ports`, each of which is a port.
+// The values of the array `ports`, each of which is a port; none without the key.
 fn read_ports(keys: &Table) -> Result<&[Value], NetRefusal>
     ensures { IsRead (λ values. ports_of (seen_values values))
         (ports_at (table_view keys.now)) result }
@@ -132,7 +133,7 @@ fn have_name(rows: &[SwitchRow], name: &[u8]) -> bool
     rows.iter().any(|row| row.name.bytes() == name)
 }
 
-// The mask of new ports: none occurs twice, or in the mask of the earlier switches' ports.
+// The mask of the ports; `None` if one occurs twice or is in `taken`, the earlier ports.
 fn new_ports(values: &[Value], earlier: &[SwitchRow], taken: u64) -> Option<u64>
     requires { IsMask taken (have_port earlier.now) }
     ensures new { is_some result ≡ are_new earlier.now (ports_of (map view values.now)) }
@@ -152,14 +153,14 @@ fn new_ports(values: &[Value], earlier: &[SwitchRow], taken: u64) -> Option<u64>
     Some(ports)
 }
 
-// What the keys of a switch state, after the earlier switches.
+// What the keys of a switch state.
 struct Stated<'a> {
     name: &'a str,
     ports: u64,
     room: u32,
 }
 
-// What the keys of a switch state. `taken` is the mask of the earlier switches' ports.
+// Reads the keys of a switch. `taken` is the mask of the earlier switches' ports.
 fn read_keys<'a>(
     earlier: &[SwitchRow],
     taken: u64,
@@ -206,7 +207,7 @@ fn read_switch(
 /// The switches that the values of the array `switch` state.
 ///
 /// # Errors
-/// The first refusal, in the row of its switch, or that memory ran out.
+/// The first refusal, in the row of its switch, or out of memory.
 pub fn read_switches(alloc: Global, values: &[Value]) -> Result<Vec<SwitchRow>, NetError>
     requires { length values.now ≤ 64 }
     ensures few { IfOk result (λ rows. vec_len rows ≤ 64) }

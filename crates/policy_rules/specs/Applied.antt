@@ -36,7 +36,7 @@ pub record AreDistinctEdits (edits : List Edit) : Type 0 where
   pub removed_once : AllPairs (λ priority later. priority ≢ later) (removals edits)
   pub added_once : HaveDistinctPriorities (additions edits)
 
--- each field of the edit is as its type has it
+-- each field of the edit satisfies the invariant of its type
 abbrev pub IsSoundEdit : Edit → Type 0
 IsSoundEdit (Remove priority) = priority < 2 ^ 32
 IsSoundEdit (Add row) = IsSoundRow row
@@ -59,11 +59,11 @@ staying_rows rows change = filter (λ row. not (removes change row.priority)) ro
 abbrev pub amended_rows : List Row → List Edit → List Row
 amended_rows rows change = staying_rows rows change ++ additions change
 
--- the change removes a row that the policy hasn't
+-- the change removes a row that the policy doesn't have
 abbrev pub removes_absent : List Row → List Edit → Bool
 removes_absent rows change = not (list_all (has_priority rows) (removals change))
 
--- the change adds a row of the priority of one that stays
+-- the change adds a row with the priority of one that stays
 abbrev pub adds_taken : List Row → List Edit → Bool
 adds_taken rows change =
     list_any (λ row. has_priority (staying_rows rows change) row.priority) (additions change)

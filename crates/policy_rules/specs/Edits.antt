@@ -1,4 +1,4 @@
--- How changes of policies are put together, and why edits are no amendment.
+-- How changes of policies are built, and why edits are no amendment.
 use Rattle.std.specs.Prelude.{◌++◌, ◌+◌, ◌<◌, ◌≡◌, Bool, IsTrue, List, length, map, slice_index_or, take, ℕ}
 use Rattle.policy_rules.specs.Applied.{AreDistinctEdits, IsAmendment, additions, has_priority, removals, removes}
 use Rattle.policy_rules.specs.declared.policy.Row.{Row}
@@ -14,7 +14,7 @@ edits_of removed added = map Remove removed ++ map Add added
 abbrev pub adds : List Edit → ℕ → Bool
 adds edits priority = has_priority (additions edits) priority
 
--- an earlier edit did the same to the row of this one's priority
+-- an earlier edit did the same at this edit's priority: it removed the row, or added one
 abbrev pub repeats : List Edit → Edit → Bool
 repeats earlier (Remove priority) = removes earlier priority
 repeats earlier (Add row) = adds earlier row.priority

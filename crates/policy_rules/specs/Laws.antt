@@ -24,7 +24,7 @@ pub record PolicyLaws : Type 0 where
       → IsFirstMatch rows header hit → hit ≡ scan rows header
   -- the scan of any rows is their first match
   pub scan : (rows : List Row) (header : Header) → IsFirstMatch rows header (scan rows header)
-  -- the rows by falling priority are the rows in falling order, and no other list is that
+  -- the rows by falling priority are the rows in falling order, and no other list of them is
   pub sorted : (rows : List Row) → IsPolicy rows → IsPermutation rows (by_falling_priority rows)
   pub falling : (rows : List Row) → IsFalling (by_falling_priority rows)
   pub only : (rows sorted : List Row) → IsPolicy rows → IsPermutation rows sorted

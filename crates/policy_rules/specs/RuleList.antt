@@ -11,8 +11,7 @@ use Rattle.policy_rules.specs.declared.policy.Action.TheVariants.{Drop}
 use Rattle.policy_rules.specs.declared.rules.Rule.{Rule}
 use Rattle.policy_rules.specs.declared.rule_list.TooManyWords.{TooManyWords}
 
--- of the rows whose priority is below this one: for each priority, from the greatest down, the rows
--- that have it
+-- the rows whose priority is below this one, by falling priority
 unfoldable pub falling_below : ℕ → List Row → List Row
 falling_below zero rows = []
 falling_below (suc priority) rows =
@@ -35,7 +34,7 @@ abbrev pub ranked_rule : ℕ × (WordValue × Hit) → Rule
 ranked_rule (rank, entry) =
     record { word = entry.0; rank = rank; rule = entry.1.rule; action = entry.1.action }
 
--- ranks from this one on
+-- the entries as rules, with ranks from this one on
 unfoldable pub ranked_from : ℕ → List (WordValue × Hit) → List Rule
 ranked_from rank entries = map ranked_rule (enumerate_from rank entries)
 
@@ -63,7 +62,7 @@ word_total rows = sum_by word_count rows
 abbrev pub RefusesRules : List Row → TooManyWords → Type 0
 RefusesRules rows many = (many.words ≡ word_total rows) × (4096 < many.words)
 
--- the rule for what no row matches
+-- the rule for headers that no row matches
 abbrev pub default_rule : ℕ → Rule
 default_rule rank = record { word = any_word; rank = rank; rule = None; action = Drop }
 

@@ -9,7 +9,7 @@ use Rattle.policy_rules.specs.declared.policy.Hit.{Hit}
 use Rattle.policy_rules.specs.declared.policy.Action.TheVariants.{Drop}
 use Rattle.policy_rules.specs.Policy.{row_matches, IsHighestIn}
 
--- a reference to the highest of the rows that match, or to none if none matches
+-- a reference to the matching row of the greatest priority, or `None` if no row matches
 abbrev pub IsHighestMatch : List Row → Fields → Option (Bor Row) → Type 0
 IsHighestMatch rows f best =
     let matching = filter (λ row. row_matches row f) rows in
@@ -19,7 +19,7 @@ IsHighestMatch rows f best =
 abbrev pub is_highest : List Row → Row → Bool
 is_highest rows row = list_all (λ other. nat_le other.priority row.priority) rows
 
--- of some rows, the one that none exceeds in priority
+-- the row of the greatest priority
 abbrev pub highest_row : List Row → Option Row
 highest_row rows = find (is_highest rows) rows
 

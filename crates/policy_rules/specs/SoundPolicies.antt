@@ -3,11 +3,11 @@ use Rattle.std.specs.Prelude.{◌<◌, ◌^◌, ◌≢◌, All, AllPairs, List, 
 use Rattle.five_tuple.specs.Exports.{IsAddressBlock, IsPortRange, IsProtocol}
 use Rattle.policy_rules.specs.declared.policy.Row.{Row}
 
--- no two rows have one priority
+-- no two rows have the same priority
 abbrev pub HaveDistinctPriorities : List Row → Type 0
 HaveDistinctPriorities rows = AllPairs (λ row later. row.priority ≢ later.priority) rows
 
--- each field of the row is as its type has it
+-- each field of the row satisfies the invariant of its type
 pub record IsSoundRow (row : Row) : Type 0 where
   pub priority : row.priority < 2 ^ 32
   pub src : IsAddressBlock row.src

@@ -3,18 +3,18 @@ use Rattle.std.specs.Prelude.{◌-◌, ◌<◌, ◌≡◌, ◌≤◌, List, drop
 use Rattle.base.specs.Exports.{filled-take, filled_places}
 use Rattle.policy_rules.specs.declared.targets.Targets.TheInside.{Inside}
 
--- of the four places, one or more are in the list; those beyond it are 0
+-- the list has one to four of the four places; the others are 0
 pub record AreFilledTargets (t : Inside) : Type 0 where
   pub places : length t.places ≡ 4
   pub some : 0 < t.len
   pub few : t.len ≤ 4
   pub rest : drop t.len t.places ≡ replicate (4 - t.len) 0
 
--- the four places that contain this list
+-- this list, in four places
 abbrev pub filled_targets : List ℕ → Inside
 filled_targets xs = record { places = filled_places 4 xs; len = length xs }
 
--- the four places are those of the list that they contain
+-- four places are those of the list that is in them
 pub filled_targets-take : (t : Inside) → AreFilledTargets t
     → filled_targets (take t.len t.places) ≡ t
 filled_targets-take t h =

@@ -6,7 +6,7 @@ use Rattle.policy_rules.specs.Words.{words_of_row}
 use Rattle.policy_rules.specs.declared.amendment.Edit.{Edit}
 use Rattle.policy_rules.specs.declared.policy.Row.{Row}
 
--- the rows of the policy that the change removes, in the order in which it does
+-- the rows of the policy that the change removes, in the order of the edits
 abbrev pub removed_rows : List Row → List Edit → List Row
 removed_rows rows change =
     filter_map (λ priority. find (λ row. row.priority == priority) rows) (removals change)

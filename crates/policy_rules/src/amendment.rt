@@ -12,26 +12,26 @@ use std::collections::BTreeSet;
 use std::marker::Model;
 use thiserror::Error;
 
-/// A row of a change: what becomes of the row of one priority.
+/// A row of a change: it removes the row of a priority, or adds a row.
 #[derive(Clone, Copy, Debug, PartialEq, Eq)]
 pub enum Edit {
-    /// The policy's row of this priority is removed.
+    /// Removes the policy's row of this priority.
     Remove(u32),
-    /// This row is added.
+    /// Adds this row.
     Add(Row),
 }
 
 /// Why edits are no amendment: this one, counted from 1, is the first that repeats an earlier one.
-/// Both remove the row of one priority, or both add a row of one priority.
+/// Both remove the row of the same priority, or both add one.
 #[derive(Clone, Copy, Debug, PartialEq, Eq, Error)]
 #[error("edit {edit} repeats an earlier one")]
 pub struct Repeated {
     pub edit: u32,
 }
 
-/// A change of a policy, as an operator gives it: edits of distinct priorities among those that
-/// remove, and among those that add. Contracts see the list of the edits, for which `IsAmendment`
-/// is true.
+/// A change of a policy, as an operator gives it: edits, of which no two remove the row of the same
+/// priority, and no two add one. Contracts see the list of the edits, for which `IsAmendment` is
+/// true.
 ///
 /// A priority may be removed and added again, which replaces its row.
 #[derive(Drop)]
@@ -177,7 +177,7 @@ fn check_edits(alloc: Global, edits: &[Edit]) -> Result<(), Failure<Repeated>>
     let mut number = 0u32;
     for edit in edits {
         number += 1;
-        // For the proof: the fields of an edit are as their types have them.
+        // For the proof: the fields of an edit satisfy the invariants of their types.
         edit_is_sound(edit);
         if !is_new(&mut removed, &mut added, edit)? {
             return Err(Failure::Refused(Repeated { edit: number }));
@@ -186,8 +186,8 @@ fn check_edits(alloc: Global, edits: &[Edit]) -> Result<(), Failure<Repeated>>
     Ok(())
 }
 
-// Whether no earlier edit did the same to the row of this one's priority, if the sets have the
-// priorities of the rows that earlier ones removed and added. Then they have this one's too.
+// Whether no earlier edit did the same at this edit's priority. The sets have the priorities of the
+// rows that earlier edits removed and added; afterwards they have this edit's, too.
 fn is_new(
     removed: &mut BTreeSet<u32>,
     added: &mut BTreeSet<u32>,

@@ -29,14 +29,14 @@ pub enum Inapplicable {
     TooManyRows { rows: u64 },
 }
 
-/// Why a change isn't applied to a policy.
+/// Why a change isn't applied to a policy: it can't be, or memory ran out.
 pub type ApplyError = Failure<Inapplicable>;
 
 /// The policy with the change applied to it: its rows whose priorities aren't removed, in order,
 /// and then the added ones.
 ///
 /// # Errors
-/// The first of these: `Absent` exactly if a removed priority is that of no row, `Taken`
+/// The first of these: `Absent` exactly if a removed priority belongs to no row, `Taken`
 /// exactly if an added row has the priority of one that stays, `TooManyRows` exactly if there
 /// would be more than 2,000 rows.
 pub fn apply(alloc: Global, policy: &Policy, change: &Amendment) -> Result<Policy, ApplyError>
@@ -49,7 +49,7 @@ pub fn apply(alloc: Global, policy: &Policy, change: &Amendment) -> Result<Polic
     let removed = change.removed();
     let added = change.added();
     let mut amended = staying_rows(alloc, rows, removed)?;
-    // Neither list has a priority twice, so each that is removed is that of one row, or of none.
+    // Neither list has a priority twice, so each removed priority belongs to one row or to none.
     if rows.len() < amended.len() + removed.len() {
         return Err(ApplyError::Refused(Inapplicable::Absent));
     }

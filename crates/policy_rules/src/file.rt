@@ -1,7 +1,7 @@
 use crate::amendment::Amendment;
 use crate::policy::Policy;
 
-/// What a file of policies has: a policy, or a change of the policy that it is applied to.
+/// What a policy file has: a policy, or a change of one.
 #[derive(Drop)]
 pub enum PolicyFile {
     Whole(Policy),

@@ -1,7 +1,7 @@
 ghost use Rattle.policy_rules.specs.Laws.{AmendmentLaws, PolicyLaws, RowWordsLaws, RuleListLaws};
 
-/// The scan is the first match, and one list of the rows is in falling order: laws about the
-/// definitions only.
+/// `scan` returns the first match, and exactly one list of the rows is in falling order: laws about
+/// the definitions only.
 pub fn policy_laws()
     ensures { PolicyLaws }
 {}
@@ -16,10 +16,9 @@ pub fn rule_list_laws()
     ensures { RuleListLaws }
 {}
 
-/// What a change makes of a policy is a policy of at most 2,000 rows, each of which is a row of
-/// that policy or an added one. A header that no removed and no added row matches is decided as
-/// before, and any other by the rows that stay and the added ones: laws about the definitions
-/// only.
+/// A change makes of a policy a policy of at most 2,000 rows, each of which is a row of the old one
+/// or an added one. A header that no removed and no added row matches is decided as before, and any
+/// other by the rows that stay and the added ones: laws about the definitions only.
 pub fn amendment_laws()
     ensures { AmendmentLaws }
 {}

@@ -1,18 +1,17 @@
 //! Access-control policies: prioritised rows of five-tuple fields, the first match of a header
 //! among them, the list of a policy's rules over ternary words, and changes of policies.
 //!
-//! `Policy::scan` promises the first match by its definition: of all rows that match a header, the
-//! one that no matching row exceeds in priority, and a drop if no row matches. `to_rules` promises
-//! the defined list, in which the first rule that holds a header has the rule and the action of
-//! that first match. `apply` promises the policy with a change applied to it: the rows that stay,
-//! in order, and then the added ones. What is true of policies, of a row's words, of rule lists
-//! and of changes without a call is stated by `policy_laws`, `row_words_laws`, `rule_list_laws`
-//! and `amendment_laws`.
+//! `Policy::scan` returns the first match: of all rows that match a header, the one that no
+//! matching row exceeds in priority, and a drop if no row matches. `to_rules` returns the defined
+//! list, in which the first rule that holds a header has the rule and the action of that first
+//! match. `apply` returns the policy with a change applied to it: the rows that stay, in order, and
+//! then the added ones. `policy_laws`, `row_words_laws`, `rule_list_laws` and `amendment_laws` are
+//! about the definitions only.
 //!
 //! ```text
 //! fn first_rule(alloc: Global, rows: Vec<Row>, header: &Header) -> anyhow::Result<Option<Rule>> {
 //!     let policy = Policy::new(alloc, rows)?;  // SamePriority, if two rows share a priority
-//!     let rules = to_rules(alloc, &policy)?;   // TooManyWords, if the words are over 4,096
+//!     let rules = to_rules(alloc, &policy)?;   // TooManyWords, if there are more than 4,096
 //!     let place = first_hit(&rules, header);   // always some: the last rule holds each header
 //!     Ok(place.map(|place| rules[place]))      // decides as policy.scan(header) does
 //! }

@@ -33,8 +33,8 @@ pub enum Leg {
 /// Why a packet is stuck.
 #[derive(Clone, Copy, Debug, PartialEq, Eq)]
 pub enum Cause {
-    /// No known link leads to any of its authority switches.
+    /// It seeks an authority, and no known link ends at any authority switch of its partition.
     NoAuthority,
-    /// No path of known links leads to a target.
+    /// In any other case: no path of known links leads to a target.
     NoRoute,
 }

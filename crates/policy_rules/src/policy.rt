@@ -113,7 +113,7 @@ impl Policy {
         Ok(Policy { rows })
     }
 
-    /// The policy of rows that are known to be one.
+    /// The policy of rows for which `IsPolicy` is known to be true.
     pub(crate) fn from_sound(rows: Vec<Row>) -> Policy
         requires { IsPolicy rows.items }
         ensures rows { result ≡ rows.items }
@@ -152,7 +152,7 @@ impl Clone for Policy {
     }
 }
 
-// Of the rows that match, the one that none exceeds in priority.
+// Of the rows that match, the one of the greatest priority; `None` if no row matches.
 fn highest_match<'a>(rows: &'a [Row], fields: &Fields) -> Option<&'a Row>
     ensures { IsHighestMatch rows.now fields.now result }
 {
@@ -191,7 +191,7 @@ fn check_rows(alloc: Global, rows: &[Row]) -> Result<(), Failure<SamePriority>>
     let mut number = 0u32;
     for row in rows {
         number += 1;
-        // For the proof: the fields of a row are as their types have them.
+        // For the proof: the fields of a row satisfy the invariants of their types.
         row_is_sound(row);
         if !seen.insert(row.priority)? {
             return Err(Failure::Refused(SamePriority { row: number }));
@@ -200,14 +200,14 @@ fn check_rows(alloc: Global, rows: &[Row]) -> Result<(), Failure<SamePriority>>
     Ok(())
 }
 
-// Whether the priorities fall from row to row, so that no two rows have one.
+// Whether the priorities fall from row to row, so that no two are equal.
 fn are_falling(rows: &[Row]) -> bool
     requires { length rows.now < 2 ^ 32 }
     ensures { IsTrue result → IsPolicy rows.now }
 {
     let mut above = 1u64 << 32;
     for row in rows {
-        // For the proof: the fields of a row are as their types have them.
+        // For the proof: the fields of a row satisfy the invariants of their types.
         row_is_sound(row);
         let priority = u64::from(row.priority);
         if priority >= above {
@@ -218,8 +218,8 @@ fn are_falling(rows: &[Row]) -> bool
     true
 }
 
-/// Each field of a row satisfies the invariant of its type, which the proof knows once the field is
-/// read: here, once for all rows of a policy, and once for those that a change adds.
+/// Each field of a row satisfies the invariant of its type. The body reads the fields, because a
+/// proof gets the invariant of a field when the field is read.
 pub fn row_is_sound(row: &Row)
     ensures { IsSoundRow row.now }
 {

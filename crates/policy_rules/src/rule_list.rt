@@ -31,8 +31,8 @@ pub struct TooManyWords {
 /// whose word holds each header.
 ///
 /// # Errors
-/// `TooManyWords` exactly if the rows have more than 4,096 words together, however little
-/// memory there is.
+/// `TooManyWords` exactly if the rows have more than 4,096 words together; this is checked
+/// before anything is allocated.
 pub fn to_rules(alloc: Global, policy: &Policy) -> Result<Vec<Rule>, Failure<TooManyWords>>
     ensures rules { IfOk result (λ rules. rules.items ≡ rules_of policy.now) }
     ensures first_match { IfOk result (λ rules. (header : Header) → IsHeader header →
@@ -72,7 +72,7 @@ fn by_falling_priority(alloc: Global, rows: &[Row]) -> Result<Vec<Row>, AllocErr
     ensures { IfOk result (λ v. v.items ≡ by_falling_priority rows.now) }
 {
     let mut sorted = Vec::from_slice(alloc, rows)?;
-    // A stable sort is fast for rows that are in order except for a few.
+    // A stable sort is fast if only a few rows are out of order.
     sorted.sort_by_key(|row| Reverse(row.priority))?;
     Ok(sorted)
 }
@@ -92,7 +92,7 @@ fn list_rules(alloc: Global, rows: &[Row], room: usize) -> Result<Vec<Rule>, All
     Ok(rules)
 }
 
-// The rules of the row's words, which replace what is in `words`.
+// Adds the rules of the row's words. `words` is a buffer: what was in it is replaced.
 fn push_row(rules: &mut Vec<Rule>, words: &mut Vec<Word>, row: &Row) -> Result<(), AllocError>
     requires few { length rules.old.items ≤ 4096 }
     requires row { IsSoundRow row.now }

@@ -2,7 +2,7 @@ ghost use Rattle.std.specs.Prelude.{◌≡◌, ◌≤◌, ◌<◌, ◌⊎◌, �
 
 use std::marker::Model;
 
-/// The most switches that one partition may have.
+/// The most targets of a partition.
 const MAX_TARGETS: usize = 4;
 
 /// One to four numbers of switches, in order: a partition's authority switch and after it the
@@ -32,7 +32,7 @@ impl Model for Targets {
 }
 
 impl Targets {
-    /// The list of these switches; `None` if there is none, or more than four.
+    /// The list of these switches; `None` if there are none, or more than four.
     pub fn new(switches: &[u32]) -> Option<Targets>
         ensures list { IfSome result (λ targets. targets ≡ switches.now) }
         ensures none { IsNone result ↔ ((length switches.now ≡ 0) ⊎ (4 < length switches.now)) }
@@ -48,7 +48,7 @@ impl Targets {
         })
     }
 
-    /// The switches, the first of which is asked first.
+    /// The switches, the primary first.
     pub fn items(&self) -> &[u32]
         ensures list { result.now ≡ self.now }
         ensures some { 0 < length self.now }

@@ -13,7 +13,7 @@ use ternary::Word;
 /// its destination ports, the source block outermost, as in the list of rules.
 ///
 /// # Errors
-/// Only out of memory; what is added then isn't stated.
+/// Only out of memory; then some of the words may have been added.
 pub fn push_row_words(words: &mut Vec<Word>, row: &Row) -> Result<(), AllocError>
     requires { IsSoundRow row.now }
     ensures { OnOk result (words.new.items ≡ words.old.items ++ words_of_row row.now) }
@@ -24,7 +24,7 @@ pub fn push_row_words(words: &mut Vec<Word>, row: &Row) -> Result<(), AllocError
     Ok(())
 }
 
-// The words for one block of its source ports.
+// Adds the words for one block of the row's source ports.
 fn push_source_words(words: &mut Vec<Word>, row: &Row, source: PortBlock) -> Result<(), AllocError>
     requires row { IsSoundRow row.now }
     requires source { IsPortBlock source }
@@ -50,7 +50,7 @@ pub fn word_of_row(row: &Row, source: PortBlock, destination: PortBlock) -> Word
     Word::new(value, mask).unwrap()
 }
 
-// The fixed bits that are 1, with these for the ports.
+// The value of the row's word, with these bits for the ports.
 fn value_of_row(row: &Row, sport: u16, dport: u16) -> u128
     ensures { result ≡
         packed_number row.now.src.address row.now.dst.address sport dport
@@ -66,7 +66,7 @@ fn value_of_row(row: &Row, sport: u16, dport: u16) -> u128
     Header::pack(&fields).number()
 }
 
-// The fixed bits, with these for the ports.
+// The mask of the row's word, with these bits for the ports.
 fn mask_of_row(row: &Row, sport: u16, dport: u16) -> u128
     ensures { result ≡
         packed_number (prefix_mask row.now.src) (prefix_mask row.now.dst) sport dport

@@ -2,8 +2,8 @@
 use Rattle.std.specs.Prelude.{if◌then◌else◌, Bool, Contains, List, suc, zero, ℕ}
 use Rattle.shelf.specs.Sink.{next_count}
 
--- the numbers of the calls that are to fail, counted from 1; how many calls there were, and how many
--- faults; both counts stop at their greatest value
+-- the numbers of the calls that are to fail, counted from 1; how many calls and how many faults
+-- there were; both counts stop at their greatest value
 pub record CallScript : Type 0 where
   pub failing : List ℕ
   pub calls : ℕ
