@@ -60,7 +60,7 @@ pub record IsNarrowIn (region : WordValue) (rule : Rule) : Type 0 where
   pub covers : (bit : ℕ) (one : Bool) → IsFreeBit region bit →
       IsFalse (covers_of rule.word (fix_of region bit one))
 
--- four such rules
+-- each of four rules lies in the region and covers no half of it
 pub record AreNarrowIn (region : WordValue) (a b c d : Rule) : Type 0 where
   pub first : IsNarrowIn region a
   pub second : IsNarrowIn region b

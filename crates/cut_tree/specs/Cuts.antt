@@ -38,11 +38,11 @@ pub record IsLeastCut (rules : List Rule) (region : WordValue) (bit : ℕ) : Typ
   pub least : (other : ℕ) → IsFreeBit region other →
       CostsAtMost (cost_of rules region bit) (cost_of rules region other)
 
--- a has the smaller larger side, or the smaller sum if these are equal
+-- the larger side of a is smaller than that of b, or these are equal and the sum of a is smaller
 abbrev pub is_cheaper : Cost → Cost → Bool
 is_cheaper a b = nat_lt a.larger b.larger || ((a.larger == b.larger) && nat_lt a.sum b.sum)
 
--- of a cut and the least before it, the one that costs less
+-- of a cut and the least one so far, the one that costs less
 abbrev pub cheaper_cost : Cost → Option Cost → Cost
 cheaper_cost cost None = cost
 cheaper_cost cost (Some best) = if is_cheaper cost best then cost else best

@@ -47,7 +47,7 @@ cut_by grow rules region (Some cost) =
     (grow (side_of rules region cost.bit false) (fix_of region cost.bit false))
     (grow (side_of rules region cost.bit true) (fix_of region cost.bit true))
 
--- the tree with at most this many cuts one below another
+-- the tree, with at most this many cuts on a path from its root
 unfoldable pub tree_within : ℕ → ℕ → List Rule → WordValue → Shape
 tree_within zero most rules region = End region rules
 tree_within (suc depth) most rules region = elim (nat_le (length rules) most) [

@@ -9,7 +9,7 @@ use Rattle.cut_tree.specs.Nodes.{AreWords}
 use Rattle.cut_tree.specs.Shape.{Shape}
 
 pub record NarrowLaws : Type 0 where
-  -- narrowed to a region, and then to one within it, is narrowed to the latter at once
+  -- narrowing to a region, and then to one within it, is narrowing to the latter
   pub twice : (rules : List Rule) (outer inner : WordValue) → IsTrue (covers_of outer inner) →
       narrow (narrow rules outer) inner ≡ narrow rules inner
   -- the first rule that holds a header of the region is that of the whole list, narrowed

@@ -1,4 +1,4 @@
--- A tree as its cuts and leaves, apart from the memory that they are in.
+-- A tree as its cuts and leaves, without its boxes and shared lists.
 use Rattle.std.specs.Prelude.{[], ◌++◌, ◌∷◌, List, length, ℕ}
 use Rattle.ternary.specs.Exports.{WordValue}
 use Rattle.policy_rules.specs.declared.rules.Rule.{Rule}

@@ -16,7 +16,7 @@ use ternary::{ALL_BITS, Word};
 pub struct Cost {
     /// How many rules the larger side has.
     pub larger: u32,
-    /// How many both sides have.
+    /// How many rules both sides have together.
     pub sum: u64,
     pub bit: u32,
 }
@@ -60,7 +60,7 @@ pub fn free_bits(region: &Word) -> u128
     ALL_BITS & !region.mask()
 }
 
-// Of the bits of a set the first whose cut costs least, if this many planes have all the counts.
+// The first bit of the set whose cut costs least; the first `height` planes have all counts.
 fn least_bit(low: &Counters, high: &Counters, bits: u128, height: usize) -> u32
     requires some { bits ≢ 0 }
     requires low { IsHeight low.now.planes height }
@@ -123,7 +123,7 @@ fn count_next(low: &mut Side, high: &mut Side, rules: &[Rule], place: usize, reg
     place + 1
 }
 
-// Whether neither of two rules covers a half of the region, since both fix two bits more than it.
+// Whether both rules fix two bits or more that the region doesn't, so that neither covers a half.
 fn fix_many(one: &Rule, other: &Rule, region: &Word) -> bool
     requires one { LiesIn region.now one.now }
     requires other { LiesIn region.now other.now }
@@ -133,8 +133,8 @@ fn fix_many(one: &Rule, other: &Rule, region: &Word) -> bool
     !fixes_few(&one.word, region) && !fixes_few(&other.word, region)
 }
 
-/// One half of a region for each bit: that in which the bit has this value. How many rules each of
-/// these halves keeps.
+/// For each bit, the half of a region in which the bit is 1 (or 0, by `one`), and how many rules
+/// that half keeps.
 #[derive(Clone, Copy)]
 pub struct Side {
     pub one: bool,
@@ -193,8 +193,8 @@ impl Side {
     }
 }
 
-// The bits whose half keeps the next rule, of those that are left. If it covers the half, its bit
-// is left no longer.
+// Of the bits that are left, those whose half keeps the next rule. Then only those bits are left
+// whose half the rule doesn't cover.
 fn pass(left: &mut u128, one: bool, rule: &Rule, region: &Word) -> u128
     requires { LiesIn region.now rule.now }
     ensures { (bit : ℕ) (rules : List Rule) → IsFreeBit region.now bit →
@@ -222,7 +222,7 @@ fn fixes_few(word: &Word, region: &Word) -> bool
     if fixed == 0 { true } else { is_one_bit(fixed) }
 }
 
-// Whether a set of bits that isn't empty has only one, its lowest.
+// Whether a set of bits that isn't empty has only one bit.
 #[inline(always)]
 fn is_one_bit(bits: u128) -> bool
     requires { bits ≢ 0 }

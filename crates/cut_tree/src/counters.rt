@@ -31,7 +31,7 @@ impl Counters {
         }
     }
 
-    /// Each bit of the set counts one more.
+    /// Counts each bit of the set once.
     pub fn add(&mut self, bits: u128)
         requires { (bit : ℕ) → count_at self.old.planes bit + 1 < 2 ^ 32 }
         ensures { (bit : ℕ) →
@@ -40,7 +40,7 @@ impl Counters {
         self.add_four(bits, 0, 0, 0);
     }
 
-    /// Each bit counts one more for each of these sets that has it.
+    /// Counts each bit once for each of these sets that has it.
     pub fn add_four(&mut self, a: u128, b: u128, c: u128, d: u128)
         requires { (bit : ℕ) → count_at self.old.planes bit
             + (bit_at a bit + bit_at b bit + bit_at c bit + bit_at d bit) < 2 ^ 32 }
@@ -79,7 +79,7 @@ impl Counters {
         height
     }
 
-    /// How often this bit was counted, if this many planes have all the counts.
+    /// How often this bit was counted; the first `height` planes have all counts.
     pub fn count(&self, bit: u32, height: usize) -> u32
         requires bit { bit < 128 }
         requires here { IsHeight self.now.planes height }
@@ -94,8 +94,8 @@ impl Counters {
         count
     }
 
-    /// The bits that were counted more often here than there, if this many planes have all the
-    /// counts.
+    /// The bits that were counted more often here than in `other`; the first `height` planes have
+    /// all counts.
     pub fn more_than(&self, other: &Counters, height: usize) -> u128
         requires here { IsHeight self.now.planes height }
         requires there { IsHeight other.now.planes height }
@@ -116,8 +116,8 @@ impl Counters {
         more
     }
 
-    /// Of a set of bits those that were counted least often, where those of `which` are counted
-    /// there and not here.
+    /// The bits of a set that were counted least often. A bit of `which` has the count of `other`,
+    /// any other bit the count of these counters.
     pub fn least(&self, other: &Counters, which: u128, bits: u128, height: usize) -> u128
         requires some { bits ≢ 0 }
         requires here { IsHeight self.now.planes height }

@@ -1,7 +1,7 @@
 ghost use Rattle.cut_tree.specs.Laws.{NarrowLaws, TreeLaws};
 
-/// To narrow a list twice is to narrow it to the inner region, and narrowing keeps the first rule
-/// of each header of the region.
+/// Narrowing a list to a region, and then to one within it, is narrowing it to the latter.
+/// Narrowing keeps the first rule of each header of the region.
 pub fn narrow_laws()
     ensures { NarrowLaws }
 {}

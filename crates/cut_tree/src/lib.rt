@@ -1,12 +1,12 @@
-//! Cut trees: a list of rules is cut by a decision tree over the header space, so that no leaf has
-//! more rules than a cap.
+//! Cut trees: a decision tree over the header space cuts a list of rules, so that no leaf has more
+//! rules than a cap.
 //!
-//! `build` promises the one defined tree: each cut is at the free bit that costs least, and the
-//! rules of a half are those of the whole narrowed to it. It refuses exactly the trees of more
-//! than 512 leaves, and is never deeper than the 104 bits. A `Node` is a region with its narrowed
-//! rules, and returns its least cut, for trees of other kinds; `free_bits` are those at which a
-//! region can be cut. `narrow_laws` and `tree_laws` say, of definitions only, that narrowing keeps
-//! the first rule of each header, and that each list has exactly one tree.
+//! `build` returns the defined tree: each cut is at the free bit that costs least, and the rules of
+//! a half are those of the whole narrowed to it. It refuses exactly the trees of more than 512
+//! leaves. No path of a tree has more than 104 cuts, one for each bit. A `Node` is a region with
+//! its narrowed rules, and returns its least cut, for trees of other kinds; `free_bits` are those
+//! at which a region can be cut. `narrow_laws` and `tree_laws` say, of definitions only, that
+//! narrowing keeps the first rule of each header, and that each list has exactly one tree.
 //!
 //! ```text
 //! let rules = to_rules(alloc, &policy)?;

@@ -11,7 +11,10 @@ use std::alloc::{AllocError, Global};
 use ternary::{Word, holds_laws};
 
 /// The rules that decide the headers of the region: in order those that meet it, up to and
-/// including the first that covers it, each for its headers there.
+/// including the first that covers it, each cut down to the region.
+///
+/// # Errors
+/// Only out of memory.
 #[tactic(auto, using(crate::proofs::NarrowLemmas::narrow_past))]
 pub fn narrow(alloc: Global, rules: &[Rule], region: &Word) -> Result<Vec<Rule>, AllocError>
     ensures { IfOk result (λ kept. kept.items ≡ narrow rules.now region.now) }
@@ -24,7 +27,7 @@ pub fn narrow(alloc: Global, rules: &[Rule], region: &Word) -> Result<Vec<Rule>,
         let mut own = *rule;
         own.word = word;
         kept.push(own)?;
-        // A word that fixes no more bits in the region than this covers it.
+        // The rule covers the region if it fixes no bit that the region leaves free.
         let is_whole = word.mask() == region.mask();
         if is_whole {
             return Ok(kept);
@@ -33,8 +36,11 @@ pub fn narrow(alloc: Global, rules: &[Rule], region: &Word) -> Result<Vec<Rule>,
     Ok(kept)
 }
 
-/// The same for a half of a region that contains the rules: in order those that overlap it, up
-/// to and including the first that covers it, each for its headers there.
+/// The same for a half of a region that contains the rules: in order those that meet the half, up
+/// to and including the first that covers it, each cut down to the half.
+///
+/// # Errors
+/// Only out of memory.
 pub fn narrow_half(
     alloc: Global,
     rules: &[Rule],
@@ -46,7 +52,7 @@ pub fn narrow_half(
     requires within { All (LiesIn region.now) rules.now }
     ensures { IfOk result (λ kept. kept.items ≡ side_of rules.now region.now bit one) }
 {
-    // For the proof: a region is a word.
+    // For the proof: reading the mask yields the invariant `IsWord`.
     let _ = region.mask();
     let whole = region.fix(bit, one).mask();
     let mut kept = Vec::with_capacity(alloc, rules.len())?;
@@ -65,15 +71,15 @@ pub fn narrow_half(
     Ok(kept)
 }
 
-// The word of the headers of a word that have this bit: its intersection with this half of a
-// region that contains it.
+// The word of the headers of a word that have this bit: its meet with this half of a region that
+// contains it; `None` if there are no such headers.
 fn with_bit(word: &Word, bit: u32, one: bool) -> Option<Word>
     requires { bit < 104 }
     ensures { (region : WordValue) → IsWord region → IsFreeBit region bit →
         IsTrue (covers_of region word.now) → result ≡ meet_of word.now (fix_of region bit one) }
 {
     holds_laws();
-    // For the proof: a word that is read is sound.
+    // For the proof: reading the mask yields the invariant `IsWord`.
     let _ = word.mask();
     if !word.is_fixed(bit) {
         return Some(word.fix(bit, one));

@@ -20,7 +20,7 @@ pub struct Node {
 }
 
 impl Node {
-    /// The rules that decide the headers of this region.
+    /// The node of this region, with the rules that decide its headers.
     ///
     /// # Errors
     /// Only out of memory.
@@ -30,7 +30,7 @@ impl Node {
         ensures rules { IfOk result (λ node. node.rules.items ≡ narrow rules.now region.now) }
         ensures region { IfOk result (λ node. node.region ≡ region.now) }
     {
-        // For the proof: a region is a word.
+        // For the proof: reading the mask yields the invariant `IsWord`.
         let _ = region.mask();
         let rules = narrow(alloc, rules, region)?;
         Ok(Node {
@@ -39,7 +39,7 @@ impl Node {
         })
     }
 
-    /// The least cut. More rules than one leave a bit to cut at.
+    /// The least cut. There is one, because a region with more than one rule has a free bit.
     pub fn least_cut(&self) -> Cost
         requires { 1 < length self.now.rules.items }
         ensures least { least_below 104 self.now.rules.items self.now.region ≡ Some result }
@@ -51,7 +51,7 @@ impl Node {
         }
     }
 
-    /// The side of a cut at this bit on which it is 1, or 0.
+    /// The half of this node in which the bit is 1 (or 0, by `one`).
     ///
     /// # Errors
     /// Only out of memory.

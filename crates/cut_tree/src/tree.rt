@@ -39,8 +39,8 @@ pub struct TooManyLeaves;
 /// leaf has more than the cap.
 ///
 /// # Errors
-/// `TooManyLeaves` exactly if that tree has more than 512 leaves; then no more of it is
-/// built.
+/// `TooManyLeaves` exactly if that tree has more than 512 leaves; then building stops at the
+/// first leaf too many.
 pub fn build(alloc: Global, rules: &[Rule], cap: u32) -> Result<Tree, Failure<TooManyLeaves>>
     requires cap { 0 < cap }
     requires few_rules { length rules.now < 2 ^ 32 }
@@ -58,7 +58,7 @@ pub fn build(alloc: Global, rules: &[Rule], cap: u32) -> Result<Tree, Failure<To
     grow(alloc, root, cap, &mut room)
 }
 
-// The tree of the rules of a node, which takes one of the room for each leaf.
+// The tree of the rules of a node. Each leaf takes 1 from `room`; refused if there is no room.
 fn grow(alloc: Global, node: Node, cap: u32, room: &mut u32) -> Result<Tree, Failure<TooManyLeaves>>
     requires cap { 0 < cap }
     ensures tree { IfOk result (λ tree. shape_of tree ≡ tree_at cap node.rules.items node.region) }
@@ -74,7 +74,7 @@ fn grow(alloc: Global, node: Node, cap: u32, room: &mut u32) -> Result<Tree, Fai
     let bit = node.least_cut().bit;
     let low = node.half(alloc, bit, false)?;
     let high = node.half(alloc, bit, true)?;
-    // On the way down only the lists of the halves are kept.
+    // Only the lists of the halves are kept on the way down.
     drop(node);
     let low = grow(alloc, low, cap, room)?;
     let high = grow(alloc, high, cap, room)?;

@@ -13,6 +13,6 @@ pub record PartitionLaws : Type 0 where
   -- those of a policy's rules are sound for the policy
   pub sound : (rows : List Row) (cap : ℕ) → 0 < cap → IsPolicy rows →
       AreSoundPartitions rows (partitions_of (rules_of rows) cap)
-  -- .. and the last rule of each covers its region
+  -- the last rule of each covers its region
   pub ended : (rows : List Row) (cap : ℕ) → 0 < cap → IsPolicy rows →
       All LastCovers (partitions_of (rules_of rows) cap)

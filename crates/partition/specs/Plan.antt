@@ -30,8 +30,8 @@ abbrev pub plan_of_tree : Net → Shape → Result (List Hosted) NoPlan
 plan_of_tree net tree =
     if nat_lt 512 (leaf_count tree) then Err TooManyLeaves else hosted_on net (parts_of tree)
 
--- the plan of a policy: the partitions of its tree with the network's leaves, hosted by the
--- network's switches
+-- the plan of a policy: the partitions of its tree, whose cap is the network's `leaf_rules`, hosted
+-- by the network's switches
 unfoldable pub plan_of : List Row → Net → Result (List Hosted) NoPlan
 plan_of rows net = if nat_lt 4096 (word_total rows)
     then Err (TooManyWords (word_total rows))

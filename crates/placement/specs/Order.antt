@@ -1,7 +1,7 @@
 -- Numbers in a given order: by a test that says which of two comes first.
 use Rattle.std.specs.Prelude.{[], if◌then◌else◌, ◌∷◌, Bool, List, ℕ}
 
--- the number at its place among numbers in order
+-- the number inserted at its place into numbers in order
 abbrev pub with_inserted : (ℕ → ℕ → Bool) → ℕ → List ℕ → List ℕ
 with_inserted stands_before x [] = x ∷ []
 with_inserted stands_before x (y ∷ ys) =

@@ -11,7 +11,7 @@ use Rattle.placement.specs.declared.turns.Load.TheVariants as load
 
 -- ---- what can be placed
 
--- partitions whose keys have a sum of 64 bits, on the switches of a network
+-- partitions whose keys have a sum below 2 ^ 64, on the switches of a network
 pub record MayTakeTurns (keys rooms : List ℕ) (backups : ℕ) : Type 0 where
   pub partitions : length keys < 2 ^ 32
   pub switches : length rooms ≤ 64
@@ -32,8 +32,8 @@ targets_at placement partition = slice_index_or placement partition []
 abbrev pub is_target : List (List ℕ) → ℕ → ℕ → Bool
 is_target placement partition switch = list_any (nat_eq switch) (targets_at placement partition)
 
--- the sum of these numbers over the earlier partitions that load the switch: those among whose
--- loaded targets it is
+-- the sum of these numbers over the earlier partitions that load the switch: it is one of the
+-- targets that they load
 abbrev pub sum_before : (List ℕ → List ℕ) → List ℕ → List ℕ → List (List ℕ) → ℕ → ℕ → ℕ
 sum_before loaded keys numbers placement partition switch =
     let loads = λ (other : ℕ).
@@ -76,7 +76,7 @@ pub record TurnRule : Type 0 where
   pub rooms : List ℕ
   pub backups : ℕ
 
--- of a partition's targets those that it loads
+-- the targets that a partition loads
 abbrev pub loaded_by : Load → List ℕ → List ℕ
 loaded_by load.OnAll targets = targets
 loaded_by load.OnFirst targets = take 1 targets
@@ -90,8 +90,8 @@ turn_rule load keys sizes rooms backups = record {
   backups = backups;
 }
 
--- the partition has the targets that its turn gives it: one and the backups, by what switches hold
--- and carry then
+-- the partition has the targets that its turn gives it: one and the backups, by the rules and the
+-- loads that switches have then
 abbrev pub HasDueTargets : TurnRule → List (List ℕ) → ℕ → Type 0
 HasDueTargets t placement partition =
     AreFirst (sum_before (λ targets. targets) t.keys t.sizes placement partition)

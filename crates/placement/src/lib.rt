@@ -1,12 +1,11 @@
 //! Placement of partitions on authority switches: each is put on the switches of least load that
 //! have room for it.
 //!
-//! `place` promises the defined placement, by a relation on loads that knows no order of work, and
-//! refuses exactly at the first partition that finds too few switches. `placement_laws` says that
-//! there is at most one such placement, and that the function that definitions of plans use
-//! returns it.
+//! `place` returns the placement that a relation on loads defines, without an order of work, or the
+//! first partition that finds too few switches. `placement_laws` says that there is at most one
+//! such placement, and that the function that definitions of plans use returns it.
 //!
-//! `Load::take_turns` returns the targets for whatever loads are weighed.
+//! `Load::take_turns` does the same for loads by any keys, on all targets or only on the first.
 #![tactic(auto)]
 
 mod turns;
@@ -29,8 +28,8 @@ pub struct NoRoom {
     pub partition: u32,
 }
 
-/// The targets of partitions of these sizes, in rules, on switches of these rooms, in rules: for
-/// each partition an authority switch and this many backups.
+/// The targets of partitions of these `sizes` on switches of these `rooms`, both in rules: for each
+/// partition an authority switch and this many backups.
 ///
 /// Partitions come by falling size, then by number. Each is put on the switches of least load, and
 /// then of least number, among those that have room for it besides the partitions that they have.

@@ -10,7 +10,7 @@ use policy_rules::Targets;
 use std::alloc::{AllocError, Global};
 use std::cmp::Reverse;
 
-/// Which of its targets a partition loads by its key, where partitions take turns.
+/// Which of its targets a partition loads with its key: all, or only the first.
 #[derive(Clone, Copy)]
 pub enum Load {
     OnAll,
@@ -18,8 +18,8 @@ pub enum Load {
 }
 
 impl Load {
-    /// The targets of partitions of these keys and of these sizes, in rules, on switches of these
-    /// rooms, in rules: for each partition an authority switch and this many backups.
+    /// The targets of partitions of these `keys` and `sizes` on switches of these `rooms`, both in
+    /// rules: for each partition an authority switch and this many backups.
     ///
     /// Partitions come by falling key, then by number. Each is put on the switches of least load,
     /// and then of least number, among those that have room for it besides the partitions that they
@@ -63,7 +63,7 @@ impl Load {
         Ok(placement)
     }
 
-    // Those of a partition's targets that it loads.
+    // The targets that a partition loads.
     fn loaded(self, targets: &Targets) -> &[u32]
         ensures { result.now ≡ loaded_by self targets.now }
     {
@@ -161,7 +161,7 @@ fn has_room(held: &[u64], rooms: &[u32], size: u64, switch: u32) -> bool
     (switch as usize) < rooms.len() && taken <= u64::from(room)
 }
 
-// The numbers from 0 on, as many as this.
+// The first `count` numbers, from 0.
 fn numbers_below(alloc: Global, count: u32) -> Result<Vec<u32>, AllocError>
     ensures { IfOk result (λ numbers. numbers.items ≡ range_with_len 0 count) }
 {
