@@ -4,11 +4,11 @@ use Rattle.std.specs.Int.{bit_at}
 use Rattle.ternary.specs.Exports.{WordValue}
 use Rattle.policy_rules.specs.declared.rules.Rule.{Rule}
 
--- the bits that the word fixes to another value than that of h
+-- the bits that the word fixes to a value that h doesn't have
 abbrev pub differing_bits : ℕ → WordValue → ℕ
 differing_bits h word = bit_and (bit_xor h word.value) word.mask
 
--- the word that has these bits of h fixed meets the other: they don't tell them apart
+-- the word that fixes these bits of h meets the other: h and the other differ in none of them
 abbrev pub is_met : ℕ → ℕ → WordValue → Bool
 is_met h fixed word = bit_and (differing_bits h word) fixed == 0
 

@@ -7,18 +7,18 @@ use Rattle.std.specs.Option.{option_map_or}
 use Rattle.ternary.specs.Exports.{WordValue, covers_of, exact_word, free_of, meet_of}
 use Rattle.policy_rules.specs.declared.rules.Rule.{Rule}
 
--- the region and the rule at this place cover the word, and it meets no earlier rule's
+-- the region and the rule at this place cover the word, and it meets no word of an earlier rule
 pub record IsIndependent (region : WordValue) (rules : List Rule) (index : ℕ)
     (word : WordValue) : Type 0 where
   pub in_region : IsTrue (covers_of region word)
   pub in_rule : IsSomeAnd (slice_get rules index) (λ rule. IsTrue (covers_of rule.word word))
   pub earlier : All (λ rule. IsNone (meet_of word rule.word)) (take index rules)
 
--- the test that a word meets none of these rules'
+-- the test that a word meets no word of these rules
 unfoldable pub is_apart : WordValue → List Rule → Bool
 is_apart word rules = list_all (λ rule. is_none (meet_of word rule.word)) rules
 
--- the test that it is independent
+-- the test that a word is independent
 unfoldable pub is_independent : WordValue → List Rule → ℕ → WordValue → Bool
 is_independent region rules index word =
     covers_of region word && option_map_or (λ rule. covers_of rule.word word)
@@ -37,6 +37,6 @@ widening_of h region rules index zero = exact_word h
 widening_of h region rules index (suc n) = with_bit_freed region rules index n
     (widening_of h region rules index n)
 
--- all 104 bits one after another
+-- the word of h, all its 104 bits freed one after another, if they can be
 unfoldable pub widen : ℕ → WordValue → List Rule → ℕ → WordValue
 widen h region rules index = widening_of h region rules index 104

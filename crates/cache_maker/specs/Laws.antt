@@ -1,4 +1,4 @@
--- The laws of independent words: `independent_laws` of the crate ensures the record.
+-- The laws of independent words and of `widen`: `x_laws` of the crate ensures the record of each.
 use Rattle.std.specs.Prelude.{◌<◌, ◌^◌, ◌↔◌, ◌≡◌, All, IsTrue, List, Some, position, ℕ}
 use Rattle.ternary.specs.Exports.{IsWord, WordValue, covers_of, free_of, holds, is_fixed_of}
 use Rattle.policy_rules.specs.declared.rules.Rule.{Rule}

@@ -15,18 +15,19 @@ use ternary::{Word, covers_laws, exact_laws, free_laws, meet_laws};
 /// The least number that has bits in its upper half.
 const HALF: u128 = 1 << 64;
 
-/// The word of a cache rule for a header that the rule at `index` is the first of the partition to
-/// hold.
+/// The word of a cache rule for a header. The rule at `index` is the first of the partition that
+/// holds the header.
 ///
-/// From the header's own word each bit is freed one after another, from the lowest, if the freed
-/// word is still covered by the region and by the rule and overlaps no earlier rule. So a bit stays
-/// fixed if the region or the rule fixes it, or if it is the highest bit by which an earlier rule
-/// differs from the header, and none of the bits below by which it does stays fixed: that rule is
-/// the bit's reason. Of the fixed bits, those with reasons are few, and only they are looked at.
+/// It begins with the word of only this header, and frees one bit after another, from the lowest,
+/// if the region and the rule still cover the freed word and it overlaps no earlier rule. So a bit
+/// stays fixed if the region or the rule fixes it. It also stays fixed if it is the highest bit in
+/// which an earlier rule differs from the header, and no lower bit in which that rule differs stays
+/// fixed: then the bits in which that rule differs are the bit's reason. Few bits have a reason,
+/// and the body looks only for these.
 ///
-/// As long as the word of the fixed bits overlaps an earlier rule, the highest bit by which that
-/// rule differs is fixed too, and the bits whose reasons have it no longer are. Each time the bits
-/// come later in an order in which the lowest bit counts most, so this ends.
+/// While the word of the fixed bits overlaps an earlier rule, the body also fixes the highest bit
+/// in which that rule differs, and frees the bits whose reasons have that bit. Each time the fixed
+/// bits come later in an order in which the lowest bit counts most, so the loop ends.
 pub fn widen(h: &Header, region: &Word, rules: &[Rule], index: u32) -> Word
     requires region { IsTrue (holds region.now (number_of h.now)) }
     requires first_hit { position (is_held (number_of h.now)) rules.now ≡ Some index }
@@ -65,8 +66,8 @@ fn no_reasons() -> [u128; 104]
     [0; 104]
 }
 
-// The place of a rule that the word of these bits of the header meets, if there is one: they are
-// looked at from a place on, and then from the first.
+// The place of a rule that the word of these bits of the header meets; `None` if there is none. The
+// search begins at the rule at `from`, and then at the first.
 fn next_met(h: u128, fixed: u128, rules: &[Rule], from: usize) -> Option<usize>
     requires { from ≤ length rules.now }
     ensures met { IfSome result (λ place. (place < length rules.now)
@@ -100,8 +101,8 @@ fn is_met(h: u128, fixed: u128, word: &Word) -> bool
         )
 }
 
-// Whether h and the value are the same in the bits of the mask that are fixed. If this is inlined,
-// the compiler looks at both halves at once.
+// Whether h and the value are the same in the bits of the mask that are fixed. Not inlined, because
+// the compiler would then compare both halves at once.
 #[inline(never)]
 fn are_same(h: u64, value: u64, mask: u64, fixed: u64) -> bool
     ensures { result ≡ (bit_and (bit_and (bit_xor h value) mask) fixed == 0) }
@@ -121,7 +122,7 @@ fn lower_half(n: u128) -> u64
     (n % HALF) as u64
 }
 
-// The bits that the word fixes to another value than that of h.
+// The bits that the word fixes to a value that h doesn't have.
 fn differing(h: u128, word: &Word) -> u128
     ensures { result ≡ differing_bits h word.now }
 {
@@ -146,7 +147,7 @@ fn without(fixed: u128, reasons: &[u128; 104], bit: u32) -> u128
     stays
 }
 
-// The region and the words of rules are words.
+// For the proof: the region and the words of the rules satisfy `IsWord`.
 fn words_are_sound(region: &Word, rules: &[Rule])
     ensures region { IsWord region.now }
     ensures rules { All (λ (rule : Rule). IsWord rule.word) rules.now }

@@ -1,10 +1,9 @@
 //! The word of a cache rule: as wide as can be, with every header that it holds decided as before.
 //!
-//! An authority switch that decided a header hands the ingress a rule for more headers than this
-//! one: all that its word holds. The word promises that the same rule of the partition is the first
-//! hit of each of them, so it overlaps no earlier rule; and that none of its fixed bits can be
-//! freed. These are the independent rules of Yu, Rexford, Freedman and Wang, "Scalable Flow-Based
-//! Networking with DIFANE". Nothing here allocates.
+//! An authority switch that decided a header sends the ingress a rule for all headers of a word.
+//! The same rule of the partition is the first hit of each of them, so the word overlaps no earlier
+//! rule; and none of its fixed bits can be freed. These are the independent rules of Yu, Rexford,
+//! Freedman and Wang, "Scalable Flow-Based Networking with DIFANE". Nothing here allocates.
 //!
 //!     let place = first_hit(&rules, &header)?;
 //!     let word = widen(&header, &region, &rules, place as u32);

@@ -13,28 +13,28 @@ is_newer one other = nat_lt other.boot one.boot ||
 abbrev pub held_advert : List (Option Advert) → ℕ → Option Advert
 held_advert adverts origin = slice_index_or adverts origin None
 
--- there is none of its origin, or this one is newer
+-- its origin is below 64, and there is none of that origin, or this one is newer
 unfoldable pub is_news : List (Option Advert) → Advert → Bool
 is_news adverts advert = nat_lt advert.origin 64 && option_map_or (is_newer advert)
     (held_advert adverts advert.origin) true
 
--- the adverts once this one was heard
+-- the adverts after this one was heard
 unfoldable pub after_hearing : List (Option Advert) → Advert → List (Option Advert)
 after_hearing adverts advert =
     if is_news adverts advert then slice_set adverts advert.origin (Some advert) else adverts
 
--- the adverts once these were heard, one after another
+-- the adverts after these were heard, one after another
 abbrev pub after_hearing_all : List (Option Advert) → List Advert → List (Option Advert)
 after_hearing_all adverts heard = fold after_hearing adverts heard
 
 abbrev pub no_adverts : List (Option Advert)
 no_adverts = replicate 64 None
 
--- the first advert of a switch, that has these neighbours
+-- the first advert of a switch with these neighbours
 abbrev pub first_advert : ℕ → ℕ → Advert
 first_advert origin up = record { origin = origin; boot = 1; seq = 1; up = up }
 
--- the first advert of a switch below this number
+-- the first advert of a switch, if its number is below this one
 abbrev pub first_of : List ℕ → ℕ → ℕ → Option Advert
 first_of near count origin = if nat_lt origin count then Some
     (first_advert origin (slice_index near origin)) else None

@@ -3,7 +3,7 @@
 use Rattle.std.specs.Prelude.{◌&&◌, ◌<◌, ◌==◌, ◌||◌, ◌≡◌, Bool, IsTrue, List, length, slice_index, ℕ}
 use Rattle.base.specs.Exports.{has}
 
--- no mask has a switch but greater ones, so equal sets are equal lists
+-- each mask has only greater switches, so equal sets are equal lists
 pub record IsLinkSet (links : List ℕ) : Type 0 where
   pub masks : length links ≡ 64
   pub above : (k x : ℕ) → IsTrue (has (slice_index links k) x) → k < x

@@ -11,7 +11,7 @@ use Rattle.base.specs.Exports.{has, switches}
 unfoldable pub names_neighbour : List (Option Advert) → ℕ → ℕ → Bool
 names_neighbour adverts origin other = has (neighbours_named (held_advert adverts origin)) other
 
--- no link that `at` knows ends at another switch
+-- the target is not the switch `at`, and no link that `at` knows ends at it
 unfoldable pub is_isolated : List (Option Advert) → ℕ → ℕ → ℕ → List ℕ → Bool
 is_isolated adverts at target near down =
     not (target == at) && (links_at (named_links adverts at near) down target == 0)
@@ -21,6 +21,6 @@ pub record IsDatabase (adverts : List (Option Advert)) (named : List ℕ) : Type
   pub by_origin : AreByOrigin adverts
   pub neighbours : named ≡ map neighbours_named adverts
 
--- for each switch those to which it has a link
+-- for each switch the switches to which it has a link
 unfoldable pub links_of_each : List ℕ → List ℕ → List ℕ
 links_of_each neighbours down = map (links_at neighbours down) switches

@@ -83,6 +83,6 @@ pub record RouteLaws : Type 0 where
   -- a path has distinct switches, so at most 64
   pub short : (links : List ℕ) (from target : ℕ) (path : List ℕ) → IsPath links from target path →
       IsRouteList path
-  -- if a way that meets a switch again leads to the target, a path does too
+  -- if a walk leads to the target, a path does too
   pub straightened : (links : List ℕ) (from target : ℕ) (rest : List ℕ) → length links ≡ 64 →
       from < 64 → LinksLead links target from rest → IsReachable links from target

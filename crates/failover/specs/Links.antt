@@ -1,4 +1,4 @@
--- The links that a switch knows: those that both ends name (RFC 2328, section 16.1), and its own
+-- The links that a switch knows: those that both ends name (RFC 2328, section 16.1). Its own
 -- neighbours are those that it sees itself.
 use Rattle.std.specs.Prelude.{[], ◌&&◌, ◌<◌, ◌==◌, ◌^◌, ◌∷◌, ◌≡◌, Bool, IsTrue, List, None, Option, Some, bit_or, map, max, min, nat_eq, not, replicate, slice_index, slice_set, ℕ}
 use Rattle.base.specs.Exports.{IsDistinct, has, mask_of, switches}
@@ -34,7 +34,7 @@ is_link neighbours down one other =
 abbrev pub links_at : List ℕ → List ℕ → ℕ → ℕ
 links_at neighbours down one = mask_of (is_link neighbours down one)
 
--- the links that `at` knows: for each switch those to which it has a link
+-- the links that `at` knows: for each switch the switches to which it has a link
 unfoldable pub known_links : List (Option Advert) → ℕ → ℕ → List ℕ → List ℕ
 known_links adverts at near down = let neighbours =
     named_links adverts at near in map (links_at neighbours down) switches
@@ -43,13 +43,13 @@ known_links adverts at near down = let neighbours =
 abbrev pub AreJoined : List ℕ → ℕ → ℕ → Type 0
 AreJoined links one other = IsTrue (has (slice_index links one) other)
 
--- from a switch over these, each joined to the one before it, to the target
+-- a walk from a switch over these, each joined to the one before it, to the target
 abbrev pub LinksLead : List ℕ → ℕ → ℕ → List ℕ → Type 0
 LinksLead links target at [] = at ≡ target
 LinksLead links target at (next ∷ rest) =
     (next < 64) × AreJoined links at next × LinksLead links target next rest
 
--- distinct switches, whose neighbours are joined by links, from one to the other
+-- a path: a walk of distinct switches from one to the other
 unfoldable pub IsPath : List ℕ → ℕ → ℕ → List ℕ → Type 0
 IsPath links from target [] = ⊥
 IsPath links from target (first ∷ rest) =

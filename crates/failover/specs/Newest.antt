@@ -9,8 +9,8 @@ pub record AreByOrigin (adverts : List (Option Advert)) : Type 0 where
   pub origins : (origin : ℕ) (advert : Advert) → held_advert adverts origin ≡ Some advert →
       advert.origin ≡ origin
 
--- of these adverts the newest of an origin, and of equally new ones the first; none if none is of
--- that origin
+-- the newest of these adverts of an origin, and of equally new ones the first; `None` if there are
+-- none of that origin
 abbrev pub IsNewest : ℕ → List Advert → Option Advert → Type 0
 IsNewest origin adverts None = All (λ advert. advert.origin ≢ origin) adverts
 IsNewest origin adverts (Some best) =

@@ -21,7 +21,7 @@ pub record IsLeastPath (links : List ℕ) (from target : ℕ) (route : List ℕ)
   pub least : (other : List ℕ) → IsPath links from target other → length other ≡ length route →
       IsAtMost route other
 
--- the least path to the first of the targets that a path reaches; none if no path reaches any
+-- the least path to the first of the targets that a path reaches; `None` if no path reaches any
 unfoldable pub IsRoute : List ℕ → ℕ → List ℕ → Option (List ℕ) → Type 0
 IsRoute links from [] route = route ≡ None
 IsRoute links from (target ∷ targets) route =

@@ -21,11 +21,11 @@ pub record IsFilledRoute (r : Inside) : Type 0 where
   pub rest : drop r.len r.switches ≡ replicate (64 - r.len) 0
   pub list : IsRouteList (first_switches r)
 
--- the 64 places that contain this list
+-- this list, in 64 places
 abbrev pub filled_route : List ℕ → Inside
 filled_route xs = record { switches = filled_places 64 xs; len = length xs }
 
--- the 64 places are those of the list that they contain
+-- 64 places are those of the list that is in them
 pub filled-first_switches : (r : Inside) → IsFilledRoute r → filled_route (first_switches r) ≡ r
 filled-first_switches r h =
     let held = filled-take 64 r.len r.switches h.places h.few h.rest in rw (held.1, held.0)

@@ -1,6 +1,5 @@
 -- The route as a function that computes: breadth first from the target (Moore, "The Shortest Path
--- Through a Maze", 1959), then each
--- time to the least switch that is one link nearer.
+-- Through a Maze", 1959), then each time to the least switch that is one link nearer.
 use Rattle.std.specs.Prelude.{[], ◌&&◌, ◌==◌, ◌^◌, ◌∷◌, List, None, Option, Some, bit_and, bit_or, false, nat_lt, not, option_map, slice_index, suc, true, zero, ℕ}
 use Rattle.failover.specs.declared.advert.Advert.{Advert}
 use Rattle.base.specs.Exports.{has, least_in, mask_where}
@@ -25,8 +24,8 @@ path_after links target zero at = []
 path_after links target (suc k) at = let next =
     least_neighbour_in links (ball links target k) at in next ∷ path_after links target k next
 
--- how many links farther than this ball the first is that has the switch; none if balls no longer
--- grow
+-- by how many links this ball has to grow until it has the switch; `None` if it stops growing
+-- before
 unfoldable pub links_away : ℕ → List ℕ → ℕ → ℕ → Option ℕ
 links_away zero links from within = None
 links_away (suc most) links from within = elim (has within from) [

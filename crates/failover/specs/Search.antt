@@ -12,7 +12,7 @@ pub record IsAway (links : List ℕ) (target k at : ℕ) : Type 0 where
 unfoldable pub IsOutOfReach : List ℕ → ℕ → ℕ → Type 0
 IsOutOfReach links target at = (k : ℕ) → k < 64 → has (ball links target k) at ≡ false
 
--- at each place below k is the set of those at most that many links away
+-- at each place below k is the set of the switches that are at most that many links away
 unfoldable pub AreBalls : List ℕ → ℕ → List ℕ → ℕ → Type 0
 AreBalls links target balls k = (j : ℕ) → j < k → slice_index balls j ≡ ball links target j
 

@@ -49,14 +49,14 @@ impl Database {
         Database::of(adverts)
     }
 
-    /// No advert.
+    /// A database without adverts.
     pub fn empty() -> Database
         ensures { result ≡ no_adverts }
     {
         Database::of([None; 64])
     }
 
-    // These adverts.
+    // The database of these adverts, each at the place of its origin.
     fn of(adverts: [Option<Advert>; 64]) -> Database
         requires { AreByOrigin adverts }
         ensures { result ≡ adverts }
@@ -78,8 +78,8 @@ impl Database {
         true
     }
 
-    /// Whether the advert is news: its origin is below 64, and none of that origin is held or this
-    /// one is newer.
+    /// Whether the advert is news: its origin is below 64, and there is none of that origin, or
+    /// this one is newer.
     #[tactic(auto, unfolding(crate::specs::Adverts::is_news))]
     pub fn is_news(&self, advert: &Advert) -> bool
         ensures news { result ≡ is_news self.now advert.now }
@@ -137,7 +137,7 @@ impl Database {
     }
 }
 
-// Puts the neighbours that this switch sees in the place of those that it named.
+// Replaces the neighbours that this switch named by those that it sees.
 fn set_own(neighbours: &mut [u64; 64], at: u32, near: u64)
     ensures { neighbours.new ≡ slice_set neighbours.old at near }
 {
@@ -167,7 +167,7 @@ fn neighbours_named(advert: &Option<Advert>) -> u64
     }
 }
 
-// The first advert of a switch below that many.
+// The first advert of a switch; `None` if there is no switch of this number.
 fn first_advert(near: &[u64; 64], switches: u32, origin: u32) -> Option<Advert>
     requires { origin < 64 }
     ensures { result ≡ first_of near.now switches origin }

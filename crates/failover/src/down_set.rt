@@ -4,7 +4,7 @@ ghost use Rattle.failover.specs.Exports.{has_link, is_link_of, no_links, with_li
 use base::{MAX_SWITCHES, has, only_if};
 use std::marker::Model;
 
-/// A set of links between two different switches below 64, as a packet finds them down on its way.
+/// A set of links between two different switches below 64: those that a packet found down.
 ///
 /// Contracts see one mask for each switch, of the greater switches to which it has a link in the
 /// set; so equal sets are equal values.
@@ -31,7 +31,7 @@ impl Model for DownSet {
 impl DownSet {
     ghost use Rattle.failover.specs.DownSet.{IsLinkSet};
 
-    /// The set of no link.
+    /// The empty set.
     pub fn empty() -> DownSet
         ensures value { result ≡ no_links }
         ensures links { (x y : ℕ) → has_link result x y ≡ false }
@@ -62,7 +62,8 @@ impl DownSet {
         if one >= MAX_SWITCHES || two >= MAX_SWITCHES {
             return false;
         }
-        // The mask of the higher number doesn't have the lower: to look is less than to order them.
+        // The mask of the greater switch never has the other; two look-ups cost less than ordering
+        // them.
         has(masks[one as usize], two) || has(masks[two as usize], one)
     }
 }

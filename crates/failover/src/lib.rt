@@ -1,8 +1,8 @@
 //! Link-state adverts, and the routes that a switch finds over the links that both ends name.
 //!
-//! `Database` holds the newest advert of each origin. `Database::route` promises the defined
-//! route: the first target that a path of known links reaches, by the fewest links, and of those
-//! paths the least list; `None` exactly if no path reaches any target. Nothing here allocates.
+//! `Database` holds the newest advert of each origin. `Database::route` returns the path to the
+//! first target that a path of known links reaches: one with the fewest links, and of those the
+//! least as a list; `None` exactly if no path reaches any target. Nothing here allocates.
 //!
 //! ```text
 //! let mut base = Database::begin(&near, 4);

@@ -5,8 +5,8 @@ ghost use Rattle.failover.specs.Links.{is_link, links_at};
 use crate::down_set::DownSet;
 use base::{MAX_SWITCHES, has, only_if};
 
-/// Those of the switches in `within` to which this one has a link: each names the other, and the
-/// link isn't down. Only the links to these switches are looked at.
+/// The switches of the mask `within` to which this one has a link: each names the other, and the
+/// link isn't down. Only the links to these switches are checked.
 pub fn links_within(neighbours: &[u64; 64], down: &DownSet, one: u32, within: u64) -> u64
     requires { one < 64 }
     ensures { result ≡ bit_and (links_at neighbours.now down.now one) within }
@@ -21,7 +21,7 @@ pub fn links_within(neighbours: &[u64; 64], down: &DownSet, one: u32, within: u6
     mask
 }
 
-// Whether a link leads to this switch, which the first one names.
+// Whether there is a link from `one` to `other`, which `one` names.
 #[tactic(auto, unfolding(crate::specs::Links::is_link))]
 fn is_link_to(neighbours: &[u64; 64], down: &DownSet, one: u32, other: u32) -> bool
     requires one { one < 64 }

@@ -32,7 +32,7 @@ impl Model for Route {
 impl Route {
     ghost use Rattle.failover.specs.RouteList.{IsRouteList};
 
-    // The route of the first switches of this array, which has 0 at all other places.
+    // The route of the first `len` switches of this array, which has 0 at all other places.
     pub(crate) fn new(switches: [u32; 64], len: u8) -> Route
         requires few { len ≤ 64 }
         requires rest { drop len switches ≡ replicate (64 - len) 0 }

@@ -39,8 +39,8 @@ fn route_to(neighbours: &[u64; 64], down: &DownSet, from: u32, target: u32) -> O
     Some(walk(neighbours, down, &balls, distance, from))
 }
 
-// How many links the switch is away from the target. At each place below that number `balls` gets
-// the switches that are at most that many links away.
+// How many links `from` is away from the target; `None` if no path leads there. At each place k
+// below that number `balls` gets the switches that are at most k links away.
 fn distance(
     neighbours: &[u64; 64],
     down: &DownSet,
@@ -61,8 +61,8 @@ fn distance(
             return Some(k);
         }
         balls[k] = ball;
-        // One mask decides this; the next ball, mostly the widest step, would need one for each
-        // edge.
+        // The links of one switch decide this; growing the ball, mostly the widest step, would need
+        // those of each switch of the edge.
         if links_within(neighbours, down, from, ball) != 0 {
             return Some(k + 1);
         }
@@ -76,8 +76,8 @@ fn distance(
     None
 }
 
-// The ball, and the switches to which one of it has a link: so has one of its edge, as the links
-// of all others stay within the ball.
+// The ball, and the switches to which a switch of it has a link. Only the edge is searched, because
+// the links of all others stay within the ball.
 fn wider(neighbours: &[u64; 64], down: &DownSet, ball: u64, edge: u64) -> u64
     requires { IsEdge (links_of_each neighbours.now down.now) ball edge }
     ensures { result ≡ grown_ball (links_of_each neighbours.now down.now) ball }
@@ -92,7 +92,7 @@ fn wider(neighbours: &[u64; 64], down: &DownSet, ball: u64, edge: u64) -> u64
     wide
 }
 
-// From the switch each time to the least that is one link nearer.
+// The route from `from`: each time to the least switch that is one link nearer.
 fn walk(
     neighbours: &[u64; 64],
     down: &DownSet,

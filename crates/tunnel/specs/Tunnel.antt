@@ -8,7 +8,7 @@ use Rattle.tunnel.specs.declared.packet_tunnel.Tunnel.TheInside.{Inside}
 abbrev pub TunnelValue : Type 0
 TunnelValue = Inside
 
--- the place is one of the route's
+-- the place is on the route
 pub record IsOnRoute (route : List ℕ) (place : ℕ) : Type 0 where
   pub within : place < length route
   pub list : IsRouteList route

@@ -1,9 +1,8 @@
 //! Packets on their way from switch to switch, each in a tunnel to one of its leg's targets.
 //!
-//! `Tunnel` keeps the route and the place on it, and the links that the packet found down. It
-//! promises that a packet moves along its route one switch at a time, that a new route is the
-//! defined one without the links found down, and that nothing else of the packet ever changes.
-//! Nothing here allocates.
+//! `Tunnel` keeps the route, the place on it, and the links that the packet found down. A packet
+//! moves along its route one switch at a time, a new route is the defined one without the links
+//! found down, and nothing else of the packet ever changes. Nothing here allocates.
 //!
 //! ```text
 //! match packet.next() {

@@ -16,7 +16,7 @@ pub struct Tunnel {
     /// The switch where the packet entered.
     pub ingress: u32,
     pub leg: Leg,
-    /// The switches of the leg, the first of which is asked first.
+    /// The targets of the leg, the primary first.
     pub targets: Targets,
     pub route: Route,
     /// The place on the route, from 0.
@@ -54,7 +54,7 @@ impl Tunnel {
     ) -> Tunnel
         ensures { result ≡ tunnel_begun packet header ingress leg targets route down }
     {
-        // For the proof: a route that is read is sound.
+        // For the proof: reading the route yields the invariant `IsRouteList`.
         let _ = route.items();
         Tunnel {
             packet,
@@ -77,7 +77,7 @@ impl Tunnel {
         self.route.items()[self.place as usize]
     }
 
-    /// The switch after that one on the route; `None` exactly at the route's end.
+    /// The next switch on the route; `None` exactly at the route's end.
     pub fn next(&self) -> Option<u32>
         ensures next { result ≡ next self.now }
         ensures more { IsSome result ↔ (self.now.place + 1 < length self.now.route) }
@@ -94,8 +94,7 @@ impl Tunnel {
         self.place += 1;
     }
 
-    /// Adds the link between the switch where the packet is and this other one to the links found
-    /// down.
+    /// Adds the link between the packet's switch and this other one to the links found down.
     pub fn mark_down(&mut self, other: u32)
         requires different { other ≢ here self.old }
         requires switch { other < 64 }
@@ -105,9 +104,9 @@ impl Tunnel {
         self.down.add(here, other);
     }
 
-    /// Takes the route from here to the first of its targets that a path of known links reaches,
-    /// without the links found down, and puts the packet at its beginning. False exactly if there
-    /// is none; then nothing changes.
+    /// Puts the packet at the beginning of a new route: from here to the first of its targets that
+    /// a path of known links, without those found down, reaches. Returns false exactly if there is
+    /// none; then nothing changes.
     pub fn reroute(&mut self, base: &Database, near: u64) -> bool
         ensures found { result ≡ is_some (route_from_here self.old base.now near) }
         ensures after { self.new ≡ put_on_route self.old (route_from_here self.old base.now near) }
