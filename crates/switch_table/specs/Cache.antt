@@ -10,7 +10,7 @@ pub record CacheValue : Type 0 where
   pub entries : List CacheEntry
   pub capacity : ℕ
 
--- the entries are of one version, and have one word
+-- the entries have the same version and the same word
 unfoldable pub same_key : CacheEntry → CacheEntry → Bool
 same_key a b = (a.version == b.version) && word_eq a.word b.word
 
@@ -29,7 +29,7 @@ after_accept stamp entry cache =
     then cache
     else record cache { entries = newest_entries cache.capacity (cache.entries ++ entry ∷ []) }
 
--- the entry at a place is removed, and those after it close up
+-- the entry at a place is removed
 abbrev pub after_expire : ℕ → CacheValue → CacheValue
 after_expire place cache = record cache { entries = remove cache.entries place }
 

@@ -19,7 +19,7 @@ pub record CacheLaws : Type 0 where
   pub kept_by_carry : (version : ℕ) (touched : List WordValue) (cache : CacheValue) →
       IsCache cache → IsCache (after_carry version touched cache)
 
--- the entry is one of the version before, of a word that meets no touched one, which was carried
+-- the entry was carried: it is one of the version before whose word meets no touched one
 pub record WasCarried (version : ℕ) (touched : List WordValue) (cache : CacheValue)
     (entry : CacheEntry) : Type 0 where
   pub old : CacheEntry

@@ -1,5 +1,5 @@
--- Cache entries that outlive a change of the policy: those that meet no touched word are carried
--- to the version that it makes.
+-- Cache entries that outlive a change of the policy: those that meet no touched word are carried to
+-- the version that the change makes.
 use Rattle.std.specs.Prelude.{[], if◌then◌else◌, ◌&&◌, ◌+◌, ◌==◌, ◌∷◌, Bool, List, None, Option, Some, filter_map, length, nat_le, nat_lt, not, ℕ}
 use Rattle.base.specs.Exports.{list_any}
 use Rattle.ternary.specs.Exports.{WordValue, any_word, meets}
@@ -10,7 +10,7 @@ use Rattle.switch_table.specs.declared.cache.CacheEntry.{CacheEntry}
 abbrev pub all_touched : List WordValue
 all_touched = any_word ∷ []
 
--- these words, if a list has room for them, otherwise only that word
+-- these words, if there are at most 16, otherwise only the word that every word meets
 abbrev pub few_touched : List WordValue → List WordValue
 few_touched words = if nat_lt 16 (length words) then all_touched else words
 

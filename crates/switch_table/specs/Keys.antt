@@ -51,11 +51,11 @@ key_under number header mask = record {
   word = record { value = bit_and header mask.mask; mask = mask.mask };
 }
 
--- the key is such a key, of one of these masks
+-- the key is that of this number and header under one of these masks
 abbrev pub is_hit : ℕ → ℕ → List WordValue → CacheKey → Bool
 is_hit number header masks key =
     list_any (λ mask. equal_keys (key_under number header mask) key) masks
 
--- the key is of this number, and its word meets no touched word
+-- the key has this number, and its word meets no touched word
 abbrev pub is_carried_key : ℕ → List WordValue → CacheKey → Bool
 is_carried_key number touched key = (key.number == number) && not (meets_any touched key.word)

@@ -5,7 +5,7 @@ use Rattle.switch_table.specs.declared.live.LiveCounts.{LiveCounts}
 abbrev pub count_set : List Bool → ℕ
 count_set flags = count_by (λ flag. flag) flags
 
--- there is a block of 64 places for each flag, and the counts are how many of each are set
+-- each flag is in a block of 64, and the counts are how many flags of each block are set
 pub record AreBlocks (counts : List ℕ) (flags : List Bool) : Type 0 where
   pub room : length flags ≤ 64 * length counts
   pub each : (k : ℕ) → k < length counts →

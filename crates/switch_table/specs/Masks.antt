@@ -8,6 +8,6 @@ pub record HasMaskIn (words : List WordValue) (word : WordValue) : Type 0 where
   pub sound : IsWord word
   pub there : IsTrue (list_any (λ other. other.mask == word.mask) words)
 
--- the same, if the masks are known
+-- if the masks are known, one of these words has the word's mask
 abbrev pub HasMaskOf : Option (List WordValue) → WordValue → Type 0
 HasMaskOf masks word = IfSome masks (λ words. HasMaskIn words word)

@@ -1,11 +1,11 @@
--- Cache entries as a cache has them: as pairs, whose keys have a shift added to the versions.
+-- Cache entries as a cache stores them: as pairs, whose keys have a shift added to the versions.
 use Rattle.std.specs.Prelude.{◌+◌, ◌<◌, ◌^◌, ◌≤◌, All, List, Option, length, ℕ}
 use Rattle.ternary.specs.Exports.{WordValue}
 use Rattle.switch_table.specs.Keys.{Pair, kept_entries}
 use Rattle.switch_table.specs.Masks.{HasMaskOf}
 use Rattle.switch_table.specs.declared.cache.CacheEntry.{CacheEntry}
 
--- each number is a version and the shift
+-- each number is a version plus the shift
 abbrev pub HaveVersions : ℕ → List Pair → Type 0
 HaveVersions shift pairs =
     All (λ pair. (shift ≤ pair.0.number) × (pair.0.number < shift + 2 ^ 32)) pairs
@@ -14,12 +14,12 @@ HaveVersions shift pairs =
 abbrev pub AreUpTo : ℕ → List CacheEntry → Type 0
 AreUpTo newest entries = All (λ entry. entry.version ≤ newest) entries
 
--- if the masks are known, these are those of all entries
+-- if the masks are known, each entry has one of them
 abbrev pub AreMasked : Option (List WordValue) → List CacheEntry → Type 0
 AreMasked masks entries = All (λ entry. HasMaskOf masks entry.word) entries
 
--- the pairs are those of at most so many entries of no later version, and the masks are theirs; the
--- shift fell no more often than the newest version rose
+-- the pairs are those of at most `capacity` entries, none of a version later than `newest`, and the
+-- masks are theirs; the shift fell no more often than the newest version rose
 pub record HoldsEntries (masks : Option (List WordValue)) (shift newest capacity : ℕ)
     (pairs : List Pair) : Type 0 where
   pub fits : shift ≤ 2 ^ 32

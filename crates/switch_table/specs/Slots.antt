@@ -22,16 +22,16 @@ is_live slot = slot.1.is_live
 abbrev pub flags_of : List SlotPair → List Bool
 flags_of slots = map is_live slots
 
--- the slot once it is dead
+-- the slot after it is removed: dead
 abbrev pub killed : SlotPair → SlotPair
 killed slot = (slot.0, record slot.1 { is_live = false })
 
--- the key is one of a version and a shift; a dead slot's may be one of its place instead
+-- the key is made of a version and a shift; that of a dead slot may be made of its place instead
 abbrev pub IsNamed : ℕ → SlotPair → Type 0
 IsNamed place slot =
     (slot.0.number < 2 ^ 33) ⊎ ((slot.0.number + place ≡ 2 ^ 64 - 1) × IsFalse (is_live slot))
 
--- so are those of slots from this place on
+-- the same is true of the keys of slots from this place on
 unfoldable pub AreNamed : ℕ → List SlotPair → Type 0
 AreNamed place [] = ⊤
 AreNamed place (slot ∷ slots) = IsNamed place slot × AreNamed (suc place) slots

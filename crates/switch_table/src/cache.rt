@@ -29,7 +29,7 @@ pub struct CacheEntry {
 }
 
 impl CacheEntry {
-    /// The key in a cache that adds this much to versions.
+    /// The entry's key in a cache that adds this shift to versions.
     pub(crate) fn key(&self, shift: u64) -> CacheKey
         requires { shift ≤ 2 ^ 32 }
         ensures key { result ≡ key_of shift self.now }
@@ -52,7 +52,7 @@ impl CacheEntry {
         }
     }
 
-    /// The entry of this key in a cache that adds this much to versions.
+    /// The entry of this key in a cache that adds this shift to versions.
     pub(crate) fn of(key: &CacheKey, learnt: &Learnt, shift: u64) -> CacheEntry
         requires { (shift ≤ key.now.number) × (key.now.number < shift + 2 ^ 32) }
         ensures { result ≡ kept_entry shift (key.now, learnt.now) }
@@ -69,7 +69,7 @@ impl CacheEntry {
 
 /// The rules that a switch has learnt: at most as many as its capacity, no two of one version and
 /// word, in the order in which they came. Contracts see the list and the capacity.
-// The key of an entry has its version and the shift. So when entries are carried to the next
+// An entry's key has the sum of its version and the shift. So when entries are carried to the next
 // version, the shift falls by one, and no entry is written. No entry is of a later version than
 // `newest`, so that a carry need not look at all of them to know that none is of its version.
 #[derive(Drop)]
@@ -97,7 +97,7 @@ impl Model for Cache {
 }
 
 impl Cache {
-    /// A cache without entries, for at most this many.
+    /// An empty cache, for at most this many entries.
     pub fn new(alloc: Global, capacity: u32) -> Cache
         ensures { result ≡ record { entries = []; capacity = capacity } }
     {
@@ -197,7 +197,7 @@ impl Cache {
     }
 
     /// The first entry of this version whose word holds the header number.
-    // If the masks are few, for each of them only one key may be such an entry's.
+    // If there are few masks, it looks up one key for each of them.
     pub fn first_entry(&self, version: u32, number: u128) -> Option<CacheEntry>
         ensures { result ≡ first_entry version number self.now.entries }
     {
@@ -212,7 +212,7 @@ impl Cache {
         }
     }
 
-    // Whether there is an entry of this one's version and word.
+    // Whether there is an entry with the same version and word.
     fn has_key_of(&self, entry: &CacheEntry) -> bool
         ensures { result ≡ list_any (same_key entry.now) self.now.entries }
     {
@@ -244,7 +244,7 @@ impl Cache {
         Ok(slots)
     }
 
-    // What becomes of an entry.
+    // The entry after the carry; `None` if it is removed.
     fn carried_entry(
         &self,
         version: u32,

@@ -8,7 +8,7 @@ use crate::key::{CacheKey, Learnt, Slot};
 use indexmap::map::Iter;
 use std::marker::Model;
 
-/// The live slots of a map, in order, a copy of each. Contracts see those that are left.
+/// An iterator over copies of the live slots of a map, in order. Contracts see those that are left.
 #[derive(Drop)]
 pub struct SlotItems<'a> {
     slots: Iter<'a, CacheKey, Slot>,
@@ -51,7 +51,7 @@ impl Iterator for SlotItems<'_> {
     }
 }
 
-/// The entries of a cache, in order, a copy of each. Contracts see those that are left.
+/// An iterator over copies of a cache's entries, in order. Contracts see those that are left.
 #[derive(Drop)]
 pub struct CacheItems<'a> {
     slots: SlotItems<'a>,
@@ -72,7 +72,7 @@ impl<'a> Model for CacheItems<'a> {
 }
 
 impl<'a> CacheItems<'a> {
-    /// The entries of these slots, whose keys add this much to the versions.
+    /// The entries of these slots, whose keys have this shift added to the versions.
     pub(crate) fn new(slots: SlotItems<'a>, shift: u64) -> CacheItems<'a>
         requires { HaveVersions shift slots }
         ensures { result ≡ kept_entries shift slots.entry }

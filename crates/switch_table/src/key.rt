@@ -3,8 +3,8 @@ use ternary::Word;
 
 /// What identifies a cache entry: its word, and a number for its version.
 ///
-/// The number is the version and what a cache adds to it, which falls when entries are carried to
-/// a later version. So an entry that is carried keeps its key.
+/// The number is the version plus the cache's shift, which falls when entries are carried to a
+/// later version. So an entry that is carried keeps its key.
 #[derive(Clone, Copy, PartialEq, Eq, Hash)]
 pub struct CacheKey {
     pub number: u64,
@@ -19,7 +19,7 @@ pub struct Learnt {
     pub message: u32,
 }
 
-/// A place of a map of entries: what was learnt, or what is left of it once it is removed.
+/// A slot of a map of entries: what was learnt, and whether the entry is still in the cache.
 #[derive(Clone, Copy)]
 pub struct Slot {
     pub learnt: Learnt,

@@ -3,12 +3,12 @@ ghost use Rattle.switch_table.specs.Live.{AreBlocks, AreCounts, CountPlaces, cou
 
 use std::alloc::{AllocError, Global};
 
-/// This many places are a block.
+/// How many places a block has.
 pub const BLOCK: usize = 64;
 
 /// How many places of a list are live: in all, and of each block.
 ///
-/// Contracts speak of the flags of the places: `AreCounts` says that these are their counts.
+/// Contracts are about the flags of the places: `AreCounts` says that these are their counts.
 #[derive(Drop)]
 pub struct LiveCounts {
     all: usize,
@@ -44,7 +44,7 @@ impl LiveCounts {
         reach(&mut self.blocks, places.div_ceil(BLOCK))
     }
 
-    /// A live place is added after this many.
+    /// Adds a live place after the first `place` places.
     pub fn add(&mut self, place: usize)
         requires room { CountPlaces self.old (place + 1) }
         requires fits { place < 2 ^ 63 }
@@ -56,7 +56,7 @@ impl LiveCounts {
         self.all = self.all.wrapping_add(1);
     }
 
-    /// This place, which was live, is dead from now on.
+    /// Makes this live place dead.
     pub fn take(&mut self, place: usize)
         requires { CountPlaces self.old (place + 1) }
         ensures { (flags : List Bool) → AreCounts self.old flags →
@@ -67,7 +67,7 @@ impl LiveCounts {
         self.all = self.all.wrapping_sub(1);
     }
 
-    /// There are this many places, all of them live.
+    /// Sets the counts to those of this many places, all of them live.
     pub fn fill(&mut self, places: usize)
         requires { CountPlaces self.old places }
         ensures { AreCounts self.new (replicate places true) }
@@ -99,7 +99,7 @@ fn reach(counts: &mut Vec<u32>, len: usize) -> Result<(), AllocError>
     Ok(())
 }
 
-// Counts this many live places.
+// Sets the counts to those of this many live places.
 fn fill(counts: &mut [u32], places: usize)
     requires { places ≤ 64 * length counts.old }
     ensures { AreBlocks counts.new (replicate places true) }
@@ -112,7 +112,7 @@ fn fill(counts: &mut [u32], places: usize)
     }
 }
 
-// The place at which the sum of the counts reaches this many, and how many are left there.
+// The first place where the sum of the counts exceeds `before`, and how many are left there.
 fn block_at(counts: &[u32], before: usize) -> (usize, usize)
     ensures within { result.0 ≤ length counts.now }
     ensures before { sum (take result.0 counts.now) + result.1 ≡ before }

@@ -14,8 +14,8 @@ const LEAST_WAIT: usize = 1024;
 // At most this many masks are few.
 const MAX_FEW: usize = 256;
 
-/// The masks of a cache's entries, if they are few compared with these: a word of each. If they
-/// were many, they are collected again once as many entries have come as there were.
+/// The masks of a cache's entries, if they are few compared with the entries: a word for each mask.
+/// If they are too many, they are collected again after as many new entries as there are now.
 ///
 /// Contracts see the words, or `None` if the masks aren't known. A mask may stay longer than its
 /// entries.
@@ -36,12 +36,12 @@ impl Model for Masks {
 }
 
 impl Masks {
-    /// Masks to collect once some entries have come.
+    /// Unknown masks, to be collected after some new entries.
     pub fn new(alloc: Global) -> Masks {
         Masks::unknown(alloc, 0)
     }
 
-    // Masks to collect once this many entries have come.
+    // Unknown masks, to be collected after this many new entries, at least 1,024.
     fn unknown(alloc: Global, entries: usize) -> Masks
         ensures { (word : WordValue) → HasMaskOf result word }
     {
@@ -52,7 +52,10 @@ impl Masks {
         }
     }
 
-    /// The masks of these entries, of which there are this many.
+    /// The masks of these entries, of which there are `count`; unknown if they are too many.
+    ///
+    /// # Errors
+    /// Only out of memory.
     pub fn gather(alloc: Global, entries: CacheItems<'_>, count: usize) -> Result<Masks, AllocError>
         ensures { IfOk result
             (λ masks. All (λ entry. HasMaskOf masks entry.word) entries.entry) }
@@ -76,14 +79,17 @@ impl Masks {
         !self.are_known && self.wait == 0
     }
 
-    /// This many entries are left of those that were counted: waits for at most as many.
+    /// Waits for at most as many new entries as are left, or 1,024 if that is more.
     pub fn wait_for(&mut self, count: usize)
         ensures { self.new ≡ self.old }
     {
         self.wait = self.wait.min(count.max(LEAST_WAIT));
     }
 
-    /// Adds the mask of a word that comes to this many entries.
+    /// Adds the mask of a new entry's word; `count` entries were there before.
+    ///
+    /// # Errors
+    /// Only out of memory.
     pub fn add(&mut self, word: &Word, count: usize) -> Result<(), AllocError>
         ensures kept { (one : WordValue) → HasMaskOf self.old one → HasMaskOf self.new one }
         ensures added { OnOk result (HasMaskOf self.new word.now) }
@@ -112,13 +118,12 @@ impl Masks {
     }
 }
 
-// Whether one look-up for each of this many masks is less work than a look at each of this many
-// entries.
+// Whether one look-up for each mask is less work than a test of each entry, if there are this many.
 fn are_few(masks: usize, entries: usize) -> bool {
     masks <= MAX_FEW.min(entries / 64)
 }
 
-// Adds the word's mask, if it isn't there.
+// Adds the word, if none of the words has its mask.
 fn note(words: &mut Vec<Word>, word: &Word) -> Result<(), AllocError>
     ensures kept { (one : WordValue) → HasMaskIn words.old.items one → HasMaskIn words.new.items one }
     ensures added { OnOk result (HasMaskIn words.new.items word.now) }

@@ -9,7 +9,7 @@ use crate::tables::{PartRow, Tables};
 use five_tuple::Header;
 use policy_rules::{Partition, Targets, first_hit};
 
-/// What a switch says about a header.
+/// What a switch finds for a header.
 #[derive(Clone, Copy, Debug, PartialEq, Eq)]
 pub enum Found {
     /// A cached rule decides it.
@@ -37,7 +37,7 @@ pub fn lookup(cache: &Cache, tables: &Tables, header: &Header) -> Found
     }
 }
 
-// The partition whose region holds this header number.
+// The first partition whose region holds this header number; `None` if none does.
 fn own_part(parts: &[Partition], number: u128) -> Option<&Partition>
     ensures { option_copied result ≡ find (λ part. holds part.region number) parts.now }
 {

@@ -19,7 +19,7 @@ use ternary::Word;
 /// What was learnt, each under its own key, in the order in which it came. Contracts see the list.
 ///
 /// A map keeps it in this order. A removed slot stays as a dead one, so that none moves, until
-/// there are 64 more dead ones than live ones. The counts of live ones lead to the place of one.
+/// there are 64 more dead ones than live ones. The counts of live ones lead to the n-th live one.
 /// So each call takes constant amortized time, except those that go over all slots, and `remove`,
 /// which goes over the counts.
 #[derive(Drop)]
@@ -65,12 +65,12 @@ impl Slots {
         ensures len { result ≡ length self.now }
         ensures distinct { HaveOwnKeys self.now }
     {
-        // This tells the proof that the map's keys are distinct.
+        // For the proof: the contract of the map's `len` says that its keys are distinct.
         let slots = self.map.len();
         self.live.all().min(slots)
     }
 
-    /// Whether there is such a key.
+    /// Whether a live slot has this key.
     pub fn contains(&self, key: &CacheKey) -> bool
         ensures { result ≡ has_key key.now self.now }
     {
@@ -80,7 +80,10 @@ impl Slots {
         }
     }
 
-    /// Puts this last, under a new key.
+    /// Appends this under a new key.
+    ///
+    /// # Errors
+    /// Only out of memory; then nothing changes.
     pub fn push(&mut self, key: CacheKey, learnt: Learnt) -> Result<(), AllocError>
         requires fits { key.number < 2 ^ 33 }
         requires absent { IsFalse (has_key key self.old) }
@@ -99,7 +102,7 @@ impl Slots {
         Ok(())
     }
 
-    /// Removes what is at this place, if there is any.
+    /// Removes the pair at this place and returns it; `None` if there is none.
     pub fn remove(&mut self, place: usize) -> Option<(CacheKey, Learnt)>
         ensures pair { result ≡ slice_get self.old place }
         ensures rest { self.new ≡ remove self.old place }
@@ -121,7 +124,7 @@ impl Slots {
         pair
     }
 
-    /// Keeps those of this number or a higher one.
+    /// Keeps only the pairs of this number or a higher one.
     pub fn keep_from(&mut self, number: u64)
         ensures { self.new ≡ filter (λ pair. nat_le number pair.0.number) self.old }
     {
@@ -131,7 +134,7 @@ impl Slots {
         self.first = 0;
     }
 
-    /// Keeps those of this number whose words overlap none of the touched ones.
+    /// Keeps only the pairs of this number whose words overlap none of the touched ones.
     pub fn keep_carried(&mut self, number: u64, touched: &Touched)
         ensures { self.new ≡ filter (λ pair. is_carried_key number touched.now pair.0) self.old }
     {
@@ -142,7 +145,7 @@ impl Slots {
         self.first = 0;
     }
 
-    /// A copy of each, in order.
+    /// An iterator over copies of the pairs, in order.
     pub fn iter(&self) -> SlotItems<'_>
         ensures pairs { result ≡ self.now }
         ensures distinct { HaveOwnKeys self.now }
@@ -150,7 +153,8 @@ impl Slots {
         SlotItems::new(from_first(&self.map, self.first).iter())
     }
 
-    /// The first whose key has this number and, under one of these masks, the bits of the header.
+    /// The first pair whose key has this number and, under one of the masks, the bits of the
+    /// header.
     pub fn first_hit(&self, number: u64, header: u128, masks: &[Word]) -> Option<(CacheKey, Learnt)>
         ensures { result ≡ find (λ pair. is_hit number header masks.now pair.0) self.now }
     {
@@ -162,7 +166,7 @@ impl Slots {
     }
 }
 
-// The slots from this place on. The call of `len` tells the proof what it says about the keys.
+// The slots from this place on. For the proof: the contract of `len` is about the keys.
 fn from_first(map: &IndexMap<CacheKey, Slot>, first: usize) -> Slice<'_, CacheKey, Slot>
     requires { first ≤ length map.now.entries }
     ensures slots { result ≡ drop first map.now.entries }
@@ -219,7 +223,7 @@ fn place_of_live(
     start + nth_live(rest.values().as_slice(), left)
 }
 
-// The same in a list of slots; their number if there is none.
+// The same in a list of slots; the length of the list if there is none.
 fn nth_live(slots: &[Slot], before: usize) -> usize
     ensures within { result ≤ length slots.now }
     ensures found { let flags = map (λ slot. slot.is_live) slots.now in
@@ -265,7 +269,7 @@ fn release_key(map: &mut IndexMap<CacheKey, Slot>, key: &CacheKey) -> Result<(),
     vacate(map, dead)
 }
 
-// Gives the dead slot at this place a key of the place, which no version and shift make.
+// Gives the dead slot at this place a key made of the place, which no version and shift make.
 fn vacate(map: &mut IndexMap<CacheKey, Slot>, place: usize) -> Result<(), AllocError>
     requires dead { slice_get (flags_of map.old.entries) place ≡ Some false }
     requires named { AreNamed 0 map.old.entries }

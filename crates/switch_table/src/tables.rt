@@ -2,7 +2,7 @@ use base::SharedList;
 use policy_rules::{Partition, Targets};
 use ternary::Word;
 
-/// A partition rule: the headers of a region are sent to one of its targets.
+/// A partition rule: a switch sends the headers of the region to one of the targets.
 #[derive(Clone, Copy, Debug, PartialEq, Eq)]
 pub struct PartRow {
     pub region: Word,

@@ -35,7 +35,7 @@ IsCandidateTreeOf candidates region (Sides bit low high) =
     × IsCandidateTreeOf (candidates_of_side candidates region bit true) (fix_of region bit true)
     high
 
--- there is not just one region left, and none of these fixes a bit that is free
+-- none or several regions are left, and none of them fixes a free bit
 pub record IsStuck (candidates : List Candidate) (region : WordValue) : Type 0 where
   pub not_one : length candidates ≢ 1
   pub none : NoneFree region (some_fix candidates)

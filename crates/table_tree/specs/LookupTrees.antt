@@ -1,4 +1,4 @@
--- A decision tree over the bits of a header number, apart from the memory that it is in.
+-- A decision tree over the bits of a header number, without its boxes.
 use Rattle.std.specs.Prelude.{if◌then◌else◌, ◌==◌, ℕ}
 use Rattle.std.specs.Int.{bit_at}
 use Rattle.table_tree.specs.declared.bit_tree.BitTree.{BitTree, End, Cut'}
@@ -8,7 +8,7 @@ pub data LookupTree (A : Type 0) : Type 0 where
   Leaf : A → LookupTree A
   Sides : ℕ → LookupTree A → LookupTree A → LookupTree A
 
--- the shape of a tree, with what is seen of each end
+-- the shape of a tree, with what contracts see of each end
 abbrev pub lookup_tree_of : {L : Type 0} {A : Type 0} → (L → A) → BitTree L → LookupTree A
 lookup_tree_of seen (End end) = Leaf (seen end)
 lookup_tree_of seen (Cut' bit p low q high) =

@@ -32,7 +32,7 @@ candidates_of_side candidates region bit one = filter (candidate_meets (fix_of r
 abbrev pub all_fix : List Candidate → ℕ → Bool
 all_fix candidates bit = list_all (λ candidate. is_fixed_of candidate.region bit) candidates
 
--- some region does
+-- some region fixes the bit
 abbrev pub some_fix : List Candidate → ℕ → Bool
 some_fix candidates bit = list_any (λ candidate. is_fixed_of candidate.region bit) candidates
 
@@ -43,7 +43,7 @@ IsCutBit candidates region bit =
     IsLeastFree region (all_fix candidates) bit
     ⊎ (NoneFree region (all_fix candidates) × IsLeastFree region (some_fix candidates) bit)
 
--- their regions are words
+-- the regions of the candidates are words
 abbrev pub AreRegions : List Candidate → Type 0
 AreRegions candidates = All (λ candidate. IsWord candidate.region) candidates
 

@@ -54,13 +54,13 @@ tree_by_cut grow rules region (Some cost) =
     (grow (side_of rules region cost.bit false) (fix_of region cost.bit false))
     (grow (side_of rules region cost.bit true) (fix_of region cost.bit true))
 
--- the tree of the rules of a region, with at most this many cuts one below another
+-- the tree of the rules of a region, with at most this many cuts on a path
 unfoldable pub rule_tree_within : ℕ → List Rule → WordValue → LookupTree (List ℕ)
 rule_tree_within zero rules region = tree_by_cut (λ rs r. Leaf []) rules region None
 rule_tree_within (suc cuts) rules region =
     tree_by_cut (rule_tree_within cuts) rules region (paying_cut (suc cuts) rules region)
 
--- the tree of a list of rules in a region: at most 12 cuts one below another
+-- the tree of a list of rules in a region: at most 12 cuts on a path
 unfoldable pub rule_tree : List Rule → WordValue → LookupTree (List ℕ)
 rule_tree rules region = rule_tree_within 12 (narrow (ranked_by_place 0 rules) region) region
 

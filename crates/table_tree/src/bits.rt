@@ -8,9 +8,9 @@ use crate::node::Candidate;
 use cut_tree::free_bits;
 use ternary::{ALL_BITS, Word};
 
-/// The bit at which these regions, which overlap a region, are separated: of its free bits the
-/// least one that all of them fix, otherwise the least one that some region fixes. `None` if no
-/// region fixes any.
+/// The bit that separates these regions, which overlap `region`: of its free bits the least one
+/// that all of them fix, otherwise the least one that some of them fixes. `None` if none of them
+/// fixes a free bit.
 pub fn cut_bit(candidates: &[Candidate], region: &Word) -> Option<u32>
     ensures some { IfSome result (λ bit. IsCutBit candidates.now region.now bit) }
     ensures free { IfSome result (λ bit. IsFreeBit region.now bit) }

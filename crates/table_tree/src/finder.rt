@@ -99,7 +99,7 @@ impl Finder {
     }
 
     /// The place of the first rule that holds the header, in the authority partition of this
-    /// number. It allocates nothing.
+    /// number; `None` if no rule holds it. It allocates nothing.
     pub fn first(&self, partition: u32, header: &Header) -> Option<usize>
         requires { IsSomeAnd (find (λ part. part.number == partition) self.now.tables.auth)
             (λ part. IsTrue (is_in header.now part)) }
@@ -110,7 +110,7 @@ impl Finder {
         ensures sound { AreSoundTables self.now.tables }
         ensures header { IsHeader header.now }
     {
-        // For the proof: a header that is read is sound.
+        // For the proof: the contract of `number` says that it is a header.
         let _ = header.number();
         match own_place(self.tables.auth.items(), partition) {
             Some(own) => self.first_at(own, header),
@@ -149,7 +149,7 @@ impl Finder {
     }
 }
 
-// The place of the partition of this number.
+// The place of the partition of this number; `None` if there is none.
 fn own_place(parts: &[Partition], number: u32) -> Option<usize>
     ensures { result ≡ position (λ part. part.number == number) parts.now }
 {

@@ -1,12 +1,12 @@
-//! Lookups by trees: what the tables of a switch say about a header is found by the header's bits,
-//! instead of a search through the partition rules and through a partition's rules.
+//! Lookups by trees: the bits of a header lead to what the tables of a switch say about it, without
+//! a search through the partition rules and through a partition's rules.
 //!
 //! A `RuleTree` leads a header to the places of the few rules of a list that may hold it; its
-//! `first` promises what `first_hit` returns. `Trees` are built once for equal tables, whatever
+//! `first` returns what `first_hit` does. `Trees` are built once for tables that differ only in
 //! their version: a tree over the partition rules, and a rule tree for each authority partition. A
-//! `Finder` shares them with others, and its tables. Its `lookup` promises the result of
+//! `Finder` shares its tables and trees with others. Its `lookup` returns the result of
 //! `switch_table::lookup` for these tables. Neither lookup allocates. Both kinds of trees are
-//! `BitTree`s; what their ends hold differs.
+//! `BitTree`s with different ends.
 #![tactic(auto)]
 
 mod bit_tree;

@@ -23,6 +23,9 @@ pub struct PartNode {
 
 impl PartNode {
     /// The whole header space, with the regions of all rows.
+    ///
+    /// # Errors
+    /// Only out of memory.
     pub fn root(alloc: Global, rows: &[PartRow]) -> Result<PartNode, AllocError>
         requires { length rows.now < 2 ^ 32 }
         ensures candidates { IfOk result (λ node. node.candidates.items ≡ candidates_of rows.now) }
@@ -36,7 +39,10 @@ impl PartNode {
         })
     }
 
-    /// The side of a cut at this bit on which it is 1, or 0.
+    /// The half of this node in which the bit is 1 (or 0, by `one`).
+    ///
+    /// # Errors
+    /// Only out of memory.
     pub fn half(&self, alloc: Global, bit: u32, one: bool) -> Result<PartNode, AllocError>
         requires { IsFreeBit self.now.region bit }
         ensures candidates { IfOk result (λ half.
@@ -59,7 +65,7 @@ fn numbered(alloc: Global, rows: &[PartRow]) -> Result<Vec<Candidate>, AllocErro
     let mut candidates = Vec::with_capacity(alloc, rows.len())?;
     for row in rows {
         let place = candidates.len() as u32;
-        // For the proof: a region is a word.
+        // For the proof: reading the mask yields the invariant `IsWord`.
         let _ = row.region.mask();
         candidates.push(Candidate {
             place,

@@ -11,7 +11,10 @@ use std::alloc::{AllocError, Global};
 /// The most rules of a node that is not cut.
 const FEW_RULES: usize = 16;
 
-/// The tree of a node with at most this many cuts one below another.
+/// The tree of a node, with at most this many cuts on a path.
+///
+/// # Errors
+/// Only out of memory.
 pub fn grow(alloc: Global, node: Node, cuts: u32) -> Result<BitTree<Vec<u32>>, AllocError>
     ensures { IfOk result (λ tree.
         rule_shape tree ≡ rule_tree_within cuts node.rules.items node.region) }
@@ -22,7 +25,7 @@ pub fn grow(alloc: Global, node: Node, cuts: u32) -> Result<BitTree<Vec<u32>>, A
     };
     let low = node.half(alloc, cost.bit, false)?;
     let high = node.half(alloc, cost.bit, true)?;
-    // On the way down only the lists of the halves are kept.
+    // Only the lists of the halves are kept on the way down.
     drop(node);
     let low = grow(alloc, low, cuts - 1)?;
     let high = grow(alloc, high, cuts - 1)?;
@@ -33,7 +36,7 @@ pub fn grow(alloc: Global, node: Node, cuts: u32) -> Result<BitTree<Vec<u32>>, A
     })
 }
 
-// The cut of the node that costs least, if one is left and it pays.
+// The least cut of the node, if any cuts are left and this one pays.
 #[tactic(auto, using(crate::proofs::RuleLemmas::none_left, crate::proofs::RuleLemmas::few_stay, crate::proofs::RuleLemmas::large_stays, crate::proofs::RuleLemmas::spread_stays, crate::proofs::RuleLemmas::cut_pays))]
 fn paying_cut(node: &Node, cuts: u32) -> Option<Cost>
     ensures cut { result ≡ paying_cut cuts node.now.rules.items node.now.region }

@@ -14,7 +14,7 @@ use policy_rules::Rule;
 use std::alloc::{AllocError, Global};
 use ternary::Word;
 
-/// The most cuts one below another.
+/// The most cuts on a path from the root.
 const MAX_CUTS: u32 = 12;
 
 /// A tree over the rules of a region: it leads each header to the places of the few rules that may
@@ -50,8 +50,8 @@ impl RuleTree {
         })
     }
 
-    /// The place of the first of the rules that holds the header, as `first_hit` returns it, by
-    /// the tree of these rules. It allocates nothing.
+    /// The place of the first of the rules that holds the header, as `first_hit` returns it; the
+    /// rules are those that the tree was built of. It allocates nothing.
     pub fn first(&self, rules: &[Rule], header: &Header) -> Option<usize>
         requires built { rule_shape self.now.root ≡ rule_tree rules.now self.now.region }
         requires header { IsTrue (holds self.now.region (number_of header.now)) }
@@ -92,7 +92,7 @@ fn ranked(alloc: Global, rules: &[Rule]) -> Result<Vec<Rule>, AllocError>
     let mut ranked = Vec::with_capacity(alloc, rules.len())?;
     for rule in rules {
         let rank = ranked.len() as u32;
-        // For the proof: a word that is read is sound.
+        // For the proof: reading the mask yields the invariant `IsWord`.
         let _ = rule.word.mask();
         ranked.push(Rule { rank, ..*rule })?;
     }

@@ -8,6 +8,9 @@ use std::alloc::{AllocError, Global};
 
 /// The tree of the regions of a node. A node that has several, or none, and can't be cut gets an
 /// end at place 0: the tree of sound tables has no such node.
+///
+/// # Errors
+/// Only out of memory.
 #[tactic(auto, using(crate::proofs::NodeLemmas::half_smaller, crate::proofs::FindLemmas::end_is))]
 pub fn grow(alloc: Global, node: PartNode) -> Result<BitTree<u32>, AllocError>
     ensures { IfOk result (λ tree. IsGrownShape node.candidates.items node.region
@@ -22,7 +25,7 @@ pub fn grow(alloc: Global, node: PartNode) -> Result<BitTree<u32>, AllocError>
     };
     let low = node.half(alloc, bit, false)?;
     let high = node.half(alloc, bit, true)?;
-    // On the way down only the lists of the halves are kept.
+    // Only the lists of the halves are kept on the way down.
     drop(node);
     let low = grow(alloc, low)?;
     let high = grow(alloc, high)?;

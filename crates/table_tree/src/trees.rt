@@ -19,8 +19,8 @@ pub struct Trees {
 }
 
 impl Trees {
-    /// The trees for tables with these partition rules and authority partitions. They may be any:
-    /// `Finder::of` requires sound tables.
+    /// The trees for tables with these partition rules and authority partitions. The tables needn't
+    /// be sound; `Finder::of` requires it.
     ///
     /// # Errors
     /// Only out of memory.
@@ -36,7 +36,7 @@ impl Trees {
     }
 }
 
-// Of each partition the tree of its rules.
+// The tree of each partition's rules.
 fn rule_trees(alloc: Global, parts: &[Partition]) -> Result<Vec<RuleTree>, AllocError>
     requires { All (λ part. length part.rules < 2 ^ 32) parts.now }
     ensures { IfOk result (λ trees. map seen_tree trees.items ≡ map part_tree parts.now) }
