@@ -16,7 +16,7 @@ body_version (Installed switch boot version) = Some version
 body_version (Stamped switch boot version) = Some version
 body_version _ = None
 
--- a hello and an acknowledgement are for the controller, all else for a switch
+-- a hello and an acknowledgement are for the controller, all other bodies for a switch
 abbrev pub is_for_controller : Body → Bool
 is_for_controller (Hello switch boot) = true
 is_for_controller (Installed switch boot version) = true

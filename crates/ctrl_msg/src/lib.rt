@@ -1,8 +1,9 @@
 //! The messages of a controller and its switches, as plain values.
 //!
-//! Two messages of equal content are equal: contracts see the tables that an `Install` carries as
-//! their value. Its clones share them, and the trees for lookups in them (`table_tree`), which
-//! tables that differ in their version only share too. Those of a `Stamp` share its words.
+//! Messages of equal content are equal: contracts see the tables that an `Install` carries as a
+//! value. Clones of an `Install` share its tables, and the trees for lookups in them
+//! (`table_tree`); tables that differ only in their version may share the trees, too. Clones of a
+//! `Stamp` share its words.
 #![tactic(auto)]
 
 mod message;

@@ -10,7 +10,7 @@ use std::alloc::AllocError;
 use switch_table::Touched;
 use ternary::Word;
 
-/// Whom a message is for.
+/// The receiver of a message.
 #[derive(Clone, Copy, Debug, PartialEq, Eq)]
 pub enum Place {
     /// The switch of this number.
@@ -31,8 +31,8 @@ pub enum Body {
         boot: u32,
         version: u32,
     },
-    /// In this boot, stamp packets with this version from now on, made from the one before by a
-    /// change that touches no more than this.
+    /// In this boot, stamp packets with this version from now on. The change that made it from the
+    /// version before touches no more than these words.
     Stamp {
         boot: u32,
         version: u32,
@@ -43,7 +43,7 @@ pub enum Body {
         boot: u32,
         version: u32,
     },
-    /// Under this version, the headers of the word are decided like this.
+    /// Under this version, this rule decides the headers of the word.
     CacheRule {
         version: u32,
         word: Word,
@@ -51,7 +51,7 @@ pub enum Body {
         rule: Option<u32>,
         action: Action,
     },
-    /// A switch says which links it can use.
+    /// A switch says which of its links are usable.
     Advertise {
         advert: Advert,
     },
@@ -82,7 +82,7 @@ pub struct Message {
 }
 
 impl Body {
-    /// The boot that the message is for or of; an advertisement and a cache rule carry none.
+    /// The boot that the message is for or from; `None` for an advertisement or a cache rule.
     pub fn boot(&self) -> Option<u32>
         ensures { result ≡ body_boot self.now }
     {
@@ -114,7 +114,7 @@ impl Body {
         }
     }
 
-    /// Whether the message is one for the controller.
+    /// Whether the message is for the controller.
     pub fn is_for_controller(&self) -> bool
         ensures { result ≡ is_for_controller self.now }
     {

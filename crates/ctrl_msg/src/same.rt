@@ -1,4 +1,4 @@
-//! Whether tables are the same, value by value, or the words that two changes touch.
+//! Whether two tables, or the words that two changes touch, are the same, value by value.
 ghost use Rattle.std.specs.Prelude.{◌≡◌, ◌↔◌, IsTrue};
 
 use policy_rules::{Partition, Rule};

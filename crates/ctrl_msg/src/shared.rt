@@ -7,7 +7,7 @@ use std::rc::Rc;
 use switch_table::Tables;
 use table_tree::{Finder, Trees};
 
-/// No trees are built for a list of this many entries.
+/// No trees are built for a list of this many entries or more.
 const MANY: usize = 1 << 32;
 
 /// The tables of a switch for one version, which clones share, and trees for them, which tables of
@@ -32,7 +32,7 @@ impl Model for SharedTables {
 }
 
 impl SharedTables {
-    /// These tables, to be shared, with no trees.
+    /// Shares these tables, without trees.
     ///
     /// # Errors
     /// Only out of memory.
@@ -46,9 +46,9 @@ impl SharedTables {
         })
     }
 
-    /// The same tables with trees, which are built unless there are some. Tables get none if one
-    /// of their lists has 2^32 entries or more. Regions that overlap, as in no sound tables, may
-    /// get a tree far larger than their list.
+    /// The same tables with trees: those that they have, or new ones; none if one of their lists
+    /// has 2^32 entries or more. Regions that overlap, which sound tables don't have, may get a
+    /// tree far larger than their list.
     ///
     /// # Errors
     /// Only out of memory.

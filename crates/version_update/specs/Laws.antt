@@ -19,7 +19,7 @@ nothing_rose taken = record {
   collects = 0;
 }
 
--- it is among them, and none is less
+-- it is one of the numbers, and none is less
 abbrev pub IsLeast : List ℕ → ℕ → Type 0
 IsLeast numbers least = Contains numbers least × All (λ n. least ≤ n) numbers
 
@@ -45,6 +45,6 @@ pub record RecordLaws : Type 0 where
   pub installed : (boot version other : ℕ) (known : SwitchRecord) → 1 ≤ version → 1 ≤ other →
       has_acked (after_installed boot version known) other
       ≡ (has_acked known other || (takes_installed boot known && other == version))
-  -- no version beyond the last one is
+  -- no version beyond the last one is acknowledged
   pub past : (count version : ℕ) (known : SwitchRecord) → IsSoundRecord count known
       → count < version → has_acked known version ≡ false

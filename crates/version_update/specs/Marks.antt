@@ -36,7 +36,7 @@ at_switch s change marks =
 abbrev pub with_version : MarksValue → MarksValue
 with_version marks = record marks { count = marks.count + 1 }
 
--- those that are members
+-- the records of the members
 abbrev pub member_records : List SwitchRecord → List SwitchRecord
 member_records switches = filter (λ known. is_member known.phase) switches
 

@@ -1,6 +1,6 @@
--- What the controller knows of one switch while versions of a policy are put in place, after the
--- two-phase update of Reitblatt, Foster, Rexford, Schlesinger and Walker, "Abstractions for Network
--- Update"; the acknowledgements are our own.
+-- What the controller knows of one switch during updates, which have two phases as in Reitblatt,
+-- Foster, Rexford, Schlesinger and Walker, "Abstractions for Network Update"; the acknowledgements
+-- are our own.
 use Rattle.std.specs.Prelude.{if◌then◌else◌, ◌&&◌, ◌-◌, ◌<◌, ◌==◌, ◌^◌, ◌≤◌, Bool, IsTrue, bit_or, false, max, nat_lt, not, true, ℕ}
 use Rattle.base.specs.Exports.{bit_at}
 use Rattle.version_update.specs.declared.record.Phase.{Phase}
@@ -32,7 +32,7 @@ has_acked known version = bit_at known.acked (version - 1) == 1
 abbrev pub first_record : SwitchRecord
 first_record = record { boot = 1; phase = Member; acked = 1; open_version = 1; acked_stamp = 1 }
 
--- what is read if there is no switch
+-- the record of a number that no switch has
 abbrev pub unknown_switch : SwitchRecord
 unknown_switch = record { boot = 0; phase = Over; acked = 0; open_version = 0; acked_stamp = 0 }
 

@@ -5,7 +5,7 @@ pub fn settling_laws()
     ensures { SettlingLaws }
 {}
 
-/// What is known of a switch has the versions of the messages that were taken, and no other.
+/// The versions that a switch acknowledged are its first one and those of the messages recorded.
 #[tactic(auto, using(crate::proofs::AcknowledgedVersions::first_acked, crate::proofs::AcknowledgedVersions::hello_acked, crate::proofs::AcknowledgedVersions::installed_acked, crate::proofs::AcknowledgedVersions::past_acked))]
 pub fn record_laws()
     ensures { RecordLaws }

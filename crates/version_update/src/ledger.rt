@@ -14,11 +14,11 @@ use std::marker::Model;
 pub struct Ledger {
     /// How many versions there are.
     pub count: u32,
-    /// The newest version that each member acknowledged, with all before it.
+    /// The current version: it rises while each member acknowledged the next one.
     pub current: u32,
     /// The version up to which all are retired.
     pub retired: u32,
-    /// How many switches there are; beyond them the records say nothing.
+    /// How many switches there are; the records after them mean nothing.
     number: usize,
     switches: [SwitchRecord; MAX_SWITCHES as usize],
 }
@@ -86,7 +86,7 @@ impl Ledger {
         self.switches[s as usize] = known;
     }
 
-    /// One more version.
+    /// Adds a version.
     pub fn add_version(&mut self)
         requires { self.old.count < 64 }
         ensures { self.new ≡ record self.old { count = self.old.count + 1 } }
@@ -118,7 +118,7 @@ impl Ledger {
         }
     }
 
-    // The greatest version to which current rises.
+    // The version to which current rises.
     fn risen(&self) -> u32
         ensures { RisesTo self.now result }
     {

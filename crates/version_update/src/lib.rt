@@ -4,9 +4,9 @@
 //!
 //! An update has two phases, as in Reitblatt, Foster, Rexford, Schlesinger and Walker,
 //! "Abstractions for Network Update": a version becomes current once every member has its tables,
-//! and is retired once no member stamps packets with it. After each call the marks are settled by
-//! this rule, and the result says what rose and to which switches to send. Nothing here allocates,
-//! and the marks of 64 switches fit in 4 KiB.
+//! and is retired once no member stamps packets with it. Each call settles the marks by this rule,
+//! and returns what rose and to which switches to send. Nothing here allocates, and the marks of 64
+//! switches fit in 4 KiB.
 //!
 //!     let mut marks = Marks::begin(2);
 //!     let answer = marks.submit()?; // version 2

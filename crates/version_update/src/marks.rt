@@ -18,7 +18,7 @@ const MAX_LIVE: u32 = 8;
 /// Bit s of a mask names the switch s.
 #[derive(Clone, Copy, Debug, PartialEq, Eq)]
 pub struct Settled {
-    /// Whether the report changed what is known.
+    /// Whether the report was recorded: not one of another boot or in the wrong phase.
     pub taken: bool,
     /// The current version, if it rose.
     pub current: Option<u32>,
@@ -126,7 +126,7 @@ impl Marks {
         self.ledger.settle(taken)
     }
 
-    /// The switch is out until it reports a greater boot.
+    /// The switch was confirmed as down: it is over until it reports a greater boot.
     pub fn over(&mut self, s: u32) -> Settled
         requires { s < length self.old.switches }
         ensures taken { IsTrue result.taken }
@@ -139,7 +139,7 @@ impl Marks {
         self.ledger.settle(true)
     }
 
-    /// One more version.
+    /// Adds a version.
     ///
     /// # Errors
     /// `TooManyLive` exactly if 8 versions are not retired; otherwise `TooManyVersions`
@@ -175,7 +175,7 @@ impl Marks {
         None
     }
 
-    /// The version that every member has.
+    /// The current version, which every member acknowledged.
     pub fn current(&self) -> u32
         ensures current { result ≡ self.now.current }
         ensures rule { AreMarksSettled self.now }
@@ -230,7 +230,7 @@ impl Marks {
         requires last { version ≤ self.now.count }
         ensures { result ≡ has_acked (record_of self.now s) version }
     {
-        // For the proof: marks that are read are sound.
+        // For the proof: the contract of `count` says that the marks are settled.
         let _ = self.count();
         self.ledger.record(s).has_acked(version)
     }

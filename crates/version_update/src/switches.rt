@@ -1,4 +1,4 @@
-//! Questions over what is known of all switches, each answered in one pass.
+//! Questions about all switches, each answered in one pass over their records.
 ghost use Rattle.std.specs.Prelude.{◌≡◌, ◌-◌, ◌<◌, ◌≤◌, ◌&&◌, map, length};
 ghost use Rattle.version_update.specs.Record.{is_member, opens_at, opened_record};
 ghost use Rattle.version_update.specs.Marks.{all_have_acked, acked_stamps, least_of};
@@ -7,7 +7,7 @@ ghost use Rattle.version_update.specs.declared.record.SwitchRecord.{SwitchRecord
 
 use crate::record::SwitchRecord;
 
-/// If a number rose, the members, as bits at their numbers; otherwise none.
+/// The members as a mask if `rose` is true, otherwise the empty mask.
 pub fn members_where(rose: bool, switches: &[SwitchRecord]) -> u64
     requires { length switches.now ≤ 64 }
     ensures { Names result (λ (known : SwitchRecord). rose && is_member known.phase) switches.now }
@@ -19,8 +19,8 @@ pub fn members_where(rose: bool, switches: &[SwitchRecord]) -> u64
     mask
 }
 
-/// Opens each joining switch that acknowledged the current version; these, as bits at their
-/// numbers.
+/// Opens each joining switch that acknowledged the current version, and returns these switches as a
+/// mask.
 pub fn open_if_acked(switches: &mut [SwitchRecord], current: u32) -> u64
     requires few { length switches.old ≤ 64 }
     requires first { 1 ≤ current }
