@@ -52,8 +52,8 @@ pub record IsReady (s : SwitchValue) (header : Header) : Type 0 where
   pub stamped : IsTrue (holds_version s s.stamp)
   pub is_header : IsHeader header
 
--- such a switch, and a packet at the end of its route there: on a leg of a version that the switch
--- has, the leg's partition is one of its own, and has the header
+-- the switch is ready, and the packet is at the end of its route there: on a leg of a version that
+-- the switch has, the leg's partition is one of its own, and has the header
 pub record IsArriving (s : SwitchValue) (t : TunnelValue) : Type 0 where
   pub ready : IsReady s t.header
   pub authority : IsAtAuthority s t.header t.leg
@@ -189,7 +189,7 @@ pub record IsNextOf (s : SwitchValue) (site : Site) (packet : Packet) (action : 
   pub no_owner : (port : ℕ) → action ≡ OutBy port → port_owner site.ports port ≡ None →
       way ≡ goes.Stuck NoRoute
 
--- the way on of a packet that was decided is in the relation, and no other one is
+-- where a decided packet moves is in the relation, and nothing else is
 pub record ExitLaws : Type 0 where
   pub is : (s : SwitchValue) (site : Site) (packet : Packet) (action : Action) →
       IsNextOf s site packet action (next_of s site packet action)
@@ -269,11 +269,11 @@ abbrev pub IsSamePacket : TunnelValue → TunnelValue → Type 0
 IsSamePacket before after =
     after ≡ record before { route = after.route; place = after.place; down = after.down }
 
--- the links that a packet found down, once it found the one to another switch down
+-- the links that a packet found down, with the one to this other switch
 abbrev pub down_with : TunnelValue → ℕ → List ℕ
 down_with t other = with_link t.down (here t) other
 
--- its new route then
+-- its new route around these links
 abbrev pub route_around : SwitchValue → ℕ → TunnelValue → ℕ → Option (List ℕ)
 route_around s near t other = route_of s.database (here t) t.targets near (down_with t other)
 
@@ -286,16 +286,16 @@ pub record IsHop (s : SwitchValue) (near : ℕ) (t : TunnelValue) (after : Moved
   -- over a usable link it moves one place on
   pub moves : (other : ℕ) → next t ≡ Some other → IsTrue (has near other) →
       after ≡ record { end = hop.Move other; tunnel = record t { place = t.place + 1 } }
-  -- a link that is found down joins the others, and if no way leads around them the packet is
-  -- stuck
+  -- a link that is found down joins the others, and the packet is stuck if no route leads around
+  -- them
   pub stuck : (other : ℕ) → link_found_down near (next t) ≡ Some other →
       route_around s near t other ≡ None →
       after ≡ record {
         end = hop.Stuck (cause_of s near (down_with t other) t.leg t.targets);
         tunnel = record t { down = down_with t other };
       }
-  -- otherwise it takes that way: it has arrived if the way ends here, and otherwise moves to its
-  -- second switch
+  -- otherwise it takes that route: it has arrived if the route ends here, and otherwise moves to
+  -- its second switch
   pub turns : (other : ℕ) (way : List ℕ) → link_found_down near (next t) ≡ Some other →
       route_around s near t other ≡ Some way →
       MatchOption (slice_get way 1)

@@ -1,7 +1,7 @@
 -- What a switch returns for a packet that enters, or that is at the end of its route, as
 -- functions: both by the result of one lookup (Yu, Rexford, Freedman and Wang, "Scalable
--- Flow-Based Networking with DIFANE", SIGCOMM 2010). What they say are the relations of
--- `AnswerLaws`, which allow no other result.
+-- Flow-Based Networking with DIFANE", SIGCOMM 2010). The relations of `AnswerLaws` say what they
+-- return, and allow no other result.
 use Rattle.std.specs.Prelude.{if◌then◌else◌, ◌≡◌, Err, IfSome, IsSomeAnd, IsTrue, None, Ok, Option, Result, Some, ℕ, ⊤}
 use Rattle.base.specs.Exports.{option_map_or}
 use Rattle.five_tuple.specs.declared.header.Header.{Header}

@@ -11,15 +11,15 @@ use Rattle.switch_core.specs.declared.tunnel_calls.Entered.TheVariants as entere
 use Rattle.switch_core.specs.declared.tunnel_calls.Next.{Next}
 use Rattle.tunnel.specs.Exports.{TunnelValue}
 
--- of a packet whose header was looked up: it is decided, with a rule for the cache of the switch
--- where it entered, unless that is this one; or it is sent to an authority switch of its
+-- the result for a packet whose header was looked up: it is decided, with a rule for the cache of
+-- the switch where it entered, unless that is this one; or it is sent to an authority switch of its
 -- partition; or no route leads there
 pub data Answer : Type 0 where
   Decided : Decision → Option Body → Next → Answer
   Seek : TunnelValue → Answer
   Stuck : Cause → Leg → Answer
 
--- of a packet at the end of its route: out of the network, by this port, or such a result
+-- the result for a packet at the end of its route: it leaves by this port, or is answered as above
 pub data Arrival : Type 0 where
   Out : ℕ → Arrival
   Answered : Answer → Arrival

@@ -1,5 +1,5 @@
--- Where a packet moves once it is decided, and why it is stuck: both rules in one place. What the
--- first one says is the relation `IsNextOf`, which allows no other way.
+-- Where a packet moves once it is decided, and why it is stuck: both rules in one place. The
+-- relation `IsNextOf` says what the first one returns, and allows nothing else.
 use Rattle.std.specs.Prelude.{[], if◌then◌else◌, ◌&&◌, ◌==◌, ◌∷◌, Bool, Err, List, None, Ok, Option, Result, Some, false, ok_or, option_map, true, ℕ}
 use Rattle.base.specs.Exports.{list_all}
 use Rattle.policy_rules.specs.declared.policy.Action.{Action}
@@ -18,8 +18,8 @@ use Rattle.switch_core.specs.declared.tunnel_calls.Packet.{Packet}
 use Rattle.switch_core.specs.declared.site.Site as given
 use Rattle.switch_core.specs.State.{SwitchValue}
 
--- what a switch is given with a packet: a mask of the switches to which it has a usable link, and
--- which switch has a port
+-- what a switch gets with a packet: a mask of the switches to which it has a usable link, and which
+-- switch has each port
 pub record Site : Type 0 where
   pub near : ℕ
   pub ports : Ports
@@ -27,7 +27,7 @@ pub record Site : Type 0 where
 abbrev pub around : ℕ → Ports → Site
 around near ports = record { near = near; ports = ports }
 
--- as the code is given it
+-- the same, from the value of the code
 abbrev pub site_of : given.Site → Site
 site_of site = around site.near site.ports.now
 
@@ -71,7 +71,7 @@ leave_by s near packet port (Some owner) = if owner == s.number
     then Out port
     else exit_by (set_out s near packet (ExitLeg port) (owner ∷ []))
 
--- where a packet moves that was decided like this
+-- where a packet moves that this action decides
 unfoldable pub next_of : SwitchValue → Site → Packet → Action → Next
 next_of s site packet Drop = Dropped
 next_of s site packet (OutBy port) =

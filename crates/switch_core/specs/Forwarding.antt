@@ -31,7 +31,7 @@ answer_of s site packet (Seek leg targets) =
 abbrev pub admitted_as : SwitchValue → Site → Packet → Option Forwarding → Option Arrival
 admitted_as s site packet forwarding = option_map (answer_of s site packet) forwarding
 
--- no lookup says of a packet that it is at the end of its way to a port
+-- the forwarding is one that a lookup returns: it is not out by a port
 abbrev pub IsByLookup : Forwarding → Type 0
 IsByLookup (Out port) = ⊥
 IsByLookup _ = ⊤

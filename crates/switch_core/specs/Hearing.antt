@@ -16,7 +16,7 @@ use Rattle.ctrl_msg.specs.declared.message.Message.{Message}
 use Rattle.ctrl_msg.specs.declared.message.Place.TheVariants.{Switch}
 use Rattle.switch_core.specs.State.{SwitchValue, holds_version}
 
--- tables that arrive are sound
+-- the tables that the body carries are sound
 abbrev pub IsSoundBody : Body → Type 0
 IsSoundBody (Install boot tables) = AreSoundTables tables
 IsSoundBody _ = ⊤
@@ -59,7 +59,7 @@ collected_to s version = let mark = max s.collected version in record s {
   tables = filter (λ tables. nat_lt mark tables.version) s.tables;
 }
 
--- the cache gets the rule, as the one of this message
+-- the entry is added to the cache
 abbrev pub with_learnt : SwitchValue → CacheEntry → SwitchValue
 with_learnt s entry = record s { cache = after_accept s.stamp entry s.cache }
 
@@ -72,7 +72,7 @@ with_heard s advert = if is_news_here s advert
     then record s { database = after_hearing s.database advert }
     else s
 
--- once it obeyed the message of this number
+-- the switch after it obeyed the message of this number
 abbrev pub after_body : SwitchValue → ℕ → Body → SwitchValue
 after_body s number (Install boot tables) = with_installed s tables
 after_body s number (OpenAt boot version) = opened_with s version

@@ -13,7 +13,7 @@ use Rattle.switch_core.specs.Hearing.{collected_to, with_message, with_heard, wi
 use Rattle.switch_core.specs.State.{HasOwnUpTo, SwitchValue, held_tables}
 use Rattle.ternary.specs.Exports.{WordValue}
 
--- all that a message may change, and that a stamp and a collect mark never fall within a boot
+-- a message changes only these fields, and lowers neither the stamp nor the collect mark
 pub record IsHeard (before after : SwitchValue) : Type 0 where
   pub rest : after ≡ record before {
     is_open = after.is_open;
@@ -34,7 +34,7 @@ pub record SwitchLaws : Type 0 where
   pub stuck : (s : SwitchValue) (near : ℕ) (packet : Packet) (leg : Leg) (targets : List ℕ) →
       IsErr (set_out s near packet leg targets) ↔
       (route_of s.database s.number targets near packet.down ≡ None)
-  -- .. and has no authority exactly if it looks for one, and each target is isolated
+  -- .. and `NoAuthority` is the cause exactly if it seeks one, and each target is isolated
   pub no_authority : (s : SwitchValue) (near : ℕ) (down : List ℕ) (leg : Leg) (targets : List ℕ) →
       (cause_of s near down leg targets ≡ NoAuthority) ↔
       (IsTrue (is_seek leg)

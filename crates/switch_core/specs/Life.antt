@@ -1,4 +1,4 @@
--- What becomes of a switch when its links change, an entry's time is up, it crashes, or it boots.
+-- What becomes of a switch when its links change, a cache entry expires, it crashes, or it boots.
 use Rattle.std.specs.Prelude.{[], ◌+◌, Some, false, slice_set, true, ℕ}
 use Rattle.failover.specs.Exports.{no_adverts}
 use Rattle.failover.specs.declared.advert.Advert.{Advert}
@@ -36,6 +36,6 @@ without_memory s = record s {
 abbrev pub crashed_switch : SwitchValue → SwitchValue
 crashed_switch s = record (without_memory s) { is_up = false }
 
--- in its next boot
+-- up and closed, in its next boot
 abbrev pub restarted_switch : SwitchValue → SwitchValue
 restarted_switch s = record (without_memory s) { is_up = true; boot = s.boot + 1 }

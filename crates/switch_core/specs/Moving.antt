@@ -1,5 +1,5 @@
--- What becomes of a packet that is on its way at a switch, as a function. What it says is the
--- relation `IsHop`, which allows nothing else.
+-- What becomes of a packet that is on its way at a switch, as a function. The relation `IsHop` says
+-- what it returns, and allows nothing else.
 use Rattle.std.specs.Prelude.{if◌then◌else◌, ◌≡◌, List, None, Option, Some, slice_get, ℕ}
 use Rattle.base.specs.Exports.{has}
 use Rattle.tunnel.specs.Exports.{TunnelValue, advanced_tunnel, marked_down, next, on_route, route_from_here}

@@ -24,7 +24,7 @@ pub record SwitchValue : Type 0 where
   pub cache : CacheValue
   -- the newest advert of each origin that it heard, by the origin
   pub database : List (Option Advert)
-  -- of its own newest advert in this boot
+  -- the sequence number of its own newest advert in this boot
   pub seq : ℕ
   -- how many packet calls it counted
   pub handled : ℕ

@@ -14,10 +14,9 @@ use policy_rules::{Leg, Partition};
 use switch_table::{Found, Tables};
 
 impl Switch {
-    /// What becomes of a packet that comes into the network here, whatever its number: `None`
-    /// exactly if the switch doesn't serve. Otherwise it is looked up under the switch's stamp,
-    /// and nothing is sent to a cache. `lookup_laws` says how. It copies no route and no set of
-    /// links.
+    /// What becomes of a packet that enters here, whatever its number: `None` exactly if the switch
+    /// doesn't serve. Otherwise the switch looks it up under its stamp, and sends no rule to a
+    /// cache. `lookup_laws` says how. This copies no route and no set of links.
     pub fn admit(&mut self, h: &Header) -> Option<Forwarding>
         requires { CanLookUp self.old }
         ensures answer { (site : SiteValue) (number : ℕ) →
@@ -37,9 +36,9 @@ impl Switch {
     }
 
     /// What becomes of a packet that is here, at the end of its route, whatever its number and the
-    /// links that it found down. On its leg to a port it leaves. On its leg to an authority switch
-    /// it is decided by the tables of its version. If the switch doesn't have these, the packet is
-    /// looked up again under the switch's stamp. It copies no route and no set of links.
+    /// links that it found down. On its leg to a port it leaves by the port. On its leg to an
+    /// authority switch the tables of its version decide it; if the switch doesn't have these, it
+    /// looks the packet up under its stamp. This copies no route and no set of links.
     pub fn receive(&mut self, t: Arriving) -> Forwarding
         requires serving { IsTrue (serves self.old) }
         requires stamped { CanLookUp self.old }
@@ -90,7 +89,7 @@ impl Switch {
             ≡ Answered (looked_up self.now site (packet_with number h.now ingress down)) }
     {
         let finder = self.stamp_tables().finder();
-        // The call tells the proof that the header is below its bound.
+        // For the proof: the contract of `number` says that the header is below its bound.
         let _ = h.number();
         let found = finder.lookup(&self.cache, h);
         self.by_found(h, ingress, finder.tables(), &found)

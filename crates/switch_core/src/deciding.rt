@@ -48,7 +48,7 @@ impl Decision {
     }
 }
 
-/// A switch's own partition of this number.
+/// A switch's own partition of this number; `None` if it has none.
 pub fn own_part(tables: &Tables, number: u32) -> Option<&Partition>
     ensures { option_copied result ≡ own_part tables.now number }
 {
@@ -64,8 +64,8 @@ pub fn rule_in(part: &Partition, place: u32) -> &Rule
     &part.rules.items()[place as usize]
 }
 
-/// The word of the rule for the cache of the switch where the packet entered, unless it is this
-/// one.
+/// The word of the rule for the cache of the switch where the packet entered; `None` if that is
+/// this switch.
 #[tactic(auto, unfolding(crate::specs::Deciding::rule_for_cache))]
 pub fn cache_word(
     switch: u32,

@@ -18,7 +18,7 @@ impl Switch {
     /// `near` has a bit for each switch to which there is a usable link.
     ///
     /// # Errors
-    /// Why there is none, or out of memory.
+    /// Why there is no route, or out of memory.
     pub fn shared_route(
         &mut self,
         alloc: Global,
@@ -43,7 +43,7 @@ impl Switch {
         }
     }
 
-    // Why there is none around these links.
+    // Why there is no route around these links.
     #[cold]
     #[inline(never)]
     fn why_stuck(&self, near: u64, down: Option<&DownSet>, leg: &Leg, targets: &Targets) -> Cause
@@ -68,7 +68,7 @@ impl Switch {
         }
     }
 
-    // Whether no known link leads to any of these switches.
+    // Whether each of these is another switch, at which no known link ends.
     #[tactic(auto, unfolding(crate::specs::Ends::are_isolated))]
     fn are_isolated(&self, near: u64, down: &DownSet, targets: &[u32]) -> bool
         ensures { result ≡ are_isolated self.now near down.now targets.now }

@@ -26,7 +26,7 @@ pub enum Forwarding {
 }
 
 impl Decision {
-    /// The rule of the decision with this word, for a cache.
+    /// The body of a message that brings a cache the decision's rule for this word.
     pub fn cache_rule(&self, word: Word) -> Body
         ensures { result ≡ CacheRule self.now.version word self.now.rule self.now.action }
     {

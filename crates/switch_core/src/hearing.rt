@@ -17,7 +17,7 @@ use switch_table::{CacheEntry, Touched};
 pub struct Heard {
     /// The messages to be sent, in order.
     pub replies: Replies,
-    /// The stamp of a switch that has opened just now.
+    /// The switch's stamp, if the message opened it.
     pub opened: Option<u32>,
 }
 
@@ -25,8 +25,8 @@ pub struct Heard {
 pub type Replies = Items<Message>;
 
 impl Switch {
-    /// The message of this number is delivered here. A switch that is down does nothing, nor does
-    /// one that gets a message of another boot or one for the controller.
+    /// Delivers the message of this number. Nothing changes if the switch is down, or the message
+    /// is for another boot or for the controller.
     ///
     /// `near` has a bit for each switch to which there is a usable link.
     ///
@@ -89,7 +89,7 @@ impl Switch {
             }
     }
 
-    // What the switch sends upon a body that it obeys.
+    // What the switch sends in reply to a body that it obeys.
     fn replies_to(&self, alloc: Global, body: &Body, near: u64) -> Result<Replies, AllocError>
         ensures { IfOk result (λ list. list ≡ replies_to self.now near body.now) }
     {
@@ -115,7 +115,7 @@ impl Switch {
         }
     }
 
-    // The stamp of a switch that was closed, and opens.
+    // The switch's stamp, if the body opens it; `None` if it was open already.
     fn opened_by(&self, body: &Body) -> Option<u32>
         ensures { result ≡ opened_by self.now body.now }
     {
@@ -184,7 +184,7 @@ impl Switch {
         self.tables.retain(|kept| kept.version() > mark);
     }
 
-    // Takes a rule into the cache.
+    // Adds a rule to the cache.
     fn learn(&mut self, entry: CacheEntry) -> Result<(), AllocError>
         ensures after { OnOk result (self.new ≡ with_learnt self.old entry) }
         ensures err { OnErr result (self.new ≡ self.old) }
@@ -192,7 +192,7 @@ impl Switch {
         self.cache.accept(self.stamp, entry)
     }
 
-    // Takes an advert of another switch into the database.
+    // Keeps an advert of another switch, if it is news.
     #[tactic(auto, unfolding(crate::specs::Hearing::with_heard))]
     fn inform(&mut self, advert: &Advert)
         ensures { self.new ≡ with_heard self.old advert.now }

@@ -37,7 +37,7 @@ impl KeptTables {
         Ok(KeptTables { finder })
     }
 
-    /// The tables, whose trees are used to look headers up.
+    /// The finder, which looks headers up in the tables by their trees.
     pub fn finder(&self) -> &Finder
         ensures { result.now.tables ≡ self.now }
     {

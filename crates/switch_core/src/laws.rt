@@ -1,6 +1,6 @@
 ghost use Rattle.switch_core.specs.Exports.{ArriveLaws, DecisionLaws, EnterLaws, ExitLaws, HopLaws, LookupLaws, SwitchLaws};
 
-/// What the steps of a switch have in common, and when a packet is stuck: a law about the
+/// What messages change, what they never lower, and when a packet is stuck: a law about the
 /// definitions only.
 pub fn switch_laws()
     ensures { SwitchLaws }

@@ -1,9 +1,9 @@
 //! One switch of the data plane.
 //!
-//! A `Switch` promises that each of its calls is a step that `specs/` states on the record that
-//! contracts see: its number, boot, stamp, tables by version, cache, database of adverts, and how
-//! many packet calls it counted. The laws say what those steps are in terms of lookups, rules,
-//! routes and tunnels. Only `begin`, `hear` and `shared_route` allocate.
+//! Each call of a `Switch` is a step that `specs/` defines on the record that contracts see: its
+//! number, boot, stamp, tables by version, cache, database of adverts, and how many packet calls it
+//! counted. The laws say what those steps are in terms of lookups, rules, routes and tunnels. Only
+//! `begin`, `hear` and `shared_route` allocate.
 //!
 //! A packet enters by `admit` and moves on by `pass`; `receive` says what becomes of it at the
 //! end of its route, and `shared_route` finds the route of a leg. `enter`, `hop` and `arrive` are

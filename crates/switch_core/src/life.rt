@@ -5,8 +5,8 @@ use crate::switch::Switch;
 use failover::Advert;
 
 impl Switch {
-    /// Its usable links are these now. Returns its new own advert of them, which it keeps, to be
-    /// sent.
+    /// Its usable links are these now. Returns its new own advert of them, which it keeps and the
+    /// caller sends.
     pub fn near_changed(&mut self, near: u64) -> Advert
         requires { self.old.seq < 2 ^ 32 - 1 }
         ensures advert { result ≡ next_advert self.old near }
@@ -41,7 +41,7 @@ impl Switch {
         self.is_up = false;
     }
 
-    /// It comes up again, closed, in its next boot, which is returned.
+    /// It comes up again, closed, in its next boot. Returns the number of that boot.
     pub fn restart(&mut self) -> u32
         requires down { IsFalse self.old.is_up }
         requires boot { self.old.boot < 2 ^ 32 - 1 }

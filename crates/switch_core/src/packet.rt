@@ -2,8 +2,8 @@ use failover::Route;
 use five_tuple::Header;
 use policy_rules::Leg;
 
-/// A packet that is given to a switch at the end of its route, as it is kept: neither its number
-/// nor the links that it found down change the result.
+/// A packet at the end of its route, as `Switch::receive` gets it: without its number and the links
+/// that it found down, which don't change the result.
 #[derive(Clone, Copy)]
 pub struct Arriving<'a> {
     pub header: &'a Header,

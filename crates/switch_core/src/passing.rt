@@ -30,7 +30,7 @@ impl Switch {
     }
 }
 
-// The switch after this place of the route.
+// The switch after this place of the route; `None` at its end.
 fn next_switch(route: &Route, place: u32) -> Option<u32>
     ensures next { result ≡ slice_get route.now (place + 1) }
     ensures route { IsRouteList route.now }

@@ -43,7 +43,7 @@ impl Model for Routes {
 }
 
 impl Routes {
-    /// These adverts. It allocates nothing yet.
+    /// These adverts, without routes; it allocates nothing yet.
     pub fn new(alloc: Global, database: Database) -> Routes
         ensures { result ≡ database }
     {
@@ -60,7 +60,7 @@ impl Routes {
         &self.database
     }
 
-    /// Keeps the advert if it is news, as `Database::hear` does.
+    /// Keeps the advert if it is news, as `Database::hear` does, and drops the kept routes.
     pub fn hear(&mut self, advert: &Advert) -> bool
         ensures news { result ≡ is_news self.old advert.now }
         ensures after { self.new ≡ after_hearing self.old advert.now }
@@ -77,8 +77,8 @@ impl Routes {
         self.database = Database::empty();
     }
 
-    /// A route to the first of the targets that is reachable around these links, if any were found
-    /// down; `None` if none is reachable. If none was found down, the callers share the route.
+    /// A route to the first of the targets that is reachable without the links found down; `None`
+    /// if no target is reachable. If `down` is `None`, the callers share the route.
     ///
     /// # Errors
     /// Only out of memory.
@@ -103,7 +103,7 @@ impl Routes {
         self.find_route(alloc, from, targets, near)
     }
 
-    // The kept route, if there is one.
+    // The kept route to this target; `None` if there is none.
     fn kept_route(&self, from: u32, target: u32, near: u64) -> Option<&Shared<Route>>
         ensures { IfSome result (λ route.
             route_of self.now from (target ∷ []) near no_links ≡ Some route.now) }
@@ -116,7 +116,7 @@ impl Routes {
         None
     }
 
-    // A route that wasn't kept, and is kept from now on if it leads to the first target of all.
+    // Finds a route, and keeps it if it leads to the first of all targets.
     #[cold]
     #[inline(never)]
     fn find_route(
@@ -148,7 +148,7 @@ impl Routes {
         Ok(Some(route))
     }
 
-    // A route around these links, which no other packet shares yet.
+    // A route without these links, which no other packet shares yet.
     #[cold]
     #[inline(never)]
     fn own_route(

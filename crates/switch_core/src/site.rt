@@ -1,6 +1,6 @@
 use net_file::Ports;
 
-/// Where a packet is given to a switch: the switch's usable links, and the ports of the network.
+/// What a switch gets with a packet: its usable links, and the owners of the network's ports.
 #[derive(Clone, Copy)]
 pub struct Site<'a> {
     /// A bit for each switch to which there is a usable link.

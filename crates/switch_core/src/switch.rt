@@ -106,7 +106,7 @@ impl Switch {
         self.boot
     }
 
-    /// The version by which it looks headers up; 0 before it was opened.
+    /// The version by which it looks headers up; 0 after a restart, until a message raises it.
     pub fn stamp(&self) -> u32
         ensures { result ≡ self.now.stamp }
     {
@@ -120,11 +120,10 @@ impl Switch {
         self.held_tables(version).is_some()
     }
 
-    /// How many packet calls it counted: of `admit` for a packet that enters here, of `pass` for
-    /// one that is here at a place of its route, and of `receive` for one that is here at its
-    /// route's end. `enter`, `hop` and `arrive` make one of these each. A call counts only with
-    /// the packet's header, or with its route and its place there, which has to be this switch.
-    /// The count stops at its greatest value.
+    /// How many packet calls it counted: `admit` for a packet that enters here, `pass` for one that
+    /// is here at a place of its route, and `receive` for one at the end of its route; `enter`,
+    /// `hop` and `arrive` each make one of these. A call needs the packet's header, or its route
+    /// and its place on it, which has to be this switch. The count stops at its greatest value.
     pub fn handled(&self) -> u64
         ensures { result ≡ self.now.handled }
     {
@@ -139,14 +138,14 @@ impl Switch {
         self.database.database().get(origin)
     }
 
-    /// The tables of this version, if it has them.
+    /// The tables of this version; `None` if it doesn't have them.
     pub(crate) fn held_tables(&self, version: u32) -> Option<&KeptTables>
         ensures { option_copied result ≡ held_tables self.now version }
     {
         self.tables.iter().find(|kept| kept.version() == version)
     }
 
-    /// The tables of its stamp.
+    /// The tables of the version that is its stamp.
     pub(crate) fn stamp_tables(&self) -> &KeptTables
         requires { IsTrue (holds_version self.now self.now.stamp) }
         ensures { result.now ≡ stamp_tables self.now }

@@ -1,7 +1,6 @@
-//! The calls for whole tunnels, as other programs may make them: `enter` and `arrive` give the
-//! packet its route at once, and `hop` takes the next one if a link is down. The program makes
-//! none of these, only the calls under them, so that packets share one route. What each returns is
-//! as its name here says, and each is thin: it calls `admit`, `receive` or `pass`.
+//! The calls for whole tunnels, for other programs: `enter` and `arrive` give the packet its route
+//! at once, and `hop` takes a new one if a link is down. Each is thin: it calls `admit`, `receive`
+//! or `pass`. This program makes only those calls, so that packets share their routes.
 ghost use Rattle.std.specs.Prelude.{◌≡◌, ◌∷◌, [], IsTrue, None};
 ghost use Rattle.policy_rules.specs.declared.packet.Leg.TheVariants.{Exit as ExitLeg};
 ghost use Rattle.tunnel.specs.Moves.{next};
@@ -32,7 +31,7 @@ pub struct Packet {
     pub down: DownSet,
 }
 
-/// Where a packet moves that was decided.
+/// Where a decided packet moves.
 #[derive(Drop)]
 pub enum Next {
     Dropped,
@@ -94,10 +93,10 @@ pub enum HopEnd {
 }
 
 impl Switch {
-    /// A packet of this number comes into the network here: closed exactly if the switch doesn't
-    /// serve. Otherwise it is looked up under the switch's stamp, and is decided by a cached or an
-    /// authority rule, or is sent to its partition's targets; nothing is sent to a cache.
-    /// `enter_laws` and `lookup_laws` say how.
+    /// A packet of this number enters here: closed exactly if the switch doesn't serve. Otherwise
+    /// the switch looks it up under its stamp: a cached or an authority rule decides it, or it is
+    /// sent to its partition's targets. The switch sends no rule to a cache. `enter_laws` and
+    /// `lookup_laws` say how.
     ///
     /// `near` has a bit for each switch to which there is a usable link.
     pub fn enter(&mut self, packet: u32, h: &Header, near: u64, ports: &Ports) -> Entered
@@ -121,10 +120,9 @@ impl Switch {
         }
     }
 
-    /// A packet is here, at the end of its route. On its way to a port it leaves. On its way to an
-    /// authority switch it is decided by the tables of its version. If the switch doesn't have
-    /// these, it is looked up again under the switch's stamp. `arrive_laws` and `lookup_laws` say
-    /// how.
+    /// A packet is here, at the end of its route. On its leg to a port it leaves by the port. On
+    /// its leg to an authority switch the tables of its version decide it; if the switch doesn't
+    /// have these, it looks the packet up under its stamp. `arrive_laws` and `lookup_laws` say how.
     ///
     /// `near` has a bit for each switch to which there is a usable link.
     #[tactic(auto, unfolding(crate::specs::Answering::received))]
@@ -147,10 +145,9 @@ impl Switch {
         self.answer_arrival(Site { near, ports }, &carried(t), forwarding)
     }
 
-    /// A packet that is here moves on: at the end of its route it arrives. If the link to the next
-    /// switch is usable it moves there. Otherwise that link is found down and the packet takes a
-    /// new route, on which it moves or arrives, or is stuck. `hop_laws` says how. A packet that
-    /// arrives is here, at the end of its route.
+    /// A packet that is here moves on. At the end of its route it arrives: it stays here. If the
+    /// link to the next switch is usable, it moves there. Otherwise it finds that link down and
+    /// takes a new route, on which it moves or arrives, or is stuck. `hop_laws` says how.
     ///
     /// `near` has a bit for each switch to which there is a usable link.
     #[tactic(auto, unfolding(crate::specs::Moving::hop_answer))]
@@ -184,7 +181,7 @@ impl Switch {
         }
     }
 
-    // Along a new route, once a link was found down.
+    // Where the hop ends along a new route, after a link was found down.
     #[tactic(auto, unfolding(crate::specs::Moving::rerouted_here))]
     fn reroute(&self, near: u64, t: &mut Tunnel) -> HopEnd
         ensures end { result ≡ (rerouted_here self.now near t.old).end }
@@ -245,7 +242,7 @@ impl Switch {
         }
     }
 
-    // Where a packet moves that was decided by this action.
+    // Where a packet moves that this action decides.
     #[tactic(auto, unfolding(crate::specs::Ends::next_of, crate::specs::Ends::leave_by))]
     fn next(&self, site: Site, packet: &Packet, action: Action) -> Next
         ensures { result ≡ next_of self.now (site_of site.entry) packet.now action }
@@ -274,7 +271,7 @@ impl Switch {
     /// The packet at the beginning of its route to the first of these targets that it can reach.
     ///
     /// # Errors
-    /// Why there is none.
+    /// Why there is no route.
     #[tactic(auto, unfolding(crate::specs::Ends::set_out))]
     fn set_out(
         &self,

@@ -18,7 +18,7 @@ with_frame held f =
     filter (λ g. nat_lt (place_in_frame g) (place_in_frame f)) held
     ++ f ∷ filter (λ g. nat_lt (place_in_frame f) (place_in_frame g)) held
 
--- at each place there is a frame
+-- there is a frame at each place below the count
 abbrev pub AreAllHeld : List (List ℕ) → ℕ → Type 0
 AreAllHeld held count = (place : ℕ) → place < count → IsSome (held_at held place)
 
@@ -54,7 +54,7 @@ AreTogether (f ∷ fs) = AreRising 0 (count_in_frame f) (f ∷ fs)
 
 -- ---- what an assembler returns
 
--- as many frames as their count, but the frames of no message
+-- as many frames as their count, which are the frames of no message
 abbrev pub AreNone : List (List ℕ) → ℕ → Type 0
 AreNone fs count = (length fs ≡ count) × ((m : Message) → AreFrames m fs → ⊥)
 

@@ -16,7 +16,7 @@ then_read (Some x) f = f x
 
 -- ---- numbers
 
--- a number in as many bytes as the width has, the greatest first
+-- a number in as many bytes as the width has, the most significant first
 unfoldable pub spelled_number : Width → ℕ → List ℕ
 spelled_number w n = to_be_bytes w n
 

@@ -58,8 +58,8 @@ pub record AreFrames (m : Message) (fs : List (List ℕ)) : Type 0 where
 abbrev pub begun_with : ℕ → List ℕ → List ℕ
 begun_with version bytes = take 8 bytes ++ n4.spell version ++ drop 12 bytes
 
--- the frames of an installation of the same tables under this version: they begin after the first
--- one, with the version
+-- the frames of an installation of the same tables under this version: the chunk of the second one
+-- begins with the version
 abbrev pub frames_of_version : ℕ → List (List ℕ) → List (List ℕ)
 frames_of_version version fs = slice_set fs 1 (begun_with version (slice_index_or fs 1 []))
 

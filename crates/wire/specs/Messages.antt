@@ -168,8 +168,8 @@ abbrev pub whole_message : List ℕ → Option (Message × List ℕ)
 whole_message bytes =
     then_read (message.read bytes) (λ m. if length m.1 == 0 then Some m else None)
 
--- the bytes are the one encoding of the message, of which each number is within its bytes, each
--- switch below 64, each list shorter than 2^32, and the receiver one for its body
+-- the bytes are the encoding of the message: each number fits its bytes, each switch is below 64,
+-- each list is shorter than 2^32, and the receiver suits the body
 pub record IsSpelling (m : Message) (bytes : List ℕ) : Type 0 where
   pub fits : message.fits m ≡ true
   pub spelled : bytes ≡ message.spell m
@@ -200,7 +200,7 @@ abbrev pub IsPlace : Place → Type 0
 IsPlace (Switch s) = s < 64
 IsPlace Controller = Unit {0}
 
--- switches below 64, lists shorter than 2^32, and a receiver for the body
+-- switches below 64, lists shorter than 2^32, and a receiver that suits the body
 pub record HasSpelling (m : Message) : Type 0 where
   pub switch : IsPlace m.to
   pub suits : suits_receiver m.to m.body ≡ true

@@ -28,7 +28,7 @@ pub record AppendsItems {A : Type 0} (f : Format A) (xs : List A) (before after 
   pub fits : list_all f.fits xs ≡ true
   pub bytes : after ≡ before ++ flat_map f.spell xs
 
--- the same for a body's fields
+-- the fields of the body have an encoding, which is at the end of the new bytes
 pub record AppendsFields (b : Body) (before after : List ℕ) : Type 0 where
   pub fits : fields_fit b ≡ true
   pub bytes : after ≡ before ++ spelled_fields b

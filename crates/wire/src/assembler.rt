@@ -32,7 +32,7 @@ impl Model for Assembler {
 }
 
 impl Assembler {
-    /// For no frame; it allocates nothing yet.
+    /// An assembler without frames; it allocates nothing yet.
     pub fn new(alloc: Global) -> Assembler
         ensures { result ≡ [] }
     {
@@ -73,7 +73,7 @@ fn feed(frames: &mut Vec<Frame>, alloc: Global, frame: &[u8]) -> Result<Option<M
     }
 }
 
-// Adds one more frame before that of this index, unless there is an error.
+// Inserts a frame at this index, unless there is an error.
 fn hold(
     frames: &mut Vec<Frame>,
     alloc: Global,
@@ -99,13 +99,13 @@ fn hold(
     }
 }
 
-/// Where a frame belongs.
+/// Where a frame belongs among those that came.
 enum FrameCheck {
     /// It is refused.
     Refused,
     /// It has come already.
     Held,
-    /// Before the frame of this index.
+    /// At this index.
     New(usize),
 }
 
@@ -160,7 +160,7 @@ fn check_among(frames: &[Frame], frame: &[u8]) -> FrameCheck
     }
 }
 
-// The frame of this place.
+// The frame of this place; `None` if it hasn't come.
 fn find_at(frames: &[Frame], place: u32) -> Option<&Frame>
     ensures { option_copied result ≡ held_at frames.now place }
 {

@@ -67,7 +67,7 @@ fn complete(alloc: Global, frames: &[Frame]) -> Result<Message, WireError>
     decoded(alloc, frames, &bytes)
 }
 
-/// The message of these frames, if there are as many as each says; their places rise.
+/// The message of these frames at rising places; `None` if there are fewer than `count`.
 ///
 /// # Errors
 /// `Malformed` exactly if there are as many, and they are the frames of no message.

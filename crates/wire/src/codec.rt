@@ -346,10 +346,10 @@ fn put_body(out: &mut Vec<u8>, body: &Body) -> Result<(), AllocError>
     put_fields(out, body)
 }
 
-/// Writes the encoding of a message at the end.
+/// Appends the encoding of a message.
 ///
 /// # Errors
-/// Only out of memory; what is written then isn't stated.
+/// Only out of memory; then a part of it may be written.
 #[tactic(auto, unfolding(crate::specs::Messages::message))]
 pub fn append(out: &mut Vec<u8>, message: &Message) -> Result<(), AllocError>
     requires { HasSpelling message.now }
@@ -377,7 +377,7 @@ pub fn encode(alloc: Global, message: &Message) -> Result<Vec<u8>, AllocError>
 /// The message that the bytes encode.
 ///
 /// # Errors
-/// `Malformed` exactly if they are the encoding of no message.
+/// `Malformed` exactly if they are the encoding of no message; or out of memory.
 #[tactic(auto, using(crate::proofs::MessageDecoding::found, crate::proofs::MessageDecoding::only, crate::proofs::MessageDecoding::malformed))]
 pub fn decode(alloc: Global, bytes: &[u8]) -> Result<Message, WireError>
     ensures found { IfOk result (λ message. IsSpelling message bytes.now) }

@@ -6,5 +6,5 @@ use thiserror::Error;
 #[error("the bytes are no message's")]
 pub struct Malformed;
 
-/// Why bytes are decoded to no message.
+/// Why bytes aren't decoded to a message: they are malformed, or memory ran out.
 pub type WireError = Failure<Malformed>;

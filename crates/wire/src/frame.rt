@@ -6,7 +6,7 @@ use std::alloc::{AllocError, Global};
 use std::marker::Model;
 use std::rc::RcSlice;
 
-/// The bytes of a frame that say its place and the count of frames.
+/// How many bytes of a frame say its place and the count of frames.
 pub const HEADER_LEN: usize = 8;
 
 /// A frame, which its clones share: its place, the count of frames, and a chunk of an encoding.
@@ -40,7 +40,7 @@ impl Frame {
         Frame::of_bytes(bytes)
     }
 
-    /// The frame of these bytes, which are one.
+    /// The frame with these bytes.
     pub fn of_bytes(bytes: Vec<u8>) -> Result<Frame, AllocError>
         requires { 8 ≤ length bytes.items }
         ensures { IfOk result (λ f. f ≡ bytes.items) }
@@ -49,7 +49,7 @@ impl Frame {
         Ok(Frame { bytes })
     }
 
-    /// The frame of a copy of these bytes, which are one.
+    /// The frame with a copy of these bytes.
     pub fn copied(alloc: Global, bytes: &[u8]) -> Result<Frame, AllocError>
         requires { 8 ≤ length bytes.now }
         ensures { IfOk result (λ f. f ≡ bytes.now) }

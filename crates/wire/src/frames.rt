@@ -16,7 +16,7 @@ pub(crate) const MAX_FRAME: usize = 16_384;
 /// The most bytes of a chunk.
 pub(crate) const MAX_CHUNK: usize = MAX_FRAME - HEADER_LEN;
 
-/// The end of the version of tables in the frame that begins with it.
+/// Where the version ends in the frame whose chunk begins with it.
 const VERSION_END: usize = HEADER_LEN + 4;
 
 /// The frames of a message. Contracts see the list of their bytes.
@@ -45,9 +45,8 @@ impl Frames {
         }
     }
 
-    /// The frames of an installation of the same tables under another version: after the first
-    /// frame they begin with it, and all else is the same. The frames that don't differ are
-    /// shared.
+    /// The frames of an installation of the same tables under another version. Only the second
+    /// frame differs: its chunk begins with the version. All others are shared.
     ///
     /// # Errors
     /// Only out of memory.
@@ -111,7 +110,7 @@ pub(crate) fn head_len(body: &Body, bytes: &[u8]) -> usize
     }
 }
 
-// The first bytes, as many as there are up to this length, and the others.
+// The first bytes, at most this many, and the others.
 fn split_front(bytes: &[u8], len: usize) -> (&[u8], &[u8])
     ensures front { result.0.now ≡ take len bytes.now }
     ensures back { result.1.now ≡ drop len bytes.now }
@@ -123,7 +122,7 @@ fn split_front(bytes: &[u8], len: usize) -> (&[u8], &[u8])
     }
 }
 
-// The chunks of an encoding, the first of which has this many bytes.
+// The chunks of an encoding, the first of which has `head` bytes, and the others at most 16,376.
 pub(crate) fn cut(alloc: Global, head: usize, bytes: &[u8]) -> Result<Vec<&[u8]>, AllocError>
     ensures { IfOk result (λ parts. map (λ p. p.now) parts.items
         ≡ chunks_behind_head head bytes.now) }

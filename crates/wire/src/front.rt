@@ -15,7 +15,7 @@ use std::alloc::{AllocError, Global};
 /// The kind of an installation.
 const INSTALL: u8 = 1;
 
-/// Writes at the end the front of an installation for this receiver and this boot.
+/// Appends the front of an installation for this receiver and this boot.
 ///
 /// # Errors
 /// Only out of memory; then a part of it may be written.
@@ -47,7 +47,7 @@ fn read(reader: &mut ByteReader) -> Result<(Place, u32), WireError>
 /// The receiver and the boot of an installation whose front these bytes are.
 ///
 /// # Errors
-/// `Malformed` exactly if they are the front of no installation.
+/// `Malformed` exactly if they are the front of no installation; or out of memory.
 #[tactic(auto, using(crate::proofs::InstallationFronts::front_found, crate::proofs::InstallationFronts::no_front))]
 pub fn decode_front(alloc: Global, bytes: &[u8]) -> Result<(Place, u32), WireError>
     ensures found { IfOk result (λ front. IsFront front.0 front.1 bytes.now) }

@@ -1,10 +1,10 @@
 //! Messages as bytes: a canonical encoding, and frames of it that may come in any order.
 //!
-//! `encode` and `append` promise the one encoding of a message, and `decode` the message of an
-//! encoding: it returns `Malformed` exactly if bytes are the encoding of no message, so no message
-//! has a second one. `split` promises the frames of a message. An `Assembler` keeps frames by
-//! their places; it promises the message exactly when it has all of its frames, and refuses a
-//! frame exactly for a stated cause. Errors change nothing.
+//! `encode` returns the one encoding of a message, and `append` writes it; `decode` returns the
+//! message of an encoding, and `Malformed` exactly if bytes are the encoding of no message. No two
+//! messages have the same encoding. `split` returns the frames of a message. An `Assembler` keeps
+//! frames by their places; it returns the message exactly when it has all of its frames, and
+//! refuses a frame exactly for a stated cause. An error leaves an `Assembler` unchanged.
 //!
 //! ```text
 //! let frames = split(alloc, &message)?;

@@ -8,7 +8,7 @@ use crate::reader::ByteReader;
 use crate::writer::put_n4;
 use std::alloc::AllocError;
 
-/// The bytes of a word, which each part has.
+/// The least bytes of a part: those of a word, which each part has.
 const LEAST_OF_PART: usize = 32;
 
 /// A part of a message that has a format.
@@ -19,11 +19,11 @@ pub(crate) trait Part: Sized + Drop {
     /// What its writer requires.
     ghost needs: { Self → Type 0 };
 
-    /// Reads one from the front.
+    /// Reads a part from the front of the bytes.
     fn read(reader: &mut ByteReader) -> Result<Self, WireError>
         ensures { Reads format reader.old result reader.new };
 
-    /// Writes it at the end.
+    /// Appends the encoding of the part.
     fn put(&self, out: &mut Vec<u8>) -> Result<(), AllocError>
         requires { needs self.now }
         ensures { OnOk result (AppendsForm format self.now out.old.items out.new.items) };
@@ -49,7 +49,7 @@ pub(crate) fn read_list<T: Part>(reader: &mut ByteReader) -> Result<Vec<T>, Wire
     read_items(reader, count)
 }
 
-// Only the parts: their count comes before them.
+// Appends only the parts, not their count.
 pub(crate) fn put_items<T: Part>(items: &[T], out: &mut Vec<u8>) -> Result<(), AllocError>
     requires { All T.needs items.now }
     ensures { OnOk result (AppendsItems T.format items.now out.old.items out.new.items) }

@@ -44,7 +44,7 @@ impl<'a> ByteReader<'a> {
         self.bytes.is_empty()
     }
 
-    // The next bytes, if there are this many.
+    // The next `count` bytes; `None` if there are fewer.
     fn take(&mut self, count: usize) -> Option<&'a [u8]>
         ensures some { IfSome result (λ front. (count ≤ length self.old)
             × (front.now ≡ take count self.old) × (self.new ≡ drop count self.old)) }

@@ -4,7 +4,7 @@ ghost use Rattle.wire.specs.Reading.{AppendsForm};
 
 use std::alloc::AllocError;
 
-/// Writes a number of one byte at the end.
+/// Appends a number of one byte.
 #[tactic(auto, unfolding(crate::specs::Fields::n1, crate::specs::Format::spelled_number))]
 pub(crate) fn put_n1(out: &mut Vec<u8>, number: u8) -> Result<(), AllocError>
     ensures { OnOk result (AppendsForm form.n1 number out.old.items out.new.items) }
@@ -13,7 +13,7 @@ pub(crate) fn put_n1(out: &mut Vec<u8>, number: u8) -> Result<(), AllocError>
     Ok(())
 }
 
-/// Writes a number of four bytes at the end.
+/// Appends a number of four bytes, the most significant first.
 #[tactic(auto, unfolding(crate::specs::Fields::n4, crate::specs::Format::spelled_number))]
 pub(crate) fn put_n4(out: &mut Vec<u8>, number: u32) -> Result<(), AllocError>
     ensures { OnOk result (AppendsForm form.n4 number out.old.items out.new.items) }
@@ -21,7 +21,7 @@ pub(crate) fn put_n4(out: &mut Vec<u8>, number: u32) -> Result<(), AllocError>
     out.extend_from_slice(&number.to_be_bytes())
 }
 
-/// Writes a number of eight bytes at the end.
+/// Appends a number of eight bytes, the most significant first.
 #[tactic(auto, unfolding(crate::specs::Fields::n8, crate::specs::Format::spelled_number))]
 pub(crate) fn put_n8(out: &mut Vec<u8>, number: u64) -> Result<(), AllocError>
     ensures { OnOk result (AppendsForm form.n8 number out.old.items out.new.items) }
@@ -29,7 +29,7 @@ pub(crate) fn put_n8(out: &mut Vec<u8>, number: u64) -> Result<(), AllocError>
     out.extend_from_slice(&number.to_be_bytes())
 }
 
-/// Writes a number of sixteen bytes at the end.
+/// Appends a number of sixteen bytes, the most significant first.
 #[tactic(auto, unfolding(crate::specs::Fields::n16))]
 pub(crate) fn put_n16(out: &mut Vec<u8>, number: u128) -> Result<(), AllocError>
     ensures { OnOk result (AppendsForm form.n16 number out.old.items out.new.items) }
