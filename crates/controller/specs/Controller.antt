@@ -20,7 +20,7 @@ pub record ControllerValue : Type 0 where
   pub marks : MarksValue
   pub plans : List KeptPlan
 
--- the tables of each switch, by the switches' numbers, as far as there are switches
+-- the tables of each of this many switches, by its number
 abbrev pub tables_by_switch : KeptPlan → ℕ → List Tables
 tables_by_switch kept switches =
     map (tables_of kept.plan.hosted kept.version) (range_with_len 0 switches)
@@ -43,13 +43,13 @@ current_plan controller =
     option_map (λ (kept : KeptPlan). kept.plan)
     (find (λ (kept : KeptPlan). kept.version == controller.marks.current) controller.plans)
 
--- what the change of a version touches, if its plan is kept
+-- what the change of a version touches; everything, if its plan isn't kept
 abbrev pub kept_touched : List KeptPlan → ℕ → List WordValue
 kept_touched plans version =
     option_map_or (λ (kept : KeptPlan). kept.touched)
     (find (λ (kept : KeptPlan). kept.version == version) plans) all_touched
 
--- that of the current version, whose plan is always kept
+-- what the change of the current version touches; its plan is always kept
 abbrev pub current_touched : ControllerValue → List WordValue
 current_touched controller = kept_touched controller.plans controller.marks.current
 

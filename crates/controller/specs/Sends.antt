@@ -42,7 +42,7 @@ posts_to marks body switches = map (λ s. post_act s (body (boot_recorded marks 
 
 -- ---- settling
 
--- a mark rose: its act, and then a message to each member among these switches
+-- if a mark rose: its act, and then a message to each member among these switches
 abbrev pub rising_acts : ℕ → ℕ → (ℕ → Act) → (ℕ → ℕ → Body) → MarksValue → List SwitchRecord
     → List Act
 rising_acts old new says body marks switches = if nat_lt old new
@@ -91,7 +91,7 @@ marks_after (Stamped switch boot version) marks =
     at_switch switch (after_stamped boot version) marks
 marks_after _ marks = marks
 
--- after a new boot, which has no tables, the versions from the current one to the last
+-- to a new boot, which has no tables, the versions from the current one to the last
 abbrev pub installs_after : Body → MarksValue → ControllerValue → List Act
 installs_after (Hello switch boot) old new = if takes_hello boot (record_of old switch)
     then map (install_act switch boot) (plans_from new.marks.current new.plans)
@@ -152,6 +152,6 @@ resend_acts_to Member controller s =
     ++ collect_again controller.marks s
 resend_acts_to Over controller s = []
 
--- by the switch's phase
+-- what a switch may lack, by its phase
 abbrev pub resend_acts : ControllerValue → ℕ → List Act
 resend_acts controller s = resend_acts_to (record_of controller.marks s).phase controller s

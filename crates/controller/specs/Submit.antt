@@ -16,7 +16,7 @@ next_kept old plan touched = record {
   touched = touched;
 }
 
--- it is the next version
+-- the controller after it added this version
 abbrev pub SubmitsPlan : ControllerValue → KeptPlan → ControllerValue → Type 0
 SubmitsPlan old next new = SettlesWith (with_version old.marks) (old.plans ++ next ∷ []) new
 

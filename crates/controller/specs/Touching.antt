@@ -1,4 +1,4 @@
--- What a change touches, as far as a list has room for it.
+-- What a change touches, as a list of at most 16 words.
 use Rattle.std.specs.Prelude.{◌++◌, ◌<◌, ◌≡◌, ◌⊎◌, List, length}
 use Rattle.policy_rules.specs.Exports.{touched_words}
 use Rattle.policy_rules.specs.declared.amendment.Edit.{Edit}
@@ -14,7 +14,7 @@ touched_few rows change = few_touched (touched_words rows change)
 abbrev pub AreListed : List WordValue → List WordValue → Type 0
 AreListed listed words = (listed ≡ words) ⊎ ((16 < length listed) × (16 < length words))
 
--- after some words were listed, more are, and these follow them
+-- these words are listed after those that were listed before
 abbrev pub ListsMore : List WordValue → List WordValue → List WordValue → Type 0
 ListsMore before after more =
     (words : List WordValue) → AreListed before words → AreListed after (words ++ more)

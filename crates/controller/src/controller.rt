@@ -74,7 +74,7 @@ impl Controller {
         })
     }
 
-    /// What is known of the switches, and how far the versions are.
+    /// What is known of the switches, and which versions are current and retired.
     pub fn marks(&self) -> &Marks
         ensures { result.now ≡ self.now.marks }
     {
@@ -112,13 +112,13 @@ impl Controller {
         self.versions[0].plan()
     }
 
-    /// One more version, of which this is the plan: it is sent to each switch that isn't over. A
-    /// clone of a plan shares it. Each switch that is told to stamp with the version gets these
-    /// words, which are what its change touches.
+    /// Adds a version with this plan, and sends it to each switch that isn't over. The words are
+    /// what the change that made the version touches; each `Stamp` of the version carries them.
     ///
     /// # Errors
     /// `TooManyLive` exactly if 8 versions are not retired; otherwise `TooManyVersions`
-    /// exactly if there are 64. Then nothing changed.
+    /// exactly if there are 64; then nothing changed. If memory runs out, the version may be added,
+    /// but what it causes is lost.
     pub fn submit(&mut self, plan: Plan, touched: Touched) -> Result<Sends, Failure<SubmitError>>
         ensures after { OnOk result
             (SubmitsPlan self.old (next_kept self.old plan touched) self.new) }
@@ -141,12 +141,12 @@ impl Controller {
         Ok(sends)
     }
 
-    /// A message came: its content is recorded, and the marks settle. After a hello of a new boot
-    /// each version from the current one on is sent to the switch. A body that isn't for the
-    /// controller causes no sends and no change.
+    /// Records what a message says, and settles the marks. After a hello of a new boot it sends the
+    /// switch each version from the current one on. A body that isn't for the controller causes no
+    /// sends and no change.
     ///
     /// # Errors
-    /// Only out of memory; what the message said is recorded.
+    /// Only out of memory; what the message says is recorded even then.
     pub fn hear(&mut self, body: &Body) -> Result<Sends, AllocError>
         requires { NamesThere body.now self.old.marks }
         ensures after { SettlesWith
@@ -175,10 +175,10 @@ impl Controller {
         }
     }
 
-    /// The switch is confirmed as down until it reports a greater boot.
+    /// Confirms the switch as down: it is over until it reports a greater boot.
     ///
     /// # Errors
-    /// Only out of memory; the switch is over.
+    /// Only out of memory; the switch is over even then.
     pub fn over(&mut self, s: u32) -> Result<Sends, AllocError>
         requires { s < length self.old.marks.switches }
         ensures after { SettlesWith
@@ -194,7 +194,7 @@ impl Controller {
         settled_sends(alloc, &mut self.versions, &self.marks, &settled)
     }
 
-    /// What the switch may lack, sent again: nothing that it acknowledged.
+    /// What the switch may lack, to be sent again: nothing that it acknowledged.
     ///
     /// # Errors
     /// Only out of memory.
@@ -236,7 +236,7 @@ impl Controller {
         Ok(Sends::from_items(acts))
     }
 
-    // One more version, which the marks don't refuse.
+    // Adds a version, which the marks don't refuse.
     fn add(&mut self, alloc: Global, plan: Plan, touched: Touched) -> Result<Sends, AllocError>
         requires live { self.old.marks.count - self.old.marks.retired ≢ 8 }
         requires versions { self.old.marks.count ≢ 64 }
@@ -267,7 +267,7 @@ impl Controller {
         ensures after { SettlesWith self.now.marks self.now.plans self.now }
         ensures rule { IsController self.now }
     {
-        // For the proof: marks that are read are sound.
+        // For the proof: reading the marks yields their invariant.
         let _ = &self.marks;
         settling_laws();
         Sends::from_items(Vec::new(alloc))
@@ -307,7 +307,7 @@ impl Controller {
     }
 }
 
-// One more version of marks that don't refuse it.
+// Adds a version to marks that don't refuse it.
 fn add_version(marks: &mut Marks) -> Settled
     requires live { marks.old.count - marks.old.retired ≢ 8 }
     requires versions { marks.old.count ≢ 64 }
@@ -321,7 +321,7 @@ fn add_version(marks: &mut Marks) -> Settled
     }
 }
 
-// The version to each switch that isn't over.
+// Sends the version to each switch that isn't over.
 fn install_each(alloc: Global, marks: &Marks, version: &Version) -> Result<Vec<Act>, AllocError>
     ensures { IfOk result (λ acts. acts.items
         ≡ map (λ s. install_act s (boot_recorded marks.now s) version.now)
@@ -343,7 +343,7 @@ fn is_there(phase: Phase) -> bool
     phase != Phase::Over
 }
 
-// What is sent when the marks settled on a hello; to a switch in a new boot, all versions too.
+// What is sent when a hello settled the marks; to a switch in a new boot all versions, too.
 fn hello_sends(
     alloc: Global,
     versions: &mut Vec<Version>,
@@ -366,7 +366,7 @@ fn hello_sends(
     Ok(Sends::from_items(acts))
 }
 
-// All versions to one switch.
+// Adds the installations of all versions at one switch.
 fn install_all(
     acts: &mut Vec<Act>,
     alloc: Global,

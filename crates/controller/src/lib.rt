@@ -1,18 +1,17 @@
 //! The controller of a network: the plan of each version of a policy, and the tables that a plan
 //! gives a switch.
 //!
-//! `compile` promises the defined plan of a policy on a network, or the first reason why there is
+//! `compile` returns the defined plan of a policy on a network, or the first reason why there is
 //! none. From each switch the plan's tables lead each header to the policy's first match.
-//! `tables_of` promises the tables that the plan's definition gives a switch; they are sound.
+//! `tables_of` returns the tables that the plan's definition gives a switch; they are sound.
 //!
 //! ```text
 //! let plan = compile(alloc, &policy, &net)?;       // TooManyWords, TooManyLeaves or NoRoom
 //! let tables = tables_of(alloc, &plan, 1, switch)?; // regions and rules are the plan's, shared
 //! ```
 //!
-//! A `Controller` keeps the marks of the versions and the plans that a later call can name. Each
-//! of its calls promises exactly what is sent, as a list in order, and why each message is sent.
-//! With two switches:
+//! A `Controller` keeps the marks of the versions and the plans that a later call can name. The
+//! contract of each call says exactly what is sent, in order, and why. With two switches:
 //!
 //! ```text
 //! let mut controller = Controller::begin(alloc, &net, first)?;

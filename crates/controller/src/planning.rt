@@ -13,8 +13,9 @@ use placement::place;
 use policy_rules::{Partition, Policy, to_rules};
 use std::alloc::{AllocError, Global};
 
-/// The plan of a policy on a network: the partitions of its tree with the network's leaves, hosted
-/// by the switches. From each switch its tables lead each header to the policy's first match.
+/// The plan of a policy on a network: the partitions of its tree, whose cap is the network's
+/// `leaf_rules`, hosted by the switches. From each switch its tables lead each header to the
+/// policy's first match.
 ///
 /// # Errors
 /// `TooManyWords` if its rows have more than 4,096 words; otherwise `TooManyLeaves` if

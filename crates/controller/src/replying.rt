@@ -13,7 +13,7 @@ pub enum Reply {
 }
 
 impl Reply {
-    /// The marks record the reply of a switch.
+    /// Records the reply of a switch in the marks.
     pub fn take_in(self, marks: &mut Marks, s: u32, boot: u32, version: u32) -> Settled
         requires { NamesBoth s version marks.old }
         ensures settled { Settles

@@ -1,4 +1,4 @@
-//! What a switch may lack is sent again.
+//! Sends a switch again what it may lack.
 ghost use Rattle.std.specs.Prelude.{◌≡◌, ◌++◌, ◌+◌, ◌<◌, ◌≤◌, ◌&&◌, length, All, IsTrue, OnOk};
 ghost use Rattle.version_update.specs.Record.{is_member};
 ghost use Rattle.version_update.specs.Marks.{record_of};
@@ -12,7 +12,7 @@ use ctrl_msg::Body;
 use std::alloc::{AllocError, Global};
 use version_update::Marks;
 
-/// Adds the versions from this one on that the switch did not acknowledge.
+/// Adds the installations of the versions from this one on that the switch did not acknowledge.
 ///
 /// # Errors
 /// Only out of memory.
@@ -39,7 +39,7 @@ pub fn install_missing(
     Ok(())
 }
 
-// Whether the switch is to have the version and did not acknowledge it.
+// Whether the version is at least `first`, and the switch did not acknowledge it.
 fn is_missing(marks: &Marks, version: u32, s: u32, first: u32) -> bool
     requires switch { s < length marks.now.switches }
     requires one { 1 ≤ version }

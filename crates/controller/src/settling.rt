@@ -39,11 +39,11 @@ impl News {
     }
 }
 
-/// The marks settled with this result: adds what is then sent, and drops the versions before the
+/// Adds what is sent after the marks settled with this result, and drops the versions before the
 /// current one.
 ///
 /// # Errors
-/// Only out of memory; the versions are dropped.
+/// Only out of memory; the versions are dropped even then.
 pub fn settle(
     acts: &mut Vec<Act>,
     versions: &mut Vec<Version>,
@@ -68,8 +68,8 @@ pub fn settle(
     Ok(())
 }
 
-// A new version is the current one: the switches of the mask are told to stamp with it,
-// and what its change touches.
+// Adds that a new version is the current one, and for the switches of the mask the message to stamp
+// with it, which carries what its change touches.
 fn tell_current(
     acts: &mut Vec<Act>,
     versions: &[Version],
@@ -86,11 +86,11 @@ fn tell_current(
     send_to_each(acts, marks, mask, &news, current)
 }
 
-/// The marks settled with this result: only what is then sent. The versions before the current one
-/// are dropped.
+/// What is sent after the marks settled with this result. It drops the versions before the current
+/// one.
 ///
 /// # Errors
-/// Only out of memory; the versions are dropped.
+/// Only out of memory; the versions are dropped even then.
 pub fn settled_sends(
     alloc: Global,
     versions: &mut Vec<Version>,
@@ -114,7 +114,7 @@ fn let_go(versions: &mut Vec<Version>, current: u32)
     versions.retain(|kept| current <= kept.version());
 }
 
-/// What the change of a version touches: the words kept with its plan, or everything.
+/// What the change of a version touches; everything, if its plan isn't kept.
 ///
 /// # Errors
 /// Only out of memory.
@@ -137,7 +137,7 @@ fn find_version(versions: &[Version], version: u32) -> Option<&Version>
     versions.iter().find(|kept| kept.version() == version)
 }
 
-// Sends to the switches of the mask, each in its known boot.
+// Adds the message to each switch of the mask, for its known boot.
 fn send_to_each(
     acts: &mut Vec<Act>,
     marks: &Marks,

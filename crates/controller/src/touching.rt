@@ -64,8 +64,8 @@ fn list_added(words: &mut Vec<Word>, rows: &[Row]) -> Result<(), AllocError>
     Ok(())
 }
 
-// Adds the words of the row of this priority, unless there are more than may be sent: then the row
-// isn't looked for.
+// Adds the words of the row of this priority, unless there are already more than may be sent: then
+// it doesn't search for the row.
 fn list_row_of(words: &mut Vec<Word>, rows: &[Row], priority: u32) -> Result<(), AllocError>
     requires { All IsSoundRow rows.now }
     ensures { OnOk result (ListsMore words.old.items words.new.items
@@ -86,7 +86,7 @@ fn find_row(rows: &[Row], priority: u32) -> Option<&Row>
     rows.iter().find(|row| row.priority == priority)
 }
 
-// Adds the words of a row, unless there are more than may be sent.
+// Adds the words of a row, unless there are already more than may be sent.
 fn list_row(words: &mut Vec<Word>, row: &Row) -> Result<(), AllocError>
     requires { IsSoundRow row.now }
     ensures { OnOk result (ListsMore words.old.items words.new.items (words_of_row row.now)) }

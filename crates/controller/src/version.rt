@@ -21,7 +21,7 @@ pub struct Version {
     version: u32,
     plan: Plan,
     touched: Shared<Touched>,
-    /// By the switches' numbers, for as many switches as there are.
+    /// The tables of each switch, by its number.
     made: Vec<SharedTables>,
 }
 
@@ -101,7 +101,7 @@ impl Version {
         Ok(Act::post(s, Body::Install { boot, tables }))
     }
 
-    /// The tables of a switch: those that were made before, if they were.
+    /// The tables of a switch: those that were made at the start, or new ones if there are none.
     ///
     /// # Errors
     /// Only out of memory.

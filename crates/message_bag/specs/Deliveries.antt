@@ -43,7 +43,7 @@ pub record ArePassed (passed : ℕ) (statuses : List MessageState) : Type 0 wher
   pub here : passed < length statuses → is_waiting statuses (passed + 1) ≡ true
   pub none : (number : ℕ) → number ≤ passed → is_waiting statuses number ≡ false
 
--- the least place at or above one whose message waits; none does up to the place, if it is the end
+-- the place is the least at or above `from` whose message waits, or the end if none waits
 pub record IsFirstWaiting (statuses : List MessageState) (from : ℕ) (place : ℕ) : Type 0 where
   pub above : from ≤ place
   pub within : from ≤ length statuses → place ≤ length statuses

@@ -14,7 +14,7 @@ pub record HasShortSpelling (m : Message) : Type 0 where
   pub spelling : HasSpelling m
   pub short : length (message.spell m) < 2 ^ 40
 
--- each of these is a frame of the message, in whatever order, and with whatever repeats
+-- each of these is a frame of the message, in any order and any number of times
 abbrev pub AreOf : Message → List (List ℕ) → Type 0
 AreOf m fed = All (Contains (frames m)) fed
 

@@ -17,7 +17,7 @@ table_chunks t =
 abbrev pub frame_count : Tables → ℕ
 frame_count t = length (table_chunks t) + 1
 
--- those after the first one
+-- the frames after the first one
 abbrev pub table_frames : Tables → List (List ℕ)
 table_frames t = frames_from 1 (frame_count t) (table_chunks t)
 

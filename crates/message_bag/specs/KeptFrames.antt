@@ -29,18 +29,18 @@ IsInstallOf m tables = HasShortSpelling m × ((boot : ℕ) × (m.body ≡ Instal
 abbrev pub First : Type 0
 First = List ℕ × Option ℕ
 
--- what replaces one that isn't there
+-- the value for a place without a first frame
 abbrev pub no_first : First
 no_first = ([], None)
 
--- first frames that are one after the other
+-- the first frame at a span of the bytes of all first frames
 abbrev pub first_in : List ℕ → Span → First
 first_in bytes span = (take span.len (drop span.start bytes), span.tables)
 
 abbrev pub IsWithin : List ℕ → Span → Type 0
 IsWithin bytes span = span.start + span.len ≤ length bytes
 
--- all frames of a message; kept frames have their own first one
+-- all frames of a message: its own first one, and the kept ones after their first
 abbrev pub frames_in : List (List (List ℕ)) → First → List (List ℕ)
 frames_in kept (first, None) = first ∷ []
 frames_in kept (first, Some number) = first ∷ drop 1 (get_or kept number [])
@@ -72,7 +72,7 @@ pub record CarryTables (t : Tables) (fs : List (List ℕ)) : Type 0 where
   pub count : length fs ≡ frame_count t
   pub header : take 8 (get_or fs 0 []) ≡ n4.spell 0 ++ n4.spell (frame_count t)
 
--- these are the frames of an installation of these tables under some version
+-- these are the frames of an installation of these tables under any version
 pub record CarryRows (t : Tables) (fs : List (List ℕ)) : Type 0 where
   pub version : ℕ
   pub carry : CarryTables (record t { version = version }) fs

@@ -1,13 +1,13 @@
--- Things that are numbered from 1 in the order in which they came.
+-- Items that are numbered from 1 in the order in which they came.
 use Rattle.std.specs.Prelude.{List, None, Option, set, slice_get, suc, zero, ℕ}
 use Rattle.base.specs.Exports.{option_map_or}
 
--- the one of a number
+-- the item of a number
 abbrev pub item_numbered : {X : Type 0} → List X → ℕ → Option X
 item_numbered xs zero = None
 item_numbered xs (suc place) = slice_get xs place
 
--- the one of a number is changed, if there is one
+-- the items with that of a number changed, if there is one
 abbrev pub with_changed : {X : Type 0} → (X → X) → List X → ℕ → List X
 with_changed change xs zero = xs
 with_changed change xs (suc place) =

@@ -18,7 +18,7 @@ Post = List (List ℕ) × MessageState
 abbrev pub new_post : Message → Post
 new_post message = (posted_frames message, statuses.waiting_status)
 
--- what became of each
+-- the statuses of the messages
 abbrev pub statuses_of : List Post → List MessageState
 statuses_of posts = map (λ (post : Post). post.1) posts
 
@@ -30,7 +30,7 @@ remembered_frames post = if post.1.forgotten then None else Some post.0
 abbrev pub frames_posted : List Post → ℕ → Option (List (List ℕ))
 frames_posted posts number = option_and_then remembered_frames (item_numbered posts number)
 
--- there is such a message
+-- the message of a number was posted and isn't forgotten
 abbrev pub is_post_deliverable : List Post → ℕ → Bool
 is_post_deliverable posts number = is_some (frames_posted posts number)
 
@@ -43,14 +43,14 @@ pub record IsMessageOf (posts : List Post) (number : ℕ) (message : Message) : 
 abbrev pub next_waiting_post : List Post → ℕ → Option ℕ
 next_waiting_post posts from = statuses.next_waiting (statuses_of posts) from
 
--- the status of a message is changed by this
+-- the post with its status changed
 abbrev pub with_status : (MessageState → MessageState) → Post → Post
 with_status change post = (post.0, change post.1)
 
--- the message of the number was delivered, perhaps again
+-- the posts after the message of the number was delivered, perhaps again
 abbrev pub with_delivered : List Post → ℕ → List Post
 with_delivered posts number = with_changed (with_status statuses.delivered_status) posts number
 
--- the message of the number is never delivered again
+-- the posts after the message of the number was forgotten: it is never delivered again
 abbrev pub with_forgotten : List Post → ℕ → List Post
 with_forgotten posts number = with_changed (with_status statuses.forgotten_status) posts number

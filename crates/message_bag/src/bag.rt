@@ -92,7 +92,7 @@ impl Bag {
         Ok(self.len() as u32)
     }
 
-    // Posts a message of one frame.
+    // Posts a message that is no installation: it has one frame.
     fn post_alone(&mut self, message: &Message) -> Result<(), AllocError>
         requires spelling { HasSpelling message.now }
         requires short { length (form.spell message.now) < 2 ^ 40 }

@@ -36,8 +36,8 @@ impl MessageState {
     }
 }
 
-/// What became of messages that are numbered from 1, wherever their frames are kept: at most 2^32
-/// - 1 of them. Contracts see the list.
+/// What became of at most 2^32 - 1 messages, which are numbered from 1, wherever their frames are
+/// kept. Contracts see the list.
 #[derive(Drop)]
 pub struct Deliveries {
     statuses: Vec<MessageState>,
@@ -61,7 +61,7 @@ impl Model for Deliveries {
 }
 
 impl Deliveries {
-    /// For no message; it allocates nothing yet.
+    /// No messages yet; it allocates nothing yet.
     pub fn new(alloc: Global) -> Deliveries
         ensures { result ≡ [] }
     {
@@ -71,7 +71,7 @@ impl Deliveries {
         }
     }
 
-    /// One more message waits.
+    /// Adds a message, which waits.
     ///
     /// # Errors
     /// Only out of memory; then nothing changes.
@@ -113,7 +113,7 @@ impl Deliveries {
         }
     }
 
-    /// The message of this number was delivered, perhaps once more.
+    /// Notes that the message of this number was delivered, perhaps again.
     pub fn deliver(&mut self, number: u32)
         requires { IsTrue (is_deliverable self.old number) }
         ensures { self.new ≡ with_changed delivered_status self.old number }
@@ -122,7 +122,7 @@ impl Deliveries {
         self.passed = first_waiting(&self.statuses, self.passed);
     }
 
-    /// The message of this number is never delivered again.
+    /// Forgets the message of this number: it is never delivered again.
     pub fn forget(&mut self, number: u32)
         requires { IsTrue (is_deliverable self.old number) }
         ensures { self.new ≡ with_changed forgotten_status self.old number }

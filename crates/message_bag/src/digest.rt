@@ -1,11 +1,11 @@
-//! A number by which tables of the same rows are found.
+//! A hash by which tables of the same rows are found.
 use switch_table::Tables;
 
-/// An odd number that spreads small ones.
+/// An odd factor that spreads small numbers.
 const FACTOR: usize = 2_654_435_769;
 
-/// A number that all tables of the same rows and partitions have, and few others: made of how many
-/// rows there are, and of each partition's number and count of rules.
+/// A hash that is the same for all tables of the same rows and partitions, whatever their version.
+/// It is made of how many rows there are, and of each partition's number and count of rules.
 pub fn digest_of(tables: &Tables) -> usize {
     let mut digest = tables.parts.items().len();
     for part in tables.auth.items() {

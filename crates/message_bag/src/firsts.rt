@@ -4,11 +4,11 @@ ghost use Rattle.message_bag.specs.KeptFrames.{no_first};
 use std::alloc::{AllocError, Global};
 use std::marker::Model;
 
-/// How many bytes have room from the first frame on, so that they are seldom moved: memory that
-/// they are moved out of would lie empty. The system provides such memory only when it is written.
+/// How many bytes are reserved with the first frame, so that they are seldom moved: the memory that
+/// they leave stays unused. The system provides reserved memory only when it is written.
 const FIRST_BYTES: usize = 4_194_304;
 
-/// How many frames have room.
+/// For how many frames room is reserved with the first one.
 const FIRST_SPANS: usize = 131_072;
 
 /// Where the bytes of a first frame lie, and under which number the frames after it are kept, if
@@ -42,7 +42,7 @@ impl Model for Firsts {
 }
 
 impl Firsts {
-    /// For no message; it allocates nothing yet.
+    /// No first frames yet; it allocates nothing yet.
     pub fn new(alloc: Global) -> Firsts
         ensures { result ≡ [] }
     {
@@ -59,7 +59,7 @@ impl Firsts {
         self.spans.len()
     }
 
-    /// One more, at the end.
+    /// Appends a first frame, with the number of the frames after it.
     ///
     /// # Errors
     /// Only out of memory, or if the frames so far or this one have 2^32 bytes or more, or the
@@ -76,7 +76,7 @@ impl Firsts {
         Ok(())
     }
 
-    /// The one of this index once more, at the end. Its bytes aren't kept again.
+    /// Appends the first frame of this index again, without another copy of its bytes.
     ///
     /// # Errors
     /// Only out of memory; then nothing changes.
@@ -91,7 +91,7 @@ impl Firsts {
         Ok(())
     }
 
-    /// The one of this index.
+    /// The first frame of this index, from 0; `None` if there is none.
     pub fn get(&self, index: usize) -> Option<(&[u8], Option<usize>)>
         ensures some { IfSome result (λ first. slice_get self.now index
             ≡ Some (first.0.now, first.1)) }
@@ -108,7 +108,7 @@ impl Firsts {
     }
 }
 
-// Makes room for many before the first frame.
+// Reserves room for many, if there is no frame yet.
 fn make_room(bytes: &mut Vec<u8>, spans: &mut Vec<Span>) -> Result<(), AllocError>
     ensures bytes { bytes.new.items ≡ bytes.old.items }
     ensures spans { spans.new.items ≡ spans.old.items }
@@ -120,7 +120,7 @@ fn make_room(bytes: &mut Vec<u8>, spans: &mut Vec<Span>) -> Result<(), AllocErro
     Ok(())
 }
 
-// The span of so many bytes behind so many. It has no room for 2^32 of them.
+// The span of `len` bytes from `start` on; an error if a number is 2^32 or more.
 fn span_of(start: usize, len: usize, tables: Option<usize>) -> Result<Span, AllocError>
     ensures start { IfOk result (λ span. span.start ≡ start) }
     ensures len { IfOk result (λ span. span.len ≡ len) }
@@ -137,7 +137,7 @@ fn span_of(start: usize, len: usize, tables: Option<usize>) -> Result<Span, Allo
     })
 }
 
-// The same number in four bytes, where they hold it.
+// The same number in four bytes; an error if it doesn't fit.
 fn short(number: usize) -> Result<u32, AllocError>
     ensures { IfOk result (λ short. short ≡ number) }
 {

@@ -9,9 +9,9 @@ ghost use Rattle.wire.specs.Frames.{AreFrames, count_in_frame, frames, frames_of
 ghost use Rattle.message_bag.specs.Feeding.{AreAllAmong, AreOf, HasFrames, held_after};
 ghost use Rattle.message_bag.specs.Installing.{install_frames};
 
-/// In whatever order and with whatever repeats the frames of a message come: an assembler that was
-/// fed with them refuses none; all its places are filled exactly if each frame of the message has
-/// come; and then it has the message's frames.
+/// The frames of a message may come in any order and any number of times: an assembler refuses none
+/// of them; all its places are filled exactly if each frame of the message has come; and then it
+/// has the message's frames.
 ///
 /// So, as `Assembler::feed` ensures, it returns `None` until the last of them has come, and the
 /// message then and at each repeat.
@@ -25,15 +25,14 @@ pub fn frames_come_in_any_order()
         → AreAllAmong m fed → held_after fed ≡ frames m }
 {}
 
-/// Frames are those of one message.
+/// Frames belong to at most one message.
 pub fn frames_are_of_one_message()
     ensures { (m other : Message) (fs : List (List ℕ)) → AreFrames m fs → AreFrames other fs
         → other ≡ m }
 {}
 
-/// The frames of an installation after its first one encode only the tables: they are the same
-/// whatever switch it is for, and in whatever boot. The first one says how many there are, the
-/// switch and the boot.
+/// The frames of an installation after its first one encode only the tables: they are the same for
+/// every switch and every boot. The first one says how many there are, the switch and the boot.
 pub fn frames_behind_the_first_carry_the_tables()
     ensures { (to : Place) (boot : ℕ) (tables : Tables)
         → frames (record { to = to; body = Install boot tables })

@@ -14,7 +14,7 @@
 //! all frames except the one that begins with the version, into which its four bytes are written.
 //! So rows and partitions are encoded, cut, assembled and decoded once, and trees to find a rule
 //! are built once: the messages that are taken share the tables that came out of the frames, and
-//! these tell which tables are the same.
+//! a comparison with these finds tables that are the same.
 //!
 //! The laws say what an assembler returns for frames that come in any order and any number of
 //! times.

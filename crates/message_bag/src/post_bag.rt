@@ -123,7 +123,7 @@ impl PostBag {
         self.deliveries.may_be_delivered(number)
     }
 
-    /// The message of this number was delivered, perhaps once more.
+    /// Notes that the message of this number was delivered, perhaps again.
     #[tactic(auto, using(crate::proofs::FramesByStatus::deliverable_same))]
     pub fn deliver(&mut self, number: u32)
         requires { IsTrue (is_post_deliverable self.old number) }
@@ -132,7 +132,7 @@ impl PostBag {
         self.deliveries.deliver(number);
     }
 
-    /// The message of this number is never delivered again.
+    /// Forgets the message of this number: it is never delivered again.
     #[tactic(auto, using(crate::proofs::FramesByStatus::deliverable_same))]
     pub fn forget(&mut self, number: u32)
         requires { IsTrue (is_post_deliverable self.old number) }

@@ -60,7 +60,7 @@ fn assembled(alloc: Global, first: &[u8], frames: &Frames) -> Result<Message, Al
     unreachable!()
 }
 
-/// The boot and the tables of an installation.
+/// The boot and the tables of an installation; `None` for any other body.
 pub fn tables_of(body: &Body) -> Option<(u32, &SharedTables)>
     ensures some { IfSome result (λ found. body.now ≡ Install found.0 found.1.now) }
     ensures none { IsNone result → tables_version body.now ≡ None }

@@ -155,7 +155,7 @@ fn find<'a>(
     }
 }
 
-// The place of an advert to a switch.
+// The place of an advert to a switch; `None` for any other message.
 fn place_of(message: &Message) -> Option<usize>
     ensures { IfSome result (λ place. place < 4096) }
 {
@@ -168,7 +168,7 @@ fn place_of(message: &Message) -> Option<usize>
     }
 }
 
-// Makes sure that there is this place. Each new one is pushed.
+// Makes sure that there is this place, by pushing empty ones.
 #[tactic(auto, using(crate::proofs::RepeatedMessages::padded_same))]
 fn make_place(adverts: &mut Vec<Option<PostedAdvert>>, place: usize) -> Result<(), AllocError>
     requires { place < 4096 }

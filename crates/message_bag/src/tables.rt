@@ -24,7 +24,7 @@ pub struct TableFrames {
     // The tables as they come out of the frames: those of each message that is taken.
     said: SharedTables,
     frames: Frames,
-    // Their version and digest: by these, which are in the list, a search skips most others.
+    // Their version and digest, kept here so that a search skips most others.
     version: u32,
     digest: usize,
 }
@@ -41,7 +41,7 @@ impl Model for TableFrames {
 }
 
 impl TableFrames {
-    // For an installation of these tables, which are encoded and decoded.
+    // The frames for an installation of these tables, which are encoded and decoded.
     fn new(alloc: Global, message: &Message, tables: &Tables) -> Result<TableFrames, AllocError>
         requires { IsInstallOf message.now tables.now }
         ensures { IfOk result (CarryTables tables.now) }
@@ -56,7 +56,7 @@ impl TableFrames {
         })
     }
 
-    // For the same tables under another version, which are neither encoded nor decoded again.
+    // The frames for the same tables under another version, without encoding or decoding them.
     fn with_version(&self, alloc: Global, version: u32) -> Result<TableFrames, AllocError>
         ensures { IfOk result (λ kept. (t : Tables) → CarryTables t self.now
             → CarryTables (record t { version = version }) kept) }
@@ -87,7 +87,7 @@ impl TableFrames {
         self.digest == digest && have_same_rows(self.said.tables(), tables)
     }
 
-    // Writes at the end the first frame of an installation of these tables: only the receiver and
+    // Appends the first frame of an installation of these tables: only the receiver and
     // the boot are its own.
     fn put_first(&self, out: &mut Vec<u8>, to: Place, boot: u32) -> Result<(), AllocError>
         requires { IsPlace to }
@@ -132,7 +132,7 @@ fn with_trees(alloc: Global, tables: SharedTables) -> Result<SharedTables, Alloc
     }
 }
 
-// Whether the regions have, taken together, as many headers as there are.
+// Whether the regions together have as many headers as there are.
 fn are_whole(rows: &[PartRow]) -> bool {
     let mut headers: u128 = 0;
     for row in rows {
@@ -142,7 +142,7 @@ fn are_whole(rows: &[PartRow]) -> bool {
     headers == 1 << HEADER_BITS
 }
 
-// The number of the frames that encode these tables. Most often they are among the last.
+// The number of the frames that encode these tables; `None` if there are none.
 fn find(kept: &[TableFrames], tables: &Tables) -> Option<usize>
     ensures there { IfSome result (λ number. number < length kept.now) }
     ensures carry { IfSome result (λ number. CarryTables tables.now (get_or kept.now number [])) }
@@ -151,7 +151,7 @@ fn find(kept: &[TableFrames], tables: &Tables) -> Option<usize>
     kept.iter().rposition(|frames| frames.carry(tables, digest))
 }
 
-// The number of the frames that encode these tables under some version.
+// The number of the frames that encode these tables under any version; `None` if there are none.
 fn find_rows(kept: &[TableFrames], tables: &Tables) -> Option<usize>
     ensures there { IfSome result (λ number. number < length kept.now) }
     ensures carry { IfSome result (λ number. CarryRows tables.now (get_or kept.now number [])) }
