@@ -100,7 +100,7 @@ pub enum Item {
     Forgotten {
         number: u32,
     },
-    /// The entry at this place of the switch's cache timed out; this message had brought it.
+    /// The entry at this place of the switch's cache expired; this message had brought it.
     Expired {
         switch: u32,
         place: u32,
@@ -134,7 +134,7 @@ pub enum Item {
         switch: u32,
         version: u32,
     },
-    /// The switch lost all that it had.
+    /// The switch went down, and lost all that it had.
     Down {
         switch: u32,
     },

@@ -44,7 +44,7 @@ impl Model for PackedLeaving {
 }
 
 impl PackedLeaving {
-    /// This leaving.
+    /// Packs this leaving.
     pub fn new(leaving: &Leaving) -> PackedLeaving
         ensures { result ≡ leaving.now }
     {

@@ -5,8 +5,8 @@
 //! until nothing is on its way. Switches are named by their numbers from 0, packets, messages and
 //! policy files by theirs from 1.
 //!
-//! Which steps a network may take is `IsStep` of `specs/Steps.antt`: code that reads steps ensures
-//! it, and code that plays them may require it.
+//! `IsStep` of `specs/Steps.antt` says which steps a network may take: code that reads steps
+//! ensures it, and code that plays them may require it.
 #![tactic(auto)]
 
 mod step;

@@ -19,7 +19,7 @@ pub enum Step {
     Deliver { message: u32 },
     /// The message never reaches its receiver again.
     Forget { message: u32 },
-    /// The entry at this place of the switch's cache times out; the place of the oldest is 0.
+    /// The entry at this place of the switch's cache expires; the place of the oldest is 0.
     Expire { switch: u32, place: u32 },
     /// The policy of this file becomes the newest version; the first file is 1.
     Update { file: u32 },
@@ -33,7 +33,7 @@ pub enum Step {
     Restart { switch: u32 },
     /// The controller learns that the switch is down.
     Confirm { switch: u32 },
-    /// What the switch and the controller have to say to each other is sent again.
+    /// The switch and the controller send each other again what the other may lack.
     Resend { switch: u32 },
 }
 
@@ -42,7 +42,7 @@ pub enum Step {
 pub enum Event {
     /// This one step.
     One(Step),
-    /// Each message that waits is delivered, by ascending number, those sent meanwhile too.
+    /// Each message that waits is delivered, by ascending number, and so is each sent meanwhile.
     Flush,
     /// Each packet that travels hops until it no longer travels, by ascending number.
     Drain,
