@@ -25,7 +25,7 @@ abbrev pub NoneLeaves : ℕ → PortLeavings → List Seen → Type 0
 NoneLeaves ports left meters =
     length (kept_meters ports left meters) ≡ length (kept_meters ports [] meters)
 
--- each record of a meter that stays counts all such packets; and if none leaves, each record does
+-- each record of a meter that stays counts all these packets; if none leaves, each record does
 pub record FlowLaws : Type 0 where
   pub stayed : (most ports : ℕ) (left : PortLeavings) (meters : List Seen)
       → All (IsNewMeter most) meters

@@ -1,4 +1,4 @@
--- The counts of a flow meter, as a map has them.
+-- The counts of a flow meter, as its map stores them.
 use Rattle.std.specs.Prelude.{List, map, unwrap_or, ℕ}
 use Rattle.base.specs.Exports.{lookup}
 use Rattle.five_tuple.specs.Exports.{header_eq}

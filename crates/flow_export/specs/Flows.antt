@@ -28,8 +28,8 @@ pub record FlowMeterValue : Type 0 where
   pub held : List Leaving
   pub most : ℕ
 
--- the meter is one of its kind, whatever its list is: the records of a list are its flows, and a
--- list of this many different headers is complete
+-- the meter is a flow meter, whatever its list is: the records of a list are its flows, and a list
+-- of this many different headers or more is complete
 pub record IsFlowMeter (port most : ℕ) (meter : Seen) : Type 0 where
   pub at_port : meter.port ≡ port
   pub recorded : (held : List Leaving) → meter.recorded held ≡ flows port held

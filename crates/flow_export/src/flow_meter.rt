@@ -49,7 +49,7 @@ impl FlowMeter {
         }
     }
 
-    // Adds a leaving at the end, and counts it.
+    // Appends a leaving, and counts it.
     fn append(&mut self, leaving: &Leaving) -> Result<(), AllocError>
         ensures ok { OnOk result
             (self.new ≡ record self.old { held = self.old.held ++ leaving.now ∷ [] }) }

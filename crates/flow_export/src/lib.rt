@@ -2,10 +2,9 @@
 //!
 //! A `FlowMeter` records each leaving, as any meter does. Its flow records count what it recorded:
 //! one for each different header, in the order in which they first left, with the number of
-//! packets that had it. It is complete as soon as it has as many headers as its maker says, so
-//! that the table of its counts stays small. If no meter of a network leaves, the records of all
-//! of them count what left it, for each port and header (`flow_laws`). `push_flows` prints
-//! records.
+//! packets that had it. It is complete as soon as it has `most` headers, so that the table of its
+//! counts stays small. Each record of a meter that stays counts all packets that left by its port
+//! with its header (`flow_laws`). `push_flows` prints records.
 //!
 //! ```text
 //! let meter = FlowMeter::new(alloc, 3, 4096); // at port 3

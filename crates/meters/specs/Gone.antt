@@ -6,7 +6,7 @@ use Rattle.meters.specs.Meters.{PortLeavings, has_ended, kept_meters, meter_with
 use Rattle.meters.specs.Seen.{Seen}
 use Rattle.meters.specs.declared.flows.FlowRecord.{FlowRecord}
 
--- the meter leaves with this leaving: it is one of its port, and completes its list
+-- the meter leaves with this leaving, which is by the meter's port and completes its list
 abbrev pub leaves_with : ℕ × Leaving → Seen → Bool
 leaves_with one meter = (one.0 == meter.port) && has_ended (meter_with (one.1 ∷ []) meter)
 
@@ -40,7 +40,7 @@ board_after ports left meters = record {
   gone = gone_records ports left meters;
 }
 
--- if the old board is the one after some leavings, the new one is the one after one more
+-- if the old board is one after some leavings, the new one is that after one more
 abbrev pub GainsLeaving : ℕ × Leaving → BoardValue Seen → BoardValue Seen → Type 0
 GainsLeaving one old new =
     (ports : ℕ) (left : PortLeavings) (meters : List Seen) → old ≡ board_after ports left meters

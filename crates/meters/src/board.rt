@@ -43,7 +43,8 @@ impl<M: Meter> Board<M> {
     /// leaves and is dropped; before that, its records are added after those of the meters that
     /// left earlier.
     ///
-    /// An error means that memory ran out; then nothing is known of the meters and the records.
+    /// # Errors
+    /// Only out of memory; then nothing is known of the meters and the records.
     #[inline(never)]
     pub fn note(&mut self, port: u32, leaving: &Leaving) -> Result<(), AllocError>
         ensures noted { OnOk result (map M.seen self.new.meters

@@ -62,7 +62,7 @@ impl Meter for Recorder {
     }
 }
 
-/// A meter that is complete, and leaves, when it has recorded `most` leavings, and has no flow
+/// A meter that is complete, and leaves, when it has recorded `most` leavings. It has no flow
 /// records.
 #[derive(Drop)]
 pub struct FirstN {

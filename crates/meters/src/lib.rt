@@ -3,10 +3,9 @@
 //!
 //! A `Meter` is at a port and keeps the leavings that it recorded, in order. Contracts know its
 //! port, that list, and what its kind says of every list: whether it is complete, so that the
-//! meter leaves, and which flow records it has. A `Board` has meters of one type, as boxes of
-//! whatever kinds its maker has. After any leavings its meters are the kept meters of the
-//! definition, each with all leavings of its port, and it has the records of those that left, in
-//! order.
+//! meter leaves, and which flow records it has. A `Board` has meters of one type, for example
+//! boxes of several kinds. After any leavings its meters are the kept meters of the definition,
+//! each with all leavings of its port, and it has the records of those that left, in order.
 //!
 //! ```text
 //! let mut board = Board::new(meters, 0b1000); // keeps the meters of port 3

@@ -1,4 +1,4 @@
-//! What each kind of meter promises.
+//! What each kind of meter does: the trait `Meter`.
 ghost use Rattle.std.specs.Prelude.{◌≡◌, length, IfOk};
 ghost use Rattle.meters.specs.Meters.{IsNoted, flow_records_of};
 ghost use Rattle.meters.specs.Seen.{Seen};
@@ -18,7 +18,7 @@ pub enum Stay {
     NoMemory,
 }
 
-/// A recorder at a port, whose meaning is the list of the leavings that it recorded.
+/// A recorder at a port, which keeps the list of the leavings that it recorded.
 pub trait Meter: Drop {
     /// What contracts know about it.
     ghost seen: { Self → Seen };

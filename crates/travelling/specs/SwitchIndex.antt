@@ -14,11 +14,11 @@ is_marked masks i s = has (mask_at masks (i / 64) s) (i % 64)
 abbrev pub has_marks : List ℕ → ℕ → ℕ → Bool
 has_marks masks block s = not (mask_at masks block s == 0)
 
--- flipped, if it is to
+-- the second flag, flipped if the first one is true
 abbrev pub flipped_if : Bool → Bool → Bool
 flipped_if turns was = if turns then not was else was
 
--- none from one number up to another is marked at the switch
+-- no number from one up to another is marked at the switch
 abbrev pub IsNoneMarked : List ℕ → ℕ → ℕ → ℕ → Type 0
 IsNoneMarked masks switch from end =
     (i : ℕ) → from ≤ i → i < end → is_marked masks i switch ≡ false
@@ -28,12 +28,12 @@ abbrev pub IsLeastMarked : List ℕ → ℕ → ℕ → ℕ → Type 0
 IsLeastMarked masks switch from least = (from ≤ least) × (is_marked masks least switch ≡ true)
     × IsNoneMarked masks switch from least
 
--- the least number at or above `from` that is marked at the switch; none if none is
+-- the least number at or above `from` that is marked at the switch; `None` if there is none
 abbrev pub IsNextMarked : List ℕ → ℕ → ℕ → Option ℕ → Type 0
 IsNextMarked masks switch from next = MatchOption next
     ((i : ℕ) → from ≤ i → is_marked masks i switch ≡ false) (IsLeastMarked masks switch from)
 
--- that number, if it is of the block of `from`; none if none of that block is marked
+-- that number, if it is in the block of `from`; `None` if there is none from there on in the block
 abbrev pub IsNextInBlock : List ℕ → ℕ → ℕ → Option ℕ → Type 0
 IsNextInBlock masks switch from next = MatchOption next
     (IsNoneMarked masks switch from ((from / 64 + 1) * 64)) (IsLeastMarked masks switch from)

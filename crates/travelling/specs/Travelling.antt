@@ -16,7 +16,7 @@ pub record Flight : Type 0 where
   pub version : ℕ
   pub rule : Option ℕ
 
--- for each number, what is known of its packet, if that travels
+-- for each number, what is known of its packet, if it travels
 abbrev pub Flights : Type 0
 Flights = List (Option Flight)
 
@@ -28,7 +28,7 @@ abbrev pub WithOne : Flights → ℕ → Option Flight → Flights → Type 0
 WithOne before packet this after =
     (i : ℕ) → flight after i ≡ (if i == packet then this else flight before i)
 
--- the least number at or above `from` of a packet that travels; none if none does
+-- the least number at or above `from` of a packet that travels; `None` if there is none
 abbrev pub IsNextFrom : Flights → ℕ → Option ℕ → Type 0
 IsNextFrom flights from next = MatchOption next
     ((i : ℕ) → from ≤ i → flight flights i ≡ None)
@@ -56,7 +56,7 @@ pub record Standing : Type 0 where
   pub switch : ℕ
   pub down : List ℕ
 
--- on its way, at a switch
+-- a packet on its way, at a switch
 abbrev pub standing_at : ℕ → Flight → Standing
 standing_at switch flight = record {
   packet = flight.tunnel.packet;
@@ -75,7 +75,7 @@ abbrev pub begun_at : Standing → Leg → List ℕ → List ℕ → TunnelValue
 begun_at at leg targets route =
     tunnel_begun at.packet at.header at.ingress leg targets route at.down
 
--- without a set of links it found none down
+-- as contracts see it; without a set of links it found none down
 abbrev pub standing_kept : standing.Standing → Standing
 standing_kept at = record {
   packet = at.packet;
@@ -92,7 +92,7 @@ abbrev pub stands_at : ℕ → Option Flight → Bool
 stands_at switch None = false
 stands_at switch (Some t) = here t.tunnel == switch
 
--- the least number at or above `from` of a packet that is at the switch; none if none is
+-- the least number at or above `from` of a packet at the switch; `None` if there is none
 abbrev pub IsNextAt : Flights → ℕ → ℕ → Option ℕ → Type 0
 IsNextAt flights switch from next = MatchOption next
     ((i : ℕ) → from ≤ i → stands_at switch (flight flights i) ≡ false)
@@ -133,7 +133,7 @@ abbrev pub AreMarked : Flights → List ℕ → Type 0
 AreMarked flights by_switch =
     (i s : ℕ) → s < 64 → is_marked by_switch i s ≡ stands_at s (flight flights i)
 
--- only at switches below 64
+-- packets are only at switches below 64
 abbrev pub StandBelow : Flights → Type 0
 StandBelow flights =
     (i s : ℕ) → 64 ≤ s → stands_at s (flight flights i) ≡ false

@@ -1,9 +1,9 @@
 //! The packets that are on their way, by their numbers.
 //!
 //! `Travelling` keeps what is known of each packet that travels: its tunnel, and the version and
-//! the rule of its decision. It promises that each call changes only the packet of its number, and
-//! that `next` finds the least number of one that travels. To make a `Standing` or its links may
-//! allocate, and so may `put`; no other call does.
+//! the rule of its decision. Each call changes only the packet of its number, and `next` returns
+//! the least number of a packet that travels. Only `put`, `links_of`, `standing` and `mark_down`
+//! may allocate.
 //!
 //! ```text
 //! let mut travelling = Travelling::new(alloc);

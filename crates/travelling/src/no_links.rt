@@ -1,4 +1,4 @@
-//! The set of no link, which is kept once.
+//! The empty set of links, which is kept once.
 ghost use Rattle.std.specs.Prelude.{◌≡◌, IfOk};
 ghost use Rattle.failover.specs.Links.{no_links};
 
@@ -6,7 +6,7 @@ use journal::{DownSet, SharedLinks};
 use std::alloc::{AllocError, Global};
 use std::marker::Model;
 
-/// The set of no link, to be shared. It is made when it is first needed.
+/// The empty set of links, to be shared. It is made when it is first needed.
 #[derive(Drop)]
 pub struct NoLinks {
     made: Option<SharedLinks>,
@@ -24,12 +24,12 @@ impl Model for NoLinks {
 }
 
 impl NoLinks {
-    /// It isn't made yet.
+    /// A set that isn't made yet.
     pub fn new() -> NoLinks {
         NoLinks { made: None }
     }
 
-    /// The set of no link, shared.
+    /// Shares the empty set.
     ///
     /// # Errors
     /// Only out of memory.

@@ -24,7 +24,7 @@ pub struct Standing {
 }
 
 impl Standing {
-    /// The link from the switch where it is to this other one was found down.
+    /// Adds the link from its switch to this other one to the links that it found down.
     ///
     /// # Errors
     /// Only out of memory; then nothing changes.
@@ -46,7 +46,7 @@ impl Standing {
         Ok(())
     }
 
-    /// The links that it found down, if it found one.
+    /// The links that it found down; `None` if it found none.
     pub fn links(&self) -> Option<&DownSet>
         ensures { unwrap_or (option_copied result) no_links ≡ (standing_kept self.now).down }
     {

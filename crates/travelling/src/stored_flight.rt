@@ -100,7 +100,7 @@ impl StoredFlight {
         self.leg
     }
 
-    /// The switches of its leg, the first of which is asked first.
+    /// The targets of its leg, the primary first.
     pub fn targets(&self) -> &Targets
         ensures { result.now ≡ self.now.tunnel.targets }
     {
@@ -130,7 +130,7 @@ impl StoredFlight {
         self.place
     }
 
-    /// The switch after that one on its route; `None` exactly at the route's end.
+    /// The next switch on its route; `None` exactly at the route's end.
     pub fn next(&self) -> Option<u32>
         ensures { result ≡ next self.now.tunnel }
     {

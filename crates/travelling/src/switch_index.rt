@@ -1,9 +1,9 @@
 //! Where packets are: a bit for each packet and each switch.
 //!
-//! The bits of a block, 64 packets, are in one mask for each switch. Bits of the same form say
-//! which of these masks have one, and more such bits which of those masks have one. So a search
-//! for the packets at a switch reads no packet, and skips 262,144 of them by one mask if none is
-//! there.
+//! The bits of a block of 64 packets are in one mask for each switch. A second level of such masks
+//! says which masks of the first have a bit, and a third level which masks of the second have one.
+//! So a search for the packets at a switch reads no packet, and skips 262,144 of them by one mask
+//! if none is there.
 ghost use Rattle.std.specs.Prelude.{◌≡◌, ◌+◌, ◌*◌, ◌/◌, ◌<◌, ◌≤◌, ◌==◌, ◌&&◌, ℕ, [], false, true, length, max, slice_index_or, OnOk};
 ghost use Rattle.travelling.specs.SwitchIndex.{AreOfBlocks, IsLeastMarked, IsNextInBlock, IsNextMarked, flipped_if, has_marks, is_marked};
 ghost use Rattle.travelling.specs.Travelling.{stands_at};
@@ -13,7 +13,7 @@ use base::only_if;
 use std::alloc::{AllocError, Global};
 use std::marker::Model;
 
-/// The marks of where packets are. Contracts see those of the packets.
+/// The marks of where packets are. Contracts see the first level.
 #[derive(Drop)]
 pub struct SwitchIndex {
     packets: Vec<u64>,
@@ -35,7 +35,7 @@ impl Model for SwitchIndex {
 }
 
 impl SwitchIndex {
-    /// No packet is marked. It allocates nothing yet.
+    /// An index without marks; it allocates nothing yet.
     pub fn new(alloc: Global) -> SwitchIndex
         ensures { result ≡ [] }
     {
@@ -48,6 +48,9 @@ impl SwitchIndex {
 
     /// Makes sure that there is a bit for the packet of this number. Each new mask is pushed, so
     /// that n packets take O(n) in all.
+    ///
+    /// # Errors
+    /// Only out of memory.
     pub fn make_bits(&mut self, number: usize) -> Result<(), AllocError>
         requires { number < 4_294_967_296 }
         ensures room { OnOk result (number + 64 ≤ length self.new) }
@@ -106,7 +109,7 @@ impl SwitchIndex {
     }
 }
 
-// Makes sure that there are masks up to that of this number at each switch.
+// Makes sure that there is a mask for this number at each switch.
 fn make_masks(masks: &mut Vec<u64>, number: usize) -> Result<(), AllocError>
     requires { number < 4_294_967_296 }
     ensures room { OnOk result (number + 64 ≤ length masks.new.items) }
@@ -172,7 +175,7 @@ fn next_marked(masks: &[u64], from: usize, switch: u32) -> Option<usize>
     None
 }
 
-// That number, if it is of the block of `from`.
+// The same, if that number is in the block of `from`; otherwise `None`.
 fn next_in_block(masks: &[u64], from: usize, switch: u32) -> Option<usize>
     requires { switch < 64 }
     ensures { IsNextInBlock masks.now switch from result }

@@ -44,7 +44,7 @@ impl Model for Travelling {
 }
 
 impl Travelling {
-    /// No packet travels. It allocates nothing yet.
+    /// A table without packets; it allocates nothing yet.
     pub fn new(alloc: Global) -> Travelling
         ensures { result ≡ [] }
     {
@@ -63,7 +63,7 @@ impl Travelling {
         matches!(self.slots.get(packet as usize), Some(Some(_)))
     }
 
-    /// What is kept of the packet, if it travels.
+    /// What is kept of the packet; `None` if it doesn't travel.
     pub fn look(&self, packet: u32) -> Option<&StoredFlight>
         ensures { option_copied result ≡ flight self.now packet }
     {
@@ -73,7 +73,7 @@ impl Travelling {
         }
     }
 
-    /// The packet travels from now on, with this known of it.
+    /// Puts a packet on its way, with what is kept of it.
     ///
     /// # Errors
     /// Only out of memory.
@@ -103,7 +103,7 @@ impl Travelling {
         move_slot(&mut self.slots, &mut self.by_switch, packet as usize, place);
     }
 
-    /// The packet no longer travels. Returns whether it did.
+    /// Removes the packet: it no longer travels. Returns whether it did.
     pub fn remove(&mut self, packet: u32) -> bool
         ensures was { result ≡ is_some (flight self.old packet) }
         ensures after { WithOne self.old packet None self.new }
@@ -131,7 +131,7 @@ impl Travelling {
         }
     }
 
-    /// The least number at or above `from` of a packet that travels.
+    /// The least number at or above `from` of a packet that travels; `None` if there is none.
     pub fn next(&self, from: u32) -> Option<u32>
         ensures { IsNextFrom self.now from result }
     {
@@ -143,7 +143,7 @@ impl Travelling {
         }
     }
 
-    /// The least number at or above `from` of a packet that is at the switch.
+    /// The least number at or above `from` of a packet at the switch; `None` if there is none.
     pub fn next_at(&self, from: usize, switch: u32) -> Option<u32>
         ensures { IsNextAt self.now switch from result }
     {
@@ -186,7 +186,7 @@ fn first_held(slots: &[Option<HeldFlight>], from: usize) -> usize
     number
 }
 
-// The slot holds this from now on, and its packet is marked where it is.
+// Replaces what the slot holds, and marks its packet where it is.
 fn set_slot(
     slots: &mut Vec<Option<HeldFlight>>,
     by_switch: &mut SwitchIndex,
