@@ -17,13 +17,13 @@ pub record StepOfRow : Type 0 where
   pub row : ℕ
   pub step : Step
 
--- the journal once the steps wrote their pieces, one after another
+-- the journal after the steps wrote their pieces, one after another
 abbrev pub after_steps : Setting → List Item → List StepOfRow → List Item
 after_steps setting before [] = before
 after_steps setting before (next ∷ steps) =
     after_steps setting (before ++ piece setting before next.row next.step) steps
 
--- the journal is the pieces of steps of the network, whatever steps, one after another
+-- the journal is the pieces of any steps of the network, one after another
 pub record IsReached (setting : Setting) (journal : List Item) : Type 0 where
   pub steps : List StepOfRow
   pub own : All (λ next. IsStep setting.net (length setting.files) next.step) steps
@@ -45,7 +45,7 @@ AreAll setting next row before (first ∷ steps) =
     (first.row ≡ row) × (next before ≡ Some first.step)
     × AreAll setting next row (before ++ piece setting before first.row first.step) steps
 
--- the same for the first ones, after which others may come
+-- after this journal, these are first steps of the row, each the next one; others may follow
 abbrev pub AreSome : Setting → (List Item → Option Step) → ℕ → List Item → List StepOfRow → Type 0
 AreSome setting next row before [] = ⊤
 AreSome setting next row before (first ∷ steps) =
@@ -60,7 +60,7 @@ AreStepsOf setting row (One step) before steps = steps ≡ record { row = row; s
 AreStepsOf setting row Flush before steps = AreAll setting next_delivery row before steps
 AreStepsOf setting row Drain before steps = AreAll setting next_hop row before steps
 
--- and these are its first steps
+-- after this journal, these are first steps of the event of the row
 abbrev pub AreFirstStepsOf : Setting → ℕ → Event → List Item → List StepOfRow → Type 0
 AreFirstStepsOf setting row (One step) before steps =
     (steps ≡ []) ⊎ (steps ≡ record { row = row; step = step } ∷ [])
@@ -79,8 +79,8 @@ AreSteps setting row (event ∷ events) before steps =
     × AreStepsOf setting row event before mine
     × AreSteps setting (row + 1) events (after_steps setting before mine) rest
 
--- and these are the first steps of the events: only of the first event, or all of these and then
--- first ones of the others
+-- after this journal, these are first steps of the events: first ones of the first event, or all of
+-- its steps and then first ones of the others
 abbrev pub AreFirstSteps : Setting → ℕ → List Event → List Item → List StepOfRow → Type 0
 AreFirstSteps setting row [] before steps = steps ≡ []
 AreFirstSteps setting row (event ∷ events) before steps =

@@ -1,4 +1,4 @@
--- First tier. What a journal says before ends, failures and updates. The notion is our own.
+-- First tier. What must be in a journal before ends, failures and updates. The notion is our own.
 use Rattle.std.specs.Prelude.{[], ◌&&◌, ◌++◌, ◌==◌, ◌||◌, ◌∷◌, ◌≡◌, ◌⊎◌, All, Bool, Contains, IsFalse, IsTrue, List, None, Option, Some, false, not, option_to_list, true, ℕ, ⊤}
 use Rattle.base.specs.Exports.{list_any}
 use Rattle.five_tuple.specs.declared.header.Header.{Header}
@@ -82,7 +82,7 @@ AreTargets setting before packet (Exit port) targets =
     × (option_to_list (owner_of setting.net.switches port) ≡ targets)
 
 -- a packet is stuck where it is, at a switch that serves: over the links that the switch knows,
--- except those that the packet found down, no way leads to any target of its leg
+-- except those that the packet found down, no walk leads to any target of its leg
 pub record IsStuckRightly (setting : Setting) (before : List Item) (packet switch : ℕ) (leg : Leg)
     : Type 0 where
   pub stands : standing before packet ≡ Some switch

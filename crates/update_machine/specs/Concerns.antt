@@ -33,7 +33,7 @@ concerns_switch s before (item.Expired switch place message) = switch == s
 concerns_switch s before (item.Delivered number) = is_message_to before s number
 concerns_switch s before _ = false
 
--- all that names it
+-- all items that name the packet, except `Closed`
 abbrev pub concerns_packet : ℕ → List Item → Item → Bool
 concerns_packet i before (item.Entered packet switch header) = packet == i
 concerns_packet i before (item.Seeking packet version partition route) = packet == i
@@ -60,7 +60,7 @@ abbrev pub is_message_to_controller : List Item → ℕ → Bool
 is_message_to_controller before number =
     option_map_or (λ message. is_to_controller message.to) (message_of before number) false
 
--- a switch may serve after it
+-- a body after which a switch may serve
 abbrev pub is_opening : Body → Bool
 is_opening (OpenAt boot version) = true
 is_opening _ = false
@@ -90,7 +90,7 @@ concerns_policies before item = is_submission item
 abbrev pub concerns_lookups : ℕ → List Item → Item → Bool
 concerns_lookups s before item = concerns_switch s before item || concerns_policies before item
 
--- it went down, or is no longer waited for
+-- it went down, or the controller no longer waits for it
 abbrev pub concerns_waiting : ℕ → List Item → Item → Bool
 concerns_waiting s before (item.Down switch) = switch == s
 concerns_waiting s before (item.OverNow switch) = switch == s
@@ -125,7 +125,7 @@ concerns_message n before (item.Delivered number) = number == n
 concerns_message n before (item.Forgotten number) = number == n
 concerns_message n before _ = false
 
--- some message is
+-- some message is sent, delivered or forgotten
 abbrev pub concerns_messages : List Item → Item → Bool
 concerns_messages before (item.Sent number message) = true
 concerns_messages before (item.Delivered number) = true

@@ -37,8 +37,8 @@ abbrev pub has_changed : Setting → List Item → List Item → ℕ → Bool
 has_changed setting before journal s =
     is_up journal s && not (near setting before s == near setting journal s)
 
--- what the switch sends a neighbour: all adverts that it has over a link that became usable, only
--- its own over another one
+-- what the switch sends a neighbour: over a link that became usable all adverts that it has, over
+-- any other one only its own
 abbrev pub messages_over : Setting → List Item → List Item → ℕ → ℕ → List Message
 messages_over setting before journal s neighbour = elim (has (near setting before s) neighbour) [
   | true ↦ advert_to neighbour (own_advert setting journal s) ∷ []
@@ -64,7 +64,7 @@ passed_on setting journal s advert =
     map (λ neighbour. advert_to neighbour advert)
     (switches_in setting (near setting journal s))
 
--- the advert is another's, and is newer than the one that the switch knew
+-- the advert is of another switch, and newer than the one that the switch knew, if any
 abbrev pub is_news_to : Setting → List Item → ℕ → Advert → Bool
 is_news_to setting before s advert =
     not (advert.origin == s) && is_news (adverts_known setting before s) advert
@@ -93,7 +93,7 @@ switch_items setting before s _ journal = []
 abbrev pub is_new_boot : List Item → ℕ → ℕ → Bool
 is_new_boot before s boot = nat_lt (known_boot before s) boot
 
--- after such a hello the switch is sent its tables
+-- after such a hello the controller sends the switch its tables
 abbrev pub after_hello : Setting → List Item → Body → List Item → List Item
 after_hello setting before (Hello s boot) journal = elim (is_new_boot before s boot) [
   | true ↦ installs_to setting s journal
@@ -107,8 +107,8 @@ controller_items setting before body journal =
 
 -- ---- a delivery
 
--- what the receiver does after the `Delivered`: a switch that is down does nothing, nor does one
--- for a message of another boot
+-- what the receiver does after the `Delivered`: a switch does nothing if it is down, or the message
+-- is for another boot
 abbrev pub received_items : Setting → List Item → ℕ → Message → List Item → List Item
 received_items setting before number message journal = elim message.to [
   | receiver.Controller ↦ controller_items setting before message.body journal

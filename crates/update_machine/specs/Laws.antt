@@ -41,7 +41,7 @@ pub record PacketStarts (i : ℕ) : Type 0 where
   pub next : next_switch [] i ≡ None
   pub found : found_down [] i ≡ no_links
 
--- nor of a message that wasn't sent
+-- nothing is said of a message that wasn't sent
 pub record MessageStarts (n : ℕ) : Type 0 where
   pub message : message_of [] n ≡ None
   pub delivered : was_delivered [] n ≡ false

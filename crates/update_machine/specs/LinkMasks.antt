@@ -42,7 +42,7 @@ adverts_of_others setting journal s =
     after_hearing_all (adverts_begun setting journal s) (adverts_heard journal s)
 
 -- the links that the switch knows by what it heard and by what it sees itself, except those that
--- are down: for each switch those to which it has one
+-- are down: for each switch the switches to which it has one
 abbrev pub links_known : Setting → List Item → ℕ → List ℕ → List ℕ
 links_known setting journal s down =
     known_links (adverts_of_others setting journal s) s (near setting journal s) down

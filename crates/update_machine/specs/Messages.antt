@@ -32,7 +32,7 @@ is_forgotten journal number = nat_lt 0 (count_of (is_forgetting number) journal)
 unfoldable pub was_delivered : List Item → ℕ → Bool
 was_delivered journal number = nat_lt 0 (count_of (is_delivery number) journal)
 
--- it was sent and isn't forgotten, so it may be delivered, also again
+-- it was sent and isn't forgotten, so it may be delivered, perhaps again
 unfoldable pub is_deliverable : List Item → ℕ → Bool
 is_deliverable journal number =
     is_some (message_of journal number) && not (is_forgotten journal number)

@@ -174,7 +174,7 @@ lookup_items setting i s journal =
 -- ---- on the way
 
 -- a packet that arrives by its leg: at its port, at an authority switch that has its version, or
--- at one that hasn't and looks it up again
+-- at one that doesn't have it and looks the packet up again
 abbrev pub arrive_by : Setting → ℕ → ℕ → Option Leg → List Item → List Item
 arrive_by setting i s None journal = []
 arrive_by setting i s (Some (Exit port)) journal = leaving_item journal i port ∷ []

@@ -1,5 +1,5 @@
--- Packets, messages and versions are numbered from 1 without a gap, in the order in which they came
--- in, were sent or were submitted.
+-- Packets, messages and versions are numbered from 1 without a gap, in the order in which they
+-- came, were sent or were submitted.
 use Rattle.std.specs.Prelude.{[], ◌+◌, ◌↔◌, ◌∷◌, ◌≡◌, ◌≤◌, IsTrue, List, ℕ, ⊤}
 use Rattle.base.specs.Exports.{range_with_len}
 use Rattle.journal.specs.declared.item.Item.{Item}

@@ -1,4 +1,4 @@
--- The ways of packets: their routes, the links that they found down, and the targets of their legs.
+-- The routes of packets, the links that they found down, and the targets of their legs.
 -- They enter at an ingress switch, seek an authority switch and exit by a switch of their port,
 -- as in Yu, Rexford, Freedman and Wang, "Scalable Flow-Based Networking with DIFANE", SIGCOMM 2010.
 use Rattle.std.specs.Prelude.{[], if◌then◌else◌, ◌+◌, ◌==◌, ◌∷◌, List, None, Option, Some, option_map, slice_get, unwrap_or, ℕ}

@@ -1,7 +1,7 @@
 -- A quiet network: no switch is down that the controller waits for, and each message that still
 -- matters was received. The notion is our own; that of a newer advert is OSPF's (RFC 2328, section
--- 13.1). It is said of any journal: a message was delivered if a `Delivered` of its number follows
--- its sending.
+-- 13.1). It is defined for any journal: a message was delivered if a `Delivered` of its number
+-- follows its sending.
 use Rattle.std.specs.Prelude.{[], if◌then◌else◌, ◌&&◌, ◌==◌, ◌||◌, ◌∷◌, ◌≡◌, ◌⊎◌, All, Bool, IsTrue, List, None, Option, Some, false, nat_lt, not, true, unwrap_or, ℕ, ⊤}
 use Rattle.base.specs.Exports.{list_any, option_map_or}
 use Rattle.ctrl_msg.specs.Exports.{body_boot}
@@ -54,9 +54,9 @@ abbrev pub begins_boot : ℕ → Item → Bool
 begins_boot s (item.Booted switch boot) = switch == s
 begins_boot s _ = false
 
--- of a switch that is up: what it says in its boot to the controller, except for old
--- acknowledgements; and what was sent to it since that boot began and is an advert or for that
--- boot, except for old tables. The message is one of the journal, with these items after it
+-- the message, with these items after it in the journal, matters to a switch that is up: the switch
+-- says it in its boot to the controller, and it is no old acknowledgement; or it was sent to the
+-- switch since that boot began, is an advert or for that boot, and has no old tables
 abbrev pub matters : List Item → ℕ → Message → List Item → Bool
 matters journal s message after = elim message.to [
   | receiver.Controller ↦
@@ -81,14 +81,14 @@ is_later_body (Advertise advert) (Advertise earlier) =
     advert.origin == earlier.origin && is_newer advert earlier
 is_later_body _ _ = false
 
--- it is to the same receiver, and says the same or more
+-- the later message is to the same receiver, and says the same, or something later
 pub record Replaces (later earlier : Message) : Type 0 where
   pub receiver : later.to ≡ earlier.to
   pub says : (later.body ≡ earlier.body) ⊎ IsTrue (is_later_body later.body earlier.body)
 
 -- ---- quiet
 
--- one of these items sends what replaces the message, and that is delivered later
+-- one of these items sends a message that replaces this one, and that is delivered later
 abbrev pub IsReplaced : Message → List Item → Type 0
 IsReplaced message [] = ⊥
 IsReplaced message (item.Sent number later ∷ after) =

@@ -42,7 +42,7 @@ collect_for journal version s = to_switch s (Collect (known_boot journal s) vers
 
 -- ---- settling
 
--- a mark rises as far as it may, and the members are told
+-- a mark rises as far as it may, and a message is sent to each member
 abbrev pub raised_items : (List Item → ℕ) → (Setting → List Item → ℕ) → (ℕ → Item)
     → (List Item → ℕ → ℕ → Message) → Setting → List Item → List Item
 raised_items mark next says tells setting journal =
@@ -65,7 +65,7 @@ opening_switches setting journal =
     filter (λ s. is_joining journal s && has_acked journal s (current_mark journal))
     (switches_of setting)
 
--- they are told to serve
+-- these switches are told to serve
 unfoldable pub open_items : Setting → List Item → List Item
 open_items setting journal =
     send_items journal (map (open_for journal (current_mark journal))
@@ -76,7 +76,7 @@ unfoldable pub retired_items : Setting → List Item → List Item
 retired_items setting journal =
     raised_items retired_mark next_retired item.Retired collect_for setting journal
 
--- each part only if there is something
+-- the three parts, one after another
 unfoldable pub settling : Setting → List Item → List Item
 settling setting journal =
     in_turn (current_items setting ∷ open_items setting ∷ retired_items setting ∷ []) journal
@@ -108,7 +108,7 @@ submitted_items setting journal =
 
 -- ---- sending again
 
--- the tables of those of the versions that the switch didn't acknowledge
+-- of these versions, the tables of those that the switch didn't acknowledge
 abbrev pub unacked_installs : Setting → List Item → ℕ → List ℕ → List Message
 unacked_installs setting journal s versions =
     map (λ version. install_for setting journal version s)

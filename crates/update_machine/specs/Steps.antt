@@ -9,7 +9,7 @@ pub record StepItems : Type 0 where
   pub before : List Item
   pub items : List Item
 
--- one more item of the newest step
+-- the steps with one more item of the newest one
 abbrev pub with_item : List StepItems → Item → List StepItems
 with_item [] item = []
 with_item (newest ∷ steps) item = record newest { items = newest.items ++ item ∷ [] } ∷ steps

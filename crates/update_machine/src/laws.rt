@@ -12,8 +12,8 @@ ghost use Rattle.update_machine.specs.Folds.{all_given, count_of, folded_value, 
 ghost use Rattle.update_machine.specs.Setting.{first_given};
 ghost use Rattle.update_machine.specs.declared.full.TheConstants.{FULL_AT};
 
-/// What a journal says once more items follow it: a law for each of the folds, over whatever an
-/// item says.
+/// What a journal says after more items follow it: a law for each of the folds, whatever an item
+/// says.
 #[tactic(auto, using(crate::proofs::FoldLemmas::last_given_append, crate::proofs::FoldLemmas::first_given_append, crate::proofs::FoldLemmas::folded_append))]
 pub fn journals_grow<X>()
     ensures last { (tells : Item → Option X) (before items : List Item)
@@ -31,8 +31,8 @@ pub fn journals_grow<X>()
         ≡ folded_from changes before (folded_value changes start before) items }
 {}
 
-/// A schedule has at most one answer, and at most one of each number of steps; an answer is one of
-/// its own number of steps, and what has some number of steps is a beginning of itself.
+/// A schedule has at most one answer, and for each number of steps at most one journal of its first
+/// steps. An answer is such a journal, and each such journal is a beginning of an answer.
 pub fn answers_are_one()
     ensures one { (setting : Setting) (events : List Event) (one other : List Item)
         → Answers setting events one → Answers setting events other → one ≡ other }
@@ -46,8 +46,8 @@ pub fn answers_are_one()
 {}
 
 /// A schedule has an answer exactly if each of its events has all its steps, so if each flush and
-/// each drain ends; a schedule of single steps always has one. An answer is continued by the steps
-/// of one more event.
+/// each drain ends; a schedule of single steps always has one. The steps of one more event continue
+/// an answer.
 pub fn answers_exist()
     ensures exactly { (setting : Setting) (events : List Event)
         → AreAnswered setting events ↔ HaveSteps setting events }
@@ -58,10 +58,10 @@ pub fn answers_exist()
         → Answers setting (events ++ event ∷ []) (after_steps setting journal steps) }
 {}
 
-/// A schedule has at most one play, and one if it has an answer: if a play stops full, no other
-/// one goes on or stops elsewhere. Its journal answers the steps that it has, and so is the
-/// beginning of an answer. A journal is full exactly if it has as many items of sent messages as
-/// the code's constant says.
+/// A schedule has at most one play, and one if it has an answer: if a play stops full, no other one
+/// continues or stops elsewhere. The journal of a play that stops is that of its first steps, so it
+/// is a beginning of an answer. A journal is full exactly if it has at least `FULL_AT` items of
+/// sent messages.
 pub fn plays_are_one()
     ensures one { (setting : Setting) (events : List Event) (one other : List Item)
         (stop halt : Option ℕ) → IsPlay setting events one stop → IsPlay setting events other halt
@@ -87,8 +87,8 @@ pub fn answers_are_numbered()
 /// plan if all versions before it exist; in an answer each version from 1 to their count exists
 /// (`answers_are_numbered`). The plan is that of the policy. The first version has the policy of
 /// the first file, and the version that is submitted next has the next policy: what its file makes
-/// of the policy of the newest version. In a sound setting each policy is one, and names ports of
-/// the network only.
+/// of the policy of the newest version. If the setting satisfies `IsSetting`, each policy satisfies
+/// `IsPolicy` and names only ports of the network.
 pub fn versions_keep_policies()
     ensures there { (before items : List Item) (version : ℕ) → IsTrue (is_version before version)
         → IsTrue (is_version (before ++ items) version) }
