@@ -61,7 +61,7 @@ impl Model for Deliveries {
 }
 
 impl Deliveries {
-    /// No messages yet; it allocates nothing yet.
+    /// No messages; it allocates nothing yet.
     pub fn new(alloc: Global) -> Deliveries
         ensures { result ≡ [] }
     {

@@ -42,7 +42,7 @@ impl Model for Firsts {
 }
 
 impl Firsts {
-    /// No first frames yet; it allocates nothing yet.
+    /// No first frames; it allocates nothing yet.
     pub fn new(alloc: Global) -> Firsts
         ensures { result ≡ [] }
     {

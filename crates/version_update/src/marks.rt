@@ -18,7 +18,7 @@ const MAX_LIVE: u32 = 8;
 /// Bit s of a mask names the switch s.
 #[derive(Clone, Copy, Debug, PartialEq, Eq)]
 pub struct Settled {
-    /// Whether the report was recorded: not one of another boot or in the wrong phase.
+    /// Whether the report was recorded, and not ignored for its boot or the phase of the switch.
     pub taken: bool,
     /// The current version, if it rose.
     pub current: Option<u32>,
