@@ -6,7 +6,7 @@ use Rattle.policy_rules.specs.declared.rules.Rule.{Rule}
 use Rattle.cut_tree.specs.Narrow.{narrow}
 use Rattle.cut_tree.specs.declared.choice.Cost.{Cost}
 
--- the rules of the half in which the bit is 1, or 0
+-- the rules of the half in which the bit is 1 if `one` is true, otherwise 0
 abbrev pub side_of : List Rule → WordValue → ℕ → Bool → List Rule
 side_of rules region bit one = narrow rules (fix_of region bit one)
 

@@ -11,7 +11,7 @@ IsOneHeader region = (bit : ℕ) → bit < 104 → IsTrue (is_fixed_of region bi
 abbrev pub LiesIn : WordValue → Rule → Type 0
 LiesIn region rule = IsTrue (covers_of region rule.word)
 
--- the words of the rules
+-- the words of the rules satisfy `IsWord`
 abbrev pub AreWords : List Rule → Type 0
 AreWords rules = All (λ rule. IsWord rule.word) rules
 

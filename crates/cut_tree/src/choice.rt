@@ -133,8 +133,8 @@ fn fix_many(one: &Rule, other: &Rule, region: &Word) -> bool
     !fixes_few(&one.word, region) && !fixes_few(&other.word, region)
 }
 
-/// For each bit, the half of a region in which the bit is 1 (or 0, by `one`), and how many rules
-/// that half keeps.
+/// For each bit, how many rules one half of a region keeps: that in which the bit is 1 if `one` is
+/// true, otherwise 0.
 #[derive(Clone, Copy)]
 pub struct Side {
     pub one: bool,

@@ -6,7 +6,7 @@ pub fn narrow_laws()
     ensures { NarrowLaws }
 {}
 
-/// A list of rules has exactly one tree, and `tree_of` returns it.
+/// A list of rules has exactly one tree for each cap, and `tree_of` returns it.
 pub fn tree_laws()
     ensures { TreeLaws }
 {}

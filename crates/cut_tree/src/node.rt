@@ -51,7 +51,7 @@ impl Node {
         }
     }
 
-    /// The half of this node in which the bit is 1 (or 0, by `one`).
+    /// The half of this node in which the bit is 1 if `one` is true, otherwise 0.
     ///
     /// # Errors
     /// Only out of memory.

@@ -7,7 +7,7 @@
 //! each in one block. Laws, functions with an empty body, ensure the same for proofs in which no
 //! call runs.
 //!
-//! A caller, which imports `option_map` from std, `prefix_matches` from `specs/Matching.antt` and
+//! A caller, which imports `option_map` from std, `prefix_matches` from `specs/Header.antt` and
 //! `prefix_of` from `specs/Texts.antt`:
 //!
 //! ```rust

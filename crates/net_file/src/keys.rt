@@ -14,7 +14,7 @@ pub fn value_at<'a>(table: &'a Table, key: &str) -> Option<&'a Value>
     table.get(key)
 }
 
-/// The number, if it is from `low` to `high`.
+/// The number, if it is from `low` to `high`; otherwise `None`.
 pub fn within(low: u32, high: u32, number: i64) -> Option<u32>
     ensures { result ≡ integer_within low high number }
 {
@@ -24,7 +24,7 @@ pub fn within(low: u32, high: u32, number: i64) -> Option<u32>
     Some(number as u32)
 }
 
-/// The number that a value states. `WrongType` if it is none, `Range` if not from `low` to `high`.
+/// The integer that a value is; `WrongType` for any other value, `Range` if not from `low` to `high`.
 pub fn number_in(low: u32, high: u32, value: &Value) -> Result<u32, NetRefusal>
     ensures { result ≡ number_stated low high (view value.now) }
 {
@@ -48,7 +48,7 @@ pub fn setting_of(
     }
 }
 
-/// The values of an array; `WrongType` if the value is none.
+/// The values of an array; `WrongType` for any other value.
 pub fn array_in(value: &Value) -> Result<&[Value], NetRefusal>
     ensures { IsRead seen_values (array_in (view value.now)) result }
 {
@@ -58,7 +58,7 @@ pub fn array_in(value: &Value) -> Result<&[Value], NetRefusal>
     }
 }
 
-/// The keys of a table; `WrongType` if the value is none.
+/// The keys of a table; `WrongType` for any other value.
 pub fn table_in(value: &Value) -> Result<&Table, NetRefusal>
     ensures { IsRead (λ keys. table_view keys.now) (of_type (as_table (view value.now))) result }
 {
@@ -68,7 +68,7 @@ pub fn table_in(value: &Value) -> Result<&Table, NetRefusal>
     }
 }
 
-/// The text of a value; `WrongType` if the value is none.
+/// The text that a value is; `WrongType` for any other value.
 pub fn text_in(value: &Value) -> Result<&str, NetRefusal>
     ensures { IsRead (λ text. text.now) (of_type (as_str (view value.now))) result }
 {

@@ -25,7 +25,7 @@ by_falling_priority rows = falling_below (2 ^ 32) rows
 abbrev pub with_hit : Row → List WordValue → List (WordValue × Hit)
 with_hit row words = map (λ word. (word, hit_of (Some row))) words
 
--- the same for the words of the row
+-- the words of the row, with what it does with their headers
 abbrev pub entries_of : Row → List (WordValue × Hit)
 entries_of row = with_hit row (words_of_row row)
 

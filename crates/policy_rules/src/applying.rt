@@ -12,7 +12,7 @@ use std::alloc::{AllocError, Global};
 use std::collections::BTreeSet;
 use thiserror::Error;
 
-/// The most rows of a policy or a change, as a file has them, and of a policy that a change makes.
+/// The most rows of a policy file, and of a policy that a change makes.
 pub const MAX_ROWS: usize = 2000;
 
 /// Why a change can't be applied to a policy.

@@ -67,7 +67,7 @@ pub trait Shelf {
 
     /// The whole content of the file `name`, if it has at most `limit` bytes.
     ///
-    /// Any call may run out of memory.
+    /// Otherwise an error that says why not; any call may run out of memory.
     fn read(&mut self, name: &str, limit: u64) -> Result<Vec<u8>, ShelfError>
         ensures same_files { (state self.new).files ≡ (state self.old).files }
         ensures reads { (state self.new).reads ≡ next_count (state self.old).reads }

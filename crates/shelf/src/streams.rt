@@ -2,7 +2,7 @@
 //!
 //! Contracts see the bytes that a reader of std has left (`remaining`) and those that a writer has
 //! (`contents`), if its type says them. Contracts don't see whether a call of std fails. So a
-//! reader here counts its faults: there is an error exactly if the count rose.
+//! reader here counts its faults: the count rises exactly at an error other than out of memory.
 ghost use Rattle.std.specs.Prelude.{◌≡◌, ◌≢◌, ◌≤◌, ◌++◌, if◌then◌else◌, IfErr, IfOk, IfSome, OnOk, length};
 ghost use Rattle.std.specs.Io.KnownBytes.{Keeps, WriteAppends};
 ghost use Rattle.std.specs.IoError.{error_kind};

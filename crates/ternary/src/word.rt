@@ -143,7 +143,7 @@ impl Word {
         (self.mask >> bit) & 1 == 1
     }
 
-    /// The half of this word whose free bit `bit` is 1, or 0.
+    /// The half of this word whose free bit `bit` is 1 if `one` is true, otherwise 0.
     pub fn fix(&self, bit: u32, one: bool) -> Word
         requires bound { bit < 104 }
         requires free { IsFalse (is_fixed_of self.now bit) }
