@@ -1,5 +1,5 @@
 #!/usr/bin/env python3
-"""Checks what desk/ask tells of dead rows: `checks/desk_dead.py`.
+"""Checks what desk/ask prints about dead rows: `checks/desk_dead.py`.
 
 Of 300 policies over few values of each field the dead rows are those that no header reaches, by
 looking at every header. What covers a row does, and nothing less; each other row's header is its

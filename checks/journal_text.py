@@ -1,4 +1,4 @@
-"""What stands in the text of a journal, found by patterns alone, without desk/parts."""
+"""What the text of a journal has, found only by patterns, without desk/parts."""
 import re
 from collections import Counter
 

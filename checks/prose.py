@@ -46,10 +46,6 @@ DIALECT = {
     r"but for (?:an?|the|its|those|that)": "except for",
     r"Let (?:an?|no|such|each|every|the)": "suppose",
     r"less (?:its|their)": "minus",
-}
-PAGES_ONLY = {  # words that comments may have
-    r"(?:None|false|no|exactly|Exactly)`? where": "if",
-    r"behind a blank": "after a blank",
     r"by turns": "one after another",
     r"less those": "except those",
     r"counts? nowhere": "doesn't count",
@@ -64,12 +60,21 @@ PAGES_ONLY = {  # words that comments may have
     r"[Rr]ight behind": "right after",
     r"taken as it stands": "taken as given",
     r"come of (?:the|it|that)": "follow from, come from",
-    r"[Tt]he judge": "the function, by its name",
     r"for (?:lack|want) of": "because there is no",
-    r"(?:is|are|was|were) said of": "says about",
     r"stands": "is, follows, means",
     r"anew": "again",
     r"of then": "of that moment",
+    r"tells? the proof": "for the proof, and what the contract says",
+    r"asked first": "the primary first, said of targets",
+    r"one below another": "on a path",
+    r"that is read is sound": "for the proof, and which invariant the field yields",
+    r"[Ww]rites? (?:it )?at the end": "appends",
+}
+PAGES_ONLY = {  # words that comments may have
+    r"(?:None|false|no|exactly|Exactly)`? where": "if",
+    r"behind a blank": "after a blank",
+    r"[Tt]he judge": "the function, by its name",
+    r"(?:is|are|was|were) said of": "says about",
 }
 
 

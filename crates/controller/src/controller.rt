@@ -64,7 +64,7 @@ impl Controller {
         ensures rule { IfOk result IsController }
     {
         let switches = net.switches.items().len() as u32;
-        // For the proof: a plan that is read is sound.
+        // For the proof: the contract of `hosted` says that the plan is sound.
         let _ = plan.hosted();
         let mut versions = Vec::new(alloc);
         versions.push(Version::new(alloc, 1, plan, Touched::all(), switches)?)?;
@@ -249,7 +249,7 @@ impl Controller {
             (IsLeft self.old (next_kept self.old plan touched) self.new NoMemory) }
         ensures rule { StaysController self.old self.new }
     {
-        // For the proof: a plan that is read is sound.
+        // For the proof: the contract of `hosted` says that the plan is sound.
         let _ = plan.hosted();
         let number = self.marks.count() + 1;
         let version = Version::new(alloc, number, plan, touched, self.marks.switches())?;

@@ -116,7 +116,7 @@ pub enum Item {
         file: u32,
         code: u32,
     },
-    /// New packets are to be stamped with this version.
+    /// This version became current: members may stamp packets with it.
     Current {
         version: u32,
     },

@@ -8,10 +8,10 @@
 //!
 //! A `Bag` keeps only the frames of each message. All first frames are one after the other in one
 //! vector, so that a message of a few bytes takes a few bytes. The other frames, of tables, are
-//! shared by all installations of the same tables, in whatever boot and to whatever switch. An
-//! advert that `post_shared` posts, and that says the same as its switch's last one to its
-//! receiver, shares that one's message and frames. Tables that differ only in their versions share
-//! all frames except the one that begins with the version, into which its four bytes are written.
+//! shared by all installations of the same tables, for any boot and any switch. If an advert that
+//! `post_shared` posts is equal to the last one of its switch to its receiver, both share the
+//! message and the frames. Tables that differ only in their versions share all frames except the
+//! one that begins with the version, into which its four bytes are written.
 //! So rows and partitions are encoded, cut, assembled and decoded once, and trees to find a rule
 //! are built once: the messages that are taken share the tables that came out of the frames, and
 //! a comparison with these finds tables that are the same.

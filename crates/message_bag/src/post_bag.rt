@@ -63,9 +63,9 @@ impl PostBag {
         }
     }
 
-    /// Posts a message as `post` does, and returns the message too, to be shared. An advert that
-    /// says the same as its switch's last one to its receiver is shared with that one, and so are
-    /// its frames.
+    /// Posts a message as `post` does, and returns the shared message, too. If it is an advert that
+    /// is equal to the last one of its switch to its receiver, both share the message and its
+    /// frames.
     ///
     /// # Errors
     /// Only out of memory, or if the first frames before this message's have 2^32 bytes or more;

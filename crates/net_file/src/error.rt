@@ -20,7 +20,7 @@ pub enum NetRefusal {
     /// A number or a name is outside what its key allows, or there is no switch.
     #[error("a value is out of range")]
     Range = 4,
-    /// An end of a link is no switch's name.
+    /// An end of a link isn't the name of a switch.
     #[error("no switch has the name")]
     UnknownName = 5,
     /// An earlier switch has the name.

@@ -42,7 +42,7 @@ sum_before loaded keys numbers placement partition switch =
 
 -- ---- which switches a partition is put on
 
--- the switch has room for this many rules beside those that it has
+-- the switch has room for this many rules besides those that it has
 unfoldable pub has_room : (ℕ → ℕ) → List ℕ → ℕ → ℕ → Bool
 has_room held rooms size switch =
     nat_lt switch (length rooms) && nat_le (held switch + size) (slice_index rooms switch)
@@ -54,7 +54,7 @@ with_room held rooms size = filter (has_room held rooms size) (range_with_len 0 
 unfoldable pub is_lighter : (ℕ → ℕ) → ℕ → ℕ → Bool
 is_lighter load a b = nat_lt (load a) (load b) || ((load a == load b) && nat_lt a b)
 
--- of the switches that have room beside what they have, these are the first by load: every other
+-- these are the first by load of the switches that have room besides what they have: every other
 -- one comes after all of them
 pub record AreFirst (held load : ℕ → ℕ) (rooms : List ℕ) (size count : ℕ) (targets : List ℕ)
     : Type 0 where
@@ -150,7 +150,7 @@ placement_of sizes rooms backups =
     let turns = in_order (is_earlier sizes) (range_with_len 0 (length sizes)) in
     placement_from sizes rooms backups (replicate (length sizes) []) turns
 
--- the definition by turns satisfies the one by loads
+-- the placement that the function returns satisfies the relation, and so does its refusal
 abbrev pub MeetsPlacement : List ℕ → List ℕ → ℕ → Result (List (List ℕ)) ℕ → Type 0
 MeetsPlacement sizes rooms backups answer =
     MatchResult answer (IsPlacement sizes rooms backups) (LacksRoom sizes rooms backups)

@@ -85,7 +85,7 @@ fn by_falling(alloc: Global, numbers: &[u64]) -> Result<Vec<u32>, AllocError>
     Ok(order)
 }
 
-// The switches that have room for this many rules beside those that they have, by load and then by
+// The switches that have room for this many rules besides those that they have, by load and then by
 // number.
 fn by_load(
     alloc: Global,

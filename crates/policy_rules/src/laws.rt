@@ -16,9 +16,9 @@ pub fn rule_list_laws()
     ensures { RuleListLaws }
 {}
 
-/// A change makes of a policy a policy of at most 2,000 rows, each of which is a row of the old one
-/// or an added one. A header that no removed and no added row matches is decided as before, and any
-/// other by the rows that stay and the added ones: laws about the definitions only.
+/// A policy with a change applied to it is a policy of at most 2,000 rows, each of which is a row
+/// of the old one or an added one. A header that no removed and no added row matches is decided as
+/// before, and any other by the rows that stay and the added ones: laws about the definitions only.
 pub fn amendment_laws()
     ensures { AmendmentLaws }
 {}

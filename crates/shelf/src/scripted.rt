@@ -35,7 +35,7 @@ impl Script {
         }
     }
 
-    /// Counts a call, and returns whether it is to fail; then the count of faults rises.
+    /// Counts a call, and returns whether it fails; if it does, the count of faults rises.
     fn begin_call(&mut self) -> bool
         ensures fails { IsTrue result ↔ FailsNext self.old }
         ensures after { self.new ≡ after_call self.old result }

@@ -21,7 +21,7 @@ pub struct Heard {
     pub opened: Option<u32>,
 }
 
-/// Messages in the order in which they are to be sent.
+/// Messages to send, in order.
 pub type Replies = Items<Message>;
 
 impl Switch {

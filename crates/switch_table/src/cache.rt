@@ -168,7 +168,7 @@ impl Cache {
     /// version has.
     ///
     /// If no entry came with or was carried to this version or a later one, this allocates
-    /// nothing; otherwise what is left is written anew, and then replaces the old entries.
+    /// nothing; otherwise what is left is written to new slots, which then replace the old ones.
     ///
     /// # Errors
     /// Only out of memory; then nothing changes.

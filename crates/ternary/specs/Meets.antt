@@ -54,7 +54,7 @@ meeting_word a b = record {
       b.mask;
 }
 
--- the word of what both hold, if there is such a header
+-- the word of the headers that both hold; `None` if there are none
 unfoldable pub meet_of : WordValue → WordValue → Option WordValue
 meet_of a b = if meets a b then Some (meeting_word a b) else None
 

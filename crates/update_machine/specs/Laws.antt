@@ -28,7 +28,7 @@ use Rattle.update_machine.specs.PacketRoutes.{found_down, next_switch, route_in,
 use Rattle.update_machine.specs.LinkMasks.{near, adverts_begun, adverts_heard, links_known}
 use Rattle.update_machine.specs.Touched.{touched_by}
 
--- nothing is said of a packet that didn't enter
+-- the journal says nothing about a packet that didn't enter
 pub record PacketStarts (i : ℕ) : Type 0 where
   pub header : header_in [] i ≡ None
   pub ingress : ingress_of [] i ≡ None
@@ -41,7 +41,7 @@ pub record PacketStarts (i : ℕ) : Type 0 where
   pub next : next_switch [] i ≡ None
   pub found : found_down [] i ≡ no_links
 
--- nothing is said of a message that wasn't sent
+-- the journal says nothing about a message that wasn't sent
 pub record MessageStarts (n : ℕ) : Type 0 where
   pub message : message_of [] n ≡ None
   pub delivered : was_delivered [] n ≡ false
@@ -91,7 +91,7 @@ pub record StartLaws : Type 0 where
   pub lookup : (setting : Setting) (s : ℕ) (header : Header) →
       lookup_at setting [] s header ≡ table_lookup (tables_at setting [] 1 s) header
 
--- items that don't concern a switch don't change what is said of it
+-- items that don't concern a switch don't change what the journal says about it
 pub record SwitchKeeps (setting : Setting) (s : ℕ) (before after : List Item) : Type 0 where
   pub boot : boot_of after s ≡ boot_of before s
   pub up : is_up after s ≡ is_up before s
@@ -101,7 +101,7 @@ pub record SwitchKeeps (setting : Setting) (s : ℕ) (before after : List Item) 
   pub versions : (v : ℕ) → holds_version after s v ≡ holds_version before s v
   pub cache : cache_of setting after s ≡ cache_of setting before s
 
--- those that don't concern a packet don't change what is said of it
+-- those that don't concern a packet don't change what the journal says about it
 pub record PacketKeeps (i : ℕ) (before after : List Item) : Type 0 where
   pub header : header_in after i ≡ header_in before i
   pub ingress : ingress_of after i ≡ ingress_of before i
@@ -146,20 +146,20 @@ pub record KnownKeeps (setting : Setting) (s : ℕ) (before after : List Item) :
   pub cut_off : (down : List ℕ) (target : ℕ) →
       is_cut_off setting after s down target ≡ is_cut_off setting before s down target
 
--- those that don't concern a message don't change what is said of it
+-- those that don't concern a message don't change what the journal says about it
 pub record MessageKeeps (n : ℕ) (before after : List Item) : Type 0 where
   pub message : message_of after n ≡ message_of before n
   pub delivered : was_delivered after n ≡ was_delivered before n
   pub forgotten : is_forgotten after n ≡ is_forgotten before n
   pub deliverable : is_deliverable after n ≡ is_deliverable before n
 
--- those that concern no message don't change what is said of all
+-- those that concern no message don't change what the journal says about all messages
 pub record MessagesKeep (before after : List Item) : Type 0 where
   pub next : next_message after ≡ next_message before
   pub waiting : next_waiting after ≡ next_waiting before
   pub sent : sendings after ≡ sendings before
 
--- those that bring in or end no packet don't change what is said of all
+-- those by which no packet enters or ends don't change what the journal says about all packets
 pub record PacketsKeep (before after : List Item) : Type 0 where
   pub next : next_packet after ≡ next_packet before
   pub travelling : next_travelling after ≡ next_travelling before
