@@ -6,7 +6,7 @@ Over the examples and SEEDS random cases of `model/fuzz.py` (10 where no number 
 - `trace` sends packets into a fresh network and after the schedule. The lines that it has are
   those of the model's journal, the end is the same, and the words name what each line names.
 - `whatif` lets each switch and each link fail, and in one case each pair. The rows of each failure
-  are put together here again and played by the model; the counts are those of its journals, found by
+  are made here again and played by the model; the counts are those of its journals, found by
   patterns in the text, the worst is first, and `--rows` prints the same schedule.
 - Wrong words and folders are told in one line, with status 2.
 
