@@ -26,7 +26,7 @@ pub enum Body {
         boot: u32,
         tables: SharedTables,
     },
-    /// In this boot, serve, and stamp packets with this version.
+    /// In this boot, serve, and stamp packets with at least this version.
     OpenAt {
         boot: u32,
         version: u32,

@@ -106,7 +106,7 @@ pub enum Item {
         place: u32,
         message: u32,
     },
-    /// The policy of the file is this version.
+    /// The policy of the file became this version.
     Submitted {
         file: u32,
         version: u32,

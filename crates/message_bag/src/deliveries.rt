@@ -41,10 +41,8 @@ impl MessageState {
 #[derive(Drop)]
 pub struct Deliveries {
     statuses: Vec<MessageState>,
-    // No message up to this number waits, and the next one does, if there is one. So it passes
-    // each message once, and a search from 1 begins where it ends. A search that begins after the
-    // message that such a search returned, and that was delivered since, begins there too. Flushes
-    // look at each message once in all.
+    // No message up to this number waits, and the next one does, if there is one. It only rises,
+    // and each search begins after it, so that all flushes together look at each message once.
     passed: u32,
 }
 

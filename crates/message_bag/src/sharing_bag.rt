@@ -60,7 +60,7 @@ impl SharingBag {
     /// Posts a message, and returns its number: one more than there were messages.
     ///
     /// # Errors
-    /// Only out of memory, or if the first frames before this message's have 2^32 bytes or more;
+    /// Only out of memory, or if the first frames of earlier messages have 2^32 bytes or more;
     /// then nothing changes.
     pub fn post(&mut self, message: &Message) -> Result<u32, AllocError>
         requires spelling { HasShortSpelling message.now }
@@ -77,7 +77,7 @@ impl SharingBag {
     /// frames.
     ///
     /// # Errors
-    /// Only out of memory, or if the first frames before this message's have 2^32 bytes or more;
+    /// Only out of memory, or if the first frames of earlier messages have 2^32 bytes or more;
     /// then nothing changes.
     pub fn post_shared(
         &mut self,

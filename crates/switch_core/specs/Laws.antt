@@ -27,7 +27,7 @@ pub record IsHeard (before after : SwitchValue) : Type 0 where
   pub collected : before.collected ≤ after.collected
 
 pub record SwitchLaws : Type 0 where
-  -- the adverts with which a network begins are those with which its switches may begin
+  -- each switch may begin with the adverts with which a network begins
   pub first : (near : List ℕ) (count number : ℕ) → number < 64 →
       HasOwnUpTo (first_adverts near count) number 1 1
   -- a packet is stuck exactly if no route leads to the targets of its leg ..

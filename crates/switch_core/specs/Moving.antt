@@ -36,7 +36,7 @@ moved_along s near t (Some route) = move_answer (on_route t route) (next (on_rou
 unfoldable pub rerouted_here : SwitchValue → ℕ → TunnelValue → Moved
 rerouted_here s near t = moved_along s near t (route_from_here t s.database near)
 
--- the link to the next switch that is found down: one that isn't usable
+-- the next switch, if the link to it is found down: it isn't usable
 abbrev pub link_found_down : ℕ → Option ℕ → Option ℕ
 link_found_down near None = None
 link_found_down near (Some other) = if has near other then None else Some other

@@ -65,7 +65,7 @@ impl Switch {
         }
     }
 
-    // By the tables of this version if the switch has them, otherwise by a lookup.
+    // Decides by the tables of this version if the switch has them, otherwise by a lookup.
     fn judge(&self, h: &Header, ingress: u32, version: u32, partition: u32) -> Forwarding
         requires stamped { IsTrue (holds_version self.now self.now.stamp) }
         requires authority { IsAtAuthority self.now h.now (SeekLeg version partition) }
@@ -80,7 +80,7 @@ impl Switch {
         }
     }
 
-    // By a lookup under the switch's stamp.
+    // Looks the header up under the switch's stamp.
     #[tactic(auto, unfolding(crate::specs::Answering::looked_up))]
     fn look_up(&self, h: &Header, ingress: u32) -> Forwarding
         requires { IsTrue (holds_version self.now self.now.stamp) }
@@ -95,7 +95,7 @@ impl Switch {
         self.by_found(h, ingress, finder.tables(), &found)
     }
 
-    // By what was found in these tables.
+    // The result for what a lookup found in these tables.
     #[tactic(auto, unfolding(crate::specs::Answering::answer_by))]
     fn by_found(&self, h: &Header, ingress: u32, tables: &Tables, found: &Found) -> Forwarding
         requires { IsFound tables.now h.now found.now }
@@ -123,7 +123,7 @@ impl Switch {
         }
     }
 
-    // By these tables' partition of this number.
+    // Decides by the partition of this number in these tables.
     #[tactic(auto, unfolding(crate::specs::Answering::decided_in))]
     fn decide_in(&self, h: &Header, ingress: u32, partition: u32, tables: &KeptTables) -> Forwarding
         requires { IsSomeAnd (own_part tables.now partition)
@@ -139,7 +139,7 @@ impl Switch {
         self.decide_at(h, ingress, tables.version, part, place)
     }
 
-    // The rule at this place decides.
+    // Decides by the rule at this place of the partition.
     #[tactic(auto, unfolding(crate::specs::Answering::decided_at))]
     fn decide_at(
         &self,

@@ -21,7 +21,7 @@ pub struct Decision {
 }
 
 impl Decision {
-    /// By a cached rule.
+    /// A decision by a cached rule.
     pub(crate) fn by_entry(entry: &CacheEntry) -> Decision
         ensures { result ≡ by_entry entry.now }
     {
@@ -35,7 +35,7 @@ impl Decision {
         }
     }
 
-    /// By a rule of a partition of which this switch is an authority.
+    /// A decision by a rule of a partition of which this switch is an authority.
     pub(crate) fn by_rule(switch: u32, version: u32, partition: u32, rule: &Rule) -> Decision
         ensures { result ≡ by_rule switch version partition rule.now }
     {

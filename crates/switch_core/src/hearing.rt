@@ -15,7 +15,7 @@ use switch_table::{CacheEntry, Touched};
 /// What a message causes at a switch.
 #[derive(Drop)]
 pub struct Heard {
-    /// The messages to be sent, in order.
+    /// The messages to send, in order.
     pub replies: Replies,
     /// The switch's stamp, if the message opened it.
     pub opened: Option<u32>,

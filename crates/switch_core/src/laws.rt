@@ -18,8 +18,8 @@ pub fn enter_laws()
     ensures { EnterLaws }
 {}
 
-/// Where a packet moves that was decided, by the owner of its action's port: a relation that
-/// allows one way. A law about the definition only.
+/// Where a decided packet moves, by the owner of its action's port: a relation that allows one
+/// result. A law about the definition only.
 pub fn exit_laws()
     ensures { ExitLaws }
 {}

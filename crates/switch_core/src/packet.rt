@@ -15,7 +15,7 @@ pub struct Arriving<'a> {
     pub place: u32,
 }
 
-/// Where a packet moves on from a switch of its route.
+/// How a packet moves on from a switch of its route.
 #[derive(Clone, Copy, Debug, PartialEq, Eq)]
 pub enum Onward {
     /// It stays: it is at the end of its route.

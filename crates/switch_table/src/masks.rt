@@ -8,10 +8,10 @@ use std::alloc::{AllocError, Global};
 use std::marker::Model;
 use ternary::Word;
 
-// At least this many entries come before the masks are collected again.
+// The least new entries before the masks are collected again.
 const LEAST_WAIT: usize = 1024;
 
-// At most this many masks are few.
+// The most masks that count as few.
 const MAX_FEW: usize = 256;
 
 /// The masks of a cache's entries, if they are few compared with the entries: a word for each mask.

@@ -44,7 +44,7 @@ fn own_part(parts: &[Partition], number: u128) -> Option<&Partition>
     parts.iter().find(|part| part.region.holds(number))
 }
 
-// The first rule of the partition that holds the header.
+// Decides by the first rule of the partition that holds the header.
 fn authority(part: &Partition, header: &Header) -> Found
     requires { length part.now.rules < 2 ^ 32 }
     ensures { result ≡ authority_of header.now part.now }
@@ -56,7 +56,7 @@ fn authority(part: &Partition, header: &Header) -> Found
     }
 }
 
-// The row whose region holds the header.
+// Redirects to the targets of the row whose region holds the header.
 fn redirect(rows: &[PartRow], header: &Header) -> Found
     requires one { count_by (row_has header.now) rows.now ≡ 1 }
     requires few { length rows.now < 2 ^ 32 }

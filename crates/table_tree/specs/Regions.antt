@@ -48,7 +48,7 @@ abbrev pub AreRegions : List Candidate → Type 0
 AreRegions candidates = All (λ candidate. IsWord candidate.region) candidates
 
 -- what is true of the regions that meet a region of the header space: no header is in two of them,
--- and each of its own is in one
+-- and each header of that region is in one
 pub record AreNodeCandidates (candidates : List Candidate) (region : WordValue) : Type 0 where
   pub whole : IsWord region
   pub words : AreRegions candidates

@@ -59,7 +59,7 @@ impl Finder {
         Ok(Finder::of(tables, trees))
     }
 
-    /// The finder of these tables, with trees that were built for equal ones.
+    /// The finder of these tables, with trees that were built for the same rows and partitions.
     pub fn of(tables: Rc<Tables>, trees: Rc<Trees>) -> Finder
         requires sound { AreSoundTables tables.value }
         requires trees { AreTreesOf tables.value.parts tables.value.auth trees.value }

@@ -115,7 +115,7 @@ impl StoredFlight {
         self.route.get().items()[self.place as usize]
     }
 
-    /// Its route, which begins at the switch where it took it.
+    /// Its route, which begins at the switch where the packet took it.
     pub fn route(&self) -> &Route
         ensures { result.now ≡ self.now.tunnel.route }
     {

@@ -29,7 +29,7 @@ pub struct Travelling {
     first: usize,
     // Where packets are.
     by_switch: SwitchIndex,
-    // The set that packets share that found no link down.
+    // The empty set, which all packets share that found no link down.
     no_links: NoLinks,
 }
 

@@ -24,7 +24,7 @@ abbrev pub is_message_to : List Item → ℕ → ℕ → Bool
 is_message_to before s number =
     option_map_or (λ message. is_to_switch s message.to) (message_of before number) false
 
--- its boots, its opening, its expiries and what is delivered to it
+-- its boots, its openings, its expired entries and what is delivered to it
 abbrev pub concerns_switch : ℕ → List Item → Item → Bool
 concerns_switch s before (item.Down switch) = switch == s
 concerns_switch s before (item.Booted switch boot) = switch == s

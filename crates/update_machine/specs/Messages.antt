@@ -51,12 +51,12 @@ abbrev pub is_to_controller : Place → Bool
 is_to_controller (receiver.Switch switch) = false
 is_to_controller receiver.Controller = true
 
--- the sending of messages, the first one under this number
+-- the items that send messages, the first one under this number
 unfoldable pub sent_from : ℕ → List Message → List Item
 sent_from number [] = []
 sent_from number (message ∷ messages) =
     item.Sent number message ∷ sent_from (number + 1) messages
 
--- the sending of messages after a journal
+-- the items that send messages after a journal
 abbrev pub send_items : List Item → List Message → List Item
 send_items journal messages = sent_from (next_message journal) messages

@@ -8,7 +8,7 @@ use Rattle.journal.specs.declared.item.Item.TheVariants as item
 use Rattle.update_machine.specs.Boots.{boot_of}
 use Rattle.update_machine.specs.Folds.{folded_value}
 
--- a message, its number, and the boot of its receiver when it was sent; 0 is the controller's
+-- a message, its number, and the boot of its receiver when it was sent: 0 for the controller
 pub record Sending : Type 0 where
   pub number : ℕ
   pub message : Message

@@ -37,7 +37,7 @@ count_within least most = such_that (λ n. nat_le least n && nat_le n most) n1
 unfoldable pub switch : Format ℕ
 switch = such_that (λ n. nat_lt n 64) n1
 
--- no bit of the value is outside the mask, and the mask has 104 bits
+-- no bit of the value is outside the mask, and no bit of the mask is above bit 103
 abbrev pub is_word_pair : ℕ × ℕ → Bool
 is_word_pair pair = (bit_and pair.0 pair.1 == pair.0) && nat_lt pair.1 (2 ^ 104)
 

@@ -228,7 +228,7 @@ fn put_cache_rule(out: &mut Vec<u8>, version: u32, word: &Word, hit: Hit) -> Res
     put_action(out, hit.action)
 }
 
-// The spelling of an advert.
+// The encoding of an advert.
 #[tactic(auto, unfolding(crate::specs::Messages::advert, crate::specs::Fields::switch, crate::specs::Fields::n1, crate::specs::Fields::n4, crate::specs::Fields::n8))]
 fn advert_bytes(advert: &Advert) -> [u8; 17]
     requires { advert.now.origin < 64 }
