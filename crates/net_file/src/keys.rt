@@ -24,7 +24,7 @@ pub fn within(low: u32, high: u32, number: i64) -> Option<u32>
     Some(number as u32)
 }
 
-/// The integer that a value is; `WrongType` for any other value, `Range` if not from `low` to `high`.
+/// The integer that a value is; `WrongType` for any other value, `Range` if it is out of range.
 pub fn number_in(low: u32, high: u32, value: &Value) -> Result<u32, NetRefusal>
     ensures { result ≡ number_stated low high (view value.now) }
 {
