@@ -1,4 +1,4 @@
-//! A packet that several tests send.
+//! A header that several tests use.
 use five_tuple::{Fields, Header};
 
 /// The header of a packet of TCP between these addresses, from port 5000 to port 80.

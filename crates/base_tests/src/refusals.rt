@@ -1,8 +1,8 @@
 //! Tables of what a reader refuses.
 use std::alloc::{AllocError, Global};
 
-/// The first of these cases, each put between these two texts, that isn't refused with its code at
-/// this row; `None` if each is.
+/// The first of these cases that isn't refused with its code at this row, if each is put between
+/// these two texts; `None` if all are.
 pub fn first_other<'a, F: Fn(Global, &[u8]) -> Option<(u32, u32)>>(
     alloc: Global,
     around: (&str, &str),

@@ -4,15 +4,15 @@ use Rattle.base.specs.Exports.{Global}
 use Rattle.command_line.specs.declared.report.Report.{Report}
 pub use Rattle.command_line.specs.Others.{AuditCommand, PrintCommand}
 
--- `replay SCHEDULE POLICY ..`, `flows` or `rebalance`; on a file's network, or that of one switch
+-- `replay`, `flows` or `rebalance` with `SCHEDULE POLICY ..`, and perhaps with a network's file
 pub record ReplayCommand : Type 0 where
   pub schedule : List ℕ
-  -- an update names one of them by its place, from 1
+  -- an update names one of these by its place, from 1
   pub policies : List (List ℕ)
   pub net : Option (List ℕ)
   pub report : Report
 
--- `load N` has only the number
+-- a command of the grammar; `load N` has only its number
 pub data Command : Type 0 where
   Replay : ReplayCommand → Command
   Print : PrintCommand → Command

@@ -25,7 +25,7 @@ cut_pair option [] = None
 cut_pair option (net ∷ args) =
     if bytes_eq option (codes "--net") && is_file_name net then Some (net, args) else None
 
--- the network of an option in front of the arguments, in either form, and the arguments after it
+-- the network of an option, in either form, that begins the arguments, and the arguments after it
 abbrev pub cut_net : List (List ℕ) → Option (List ℕ × List (List ℕ))
 cut_net [] = None
 cut_net (option ∷ args) =
@@ -36,7 +36,7 @@ abbrev pub cut_quiet : List (List ℕ) → Option (List (List ℕ))
 cut_quiet [] = None
 cut_quiet (option ∷ args) = if bytes_eq option (codes "--quiet") then Some args else None
 
--- the options in front of some arguments, each at most once, and the arguments after them
+-- the options that begin some arguments, each at most once, and the arguments after them
 pub record Cut : Type 0 where
   pub net : Option (List ℕ)
   pub quiet : Bool
@@ -125,7 +125,7 @@ replay_of line = play_from (report.Lines line.quiet) line line.names
 abbrev pub flows_of : StatedLine → Option Command
 flows_of line = if line.quiet then None else play_from report.Flows line line.names
 
--- nor has `rebalance`
+-- `rebalance` has no flag
 abbrev pub rebalance_of : StatedLine → Option Command
 rebalance_of line = if line.quiet then None else play_from report.Placement line line.names
 
@@ -141,7 +141,7 @@ abbrev pub print_of : ℕ → StatedLine → Option Command
 print_of count line =
     if length line.names == count && not line.quiet then print_from line line.names else None
 
--- the greatest number of `load N`, and whether a number may be one
+-- the greatest number of `load N`, and the number that these names are, if they are one
 abbrev pub most_load : ℕ
 most_load = 1000
 
@@ -158,7 +158,7 @@ abbrev pub load_of : StatedLine → Option Command
 load_of line =
     if is_some line.net || line.quiet then None else load_from (load_number line.names)
 
--- an audit names policies as a replay does
+-- an audit names as many policies as a replay may
 abbrev pub audit_from : List (List ℕ) → Option Command
 audit_from [] = None
 audit_from (trace ∷ policies) =
@@ -182,7 +182,7 @@ command_by name line =
     else if bytes_eq name (codes "audit") then audit_of line
     else None
 
--- the command that the arguments are, if they are in the grammar
+-- the command of these arguments; none if the grammar doesn't have them
 abbrev pub command_of : List (List ℕ) → Option Command
 command_of [] = None
 command_of (name ∷ args) = option_and_then (command_by name) (line_of args)

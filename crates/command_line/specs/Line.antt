@@ -1,4 +1,4 @@
--- What the crate `clap` gets about the arguments after a command.
+-- What the crate `clap` is given for the arguments after a command.
 use Rattle.std.specs.Prelude.{[], ◌∷◌, ◌≡◌, Bool, List, None, Option, Some, codes, false, fold, true, ℕ}
 use Rattle.clap.specs.Walk.{Rule, Text}
 use Rattle.clap.specs.Simple.{App, new_app, new_rule, on_top, with_rule}
@@ -44,7 +44,7 @@ abbrev pub option_args : Options → List Rule
 option_args none = []
 option_args (net_and flag) = net_arg ∷ flag_args flag
 
--- only names and these options; which of two options of one name counts doesn't matter
+-- only names and these options; the last of two options of one name counts, but none occurs twice
 abbrev pub app_with : List ℕ → Options → App
 app_with name options = on_top (λ s. record s { args_override_self = true })
     (fold with_rule (new_app name) (names_arg ∷ option_args options))

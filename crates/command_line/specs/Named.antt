@@ -1,4 +1,4 @@
--- What the arguments that were read are to the grammar.
+-- The values of the grammar that contracts see for the arguments that were read.
 use Rattle.std.specs.Prelude.{◌≤◌, List, Option, String, codes, length, map, option_and_then, option_map, string_bytes, ℕ, ⊤}
 use Rattle.base.specs.Exports.{Bor, Global}
 use Rattle.command_line.specs.Grammar as grammar
@@ -46,7 +46,7 @@ command_named (given.Print args) = grammar_commands.Print (print_named args)
 command_named (given.Load n) = grammar_commands.Load n
 command_named (given.Audit args) = grammar_commands.Audit (audit_named args)
 
--- the arguments name one policy, or more, but not too many, or a load case
+-- the arguments name a right number of policies, from 1 to 64, or of a load case, from 1 to 1,000
 abbrev pub MayBePolicies : ℕ → Type 0
 MayBePolicies count = (1 ≤ count) × (count ≤ most_policies)
 
@@ -69,7 +69,7 @@ line_seen line = record {
 
 -- ---- the test of the grammar
 
--- the arguments that were cut, and those that are a line
+-- the options and arguments that were cut, and the parts of a line
 abbrev pub cut_seen : Cut → grammar.Cut
 cut_seen cut = record {
   net = net_named cut.net;
@@ -84,7 +84,7 @@ parts_seen parts = record {
   quiet = parts.quiet;
 }
 
--- the argument that is this command
+-- the name of this kind of command
 abbrev pub kind_name : CommandKind → List ℕ
 kind_name kind.Replay = codes "replay"
 kind_name kind.Flows = codes "flows"
@@ -94,7 +94,7 @@ kind_name kind.Show = codes "show"
 kind_name kind.Load = codes "load"
 kind_name kind.Audit = codes "audit"
 
--- the command of this kind that the arguments after its name are
+-- the command of this kind with these arguments after its name
 abbrev pub command_in : CommandKind → List (List ℕ) → Option grammar_commands.Command
 command_in kind args = option_and_then (command_by (kind_name kind)) (line_of args)
 

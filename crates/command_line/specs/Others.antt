@@ -1,7 +1,7 @@
 -- The arguments of commands that play nothing.
 use Rattle.std.specs.Prelude.{List, Option, ℕ}
 
--- `compile POLICY`, or `show POLICY SWITCH`; on the network of a file, or on that of one switch
+-- `compile POLICY`, or `show POLICY SWITCH`, and perhaps with a network's file
 pub record PrintCommand : Type 0 where
   pub policy : List ℕ
   pub switch : Option (List ℕ)

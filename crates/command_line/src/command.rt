@@ -23,18 +23,18 @@ pub struct ReplayArgs<'a> {
     pub report: Report,
 }
 
-/// What is to be printed: the plan of a policy, or the tables that it gives to a switch.
+/// What to print: the plan of a policy, or the tables that it gives to a switch.
 #[derive(Clone, Copy)]
 pub struct PrintArgs<'a> {
     /// The name of the policy's file.
     pub policy: &'a str,
-    /// The name of the switch whose tables are asked for.
+    /// The name of the switch whose tables are printed; without it the plan is.
     pub switch: Option<&'a str>,
     /// The name of the network's file; without it the network is that of one switch.
     pub net: Option<&'a str>,
 }
 
-/// A trace that is to be checked, and the policies that it speaks of.
+/// A trace to check, and the policies of its versions.
 #[derive(Drop)]
 pub struct AuditArgs<'a> {
     /// The name of the trace's file.
@@ -49,17 +49,17 @@ pub const MAX_POLICIES: usize = 64;
 /// The greatest number of a load case.
 pub const MAX_LOAD: u32 = 1000;
 
-/// The command that the arguments ask for.
+/// The command of the arguments.
 #[derive(Drop)]
 pub enum Command<'a> {
     Replay(ReplayArgs<'a>),
     Print(PrintArgs<'a>),
-    /// The load case of this number is to be played.
+    /// Plays the load case of this number, from 1 to 1,000.
     Load(u32),
     Audit(AuditArgs<'a>),
 }
 
-/// The command that the arguments are, or `None` exactly if the grammar doesn't have them.
+/// Reads the command of the arguments; `None` exactly if the grammar doesn't have them.
 ///
 /// # Errors
 /// Only out of memory, and only for arguments of the grammar.
@@ -77,7 +77,7 @@ pub fn read_command(alloc: Global, args: &[String]) -> Result<Option<Command<'_>
     Ok(Some(command_from(kind, line)))
 }
 
-// The command of a line that is one of this kind.
+// The command of this kind with this line of arguments.
 fn command_from<'a>(kind: CommandKind, line: ArgumentLine<'a>) -> Command<'a>
     requires { is_some (command_by (kind_name kind) (line_seen line)) ≡ true }
     ensures command { Some (command_named result)
@@ -101,7 +101,7 @@ fn command_from<'a>(kind: CommandKind, line: ArgumentLine<'a>) -> Command<'a>
     }
 }
 
-// The files of a line, for a play that prints this.
+// The files that a line names, for a play that prints this report.
 fn replay_from<'a>(report: Report, line: ArgumentLine<'a>) -> ReplayArgs<'a>
     requires { is_some (play_from report (line_seen line) (names_seen line.names.items)) ≡ true }
     ensures args { Some (grammar.Replay (replay_named result))

@@ -1,4 +1,4 @@
-//! The test of the grammar, before any memory is allocated.
+//! The test of the grammar, which allocates nothing.
 ghost use Rattle.std.specs.Prelude.{◌≡◌, ◌≤◌, ◌⊎◌, true, IfSome, IfNone, None, drop, is_some, length, map, option_map, string_bytes};
 ghost use Rattle.std.specs.List.{prefix_len};
 ghost use Rattle.command_line.specs.Named.{command_in, cut_seen, kind_name, net_named, pair_seen, parts_seen};
@@ -20,7 +20,7 @@ pub(crate) enum CommandKind {
     Audit,
 }
 
-// The options in front of some arguments, and the arguments after them.
+// The options that begin some arguments, and the arguments after them.
 #[derive(Clone, Copy)]
 struct Cut<'a> {
     net: Option<&'a str>,
@@ -36,7 +36,7 @@ struct ArgumentParts<'a> {
     quiet: bool,
 }
 
-/// The kind of the command that the arguments are, or `None` if the grammar doesn't have them.
+/// The kind of the command of the arguments; `None` exactly if the grammar doesn't have them.
 pub(crate) fn kind_of(args: &[String]) -> Option<CommandKind>
     ensures some { IfSome result (λ kind.
         (command_in kind (drop 1 (map string_bytes args.now))
@@ -70,7 +70,7 @@ impl CommandKind {
         }
     }
 
-    // Whether a line of the arguments is one of this command.
+    // Whether these arguments may follow this command.
     fn takes(self, parts: &ArgumentParts<'_>) -> bool
         ensures { result ≡ is_some (command_by (kind_name self) (parts_seen parts.now)) }
     {
@@ -139,7 +139,7 @@ fn parts_of(args: &[String]) -> Option<ArgumentParts<'_>>
     joined_parts(front, names, cut_options(rest))
 }
 
-// The names with the options on both sides.
+// The names with the options around them; `None` if one is given twice, or arguments are left.
 fn joined_parts<'a>(front: Cut<'a>, names: &'a [String], back: Cut<'a>) -> Option<ArgumentParts<'a>>
     ensures { option_map parts_seen result ≡ line_from
         (cut_seen front.entry) (map string_bytes names.entry.now) (cut_seen back.entry) }
@@ -171,7 +171,7 @@ fn name_count(args: &[String]) -> usize
     args.iter().take_while(|arg| is_name(arg)).count()
 }
 
-// The options in front of the arguments.
+// The options that begin the arguments, and the arguments after them.
 fn cut_options(args: &[String]) -> Cut<'_>
     ensures { cut_seen result ≡ cut_options (map string_bytes args.now) }
 {
@@ -239,7 +239,7 @@ fn cut_quiet(args: &[String]) -> Option<&[String]>
     }
 }
 
-// The network of an option in front of the arguments, and the arguments after it.
+// The network of an option that begins the arguments, and the arguments after it.
 fn cut_net(args: &[String]) -> Option<(&str, &[String])>
     ensures { option_map pair_seen result ≡ cut_net (map string_bytes args.now) }
 {
@@ -252,7 +252,7 @@ fn cut_net(args: &[String]) -> Option<(&str, &[String])>
     }
 }
 
-// The network of an option of two arguments, of which this is the first.
+// The network of an option `--net NET`, of which the first argument is this.
 fn cut_pair<'a>(option: &str, args: &'a [String]) -> Option<(&'a str, &'a [String])>
     ensures { option_map pair_seen result ≡ cut_pair option.now (map string_bytes args.entry.now) }
 {
@@ -266,7 +266,7 @@ fn cut_pair<'a>(option: &str, args: &'a [String]) -> Option<(&'a str, &'a [Strin
     }
 }
 
-// The network of an option of one argument.
+// The network of an option `--net=NET`.
 fn joined_net(arg: &str) -> Option<&str>
     ensures { net_named result ≡ joined_net arg.now }
 {

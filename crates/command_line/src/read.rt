@@ -1,4 +1,4 @@
-//! The reading of arguments of the grammar with the crate `clap`.
+//! Reads arguments of the grammar with the crate `clap`.
 ghost use Rattle.std.specs.Prelude.{◌≡◌, Bool, true, false, IfOk, Some, codes, drop, is_some, map, option_map, string_bytes};
 ghost use Rattle.clap.specs.Words.{app_of, first_value, found_of, matched_of, one_text, raw_values, rule_of};
 ghost use Rattle.command_line.specs.Line.{IsFlagRead, IsNetRead, app_with, line_app, names_arg, net_and, net_arg, none, options_of, quiet_arg};
@@ -10,7 +10,7 @@ use clap::error::ErrorKind;
 use clap::{Arg, ArgAction, ArgMatches, Command};
 use std::alloc::{AllocError, Global};
 
-/// What the arguments after a command say: names, and options.
+/// The arguments after a command: names and options.
 #[derive(Drop)]
 pub(crate) struct ArgumentLine<'a> {
     pub(crate) names: Vec<&'a str>,
@@ -18,7 +18,7 @@ pub(crate) struct ArgumentLine<'a> {
     pub(crate) quiet: bool,
 }
 
-/// The line of the arguments after the first one, which are a command of this kind.
+/// Reads the arguments after the first one, which names a command of this kind.
 ///
 /// # Errors
 /// Only out of memory.
@@ -44,7 +44,7 @@ pub(crate) fn read_line<'a>(
     }
 }
 
-// The command of this kind, as `clap` gets it: what it takes, and nothing else.
+// The `clap` command of this kind, which takes what this command may have, and nothing else.
 fn line_command<'a>(alloc: Global, kind: CommandKind) -> Result<Command<'a>, AllocError>
     ensures { IfOk result (λ command. app_of command ≡ line_app kind) }
 {
@@ -111,7 +111,7 @@ fn quiet_arg<'a>(alloc: Global) -> Arg<'a>
         .action(ArgAction::SetTrue)
 }
 
-// What was matched.
+// The names and options that `clap` matched.
 fn line_in<'a>(
     alloc: Global,
     kind: CommandKind,

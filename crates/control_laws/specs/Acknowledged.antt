@@ -1,5 +1,5 @@
--- A switch is told to stamp with a version only once it acknowledged its tables; members
--- acknowledged each version from the one at which they were opened to the current one.
+-- A switch is told to stamp with a version only after it acknowledged that version's tables;
+-- members acknowledged each version from the one at which they were opened to the current one.
 use Rattle.std.specs.Prelude.{◌<◌, ◌≡◌, ◌≤◌, IsTrue, List, length, ℕ, ⊤}
 use Rattle.update_machine.specs.Exports.{Body, Item, OpenAt, Place, Setting, Stamp, acked_stamp, current_mark, has_acked, is_member, known_boot, open_version, serves, stamp_of}
 use Rattle.ctrl_msg.specs.declared.message.Place.TheVariants as receiver
@@ -19,14 +19,14 @@ LetsStamp setting before (receiver.Switch s) (Stamp boot version touched) =
     IsLetStamp setting before s boot version
 LetsStamp setting before to body = ⊤
 
--- the cause of a message after which a switch may stamp
+-- a message that lets a switch stamp has this cause; other items need none
 abbrev pub IsAckedFirst : Setting → List Item → Item → Type 0
 IsAckedFirst setting before (item.Sent number message) =
     LetsStamp setting before message.to message.body
 IsAckedFirst setting before _ = ⊤
 
 -- a member of the network acknowledged each version from the one at which it was opened to the
--- current one; a switch that serves stamps at least with what it is known to stamp with
+-- current one; the stamp of a switch that serves is at least the one that the controller knows
 pub record MembersAcknowledged (setting : Setting) (journal : List Item) : Type 0 where
   pub acked : (s version : ℕ) → s < length setting.net.switches → IsTrue (is_member journal s)
       → open_version journal s ≤ version → version ≤ current_mark journal

@@ -1,6 +1,6 @@
--- What adverts say, whatever was done and in whatever order: they name only links of the network,
--- and a switch never hears a newer advert of its own, as an OSPF router may that forgot its
--- sequence number (RFC 2328, section 13.4): boots, which never repeat, prevent it.
+-- What adverts say, whatever happened, in any order: they name only links of the network, and no
+-- switch hears an advert of its own that is newer than its own one. An OSPF router that forgot its
+-- sequence number may (RFC 2328, section 13.4); boot numbers, which never repeat, prevent it here.
 use Rattle.std.specs.Prelude.{[], ◌<◌, ◌∷◌, ◌≡◌, ◌≤◌, ◌⊎◌, All, IsTrue, List, Some, ℕ, ⊤}
 use Rattle.failover.specs.Exports.{AreJoined, is_newer}
 use Rattle.base.specs.Exports.{has}
@@ -9,7 +9,7 @@ use Rattle.steps.specs.Exports.{HasLink, HasSwitch}
 
 -- ---- all adverts of a journal
 
--- each advert that was sent, or that a switch heard in its boot or has, and each own one
+-- true of each advert that was sent, that a switch heard in its boot or has, and of each own one
 pub record AllAdverts (setting : Setting) (journal : List Item) (Holds : Advert → Type 0)
     : Type 0 where
   pub sent : (n s : ℕ) (advert : Advert) → message_of journal n ≡ Some (advert_to s advert) →
@@ -21,11 +21,11 @@ pub record AllAdverts (setting : Setting) (journal : List Item) (Holds : Advert 
 
 -- ---- links of the network
 
--- the advert names only switches to which the network has a link of its origin
+-- the advert names only switches that the network links to its origin
 abbrev pub NamesLinks : Net → Advert → Type 0
 NamesLinks net advert = (k : ℕ) → IsTrue (has advert.up k) → HasLink net advert.origin k
 
--- from the switch on over links of the network
+-- the route continues from the switch over links of the network
 abbrev pub GoesOverLinks : Net → ℕ → List ℕ → Type 0
 GoesOverLinks net at [] = ⊤
 GoesOverLinks net at (next ∷ route) = HasLink net at next × GoesOverLinks net next route
@@ -46,22 +46,22 @@ pub record LinksAreThere (setting : Setting) (journal : List Item) : Type 0 wher
 
 -- ---- own adverts
 
--- the advert is of no later boot; and while its origin is up, it is the origin's own advert, or
--- that one is newer
+-- the advert's boot is at most its origin's present one; and while the origin is up, the advert is
+-- the origin's own one or older than it
 pub record IsNoNewer (setting : Setting) (journal : List Item) (advert : Advert) : Type 0 where
   pub boot : advert.boot ≤ boot_of journal advert.origin
   pub own : IsTrue (is_up journal advert.origin) →
       (advert ≡ own_advert setting journal advert.origin)
       ⊎ IsTrue (is_newer (own_advert setting journal advert.origin) advert)
 
--- the own advert of each switch is the newest of it
+-- no advert is newer than its origin's own one
 abbrev pub OwnAreNewest : Setting → List Item → Type 0
 OwnAreNewest setting journal = AllAdverts setting journal (IsNoNewer setting journal)
 
 -- ---- adverts of the network's switches
 
--- the origin of each advert is a switch of the network, whoever sent it; what a switch of the
--- network has at a place is of the switch of this number
+-- the origin of each advert is a switch of the network, whatever sent it; the advert that a switch
+-- of the network has for an origin's number is from that origin
 pub record AdvertsAreOfSwitches (setting : Setting) (journal : List Item) : Type 0 where
   pub sent : (n s : ℕ) (advert : Advert) → message_of journal n ≡ Some (advert_to s advert) →
       HasSwitch setting.net advert.origin

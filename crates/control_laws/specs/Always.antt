@@ -1,12 +1,12 @@
--- When a fact is true of each journal, whatever was done and in whatever order: by anyone, or on a
--- network that takes only steps that it may take.
+-- What it means that a fact is true of each journal: of any steps in any order, or of the steps
+-- that a network may take.
 use Rattle.std.specs.Prelude.{[], ◌++◌, All, List, length, take, ℕ}
 use Rattle.update_machine.specs.Exports.{Answers, AnswersSoFar, BeginsAnswer, Event, HaveCauses, IsReached, Item, Setting, StepOfRow, after_steps}
 use Rattle.steps.specs.Exports.{IsEvent}
 use Rattle.control_laws.specs.ItemCauses.{HasItemCause}
 
--- it is true after any steps, of all kinds, so in each answer to a schedule, and in each beginning
--- of one that ends with a step
+-- it is true after any steps of any kind; so of each answer to a schedule, and of each beginning
+-- of one that ends where a step ends
 pub record HoldsAtEnds (Holds : Setting → List Item → Type 0) : Type 0 where
   pub stepped : (setting : Setting) (steps : List StepOfRow) →
       Holds setting (after_steps setting [] steps)
@@ -15,8 +15,8 @@ pub record HoldsAtEnds (Holds : Setting → List Item → Type 0) : Type 0 where
   pub so_far : (setting : Setting) (events : List Event) (journal : List Item) →
       AnswersSoFar setting events journal → Holds setting journal
 
--- it is true after any items that steps of any kinds wrote, at their end too; so in each beginning
--- of an answer to a schedule, which may end within a step
+-- it is true after any first items that steps of any kind wrote, and after all of them; so of each
+-- beginning of an answer to a schedule, which may end within a step
 pub record HoldsBehindItems (Holds : Setting → List Item → Type 0) : Type 0 where
   pub items : (setting : Setting) (steps : List StepOfRow) (n : ℕ) →
       Holds setting (take n (after_steps setting [] steps))
@@ -24,18 +24,18 @@ pub record HoldsBehindItems (Holds : Setting → List Item → Type 0) : Type 0 
   pub begun : (setting : Setting) (events : List Event) (journal : List Item) →
       BeginsAnswer setting events journal → Holds setting journal
 
--- it is true if each item has its cause, so after any items of any steps
+-- it is true of each journal whose items have their causes; so after any first items of any steps
 pub record HoldsAlways (Holds : Setting → List Item → Type 0) : Type 0 where
   pub caused : (setting : Setting) (journal : List Item) →
       HaveCauses (HasItemCause setting) [] journal → Holds setting journal
   pub behind : HoldsBehindItems Holds
 
--- events of a schedule of the network, with the existing policies
+-- events of a schedule: they name only switches and links of the network, and files that exist
 abbrev pub AreEvents : Setting → List Event → Type 0
 AreEvents setting events = All (IsEvent setting.net (length setting.files)) events
 
--- it is true after any steps of the network, and after any first items of what they wrote, which
--- may end within a step; in each answer to events of it, and in each beginning of one
+-- it is true after any steps that the network may take, and after any first items that they wrote,
+-- which may end within a step; of each answer to its events, and of each beginning of one
 pub record HoldsReached (Holds : Setting → List Item → Type 0) : Type 0 where
   pub reached : (setting : Setting) (journal : List Item) → IsReached setting journal
       → Holds setting journal

@@ -8,8 +8,8 @@ use Rattle.net_file.specs.Exports.{owner_of}
 use Rattle.policy_rules.specs.Exports.{is_in}
 use Rattle.switch_table.specs.Exports.{Hosted, part_of}
 
--- the partition of a version's plan, by its place there, has the header, and the switch is one of
--- its targets
+-- the partition at this place of the version's plan has this number, its region holds the header,
+-- and the switch is one of its targets
 pub record IsSoughtAt (setting : Setting) (journal : List Item) (s : ℕ) (header : Header)
     (version partition : ℕ) : Type 0 where
   pub hosted : Hosted
@@ -18,7 +18,7 @@ pub record IsSoughtAt (setting : Setting) (journal : List Item) (s : ℕ) (heade
   pub holds : IsTrue (is_in header (part_of hosted))
   pub target : IsTrue (list_any (nat_eq s) hosted.1)
 
--- a packet at the end of its route is where its leg leads
+-- the switch is where the leg leads: at an authority of the partition, or at the port's switch
 abbrev pub EndsAt : Setting → List Item → ℕ → Header → Leg → Type 0
 EndsAt setting journal s header (Seek version partition) =
     IsSoughtAt setting journal s header version partition

@@ -2,8 +2,8 @@
 use Rattle.std.specs.Prelude.{◌<◌, ◌≡◌, ◌≤◌, IsTrue, List, Some, length, ℕ}
 use Rattle.update_machine.specs.Exports.{Collect, Item, Setting, acked_stamp, current_mark, is_member, message_of, retired_mark, stamp_of, to_switch, version_count}
 
--- there is a current version; retired versions are below it and below the acknowledged stamp of
--- each member of the network, and no member is told to drop a version that is not below that
+-- the current version exists; retired versions are below it and below the acknowledged stamp of
+-- each member of the network, and a member is told to drop only versions below its own one
 pub record MarksAreBounded (setting : Setting) (journal : List Item) : Type 0 where
   pub first : 1 ≤ current_mark journal
   pub there : current_mark journal ≤ version_count journal
@@ -13,6 +13,6 @@ pub record MarksAreBounded (setting : Setting) (journal : List Item) : Type 0 wh
   pub collected : (s boot version n : ℕ) → s < length setting.net.switches
       → message_of journal n ≡ Some (to_switch s (Collect boot version))
       → IsTrue (is_member journal s) → version < acked_stamp journal s
-  -- no switch stamps, or is known to stamp, with a version that isn't current yet
+  -- no switch's stamp is above the current version, nor is the stamp that the controller knows
   pub stamps : (s : ℕ) → stamp_of journal s ≤ current_mark journal
   pub known : (s : ℕ) → acked_stamp journal s ≤ current_mark journal

@@ -10,8 +10,8 @@ HasTables journal s version =
     ((version ≡ 1) × (boot_of journal s ≡ 1))
     ⊎ IsTrue (list_any (installs_version version) (heard journal s))
 
--- as long as a switch is up, what it acknowledged in its boot it heard in that boot, and stamps
--- with
+-- while a switch is up, it heard in its boot all tables that it acknowledged in that boot, and its
+-- stamp is at least each one that it acknowledged in that boot
 pub record AcksHold (journal : List Item) (s : ℕ) : Type 0 where
   pub installed : (boot version n : ℕ)
       → message_of journal n ≡ Some (to_controller (Installed s boot version))
@@ -20,7 +20,7 @@ pub record AcksHold (journal : List Item) (s : ℕ) : Type 0 where
   pub stamped : (boot version n : ℕ)
       → message_of journal n ≡ Some (to_controller (Stamped s boot version))
       → IsTrue (is_up journal s) → boot ≡ boot_of journal s → version ≤ stamp_of journal s
-  -- so it has the tables of each version that the controller knows that it has
+  -- so it has the tables of each version that the controller counts as acknowledged
   pub acked : (version : ℕ) → IsTrue (is_up journal s) → known_boot journal s ≡ boot_of journal s
       → IsTrue (has_acked journal s version) → HasTables journal s version
 
@@ -32,7 +32,7 @@ pub record ArePlanned (setting : Setting) (journal : List Item) (s : ℕ) (insta
   pub last : version ≤ version_count journal
   pub planned : installed ≡ tables_at setting journal version s
 
--- tables are sent only as they are planned
+-- a switch is sent only tables that a version's plan gives it
 abbrev pub InstallsArePlanned : Setting → List Item → Type 0
 InstallsArePlanned setting journal = (s boot n : ℕ) (installed : Tables)
     → message_of journal n ≡ Some (to_switch s (Install boot installed))

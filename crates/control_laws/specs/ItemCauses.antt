@@ -12,13 +12,13 @@ use Rattle.journal.specs.declared.item.Item.TheVariants as item
 
 -- ---- what is sent to a switch
 
--- this is the known boot of the switch, which isn't over
+-- the boot is the one that the controller knows of the switch, and the switch isn't over
 pub record IsForKnown (before : List Item) (s boot : ℕ) : Type 0 where
   pub known : boot ≡ known_boot before s
   pub not_over : IsFalse (is_over before s)
 
--- the tables that a version's plan gives the switch: of the newest version, or of one from the
--- current one on
+-- the tables are those that a version's plan gives the switch; the version is the newest one, or
+-- the current one or a later one
 pub record IsRightInstall (setting : Setting) (before : List Item) (s boot : ℕ)
     (installed : Tables) : Type 0 where
   pub to : IsForKnown before s boot
@@ -27,18 +27,18 @@ pub record IsRightInstall (setting : Setting) (before : List Item) (s boot : ℕ
   pub there : version ≤ version_count before
   pub planned : installed ≡ tables_at setting before version s
 
--- it was never opened in this boot, acknowledged the current version, and is opened at it
+-- the switch wasn't opened before in this boot, acknowledged the current version, and opens at it
 pub record IsFirstOpening (before : List Item) (s version : ℕ) : Type 0 where
   pub closed : opened_at before s ≡ None
   pub current : version ≡ current_mark before
   pub acked : IsTrue (has_acked before s version)
 
--- a switch is opened once in a boot, and is told to again only at the same version
+-- the message opens the switch first at the current version; if sent again, at the same version
 pub record IsRightOpening (before : List Item) (s boot version : ℕ) : Type 0 where
   pub to : IsForKnown before s boot
   pub opens : IsFirstOpening before s version ⊎ (opened_at before s ≡ Some version)
 
--- a member is told to stamp with the current version, and what its change touches
+-- a member is told to stamp with the current version, and gets the words that its change touches
 pub record IsRightStamp (setting : Setting) (before : List Item) (s boot version : ℕ)
     (touched : List WordValue) : Type 0 where
   pub to : IsForKnown before s boot
@@ -46,13 +46,13 @@ pub record IsRightStamp (setting : Setting) (before : List Item) (s boot version
   pub current : version ≡ current_mark before
   pub says : touched ≡ touched_by setting before version
 
--- a member is told to drop what is retired
+-- a member is told to drop the versions up to the retired mark
 pub record IsRightCollect (before : List Item) (s boot version : ℕ) : Type 0 where
   pub to : IsForKnown before s boot
   pub member : IsTrue (is_member before s)
   pub retired : version ≡ retired_mark before
 
--- adverts and cache rules carry no boot of the switch, so they may come at any time
+-- what may be sent to a switch; cache rules and adverts carry no boot of it, so they always may be
 abbrev pub IsRightTo : Setting → List Item → ℕ → Body → Type 0
 IsRightTo setting before s (Install boot tables) = IsRightInstall setting before s boot tables
 IsRightTo setting before s (OpenAt boot version) = IsRightOpening before s boot version
@@ -97,8 +97,8 @@ pub record BeginsBoot (before : List Item) (s boot : ℕ) : Type 0 where
   pub down : IsFalse (is_up before s)
   pub next : boot ≡ boot_of before s + 1
 
--- a switch that is up opens with its stamp, and that is at least the version of a message that was
--- sent to open it in its boot
+-- a switch that is up opens with its stamp, which is at least the version of some message that was
+-- sent to open it in this boot
 pub record OpensRightly (before : List Item) (s stamp : ℕ) : Type 0 where
   pub up : IsTrue (is_up before s)
   pub number : ℕ
@@ -107,8 +107,8 @@ pub record OpensRightly (before : List Item) (s stamp : ℕ) : Type 0 where
   pub stamped : version ≤ stamp_of before s
   pub own : stamp ≡ stamp_of before s
 
--- the version is the next one: its file makes a policy of the newest one, which has a plan, and
--- one more version may be unretired, and one more may exist in all
+-- the version is the next one: its file makes a policy from the newest one, that policy has a
+-- plan, and there is room for one more live version and for one more version in all
 pub record SubmitsRightly (setting : Setting) (before : List Item) (file version : ℕ) : Type 0 where
   pub next : version ≡ version_count before + 1
   pub rows : List Row
@@ -117,7 +117,7 @@ pub record SubmitsRightly (setting : Setting) (before : List Item) (file version
   pub live : version_count before - retired_mark before ≢ most_live
   pub few : version_count before ≢ most_versions
 
--- retired rises as far as the members' acknowledged stamps allow
+-- the retired mark rises as far as the members' acknowledged stamps allow
 pub record RetiresRightly (setting : Setting) (before : List Item) (version : ℕ) : Type 0 where
   pub rises : retired_mark before < version
   pub least : version ≡ next_retired setting before

@@ -5,26 +5,26 @@ use Rattle.update_machine.specs.Exports.{Body, Item, Message, Place, Setting, co
 use Rattle.ctrl_msg.specs.declared.message.Place.TheVariants as receiver
 use Rattle.steps.specs.Exports.{HasSwitch}
 
--- there is a speaker, a switch of the network
+-- the body names its sender, which is a switch of the network
 abbrev pub IsOfSwitch : Setting → Option (ℕ × ℕ) → Type 0
 IsOfSwitch setting None = ⊥
 IsOfSwitch setting (Some of) = HasSwitch setting.net of.0
 
--- what is sent to a switch is to one of the network, and what is sent to the controller is from
--- one
+-- a message to a switch goes to one of the network and names no sender; one to the controller is
+-- from a switch of the network
 abbrev pub IsAddressed : Setting → Place → Body → Type 0
 IsAddressed setting (receiver.Switch s) body =
     HasSwitch setting.net s × (speaker body ≡ None)
 IsAddressed setting receiver.Controller body = IsOfSwitch setting (speaker body)
 
--- and its version exists
+-- the message is addressed like this, and its version, if it carries one, exists
 pub record NamesOnlyThere (setting : Setting) (journal : List Item) (message : Message)
     : Type 0 where
   pub addressed : IsAddressed setting message.to message.body
   pub version : IfSome (body_version message.body)
       (λ version. (1 ≤ version) × (version ≤ version_count journal))
 
--- this is true of all that was sent, and all that was heard
+-- this is true of each message that was sent, and of all that switches and the controller heard
 pub record BodiesNameThere (setting : Setting) (journal : List Item) : Type 0 where
   pub sent : (n : ℕ) (message : Message) → message_of journal n ≡ Some message
       → NamesOnlyThere setting journal message

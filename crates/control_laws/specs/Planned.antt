@@ -5,7 +5,7 @@ use Rattle.update_machine.specs.Exports.{Body, HasPlan, Install, Item, Setting, 
 -- ---- versions
 
 -- there are at most 64 versions, at most eight of which aren't retired; if the first policy has a
--- plan, each of them has
+-- plan, each of them has one
 pub record VersionsArePlanned (setting : Setting) (journal : List Item) : Type 0 where
   pub few : version_count journal ≤ most_versions
   pub live : version_count journal - retired_mark journal ≤ most_live
@@ -23,12 +23,12 @@ pub record AreTablesOf (setting : Setting) (journal : List Item) (s : ℕ) (inst
   pub later : (items : List Item)
       → installed ≡ tables_at setting (journal ++ items) installed.version s
 
--- a body that brings tables brings the switch such tables
+-- tables in the body are those that their version's plan gives the switch
 abbrev pub BringsTables : Setting → List Item → ℕ → Body → Type 0
 BringsTables setting journal s (Install boot installed) = AreTablesOf setting journal s installed
 BringsTables setting journal s body = ⊤
 
--- tables that were sent to a switch, and those that it heard; and a version that it has exists
+-- this is true of all tables that a switch was sent or heard; and each version that it has exists
 pub record TablesArePlanned (setting : Setting) (journal : List Item) : Type 0 where
   pub sent : (s boot n : ℕ) (installed : Tables)
       → message_of journal n ≡ Some (to_switch s (Install boot installed))

@@ -13,12 +13,12 @@ abbrev pub StepsSendAtMost : ℕ → Setting → List Item → Type 0
 StepsSendAtMost most setting journal =
     (row : ℕ) (step : Step) → sent_count (piece setting journal row step) ≤ most
 
--- few are 10,000
+-- the next step sends at most 10,000 messages
 abbrev pub StepsSendFew : Setting → List Item → Type 0
 StepsSendFew setting journal = StepsSendAtMost 10_000 setting journal
 
--- each boot but the first one begins with a message; and at least one of two changes of a switch's
--- links is sent to a neighbour, because only the failure of its last link reaches none
+-- each boot after the first begins with a message; and of two changes of a switch's links at least
+-- one is sent to a neighbour: the switch has none only after its last link failed
 pub record NumbersAreFew (setting : Setting) (journal : List Item) : Type 0 where
   pub boots : (s : ℕ) → boot_of journal s ≤ sent_count journal + 1
   pub seqs : (s : ℕ) → s < length setting.net.switches → own_seq setting journal s

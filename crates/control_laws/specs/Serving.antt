@@ -13,7 +13,7 @@ pub record HoldsStamp (journal : List Item) (s : ℕ) : Type 0 where
   pub retired : retired_mark journal < stamp_of journal s
   pub current : stamp_of journal s ≤ current_mark journal
 
--- each switch of the network does so while it serves
+-- this is true of each switch of the network that serves
 abbrev pub ServingHold : Setting → List Item → Type 0
 ServingHold setting journal = (s : ℕ) → s < length setting.net.switches
     → IsTrue (serves journal s) → HoldsStamp journal s

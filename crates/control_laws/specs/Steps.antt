@@ -1,4 +1,4 @@
--- The steps in which the controller hears something or is asked to do something.
+-- The steps that may change what the controller knows; a resend only sends what it knows again.
 use Rattle.std.specs.Prelude.{Bool, List, false, true}
 use Rattle.update_machine.specs.Exports.{Confirm, Deliver, Item, Step, Update, is_message_to_controller}
 

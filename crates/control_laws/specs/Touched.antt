@@ -3,7 +3,7 @@ use Rattle.std.specs.Prelude.{◌≡◌, ◌≤◌, List, Some, ℕ}
 use Rattle.update_machine.specs.Exports.{Item, Message, Setting, Stamp, message_of, to_switch, touched_by, version_count}
 use Rattle.ternary.specs.Exports.{WordValue}
 
--- the version exists, and these words are what its change touches
+-- the version exists, and these are the words that its change touches
 pub record IsTouched (setting : Setting) (journal : List Item) (version : ℕ)
     (touched : List WordValue) : Type 0 where
   pub first : 1 ≤ version
@@ -14,8 +14,8 @@ pub record IsTouched (setting : Setting) (journal : List Item) (version : ℕ)
 abbrev pub stamp_to : ℕ → ℕ → ℕ → List WordValue → Message
 stamp_to s boot version touched = to_switch s (Stamp boot version touched)
 
--- each message that tells a switch to stamp with a version, sent again or not, says what the change
--- of that version touches
+-- each message that tells a switch to stamp with a version, sent again or not, carries the words
+-- that the change of that version touches
 pub record StampsSayTouched (setting : Setting) (journal : List Item) : Type 0 where
   pub sent : (n s boot version : ℕ) (touched : List WordValue)
       → message_of journal n ≡ Some (stamp_to s boot version touched)

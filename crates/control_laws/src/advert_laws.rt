@@ -1,4 +1,4 @@
-//! The laws.
+//! Laws about adverts, and about how many messages, boots and sequence numbers there are.
 ghost use Rattle.std.specs.Prelude.{List, []};
 ghost use Rattle.net_file.specs.Net.{IsNet};
 ghost use Rattle.update_machine.specs.Exports.{HasRoom, HaveRoom, Setting, StepOfRow, after_steps};
@@ -37,8 +37,8 @@ pub fn numbers_are_few()
         → NumbersAreFew setting journal) }
 {}
 
-/// If a step may begin, and each step began with room in the journal, then all these numbers fit,
-/// and the next ones do.
+/// If the journal has room for a step, or each of its steps began with room, the numbers of
+/// messages, boots and own adverts fit in 32 bits, and the next ones do too.
 pub fn numbers_fit()
     ensures before { (setting : Setting) (steps : List StepOfRow) → IsNet setting.net
         → HasRoom (after_steps setting [] steps)

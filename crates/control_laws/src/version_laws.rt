@@ -1,4 +1,4 @@
-//! The laws.
+//! Laws about boots, versions, tables and marks.
 ghost use Rattle.std.specs.Prelude.{[], ℕ, ◌++◌, ◌≤◌, List, IsFalse};
 ghost use Rattle.net_file.specs.Net.{IsNet};
 ghost use Rattle.update_machine.specs.Exports.{AreSettled, ControllerKeeps, HaveCauses, Item, Setting, Step, VersionsAreNumbered, next_retired, piece, retired_mark};
@@ -14,25 +14,25 @@ pub fn versions_are_numbered()
     ensures { HoldsAlways (λ setting journal. VersionsAreNumbered journal) }
 {}
 
-/// The known boot of a switch is at most its own, and no message to it or of it carries a greater
-/// one.
+/// The boot that the controller knows of a switch is at most its own. A message to the switch
+/// carries at most the known boot, and one from it at most its own.
 pub fn boots_are_known()
     ensures { HoldsAlways (λ setting journal. BootsAreKnown journal) }
 {}
 
-/// A switch is opened at one version in each of its boots, however often it is told to.
+/// All messages that open a switch in one of its boots carry the same version.
 pub fn switches_open_once()
     ensures { HoldsAlways (λ setting journal. OpensAtOneVersion journal) }
 {}
 
-/// A switch that serves is a member, in its known boot; a switch that is up in its known boot
-/// isn't over.
+/// A switch that serves is up and a member, and the controller knows its boot; a switch that is up
+/// and whose boot is known isn't over.
 pub fn serving_is_known()
     ensures { HoldsAlways (λ setting journal. ServingIsKnown journal) }
 {}
 
-/// As long as a switch is up, what it acknowledged in its boot it heard in that boot, and stamps
-/// with.
+/// While a switch is up, it heard in its boot all tables that it acknowledged in that boot, and
+/// its stamp is at least each one that it acknowledged in that boot.
 pub fn acknowledgements_hold()
     ensures { HoldsAlways (λ setting journal. (s : ℕ) → AcksHold journal s) }
 {}
@@ -42,14 +42,14 @@ pub fn installs_are_planned()
     ensures { HoldsAlways (λ setting journal. InstallsArePlanned setting journal) }
 {}
 
-/// A switch is told to stamp with a version only once it acknowledged its tables in its boot, and
-/// only with a version that is at most the current one.
+/// A switch is told to stamp with a version only after it acknowledged that version's tables in
+/// its boot, and only if the version is at most the current one.
 pub fn stamps_are_acked_first()
     ensures { HoldsAlways (λ setting journal. HaveCauses (IsAckedFirst setting) [] journal) }
 {}
 
-/// A member acknowledged each version from the one at which it was opened to the current one, and a
-/// switch that serves stamps at least with what it is known to stamp with.
+/// A member acknowledged each version from the one at which it was opened to the current one, and
+/// the stamp of a switch that serves is at least the one that the controller knows.
 pub fn members_have_acknowledged()
     ensures { HoldsAlways (λ setting journal. MembersAcknowledged setting journal) }
 {}
@@ -60,8 +60,8 @@ pub fn stamps_say_what_is_touched()
     ensures { HoldsAlways (λ setting journal. StampsSayTouched setting journal) }
 {}
 
-/// The current version exists; retired versions, and those that a member is told to drop, are
-/// below it and below the acknowledged stamp of each member.
+/// The current version exists; retired versions are below it and below each member's acknowledged
+/// stamp; a member is told to drop only versions below its own; no stamp is above current.
 pub fn marks_are_bounded()
     ensures { HoldsAlways (λ setting journal. MarksAreBounded setting journal) }
 {}
@@ -72,13 +72,13 @@ pub fn serving_switches_hold()
     ensures { HoldsAlways (λ setting journal. ServingHold setting journal) }
 {}
 
-/// There are at most 64 versions, at most eight of which aren't retired, and each has a plan.
+/// At most 64 versions exist, at most eight of them not retired; each has a plan if version 1 has.
 pub fn versions_are_planned()
     ensures { HoldsAlways (λ setting journal. VersionsArePlanned setting journal) }
 {}
 
-/// Tables that were sent to a switch, and those that it heard, are those that their version's plan
-/// gives it, however the journal continues; a version that it has exists.
+/// The tables that a switch was sent, and those that it heard, are those that their version's plan
+/// gives it, however the journal continues; each version that it has exists.
 pub fn tables_are_planned()
     ensures { HoldsAlways (λ setting journal. TablesArePlanned setting journal) }
 {}
@@ -96,8 +96,8 @@ pub fn current_rises_rightly()
     ensures { HoldsAlways (λ setting journal. HaveCauses (RisesRightly setting) [] journal) }
 {}
 
-/// The retired mark is never above what the members' acknowledged stamps allow, nor in the middle
-/// of a step.
+/// The retired mark is never above what the members' acknowledged stamps allow, not even in the
+/// middle of a step.
 pub fn retired_stays_behind()
     ensures { HoldsAlways (λ setting journal.
         retired_mark journal ≤ next_retired setting journal) }

@@ -7,7 +7,7 @@ use Rattle.base.specs.Exports.{has}
 use Rattle.update_machine.specs.Exports.{Item, Setting, advert_known, is_up, links_known, near, own_advert, route_from}
 use Rattle.steps.specs.Exports.{HasSwitch}
 
--- from a switch over these, each by a usable link, to the target
+-- usable links lead from the switch `at` to each of these switches in turn, and end at the target
 abbrev pub LeadsOver : Setting → List Item → ℕ → ℕ → List ℕ → Type 0
 LeadsOver setting journal target at [] = at ≡ target
 LeadsOver setting journal target at (next ∷ rest) =
@@ -18,7 +18,7 @@ pub record Reaches (setting : Setting) (journal : List Item) (from target : ℕ)
   pub rest : List ℕ
   pub leads : LeadsOver setting journal target from rest
 
--- none of these links is usable, as those that a packet found down a moment ago
+-- none of these links is usable: they are those that a packet just found down, for example
 abbrev pub AreUnusable : Setting → List Item → List ℕ → Type 0
 AreUnusable setting journal down = (one other : ℕ)
     → IsTrue (has (near setting journal one) other) → IsFalse (has_link down one other)
@@ -33,7 +33,7 @@ pub record HasConverged (setting : Setting) (journal : List Item) : Type 0 where
       AreUnusable setting journal down →
       AreJoined (links_known setting journal s down) one other
       ↔ IsTrue (has (near setting journal one) other)
-  -- so it finds no route only if it reaches no target, whatever down links were found
+  -- so it finds no route only if it reaches no target, whatever unusable links a packet found down
   pub stuck : (s : ℕ) (targets down : List ℕ) → HasSwitch setting.net s →
       AreUnusable setting journal down →
       route_from setting journal s targets down ≡ None →

@@ -6,7 +6,7 @@ use Rattle.failover.specs.Exports.{is_newer}
 use Rattle.update_machine.specs.Exports.{Advert, Item, Setting, advert_known, advert_to, boot_of, near, sendings}
 use Rattle.base.specs.Exports.{has}
 
--- of the same origin, and at least as new
+-- the advert has the same origin, and is at least as new
 pub record IsAsNew (advert than : Advert) : Type 0 where
   pub origin : advert.origin ≡ than.origin
   pub new : IsFalse (is_newer than advert)
@@ -18,7 +18,7 @@ pub record HoldsAsNew (setting : Setting) (journal : List Item) (s : ℕ) (than 
   pub held : advert_known setting journal s than.origin ≡ Some advert
   pub as_new : IsAsNew advert than
 
--- one was sent to it in its present boot
+-- an advert that is at least as new was sent to the switch in its present boot
 pub record IsSentAsNew (journal : List Item) (s : ℕ) (than : Advert) : Type 0 where
   pub number : ℕ
   pub advert : Advert
@@ -26,8 +26,8 @@ pub record IsSentAsNew (journal : List Item) (s : ℕ) (than : Advert) : Type 0 
       (record { number = number; message = advert_to s advert; boot = boot_of journal s })
   pub as_new : IsAsNew advert than
 
--- over a usable link each end has adverts at least as new as those of the other end, or one was
--- sent to it in its present boot
+-- over a usable link each end has adverts at least as new as those of the other end, or was sent
+-- such adverts in its present boot
 abbrev pub NewsSpreads : Setting → List Item → Type 0
 NewsSpreads setting journal = (s neighbour origin : ℕ) (advert : Advert)
     → IsTrue (has (near setting journal s) neighbour) → origin < 64

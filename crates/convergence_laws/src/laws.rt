@@ -1,4 +1,4 @@
-//! The laws.
+//! Laws about quiet networks, and about networks whose neighbours agree.
 ghost use Rattle.std.specs.Prelude.{List};
 ghost use Rattle.net_file.specs.Net.{IsNet};
 ghost use Rattle.update_machine.specs.Exports.{Event, IsQuiet, Item, Setting};

@@ -20,8 +20,8 @@ fn read_args<R: Env + AllocGlobal>(rt: &R) -> io::Result<Vec<String>> {
     Ok(args)
 }
 
-/// The status of a call whose arguments can't be read. If one isn't UTF-8, it is that of wrong
-/// arguments, and its line is written.
+/// The status of a call whose arguments can't be read. If one isn't UTF-8, that is the status of
+/// wrong arguments, and its line is written.
 fn unread<E: Sink>(kind: ErrorKind, errs: &mut E) -> Status {
     match kind {
         ErrorKind::OutOfMemory => Status::NoMemory,
@@ -47,7 +47,7 @@ fn main(rt: HostRuntime) -> ExitCode {
             mem::forget(ending.journal);
             ExitCode::from(ending.status.number())
         }
-        // There was no memory for the meters, and nothing is printed.
+        // The meters ran out of memory, and nothing is printed.
         Err(AllocError) => ExitCode::from(Status::NoMemory.number()),
     }
 }

@@ -1,4 +1,4 @@
--- What became of an audit, by its status; and that what a replay prints is a good trace.
+-- The outcome of an audit, by its status; and that what a replay prints is a good trace.
 use Rattle.std.specs.Prelude.{[], ◌≡◌, ◌≤◌, ◌⊎◌, All, IsSome, List, Ok, Option, Some, codes, length, ℕ, ⊤}
 use Rattle.base.specs.Exports.{ForSome}
 use Rattle.update_machine.specs.Exports.{Item, PolicyFile}
@@ -20,12 +20,12 @@ use Rattle.difane_cli.specs.Writes.{Unplayed, Wrote}
 use Rattle.difane_cli.specs.declared.status.Status.{Status}
 use Rattle.difane_cli.specs.declared.status.Status.TheVariants as status
 
--- the verdict on a trace each line of which is good
+-- what is written for a trace whose lines are all good
 abbrev pub yes_line : List ℕ
 yes_line = codes "yes\n"
 
--- a file for each name, each with what its type has, and at most 2,000 rows; the first has a
--- policy; and the trace isn't too long
+-- there is a file for each name, sound and with at most 2,000 rows; the first has a policy; and the
+-- trace isn't too long
 pub record IsAuditingOf (command : AuditCommand) (auditing : Auditing) : Type 0 where
   pub many : length auditing.files ≡ length command.policies
   pub first : IsSome (first_policy auditing.files)
@@ -35,7 +35,7 @@ pub record IsAuditingOf (command : AuditCommand) (auditing : Auditing) : Type 0 
 
 -- the verdict is Yes only if each line is good, and otherwise No with the number of the first that
 -- isn't; and if it is Yes, the moves that they state are a run of the machine, and each packet
--- that they print as dropped or as out by a port got one decision before, the first match for its
+-- that they print as dropped or as out by a port got one decision before, the first match of its
 -- header under one version that was not retired when it entered
 pub record IsJudged (files : List PolicyFile) (lines : List TraceLine) (verdict : Verdict) : Type 0 where
   pub good : verdict ≡ Yes → AreGood files lines
@@ -43,8 +43,8 @@ pub record IsJudged (files : List PolicyFile) (lines : List TraceLine) (verdict 
   pub run : verdict ≡ Yes → AreRun files lines
   pub justified : verdict ≡ Yes → AreJustified files lines
 
--- there are a trace and files as the command asks for them, which are the known ones if these are
--- known; this is their verdict; and the output is in this relation to its line
+-- there are a trace and files as the command names them, which are the known ones if these are
+-- known; this is their verdict; and the output has this relation to the line `yes`
 pub record Audited (command : AuditCommand) (files : Option Files) (verdict : Verdict)
     (IsWritten : List ℕ → Type 0) (journal : List Item) : Type 0 where
   pub auditing : Auditing
@@ -55,7 +55,7 @@ pub record Audited (command : AuditCommand) (files : Option Files) (verdict : Ve
   pub nothing_played : journal ≡ []
   pub written : IsWritten yes_line
 
--- the output that a status of an audit comes with: `No` leaves it unchanged
+-- the output that each status of an audit ensures: `No` leaves it unchanged
 abbrev pub AuditOutcome : AuditCommand → Option Files → Status → List Item
     → (before now : SinkState) → Type 0
 AuditOutcome command files status.Ok journal before now =

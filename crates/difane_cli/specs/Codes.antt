@@ -7,7 +7,7 @@ use Rattle.std.specs.Prelude.{ℕ}
 abbrev pub most_bytes : ℕ
 most_bytes = 16_777_216
 
--- a trace has at most this many
+-- a trace has at most this many bytes
 abbrev pub most_trace_bytes : ℕ
 most_trace_bytes = 268_435_456
 
@@ -15,11 +15,11 @@ most_trace_bytes = 268_435_456
 abbrev pub missing_file : ℕ
 missing_file = 0
 
--- it has more bytes
+-- the file has more bytes than it may have
 abbrev pub too_long : ℕ
 too_long = 20
 
--- a row names a port that the network lacks
+-- a row names a port that the network doesn't have
 abbrev pub no_port : ℕ
 no_port = 13
 
@@ -27,6 +27,6 @@ no_port = 13
 abbrev pub first_change : ℕ
 first_change = 23
 
--- the network lacks the switch
+-- the network doesn't have the switch
 abbrev pub no_such_switch : ℕ
 no_such_switch = 21

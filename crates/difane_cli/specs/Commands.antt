@@ -1,4 +1,4 @@
--- What the files that a command read are to the definitions.
+-- The values of the definitions that contracts see for what a command read.
 use Rattle.std.specs.Prelude.{◌≡◌, ◌≤◌, length, ⊤}
 use Rattle.net_file.specs.Exports.{IsNet}
 use Rattle.steps.specs.Exports.{max_events}
@@ -46,13 +46,13 @@ pub record AreReadyToPlay (inputs : PlayInputs) : Type 0 where
   pub sound : MayBePlayed (inputs_stated inputs)
   pub few : length inputs.events.items ≤ max_events
 
--- a plan is on a network; nothing is required of a trace
+-- what is required of a task before its work; nothing of a trace
 abbrev pub IsReadyTask : declared_task.Task → Type 0
 IsReadyTask (asked.Play inputs) = AreReadyToPlay inputs
 IsReadyTask (asked.Print inputs) = IsNet inputs.net
 IsReadyTask (asked.Audit inputs) = ⊤
 
--- the task is of the kind that the command asks for, and as it asks for it
+-- the task is of the command's kind, and is as the command names it
 abbrev pub IsTaskOf : grammar.Command → Task → Type 0
 IsTaskOf command (Play inputs) = IsPlayOf command inputs
 IsTaskOf (grammar.Print args) (Print printing) = IsPrintingOf args printing

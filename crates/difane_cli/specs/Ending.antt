@@ -1,4 +1,4 @@
--- Which status a command ends with, and what brings one about.
+-- Which status a command ends with, and what causes it.
 use Rattle.std.specs.Prelude.{[], ◌++◌, ◌∷◌, ◌≡◌, ◌≢◌, ◌≤◌, ◌⊎◌, Bool, Err, IsOk, IsTrue, List, None, Ok, Option, Result, Some, option_to_list, ℕ, ⊤}
 use Rattle.base.specs.Exports.{ForSome}
 use Rattle.update_machine.specs.Exports.{Failure, InRow, Item}
@@ -24,15 +24,15 @@ status_of (stop.Refused refusal) = status.Input refusal.file refusal.code refusa
 status_of stop.ReadFault = status.ReadFault
 status_of stop.NoMemory = status.NoMemory
 
--- the status of a command whose work was written or not, and that ran to its end or stopped full
--- at a row
+-- the status of a command after its work: by whether that was written, and whether its play ran to
+-- its end or stopped full at a row
 abbrev pub status_after : Result (⊤) SinkError → Option ℕ → Status
 status_after (Ok done) None = status.Ok
 status_after (Ok done) (Some row) = status.Full row
 status_after (Err sink.Failed) full = status.WriteFault
 status_after (Err sink.NoMemory) full = status.NoMemory
 
--- a status that comes after work was begun
+-- the status of a command that began its work
 abbrev pub IsAfterWork : Status → Type 0
 IsAfterWork status.Ok = ⊤
 IsAfterWork (status.No line) = ⊤
@@ -41,8 +41,8 @@ IsAfterWork (status.Full row) = ⊤
 IsAfterWork status.NoMemory = ⊤
 IsAfterWork _ = ⊥
 
--- the status is one of work that was begun, and reports a fault of the output exactly if there was
--- one
+-- the status is of a command that began its work, and reports a fault of the output exactly if
+-- there was one
 pub record EndsWork (ended : Status) (before now : SinkState) : Type 0 where
   pub worked : IsAfterWork ended
   pub failed : ended ≡ status.WriteFault → Rose before.faults now.faults
@@ -74,8 +74,8 @@ MayFollowFault None (status.Input file code row) = (code ≡ missing_file) ⊎ (
 MayFollowFault None status.NoMemory = ⊤
 MayFollowFault _ _ = ⊥
 
--- what a status says of what was to be read: a refusal is the one that is stated there, and work
--- was done only on what is accepted
+-- what a status says of what there is to read: a refusal is the one that the definitions give, and
+-- work was done only on what they accept
 abbrev pub Accounts : {X : Type 0} → Result X Refusal → Status → Type 0
 Accounts read (status.Input file code row) =
     read ≡ Err (record { file = file; code = code; row = row })
@@ -86,9 +86,9 @@ Accounts read status.WriteFault = IsOk read
 Accounts read (status.Full row) = IsOk read
 Accounts read _ = ⊤
 
--- how a reading ends, if this is known of what there is to read: with the value that is there, as
--- `seen` shows it; or with a stop that what is there accounts for, and a fault of the shelf if
--- only that causes it
+-- how a reading ends: with the value that the known files give, as `seen` shows it; or with a stop
+-- for which the known files account, and with a fault of the shelf if only a fault causes the
+-- stop
 abbrev pub EndsRead : {K X V : Type 0} → (known : Option K) → (read : K → Result X Refusal)
     → (seen : V → X) → (old new : ShelfState) → Result V Stop → Type 0
 EndsRead known read seen old new (Ok value) =
@@ -119,7 +119,7 @@ abbrev pub IsOneOf : List (List ℕ) → List ℕ → Type 0
 IsOneOf [] file = ⊥
 IsOneOf (name ∷ names) file = (file ≡ name) ⊎ IsOneOf names file
 
--- a refusal is of one of these; and that of a file that is absent, or too long, is of no row
+-- a refusal names one of these; and that of a file that is absent, or too long, names row 0
 abbrev pub NamesOneOf : List (List ℕ) → Status → Type 0
 NamesOneOf names (status.Input file code row) = IsOneOf names file
     × ((code ≡ missing_file) ⊎ (code ≡ too_long) → row ≡ 0)
@@ -150,9 +150,9 @@ ReadsNothing None = ⊤
 ReadsNothing (Some (asked.Load n)) = ⊤
 ReadsNothing _ = ⊥
 
--- ---- what needs memory, and what is given back
+-- ---- which commands need memory, and which give the meters back
 
--- after its play a command may need memory; to write the lines of a journal it needs none
+-- the command may need memory after its play; only to write the lines of a journal it needs none
 abbrev pub MayWantMemory : Option Command → Type 0
 MayWantMemory (Some (asked.Replay args)) = WantsMemory args.report None
 MayWantMemory (Some (asked.Load n)) = ⊤
@@ -176,7 +176,7 @@ GivesBack _ = ⊥
 
 -- ---- checks of what was read
 
--- this refusal, or out of memory
+-- the stop is this refusal, or that memory ran out
 abbrev pub RefusesInput : Refusal → Stop → Type 0
 RefusesInput given (stop.Refused refusal) = refusal ≡ given
 RefusesInput given stop.NoMemory = ⊤

@@ -1,5 +1,5 @@
 -- What `flows` writes: the flow records of the meters that left, and then of those that stayed; and
--- what these count.
+-- what these records count.
 use Rattle.std.specs.Prelude.{[], ◌++◌, All, List, None, Option, Some, flat_map, ℕ}
 use Rattle.flow_export.specs.Counted.{IsCounted, IsNewMeter}
 use Rattle.flow_export.specs.Lines.{flow_lines}
@@ -9,7 +9,7 @@ use Rattle.meters.specs.declared.flows.FlowRecord.{FlowRecord}
 use Rattle.net_file.specs.Exports.{port_mask}
 use Rattle.replay.specs.Leavings.{left_in}
 
--- the records of the meters that leave while the packets of this journal leave the network
+-- the records of the meters that left when the packets of this journal left the network
 abbrev pub gone_by : Net → List Item → List Seen → List FlowRecord
 gone_by net journal meters = gone_records (port_mask net.switches) (left_in journal) meters
 
@@ -17,7 +17,7 @@ gone_by net journal meters = gone_records (port_mask net.switches) (left_in jour
 abbrev pub flow_text : List FlowRecord → List Seen → List ℕ
 flow_text gone meters = flow_lines gone ++ flow_lines (flat_map flow_records_of meters)
 
--- a play that stopped full has none
+-- a play that stopped full has no flow lines
 abbrev pub flows_text : Option ℕ → List FlowRecord → List Seen → List ℕ
 flows_text None gone meters = flow_text gone meters
 flows_text (Some row) gone meters = []
@@ -29,7 +29,7 @@ flows_text (Some row) gone meters = []
 abbrev pub AreCounted : List Item → (given : List Seen) → Type 0
 AreCounted journal given = All (IsCounted (left_in journal)) (flat_map flow_records_of given)
 
--- this is true if the meters that were taken are empty flow meters
+-- this is true if the meters that the command got are empty flow meters
 abbrev pub CountFlows : List Item → (taken given : List Seen) → Type 0
 CountFlows journal taken given =
     (most : ℕ) → All (IsNewMeter most) taken → AreCounted journal given

@@ -45,7 +45,7 @@ content_within most files name = content_from most name (file_named files name)
 abbrev pub content_of : Files → List ℕ → Result (List ℕ) Refusal
 content_of files name = content_within most_bytes files name
 
--- the value that the file was read as; a row that is refused is reported by the refusal's code
+-- the value that the file states, or the refusal of its row, by its code
 abbrev pub read_from : {X R : Type 0} → (R → ℕ) → List ℕ → Result X (InRow R)
     → Result X Refusal
 read_from code name (Ok value) = Ok value
@@ -96,8 +96,8 @@ abbrev pub read_file : Bool → ℕ → Files → List ℕ → Result PolicyFile
 read_file is_first ports files name =
     and_then (content_of files name) (stated_as is_first ports name)
 
--- the policies and changes of these files in their order, of which the next may be the first one,
--- or the first refusal
+-- the policies and changes of these files in their order, or the first refusal; the flag says
+-- whether the first of them is the command's first file
 abbrev pub read_files : Bool → ℕ → Files → List (List ℕ) → Result (List PolicyFile) Refusal
 read_files is_first ports files [] = Ok []
 read_files is_first ports files (name ∷ names) =
@@ -109,7 +109,7 @@ read_files is_first ports files (name ∷ names) =
 abbrev pub net_stated : List ℕ → List ℕ → Result Net Refusal
 net_stated name bytes = read_from net_code name (net_of bytes)
 
--- the network of this file, or that of one switch
+-- the network of this file, or that of one switch if none is named
 abbrev pub read_net : Files → Option (List ℕ) → Result Net Refusal
 read_net files None = Ok solo_net
 read_net files (Some name) = and_then (content_of files name) (net_stated name)
@@ -172,7 +172,7 @@ load_inputs n =
 
 -- ---- all files of a plan
 
--- the number of the switch of this name, if one is asked for
+-- the number of the switch of this name, if one is named
 abbrev pub switch_on : Net → Option (List ℕ) → Result (Option ℕ) Refusal
 switch_on net None = Ok None
 switch_on net (Some name) =
@@ -248,13 +248,13 @@ abbrev pub net_reads : Option (List ℕ) → ℕ
 net_reads None = 0
 net_reads (Some name) = 1
 
--- which of these files are accepted, of which the next may be the first one
+-- which of these files are accepted; the flag says whether the first is the command's first file
 abbrev pub are_accepted : Bool → ℕ → Files → List (List ℕ) → List Bool
 are_accepted is_first ports files [] = []
 are_accepted is_first ports files (name ∷ names) =
     is_ok (read_file is_first ports files name) ∷ are_accepted false ports files names
 
--- how many reads they take at most
+-- how many reads these files take at most
 abbrev pub file_reads : Bool → ℕ → Option Files → List (List ℕ) → ℕ
 file_reads is_first ports None names = length names
 file_reads is_first ports (Some files) names =

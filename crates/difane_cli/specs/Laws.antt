@@ -1,4 +1,4 @@
--- What follows after steps of the network, and at the end of a play.
+-- The laws of plays, and of the network after any steps, that the top call uses.
 use Rattle.std.specs.Prelude.{List, Option, ℕ}
 use Rattle.packet_laws.specs.Exports.{AreEntered, HoldsBetween, rows_played}
 use Rattle.flow_export.specs.Counted.{FlowLaws}
@@ -6,7 +6,7 @@ use Rattle.update_machine.specs.Exports.{Event, IsPlay, IsQuiet, IsSetting, Item
 use Rattle.forwarding_laws.specs.Exports.{HasComeToRest, PlaysKeepWorking}
 use Rattle.trace_texts.specs.Texts.{TextsAreGood}
 
--- what follows from a play, and after steps of the network
+-- what follows from a play, and what is true after steps of the network
 pub record AnswerLaws : Type 0 where
   pub entered : (setting : Setting) (events : List Event) (journal : List Item) (full : Option ℕ)
       → IsPlay setting events journal full → AreEntered (rows_played full events) journal

@@ -1,4 +1,4 @@
--- How much a replay takes.
+-- How many files, events and rows a replay accepts.
 use Rattle.std.specs.Prelude.{◌≤◌, All, length}
 use Rattle.policy_file.specs.Exports.{file_length}
 use Rattle.steps.specs.Exports.{max_events}

@@ -27,7 +27,7 @@ pub record WritesCounts (net : Net) (journal : List Item) (before now : SinkStat
       (kept_by net journal (new_meters true))) before now
   pub counted : AreCounted journal (kept_by net journal (new_meters true))
 
--- the arguments are a command, and the journal is that of its play; and so are the flows
+-- the arguments are a command, the journal is that of its play, and the output gained its flows
 pub record TellsFlows (texts : List (List ℕ)) (files : Option Files) (journal : List Item)
     (before now : SinkState) : Type 0 where
   pub command : Command

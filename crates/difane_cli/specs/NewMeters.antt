@@ -29,6 +29,6 @@ new_meter false port = record {
   recorded = λ held. [];
 }
 
--- one at each port that a network may have
+-- a new meter at each port that a network may have
 abbrev pub new_meters : (counts_flows : Bool) → List Seen
 new_meters counts_flows = map (new_meter counts_flows) (range_with_len 0 64)

@@ -1,5 +1,5 @@
--- What became of a command that prints a plan or tables, by its status; and the output after
--- writing a text.
+-- The outcome of a command that prints a plan or tables, by its status; and the output after a text
+-- was written.
 use Rattle.std.specs.Prelude.{[], ◌≡◌, ◌≢◌, ◌≤◌, ◌⊎◌, All, Bool, Err, IsErrOf, IsTrue, List, None, Ok, OnErr, OnOk, Option, Result, Some, is_some, length, ℕ, ⊤}
 use Rattle.base.specs.Exports.{ForSome}
 use Rattle.net_file.specs.Exports.{port_mask, switch_number}
@@ -21,7 +21,7 @@ use Rattle.command_line.specs.Exports.{PrintCommand}
 use Rattle.command_line.specs.Commands as asked
 use Rattle.difane_cli.specs.declared.status.Status.TheVariants as status
 
--- the switch has the name that was asked for
+-- the switch is the one that the command names
 abbrev pub IsSwitchOf : Option (List ℕ) → Net → Option ℕ → Type 0
 IsSwitchOf None net switch = switch ≡ None
 IsSwitchOf (Some name) net switch =
@@ -53,8 +53,8 @@ text_by (Some s) printing = table_text s (tables_of printing.hosted 1 s) printin
 abbrev pub printing_text : Printing → List ℕ
 printing_text printing = text_by printing.switch printing
 
--- there is a plan as the command asks for it, which is the known one if the task is known; what
--- the output gained is in this relation to its text
+-- there is a plan as the command names it, which is the known one if the task is known; the output
+-- has this relation to its text
 pub record Printed (command : PrintCommand) (files : Option Files)
     (IsWritten : List ℕ → Type 0) (journal : List Item) : Type 0 where
   pub printing : Printing
@@ -64,7 +64,7 @@ pub record Printed (command : PrintCommand) (files : Option Files)
   pub nothing_played : journal ≡ []
   pub written : IsWritten (printing_text printing)
 
--- the output that a status of a printing command comes with; the journal is empty, so never full
+-- the output that each status of a printing command ensures; the journal is empty, so never full
 abbrev pub PrintOutcome : PrintCommand → Option Files → Status → List Item
     → (before now : SinkState) → Type 0
 PrintOutcome command files status.Ok journal before now =

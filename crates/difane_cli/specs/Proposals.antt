@@ -1,5 +1,5 @@
--- The placement that `rebalance` proposes after a play, computed from how many packets asked each
--- partition.
+-- The placement that `rebalance` proposes after a play, computed from the weights of the
+-- partitions.
 use Rattle.std.specs.Prelude.{[], ◌∷◌, ◌≡◌, ◌≢◌, ◌≤◌, ◌⊎◌, Bool, Err, IsErrOf, IsTrue, List, OnOk, Result, codes, decimal, length, map, zip, ℕ, ⊤}
 use Rattle.base.specs.Exports.{concat}
 use Rattle.controller.specs.Exports.{LeadEveryHeader}
@@ -16,17 +16,17 @@ use Rattle.switch_table.specs.Exports.{part_of}
 use Rattle.difane_cli.specs.Writes.{Wrote}
 use Rattle.difane_cli.specs.declared.proposing.Proposal.{Proposal}
 
--- ---- a plan and how many packets asked its partitions
+-- ---- a plan, and the sizes and weights of its partitions
 
 -- the targets of each partition
 abbrev pub targets_by_partition : List Hosted → List (List ℕ)
 targets_by_partition plan = map (λ (hosted : Hosted). hosted.1) plan
 
--- how many rules each has
+-- how many rules each partition has
 abbrev pub sizes_in : List Hosted → List ℕ
 sizes_in plan = map (λ (hosted : Hosted). length hosted.0.rules) plan
 
--- how often each was asked
+-- the weight of each partition
 abbrev pub weights_in : List Item → List Hosted → List ℕ
 weights_in journal plan = weights_of journal (length plan)
 
@@ -36,11 +36,11 @@ with_targets plan placement = zip (map part_of plan) placement
 
 -- ---- the proposal
 
--- the placement is proposed to replace the plan's own, computed from how many packets asked its
--- partitions; it fits, and its peak is at least the bound and not higher than the plan's. The
--- plan's partitions are the leaves of the tree that is defined for the policy's rules, and each
--- stays; and with the new targets too the tables lead each header to what a scan of the policy
--- finds, the first match
+-- the placement is proposed to replace the plan's own, computed from the weights of its partitions;
+-- it fits, and its peak is at least the bound and not higher than the plan's. The plan's partitions
+-- are the leaves of the tree that is defined for the policy's rules, and each stays; and with the
+-- new targets too the tables lead each header to what a scan of the policy finds, the first
+-- match
 pub record IsProposedFor (rows : List Row) (plan : List Hosted) (net : Net) (journal : List Item)
     (placement : List (List ℕ)) : Type 0 where
   pub proposal : IsProposal (sizes_in plan) (weights_in journal plan) (rooms_of net) net.backups
@@ -78,7 +78,7 @@ pub record IsFoundFor (rows : List Row) (plan : List Hosted) (net : Net) (journa
 
 -- ---- what is written
 
--- a proposal, to whose text the output is in this relation
+-- there is a proposal, and the output has this relation to its text
 pub record ProposesFor (rows : List Row) (plan : List Hosted) (net : Net) (journal : List Item)
     (IsWritten : List ℕ → Type 0) : Type 0 where
   pub placement : List (List ℕ)

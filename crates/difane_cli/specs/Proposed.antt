@@ -1,4 +1,4 @@
--- What became of a replay that proposes a placement, by its status.
+-- The outcome of a replay that proposes a placement, by its status.
 use Rattle.std.specs.Prelude.{◌≡◌, ◌⊎◌, Bool, IsTrue, List, None, Option, Some, ℕ}
 use Rattle.update_machine.specs.Exports.{Item}
 use Rattle.shelf.specs.Exports.{GainedPart, SinkState}
@@ -22,8 +22,8 @@ pub record PlayedAlone (IsAnswer : Inputs → List Item → Option ℕ → Type 
   pub played : IsAnswer inputs journal full
   pub untouched : now ≡ before
 
--- the journal and the output that a status comes with, for which inputs and journals answer the
--- command, to their end or to a row at which it is full; the meters are given back unchanged
+-- the journal and the output that each status ensures, where `IsAnswer` says which journals answer
+-- which inputs of the command, to their end or to a row at which they are full
 abbrev pub ProposalOutcome : (IsAnswer : Inputs → List Item → Option ℕ → Type 0)
     → (takes_memory : Bool) → Status → List Item → (before now : SinkState) → Type 0
 ProposalOutcome IsAnswer takes_memory status.Ok journal before now =

@@ -38,7 +38,7 @@ pub record IsReplayOf (command : ReplayCommand) (inputs : Inputs) : Type 0 where
   pub report : inputs.report ≡ command.report
   pub limits : AreWithinLimits inputs
 
--- the inputs are as a command asks for them: those of a replay, or the load case
+-- the inputs are those that the command names: a replay's, or the load case
 abbrev pub IsPlayOf : Command → Inputs → Type 0
 IsPlayOf (asked.Replay args) inputs = IsReplayOf args inputs
 IsPlayOf (asked.Load n) inputs = inputs ≡ case_inputs (load_case n)
@@ -57,7 +57,7 @@ pub record AreStated (files : Files) (command : ReplayCommand) (inputs : Inputs)
       command.schedule inputs.events
   pub policies : AllZip (States files policy_file_of) command.policies inputs.setting.files
 
--- those of a replay are what its files state, if these are known
+-- the inputs of a replay are what its files state, if these are known
 abbrev pub AreStatedBy : Option Files → Command → Inputs → Type 0
 AreStatedBy files (asked.Replay args) inputs = ForSome files (λ all. AreStated all args inputs)
 AreStatedBy files _ inputs = ⊤
@@ -106,7 +106,7 @@ pub record Played (command : Command) (files : Option Files) (full : Option ℕ)
   pub good : IsGoodTrace inputs (play_text inputs.report inputs.setting.net journal full
       (gone_by inputs.setting.net journal taken) given answer)
 
--- the same for either play, except that the output failed and gained a part of the text
+-- the same for a play to its end or stopped full, but a write failed after a part of the text
 pub record CutShort (command : Command) (files : Option Files) (journal : List Item)
     (taken given : List Seen) (before now : SinkState) : Type 0 where
   pub inputs : Inputs
@@ -125,13 +125,13 @@ is_made (report.Lines quiet) full = false
 is_made _ None = true
 is_made _ (Some row) = false
 
--- a play that didn't stop full needs memory after it: to see whether the network is quiet, if this
--- is asked for, and for what is made in memory
+-- a play that didn't stop full needs memory after it: to see whether the network is quiet, with
+-- `--quiet`, and for what is made in memory
 abbrev pub WantsMemory : Report → Option ℕ → Type 0
 WantsMemory asked full = IsTrue (is_asked (asks_quiet asked) full) ⊎ IsTrue (is_made asked full)
 
--- the same for either play, except that memory ran out after it, if it needs any or the output's
--- writes allocate; a part of the text was written, or none, and no verdict that wasn't known
+-- the same for a play to its end or one that stopped full, but memory ran out after it, if it
+-- needs any or the output's writes allocate; a part of the text was written, or none of it
 pub record Unfinished (command : Command) (files : Option Files) (takes_memory : Bool)
     (journal : List Item) (taken given : List Seen) (before now : SinkState) : Type 0 where
   pub inputs : Inputs
@@ -145,7 +145,7 @@ pub record Unfinished (command : Command) (files : Option Files) (takes_memory :
   pub written : WrotePart (play_text inputs.report inputs.setting.net journal full
       (gone_by inputs.setting.net journal taken) given answer) before now
 
--- the journal, the meters and the output that a status of a play comes with; if nothing was played
+-- the journal, the meters and the output that each status of a play ensures; if nothing was played
 -- no meter remains or, if memory ran out before the command was read, all do
 abbrev pub PlayOutcome : Command → Option Files → (takes_memory : Bool) → Status → List Item
     → (taken given : List Seen) → (before now : SinkState) → Type 0
@@ -164,13 +164,13 @@ PlayOutcome command files takes_memory _ journal taken given before now =
 
 -- ---- all commands
 
--- the outcome of a play by what it prints: a proposal, or all else
+-- the outcome of a play by what it prints: a proposal, or anything else
 abbrev pub ByReport : Report → (proposes plays : Type 0) → Type 0
 ByReport report.Placement proposes plays = proposes
 ByReport _ proposes plays = plays
 
--- the journal, the meters that were taken and given back, and the output that a status of a command
--- comes with
+-- the journal, the meters that were taken and given back, and the output that each status of a
+-- command ensures
 abbrev pub Outcome : Option Command → Option Files → (takes_memory : Bool) → Status → List Item
     → (taken given : List Seen) → (before now : SinkState) → Type 0
 Outcome None files takes_memory status journal taken given before now =

@@ -11,8 +11,8 @@ pub record Inputs : Type 0 where
   -- what the play prints
   pub report : Report
 
--- what a command does: to play inputs, to print a plan or the tables of a switch, or to check a
--- trace
+-- what a command does: it plays inputs, prints a plan or the tables of a switch, or checks a trace,
+-- once its files are read
 pub data Task : Type 0 where
   Play : Inputs → Task
   Print : Printing → Task

@@ -17,7 +17,7 @@ abbrev pub notes_line : ℕ → ℕ → List ℕ
 notes_line port notes = concat (codes "meter port " ∷ decimal port
     ∷ codes " notes " ∷ decimal notes ∷ codes "\n" ∷ [])
 
--- an empty meter has none
+-- the line of a meter; an empty meter has none
 abbrev pub line_by : ℕ → List Leaving → List ℕ
 line_by port [] = []
 line_by port held = notes_line port (length held)
@@ -61,7 +61,7 @@ input_line file code row = concat (codes "difane: input " ∷ file
 abbrev pub numbered_line : List ℕ → ℕ → List ℕ
 numbered_line text number = concat (text ∷ decimal number ∷ codes "\n" ∷ [])
 
--- the line of a status, with its line feed; a command that did its work says nothing
+-- the line of a status, with its line feed; nothing for a command that did its work
 abbrev pub status_line : Status → List ℕ
 status_line status.Ok = []
 status_line (status.No line) = numbered_line (codes "difane: no line ") line

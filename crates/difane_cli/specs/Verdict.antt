@@ -1,17 +1,17 @@
--- What a replay says of its network if it is asked to: whether it is quiet after the journal, and
--- what is true of all switches if it is.
+-- What a replay with `--quiet` says of its network: whether it is quiet after the journal, and what
+-- is true of it then.
 use Rattle.std.specs.Prelude.{◌↔◌, ◌≡◌, Bool, IsTrue, List, None, Option, Some, false, is_some, true, ℕ, ⊤}
 use Rattle.update_machine.specs.Exports.{IsQuiet, Item, Setting}
 use Rattle.forwarding_laws.specs.Exports.{HasComeToRest}
 use Rattle.command_line.specs.declared.report.Report.{Report}
 use Rattle.command_line.specs.declared.report.Report.TheVariants as report
 
--- a report by lines may ask for it
+-- the report has the verdict on whether the network is quiet: only a report by lines may
 abbrev pub asks_quiet : Report → Bool
 asks_quiet (report.Lines quiet) = quiet
 asks_quiet _ = false
 
--- it is asked to by `--quiet`, at the end of a play that didn't stop full
+-- the verdict is given with `--quiet`, at the end of a play that didn't stop full
 abbrev pub is_asked : Bool → Option ℕ → Bool
 is_asked quiet None = quiet
 is_asked quiet (Some row) = false
@@ -27,7 +27,7 @@ Says setting journal None = ⊤
 Says setting journal (Some true) = HasComeToRest setting journal
 Says setting journal (Some false) = ¬ IsQuiet setting journal
 
--- there is a verdict exactly if one is asked for, and what it says is true
+-- there is a verdict exactly if `--quiet` asks for it and the play didn't stop full, and it is true
 pub record IsVerdict (quiet : Bool) (setting : Setting) (journal : List Item) (full : Option ℕ)
     (answer : Option Bool) : Type 0 where
   pub asked : is_some answer ≡ is_asked quiet full

@@ -1,9 +1,9 @@
--- First tier. A command's journal and outputs at its end, whatever it did.
+-- First tier. A command's journal and its outputs at the end, whatever it did.
 use Rattle.std.specs.Prelude.{[], ◌≡◌, ◌≤◌, ◌⊎◌, Bool, IsTrue, List, ℕ}
 use Rattle.shelf.specs.Exports.{GainedPart, Rose, SinkState, with_gained}
 use Rattle.update_machine.specs.Exports.{Item}
 
--- the output gained this text; if it is empty the output's state is the same
+-- the output gained this text; if the text is empty, the output's state is the same
 pub record Wrote (text : List ℕ) (before now : SinkState) : Type 0 where
   pub whole : now.bytes ≡ with_gained before.bytes text
   pub untouched : text ≡ [] → now ≡ before

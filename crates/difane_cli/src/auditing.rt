@@ -1,4 +1,4 @@
-//! Audits: a trace and its policies are read, and then the trace is checked.
+//! Audits: reads a trace and its policies, and then checks the trace.
 ghost use Rattle.std.specs.Prelude.{◌≡◌, ◌⊎◌, [], Ok, Option, Some, IfOk, IsTrue, length};
 ghost use Rattle.std.specs.Option.{ForSome};
 ghost use Rattle.shelf.specs.Shelf.{Files};
@@ -22,15 +22,15 @@ pub const MAX_TRACE_BYTES: u64 = 268_435_456;
 /// The ports of a network of one switch: all that are possible.
 const SOLO_PORTS: u64 = u64::MAX;
 
-/// A trace, and the files of policies and changes that it speaks of.
+/// A trace, and the files of the policies and changes of its versions.
 #[derive(Drop)]
 pub struct AuditInputs {
     pub trace: Vec<u8>,
     pub files: Vec<PolicyFile>,
 }
 
-/// The trace is read, then the policies and changes are read and checked in their order. These may
-/// name the ports of a network of one switch, and no plan is made.
+/// Reads the trace, and then reads and checks the policies and changes in their order. These may
+/// name the ports of a network of one switch; no plan is made.
 pub fn read_auditing<F: Shelf>(
     alloc: Global,
     shelf: &mut F,

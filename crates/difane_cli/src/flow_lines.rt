@@ -6,7 +6,7 @@ use flow_export::push_flows;
 use meters::{Flows, Meter};
 use std::alloc::{AllocError, Global};
 
-/// A line for each record of the meters that left, and then of those that stayed.
+/// The text with a line for each record of the meters that left, and then of those that stayed.
 ///
 /// # Errors
 /// Only out of memory.

@@ -1,4 +1,4 @@
-//! The files of a command, read and checked one after another.
+//! Reads and checks the files of a command, one after another.
 ghost use Rattle.std.specs.Prelude.{◌≡◌, ◌<◌, ◌≤◌, All, IsSome, IsTrue, IfOk, IfErr, Ok, [], ◌∷◌, length, true};
 ghost use Rattle.net_file.specs.Net.{IsNet};
 ghost use Rattle.policy_file.specs.Ports.{names_port_of};
@@ -22,16 +22,16 @@ use std::alloc::Global;
 use steps::Event;
 use world::World;
 
-/// The most bytes of a file.
+/// The most bytes of a file that isn't a trace.
 pub const MAX_BYTES: u64 = 16_777_216;
 
 /// The code of a file that is absent.
 pub const MISSING: u32 = 0;
 
-/// The code of a file that has more bytes.
+/// The code of a file that has more bytes than it may have.
 pub const TOO_LONG: u32 = 20;
 
-/// The refusal of a file by this code in this row.
+/// The refusal of a file by this code in this row; out of memory if its name can't be copied.
 pub fn refused(alloc: Global, name: &str, code: u32, row: u32) -> Stop
     ensures { RefusesInput (record { file = name.now; code = code; row = row }) result }
 {
@@ -41,7 +41,7 @@ pub fn refused(alloc: Global, name: &str, code: u32, row: u32) -> Stop
     }
 }
 
-/// The content of the file of this name.
+/// The content of the file of this name, of at most 16,777,216 bytes.
 pub fn read_bytes<F: Shelf>(alloc: Global, shelf: &mut F, name: &str) -> Result<Vec<u8>, Stop>
     ensures read { EndsRead (F.state shelf.old).files (λ files. content_of files name.now)
         (λ bytes. bytes.items) (F.state shelf.old) (F.state shelf.new) result }
@@ -50,7 +50,7 @@ pub fn read_bytes<F: Shelf>(alloc: Global, shelf: &mut F, name: &str) -> Result<
     read_within(alloc, shelf, name, MAX_BYTES)
 }
 
-/// The content of the file of this name, which has at most this many bytes.
+/// The content of the file of this name, of at most this many bytes.
 pub fn read_within<F: Shelf>(
     alloc: Global,
     shelf: &mut F,
@@ -113,7 +113,7 @@ fn read_schedule<F: Shelf>(
     check_schedule(alloc, name, &bytes, net, policies)
 }
 
-/// The policy of this name, which names only ports of the mask.
+/// The policy of the file of this name, which names only ports of the mask.
 pub fn read_policy<F: Shelf>(
     alloc: Global,
     shelf: &mut F,
@@ -131,8 +131,8 @@ pub fn read_policy<F: Shelf>(
     check_policy(alloc, name, &bytes, ports)
 }
 
-/// The policy or the change of this name, the rows of which name only ports of the mask. The first
-/// of a command's files is no change.
+/// The policy or the change of the file of this name, whose rows name only ports of the mask. The
+/// first of a command's files must be a policy.
 fn read_file<F: Shelf>(
     alloc: Global,
     shelf: &mut F,
@@ -153,8 +153,8 @@ fn read_file<F: Shelf>(
     check_file(alloc, name, &bytes, ports, is_first)
 }
 
-/// The policies and changes of these names, each of which is read and checked before the next one
-/// is read. The first is a policy.
+/// The policies and changes of the files of these names, each read and checked before the next one
+/// is read. The first must be a policy.
 pub fn read_files<F: Shelf>(
     alloc: Global,
     shelf: &mut F,
@@ -193,8 +193,8 @@ pub struct PlayInputs {
     pub report: Report,
 }
 
-/// The inputs of a replay: the network is read and checked, then the schedule, then the policies
-/// and changes in their order, and last the first policy is planned.
+/// The inputs of a replay: reads and checks the network, then the schedule, then the policies and
+/// changes in their order, and last plans the first policy.
 pub fn read_inputs<F: Shelf>(
     alloc: Global,
     shelf: &mut F,

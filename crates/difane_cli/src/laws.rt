@@ -1,4 +1,4 @@
-//! What the plans of the network of one switch are.
+//! The law about plans on the network of one switch.
 ghost use Rattle.std.specs.Prelude.{◌≡◌, ◌≤◌, Ok, List, [], ◌∷◌};
 ghost use Rattle.net_file.specs.Net.{solo_net};
 ghost use Rattle.partition.specs.Plan.{plan_of};

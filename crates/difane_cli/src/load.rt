@@ -14,7 +14,7 @@ use std::alloc::Global;
 /// The file that a refusal of a load case names.
 const LOAD_NAME: &str = "load";
 
-/// The load case of this number, with its first policy in force.
+/// The inputs of the load case of this number, with its first policy in force.
 pub fn draw_inputs(alloc: Global, n: u32) -> Result<PlayInputs, Stop>
     requires { (1 ≤ n) × (n ≤ 1000) }
     ensures value { IfOk result (λ inputs. load_inputs n ≡ Ok (inputs_stated inputs)) }

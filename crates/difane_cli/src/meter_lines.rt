@@ -8,7 +8,7 @@ use itoa::Buffer;
 use meters::Meter;
 use shelf::{Sink, SinkError};
 
-/// Writes a line for each meter that has a note, in order. It allocates nothing itself.
+/// Writes a line for each meter that has a note, in order. Allocates nothing itself.
 pub fn write_meters<M: Meter, K: Sink>(meters: &[M], out: &mut K) -> Result<(), SinkError>
     ensures after { IsAfterWrite (meter_lines (map M.seen meters.now)) K.takes_memory
         (K.state out.old) (K.state out.new) result }

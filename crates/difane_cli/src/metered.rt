@@ -39,7 +39,7 @@ fn asks_flows(words: &Vec<String>) -> bool
     }
 }
 
-/// What `make` makes for each port, in order.
+/// What `make` returns for each port from 0 to 63, in order.
 fn at_each_port<M: Drop, F: Fn(u32) -> Result<M, AllocError>>(
     alloc: Global,
     make: F,
@@ -74,7 +74,7 @@ pub fn run_metered<F: Shelf, K: Sink, E: Sink>(
         → TellsFlows (argument_texts words.now) (F.state shelf.old).files ending.journal
         (K.state out.old) (K.state out.new)) }
 
-    // All else is as `run` says for these meters.
+    // Everything else is as `run` says for these meters.
     ensures outcome { IfOk result (λ ending.
         MeteredOutcome (argument_texts words.now) (F.state shelf.old).files K.takes_memory
         ending.status ending.journal (K.state out.old) (K.state out.new)) }

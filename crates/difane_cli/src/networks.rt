@@ -1,4 +1,4 @@
-//! Networks as a command uses them: of a file or of one switch, and the switches on them.
+//! The networks of commands, from a file or of one switch, and the switches on them.
 ghost use Rattle.std.specs.Prelude.{◌≡◌, IfOk, IfErr, Ok, option_to_list};
 ghost use Rattle.net_file.specs.Net.{IsNet};
 ghost use Rattle.command_line.specs.Named.{net_named};
@@ -54,7 +54,7 @@ pub fn take_network<F: Shelf>(alloc: Global, shelf: &mut F, name: Option<&str>) 
     }
 }
 
-/// The number of the switch of this name, if one is asked for.
+/// The number of the switch of this name, if one is named; refused if the network has none.
 pub fn find_switch(alloc: Global, net: &Net, name: Option<&str>) -> Result<Option<u32>, Stop>
     requires { IsNet net.now }
     ensures value { IfOk result (λ switch. switch_on net.now (net_named name.entry) ≡ Ok switch) }

@@ -1,4 +1,4 @@
-//! The play of accepted inputs, and the writing of its journal.
+//! Plays accepted inputs, and writes what the play prints.
 ghost use Rattle.std.specs.Prelude.{◌≡◌, ◌≢◌, [], Ok, Option, Some, map};
 ghost use Rattle.std.specs.Option.{ForSome};
 ghost use Rattle.net_file.specs.Net.{IsNet};
@@ -29,10 +29,10 @@ use shelf::{Sink, SinkError, write_whole};
 use std::alloc::Global;
 use trace_texts::texts_are_good;
 
-/// Plays the inputs, to their end or as far as there is room, while the meters record the packets
-/// that leave. Writes the journal and, unless it stopped full, the lines of the meters and the one
-/// that says whether the network is quiet. Nothing is written before that is known. The outcome is
-/// stated for whatever is known of the files.
+/// Plays the inputs, to their end or until the journal is full, while the meters record the packets
+/// that leave. Then writes what the report has: the lines of the journal, the meters and the
+/// verdict, or flow records, or a summary; nothing is written before the verdict is known. The
+/// outcome is stated for whatever is known of the files.
 pub fn play<M: Meter, K: Sink>(
     alloc: Global,
     inputs: PlayInputs,
@@ -83,7 +83,7 @@ pub fn play<M: Meter, K: Sink>(
     }
 }
 
-/// What follows after steps of the network, and at the end of a play.
+/// The laws of plays, and of the network after any steps, that the top call uses.
 pub fn answer_laws()
     ensures { AnswerLaws }
 {
@@ -157,7 +157,7 @@ fn write_summary<M: Meter, K: Sink>(
 }
 
 /// Writes the lines of a play: those of its journal, and then, unless it stopped full, the last
-/// ones. It allocates nothing itself.
+/// ones. Allocates nothing itself.
 fn write_played<M: Meter, K: Sink>(
     played: &Played<M>,
     answer: Option<bool>,

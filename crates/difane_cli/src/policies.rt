@@ -1,4 +1,4 @@
-//! Policies and changes as a command uses them: read from bytes, and checked against the network.
+//! The policies and changes of commands: read from bytes, and checked against the network.
 ghost use Rattle.std.specs.Prelude.{◌≡◌, ◌≤◌, All, List, IfOk, IfErr, IsOk, IsSome, IsTrue, None, Ok, OnOk, [], ◌∷◌, length, map, true};
 ghost use Rattle.policy_file.specs.Changes.{file_length};
 ghost use Rattle.policy_file.specs.Reading.{policy_code};
@@ -28,13 +28,13 @@ use std::alloc::{AllocError, Global};
 use world::World;
 use world::codes::code_of;
 
-/// The code of a row that names a port that the network lacks.
+/// The code of a row that names a port that the network doesn't have.
 pub const NO_PORT: u32 = 13;
 
 /// The code of a first file that is a change.
 pub const FIRST_CHANGE: u32 = 23;
 
-/// The code of a switch that the network lacks.
+/// The code of a switch that the network doesn't have.
 pub const NO_SWITCH: u32 = 21;
 
 /// The stop at a file whose text is refused or for which memory runs out.
@@ -61,8 +61,8 @@ pub fn check_policy(alloc: Global, name: &str, bytes: &[u8], ports: u64) -> Resu
     Ok(policy)
 }
 
-/// The policy or the change that the bytes of this file state, the rows of which name only ports
-/// of the mask. A first file is no change: one is refused before its rows are read.
+/// The policy or the change that the bytes of this file state, whose rows name only ports of the
+/// mask. A first file that is a change is refused before its rows are read.
 pub fn check_file(
     alloc: Global,
     name: &str,
@@ -86,7 +86,7 @@ pub fn check_file(
     Ok(file)
 }
 
-/// Each of these policies as a file that contains it.
+/// Each of these policies as a policy file.
 pub fn as_files(alloc: Global, policies: Vec<Policy>) -> Result<Vec<PolicyFile>, AllocError>
     ensures { IfOk result (λ files. files.items ≡ map Whole policies.items) }
 {
@@ -108,8 +108,8 @@ fn no_plan(alloc: Global, name: &str, error: PlanError) -> Stop
     }
 }
 
-/// The network with the policy of the first of these files in force as version 1. The first of
-/// these names is that file's.
+/// The network with the policy of the first of these files in force as version 1, or why that has
+/// no plan. The first of these names is that file's.
 pub fn begin_world(
     alloc: Global,
     names: &[&str],
@@ -136,7 +136,7 @@ pub fn begin_world(
     Ok(world)
 }
 
-/// The plan of the policy of this file on the network.
+/// The plan of the policy of this file on the network, or why it has none.
 pub fn plan_policy(alloc: Global, name: &str, policy: &Policy, net: &Net) -> Result<Plan, Stop>
     requires { IsNet net.now }
     ensures value { IfOk result (λ plan. plan_on name.now net.now policy.now ≡ Ok plan.hosted) }

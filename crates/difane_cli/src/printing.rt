@@ -1,4 +1,4 @@
-//! The plan of a policy, or the tables of a switch: its files, and the writing of its text.
+//! Reads the files of a plan or of a switch's tables, and writes their text.
 ghost use Rattle.std.specs.Prelude.{◌≡◌, ◌≢◌, ◌≤◌, [], Ok, Option, None, Some, IfOk, IsErrOf, IsTrue, ◌⊎◌};
 ghost use Rattle.std.specs.Option.{ForSome};
 ghost use Rattle.net_file.specs.Net.{IsNet};
@@ -21,7 +21,7 @@ use shelf::{Shelf, Sink, SinkError, write_whole};
 use show_text::{compile_text, table_text};
 use std::alloc::{AllocError, Global};
 
-/// A plan on its network, and the switch whose tables are asked for.
+/// A plan on its network, and the switch whose tables are printed; without it the plan is.
 #[derive(Drop)]
 pub struct PrintInputs {
     pub plan: Plan,
@@ -29,8 +29,8 @@ pub struct PrintInputs {
     pub switch: Option<u32>,
 }
 
-/// The network is read and checked, then the switch is looked for, then the policy is read and
-/// checked, and last it is planned.
+/// Reads and checks the network, then finds the switch, then reads and checks the policy, and last
+/// plans it.
 pub fn read_printing<F: Shelf>(
     alloc: Global,
     shelf: &mut F,
@@ -64,7 +64,7 @@ fn text_of(alloc: Global, inputs: &PrintInputs) -> Result<Vec<u8>, AllocError>
     }
 }
 
-/// Writes the text. The outcome is stated for whatever is known of the files.
+/// Writes the plan or the tables. The outcome is stated for whatever is known of the files.
 pub fn print<K: Sink>(alloc: Global, inputs: &PrintInputs, out: &mut K) -> Result<(), SinkError>
     requires { IsNet inputs.now.net }
     ensures outcome { (command : PrintCommand) (files : Option Files)

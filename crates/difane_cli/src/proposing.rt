@@ -1,4 +1,4 @@
-//! A placement of the partitions that a play asked, with a lower peak if one is found.
+//! The placement that is proposed after a play: one of a lower peak if it is found.
 ghost use Rattle.std.specs.Prelude.{◌≡◌, ◌<◌, ◌≤◌, ◌^◌, ◌⊎◌, IfOk, IsTrue, Ok, Option, Some, length, sum};
 ghost use Rattle.std.specs.Option.{ForSome};
 ghost use Rattle.net_file.specs.Net.{IsNet};
@@ -26,19 +26,19 @@ use shelf::{Sink, SinkError};
 use show_text::compile_text;
 use std::alloc::{AllocError, Global};
 
-/// A plan with the targets that are proposed, and the peaks of its own and of these.
+/// The plan with the targets that are proposed, and the peaks of its own targets and of these.
 #[derive(Drop)]
 pub struct Proposal {
     plan: Plan,
     /// The peak of the plan's own targets.
     old_peak: u64,
-    /// The peak of those that are proposed.
+    /// The peak of the targets that are proposed.
     new_peak: u64,
     /// No placement that fits has a lower peak.
     bound: u64,
 }
 
-/// Plays the inputs, to their end or as far as there is room, and writes the placement that is
+/// Plays the inputs, to their end or until the journal is full, and writes the placement that is
 /// proposed, unless it stopped full. No meter records anything, and all are given back. The
 /// outcome is stated for whatever is known of the files.
 pub fn propose<M: Meter, K: Sink>(
@@ -97,7 +97,7 @@ pub fn propose<M: Meter, K: Sink>(
     }
 }
 
-/// Writes the proposal for the plan, by how many packets asked its partitions in the journal.
+/// Writes the proposal for the plan, by the weights of its partitions in the journal.
 fn write_proposal<K: Sink>(
     alloc: Global,
     journal: &Journal,
@@ -128,7 +128,7 @@ fn write_proposal<K: Sink>(
     write_pieces(&pieces, out)
 }
 
-/// The proposal for the plan, by how many packets asked its partitions in the journal.
+/// The proposal for the plan, by the weights of its partitions in the journal.
 ///
 /// # Errors
 /// Only out of memory.

@@ -13,7 +13,7 @@ use shelf::{Sink, SinkError, write_whole};
 use std::alloc::{AllocError, AllocFailed, Global};
 use std::marker::Model;
 
-/// The name of a file as the arguments had it. Contracts see its bytes.
+/// The name of a file, as it was on the command line. Contracts see its bytes.
 #[derive(Drop)]
 pub struct FileName {
     name: String,
@@ -28,7 +28,7 @@ impl Model for FileName {
 }
 
 impl FileName {
-    /// A copy of this name.
+    /// A copy of this name; fails only out of memory.
     pub fn new(alloc: Global, name: &str) -> Result<FileName, AllocError>
         ensures { IfOk result (λ file. file ≡ name.now) }
     {
@@ -45,7 +45,7 @@ impl FileName {
     }
 }
 
-/// Which file is refused, by which code in which row, counted from 1; 0 means the file as a whole.
+/// Which file is refused, by which code, in which row, counted from 1; 0 means the whole file.
 #[derive(Drop)]
 pub struct Refusal {
     pub file: FileName,
@@ -85,11 +85,11 @@ impl From<AllocError> for Stop {
 pub enum Status {
     /// It did its work.
     Ok,
-    /// A trace isn't one of the machine: this line, from 1, is the first bad one.
+    /// The trace isn't good: this line, from 1, is the first bad one.
     No { line: u32 },
     /// The grammar doesn't have the words of the command line.
     Words,
-    /// This file is refused, by this code in this row; 0 means the file as a whole.
+    /// This file is refused, by this code in this row; 0 means the whole file.
     Input { file: FileName, code: u32, row: u32 },
     /// A file could not be read.
     ReadFault,
@@ -111,7 +111,7 @@ pub struct Ended<M> {
     pub meters: Vec<M>,
 }
 
-/// The same with boxed meters, of whatever kinds their maker has.
+/// The same with boxed meters, which may be of several kinds.
 pub type Finished = Ended<Box<dyn Meter>>;
 
 impl From<Stop> for Status {
@@ -127,8 +127,8 @@ impl From<Stop> for Status {
 }
 
 impl Status {
-    /// The status of a command whose work was written or not, and that ran to its end or stopped
-    /// full at a row.
+    /// The status of a command after its work: by whether that was written, and whether its play
+    /// ran to its end or stopped full at a row.
     pub fn after(written: Result<(), SinkError>, full: Option<u32>) -> Status
         ensures { result ≡ status_after written full }
     {
@@ -142,7 +142,7 @@ impl Status {
         }
     }
 
-    /// The number that a program ends with.
+    /// The exit code of the program.
     pub fn number(&self) -> u8
         ensures { result ≡ status_number self.now }
     {
@@ -159,8 +159,8 @@ impl Status {
     }
 }
 
-/// Writes the status's line; it allocates nothing itself. For work that was done it writes
-/// nothing, not even an empty piece.
+/// Writes the status's line; allocates nothing itself. For `Ok` it writes nothing, not even an
+/// empty piece.
 ///
 /// A fault of the sink changes nothing but the sink, which then has a part of the line.
 pub fn write_status<E: Sink>(status: &Status, errs: &mut E)

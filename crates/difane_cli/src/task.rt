@@ -1,4 +1,4 @@
-//! What a command is to do, once its files are read, and how it is done.
+//! The task of a command: its files are read, and then it is done.
 ghost use Rattle.std.specs.Prelude.{◌≡◌, Ok, Option, Some, IfOk, Result, [], map};
 ghost use Rattle.std.specs.Option.{ForSome};
 ghost use Rattle.shelf.specs.Shelf.{Files};
@@ -21,7 +21,7 @@ use meters::Meter;
 use shelf::{Shelf, Sink};
 use std::alloc::Global;
 
-/// What a command is to do.
+/// What a command does once its files are read.
 #[derive(Drop)]
 pub enum Task {
     Play(PlayInputs),
@@ -29,8 +29,8 @@ pub enum Task {
     Audit(AuditInputs),
 }
 
-/// The task of a command, whose files are read and checked one after another, or whose load case
-/// is generated.
+/// Reads the task of a command: reads and checks its files one after another, or generates its load
+/// case.
 pub fn read_task<F: Shelf>(
     alloc: Global,
     shelf: &mut F,
@@ -105,8 +105,8 @@ pub fn work<M: Meter, K: Sink>(alloc: Global, task: Task, meters: Vec<M>, out: &
     }
 }
 
-/// The meters that remain if nothing was played: all for a command that gives them back, none for
-/// another.
+/// The meters that remain if nothing was played: all of them if the command gives them back,
+/// otherwise none.
 pub fn unplayed<M: Meter>(alloc: Global, command: &Command<'_>, meters: Vec<M>) -> Vec<M>
     ensures none { ¬ GivesBack (Some (command_named command.now)) → result.items ≡ [] }
     ensures all { GivesBack (Some (command_named command.now)) → result ≡ meters }

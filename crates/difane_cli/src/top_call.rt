@@ -1,4 +1,4 @@
-//! The top call.
+//! The top call of the program.
 ghost use Rattle.std.specs.Prelude.{◌≡◌, ◌≢◌, ◌≤◌, ◌⊎◌, ◌↔◌, ℕ, None, map};
 ghost use Rattle.std.specs.Option.{ForSome};
 ghost use Rattle.shelf.specs.Sink.{Rose};
@@ -40,9 +40,9 @@ pub fn run<F: Shelf, K: Sink, E: Sink>(
     errs: &mut E,
     meters: Vec<Box<dyn Meter>>,
 ) -> Finished
-    // For each status: what was played, and that it is what the known files state; that the
-    // journal answers it, and is a run of the abstract machine whose ends and items have their
-    // causes; which meters stayed; and what the output gained.
+    // For each status: what was played, which is what the known files state; that the journal
+    // answers it, and is a run of the abstract machine whose ends and items have their causes;
+    // which meters stayed; and what the output gained.
     ensures outcome { Outcome (command_of (argument_texts words.now)) (F.state shelf.old).files
         K.takes_memory result.status result.journal
         (map ⟦<Box<dyn Meter> as Meter>⟧.seen meters.items)
@@ -75,7 +75,7 @@ pub fn run<F: Shelf, K: Sink, E: Sink>(
         → (K.state out.new).faults ≡ (K.state out.old).faults }
 
     // If memory runs out, nothing was written, unless the output's own writes allocate. And the
-    // journal is empty, unless the command asks for more than the lines of a play.
+    // journal is empty, unless the command prints more than the lines of a play.
     ensures no_memory { result.status ≡ status.NoMemory
         → RanOut (command_of (argument_texts words.now)) K.takes_memory result.journal
         (K.state out.old) (K.state out.new) }
@@ -90,8 +90,8 @@ pub fn run<F: Shelf, K: Sink, E: Sink>(
         ⊎ ((line : ℕ) × (result.status ≡ status.No line))
         ⊎ (result.status ≡ status.NoMemory) }
 
-    // The line of the status is written, whole unless the sink of errors fails; for work that was
-    // done nothing is.
+    // The line of the status is written, whole unless the sink of errors fails or its writes
+    // allocate; for work that was done nothing is.
     ensures line { WritesLine (status_line result.status) E.takes_memory
         (E.state errs.old) (E.state errs.new) }
     ensures silent { result.status ≡ status.Ok → errs.new ≡ errs.old }

@@ -12,7 +12,7 @@ use replay::Played;
 use shelf::{Sink, SinkError, write_whole};
 use std::alloc::{AllocError, Global};
 
-/// Whether a report says if the network is quiet.
+/// Whether a report says whether the network is quiet.
 pub fn asks_quiet(report: Report) -> bool
     ensures { result ≡ asks_quiet report }
 {
@@ -22,10 +22,10 @@ pub fn asks_quiet(report: Report) -> bool
     }
 }
 
-/// Whether the network is quiet, if this is asked for and the play didn't stop full.
+/// Whether the network is quiet; `None` if this isn't asked for or the play stopped full.
 ///
 /// # Errors
-/// Only out of memory, and only if this is asked for and the play didn't stop full.
+/// Only out of memory, and only if the result wouldn't be `None`.
 pub fn judge<M: Meter>(
     alloc: Global,
     asked: bool,
@@ -45,7 +45,7 @@ pub fn judge<M: Meter>(
     Ok(Some(answer))
 }
 
-/// Writes the line of a verdict, if there is one. It allocates nothing itself.
+/// Writes the line of a verdict, if there is one. Allocates nothing itself.
 pub fn write_answer<K: Sink>(answer: Option<bool>, out: &mut K) -> Result<(), SinkError>
     ensures after { IsAfterWrite (quiet_line answer) K.takes_memory
         (K.state out.old) (K.state out.new) result }

@@ -1,7 +1,7 @@
 -- A network forwards: a packet that enters, and is drained, is decided by the newest version and
--- is dropped or leaves by its port, or it is stuck if no links lead on. Packets are those of Yu,
--- Rexford, Freedman and Wang, "Scalable Flow-Based Networking with DIFANE", SIGCOMM 2010; that
--- they end like this is our own notion.
+-- is dropped or leaves by its port, or it is stuck if usable links lead to no target. Packets are
+-- those of Yu, Rexford, Freedman and Wang, "Scalable Flow-Based Networking with DIFANE", SIGCOMM
+-- 2010; that they end like this is our own notion.
 use Rattle.std.specs.Prelude.{◌++◌, ◌≡◌, ◌⊎◌, All, Contains, IsTrue, List, None, Option, Some, find, option_map, ℕ}
 use Rattle.five_tuple.specs.Exports.{IsHeader}
 use Rattle.update_machine.specs.Exports.{Action, AreAll, Cause, Exit, Header, Item, Leaving, Leg, Packet, Seek, Setting, StepOfRow, after_steps, decision_of, is_up, next_hop, next_packet, piece, plan_at, policy_at, targets_of, version_count}
@@ -33,7 +33,7 @@ pub record IsStuckApart (setting : Setting) (before after : List Item) (packet i
   pub apart : All (λ target. ¬ Reaches setting before ingress target)
       (targets_of setting before leg)
 
--- the packet leaves by the port, to whose switch such links led from where it entered
+-- the packet leaves by the port, and usable links led from where it entered to the port's switch
 pub record LeavesThere (setting : Setting) (before after : List Item) (packet ingress port : ℕ)
     : Type 0 where
   pub leaving : Leaving
@@ -67,8 +67,8 @@ pub record FindsNoTarget (setting : Setting) (before after : List Item) (packet 
   pub stuck : IsStuckApart setting before after packet ingress
       (Seek (version_count before) partition)
 
--- this is true of each packet that enters after the journal at a switch that is up, once all
--- hops that a drain then takes are taken
+-- this is true of each packet that enters right after the journal at a switch that is up, once a
+-- drain has taken all its hops
 abbrev pub QuietForwards : Setting → List Item → Type 0
 QuietForwards setting before = (row later ingress : ℕ) (header : Header) (hops : List StepOfRow)
     → HasSwitch setting.net ingress → IsHeader header → IsTrue (is_up before ingress)

@@ -1,6 +1,6 @@
 -- Nothing old is left: after recovery, one more resend to each switch and a flush, the switches
--- keep only the tables of the newest version. One round is not enough: a switch that joins in the
--- flush of the first one wasn't sent yet what is retired. That versions are collected once no
+-- keep only the tables of the newest version. One round is not enough: a switch that joins during
+-- the first flush isn't sent what is retired by then. That versions are collected once no
 -- packet needs them is from Reitblatt, Foster, Rexford, Schlesinger and Walker, "Abstractions for
 -- Network Update".
 use Rattle.std.specs.Prelude.{[], ◌++◌, ◌==◌, ◌∷◌, ◌≡◌, All, IsTrue, List, ℕ}
@@ -9,7 +9,7 @@ use Rattle.steps.specs.Exports.{HasSwitch}
 use Rattle.forwarding_laws.specs.Recovered.{HasRecovered}
 use Rattle.forwarding_laws.specs.Recovery.{AskEach, EndsInRecovery}
 
--- rows that end in recovery, then a resend to each switch, then a flush
+-- the events end in recovery, then a resend to each switch, then a flush
 pub record EndsInTwoRounds (net : Net) (events : List Event) : Type 0 where
   pub first : List Event
   pub resends : List Event

@@ -1,7 +1,7 @@
--- If no switch crashes and no link fails, then however many updates run, and however messages of
--- the controller are lost, repeated or reordered: no packet is dropped by the network. That an
--- update drops none is a requirement of Reitblatt, Foster, Rexford, Schlesinger and Walker,
--- "Abstractions for Network Update".
+-- If no switch crashes and no link fails, the network drops no packet: however many updates run,
+-- and however messages are lost, repeated or reordered. A packet ends by its decision, is lost by
+-- its own row, or is cut off. That an update drops none is a requirement of Reitblatt, Foster,
+-- Rexford, Schlesinger and Walker, "Abstractions for Network Update".
 use Rattle.std.specs.Prelude.{[], ◌++◌, ◌∷◌, ◌≡◌, ◌≢◌, All, Bool, Contains, IsFalse, List, Some, false, true, ℕ, ⊤}
 use Rattle.update_machine.specs.Exports.{AreTargets, Cause, Crash, Decision, Drop, Event, Header, Item, Leads, LeavesRightly, Leg, LinkDown, Lose, Net, One, Setting, Step, decision_of, present_step, standing}
 use Rattle.journal.specs.declared.item.Item.TheVariants as item
@@ -18,7 +18,7 @@ abbrev pub FailsNothing : Event → Type 0
 FailsNothing (One step) = IsFalse (fails step)
 FailsNothing _ = ⊤
 
--- no row of the schedule is one of these
+-- no row of the schedule crashes a switch or fails a link
 abbrev pub NothingFails : List Event → Type 0
 NothingFails events = All FailsNothing events
 
@@ -37,8 +37,8 @@ pub record IsStuckCutOff (setting : Setting) (before : List Item) (packet switch
   pub has_targets : targets ≢ []
   pub cut_off : AreCutOff setting.net switch targets
 
--- this is true of each packet that is stuck; one is lost only by its own row; none finds a link
--- down; and none is refused by a closed switch
+-- a packet is stuck only if it is cut off, and lost only by its own row; none finds a link down;
+-- and no switch is closed to one
 abbrev pub DropsNothing : Setting → List Item → Item → Type 0
 DropsNothing setting before (item.Stuck packet switch cause leg down) =
     IsStuckCutOff setting before packet switch leg
@@ -83,7 +83,7 @@ EndsOrIsCutOff setting packet before (item.Stuck i switch cause leg down) =
     (i ≡ packet) × IsStuckCutOff setting before packet switch leg
 EndsOrIsCutOff setting packet before end = EndsRightly setting packet before end
 
--- the journal has an item of which this is true after those before it
+-- the journal has an item for which `is` is true after the items before it
 pub record HasItem (is : List Item → Item → Type 0) (journal : List Item) : Type 0 where
   pub before : List Item
   pub found : Item
@@ -97,7 +97,7 @@ AllAccounted setting journal = (packet switch : ℕ) (header : Header)
     → Contains journal (item.Entered packet switch header)
     → HasItem (EndsRightly setting packet) journal
 
--- or is stuck, cut off
+-- each packet that entered ended rightly, or is stuck, cut off from its targets
 abbrev pub AllAccountedOrCutOff : Setting → List Item → Type 0
 AllAccountedOrCutOff setting journal = (packet switch : ℕ) (header : Header)
     → Contains journal (item.Entered packet switch header)

@@ -1,4 +1,4 @@
-//! The laws.
+//! Laws about networks that have converged or are quiet: they forward.
 ghost use Rattle.update_machine.specs.Exports.{IsQuiet, IsSetting};
 ghost use Rattle.convergence_laws.specs.Exports.{HasConverged, IsUpdated};
 ghost use Rattle.packet_laws.specs.Exports.{HoldsBetween};
@@ -10,8 +10,8 @@ use convergence_laws::{
 
 /// A network that has converged and is updated forwards. A packet that enters at a switch that
 /// is up, and is drained with no other event between, is decided by the newest version, and is
-/// dropped or leaves by its port. Only if usable links lead to no target of its partition, or not
-/// to its port's switch, it is stuck.
+/// dropped or leaves by its port. It is stuck only if usable links lead to no target of its
+/// partition, or not to its port's switch.
 pub fn converged_networks_forward()
     ensures { HoldsBetween (λ setting journal. IsSetting setting → HasConverged setting journal
         → IsUpdated setting journal → QuietForwards setting journal) }

@@ -1,4 +1,4 @@
-//! The law of plays.
+//! The law that each play keeps its network working.
 ghost use Rattle.forwarding_laws.specs.Exports.{PlaysKeepWorking};
 
 use crate::recovery::{networks_recover, nothing_old_is_left};

@@ -5,7 +5,7 @@ use Rattle.update_machine.specs.Exports.{Advertise, Body, Install, Installed, Me
 use Rattle.journal_reports.specs.Judging.{SaysAsMuch}
 use Rattle.journal_reports.specs.declared.bucket.Bucket.{Bucket}
 
--- the origin of an advert, or the version of tables; a message that says as much has the same
+-- an advert's origin, or the version of an install, its acknowledgement or an open; otherwise 0
 abbrev pub subject : Body → ℕ
 subject (Advertise advert) = advert.origin
 subject (Install boot tables) = tables.version
@@ -13,7 +13,7 @@ subject (OpenAt boot version) = version
 subject (Installed s boot version) = version
 subject _ = 0
 
--- the bucket of a message that says this, one of 64
+-- the bucket of a message with this body, one of 64
 abbrev pub bucket_of : Body → ℕ
 bucket_of body = if nat_lt (subject body) 64 then subject body else 0
 
@@ -28,11 +28,11 @@ abbrev pub HasSaying : List Message → Message → Type 0
 HasSaying [] message = ⊥
 HasSaying (kept ∷ messages) message = SaysAsMuch kept message ⊎ HasSaying messages message
 
--- so does one in its bucket
+-- a message in its bucket says as much as this one
 abbrev pub IsKeptInBucket : List Bucket → Message → Type 0
 IsKeptInBucket buckets message = HasSaying (messages_at buckets (bucket_of message.body)) message
 
--- all buckets, which are empty
+-- there are 64 buckets, and they are empty
 pub record AreEmpty (buckets : List Bucket) : Type 0 where
   pub count : length buckets ≡ 64
   pub each : (c : ℕ) (d : Bucket) → c < 64 → (get_or buckets c d).messages.items ≡ []

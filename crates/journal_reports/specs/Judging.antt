@@ -1,5 +1,5 @@
--- How the judge of a quiet network tests a message: whether it matters to a switch, and whether it
--- replaces another one. That this decides whether the network is quiet is its contract.
+-- How `quiet` tests a message: whether it matters to a switch, and whether it replaces another
+-- one. Its contract says that this decides whether the network is quiet.
 use Rattle.std.specs.Prelude.{[], ◌&&◌, ◌==◌, ◌||◌, ◌∷◌, ◌≡◌, ◌⊎◌, Bool, IsTrue, List, None, Option, Some, false, nat_eq, nat_lt, not, option_map, slice_index_or, true, unwrap_or, ℕ, ⊤}
 use Rattle.std.specs.Option.{option_eq, option_map_or}
 use Rattle.ctrl_msg.specs.Exports.{body_boot, body_version}
@@ -11,7 +11,7 @@ use Rattle.journal_reports.specs.declared.status.SwitchStatus.{SwitchStatus}
 
 -- ---- marks of delivered messages
 
--- there are places up to this one, and only this one has a new mark
+-- the message of this number is marked, and all other marks are as before
 abbrev pub MarksOneMore : ℕ → List Bool → List Bool → Type 0
 MarksOneMore number before after = (n : ℕ)
     → slice_index_or after n false ≡ (number == n || slice_index_or before n false)
@@ -47,8 +47,8 @@ status_in journal s = record {
 
 -- ---- which messages matter
 
--- a message to the switch, or from it, that matters in this status, if none of its boots began
--- since it was sent to it; none matters if the switch is down
+-- the message, to the switch or from it, matters in this status; one to it only if no boot of the
+-- switch began since it was sent. None matters if the switch is down
 abbrev pub matters_to : SwitchStatus → Bool → Message → Bool
 matters_to status in_boot message = elim message.to [
   | receiver.Controller ↦
@@ -71,7 +71,7 @@ abbrev pub is_same : Advert → Advert → Bool
 is_same one other = one.origin == other.origin && one.boot == other.boot && one.seq == other.seq
     && one.up == other.up
 
--- of one kind, other than cache rules and adverts
+-- both bodies are of the same kind, which is neither cache rule nor advert
 abbrev pub is_same_kind : Body → Body → Bool
 is_same_kind (Install boot tables) (Install of earlier) = true
 is_same_kind (OpenAt boot version) (OpenAt of earlier) = true
@@ -82,14 +82,14 @@ is_same_kind (Installed s boot version) (Installed t of earlier) = true
 is_same_kind (Stamped s boot version) (Stamped t of earlier) = true
 is_same_kind _ _ = false
 
--- what is said of a version is true of those before it too
+-- what the body says of a version is true of those before it too
 abbrev pub holds_for_earlier_versions : Body → Bool
 holds_for_earlier_versions (Stamp boot version touched) = true
 holds_for_earlier_versions (Collect boot version) = true
 holds_for_earlier_versions (Stamped s boot version) = true
 holds_for_earlier_versions _ = false
 
--- of the same version, if of any; or of a greater one, if that is enough
+-- if there are two versions, the first is the second one, or greater if that is enough
 abbrev pub is_enough : Bool → Option ℕ → Option ℕ → Bool
 is_enough rises (Some version) (Some old) = version == old || (rises && nat_lt old version)
 is_enough rises _ _ = true
@@ -98,8 +98,8 @@ abbrev pub is_version_enough : Body → Body → Bool
 is_version_enough later earlier =
     is_enough (holds_for_earlier_versions later) (body_version later) (body_version earlier)
 
--- the body says what the other one does, of the same or a greater version, or of the same or a
--- newer advert; of tables only the version is compared, and of touched words nothing
+-- the later body says what the earlier one does, of the same or a greater version, or of the same
+-- or a newer advert; of tables it compares only the version, and of touched words nothing
 abbrev pub replaces_body : Body → Body → Bool
 replaces_body (Advertise advert) (Advertise earlier) =
     is_same advert earlier || (advert.origin == earlier.origin && is_newer advert earlier)
@@ -116,15 +116,15 @@ abbrev pub replaces_message : Message → Message → Bool
 replaces_message later earlier =
     is_same_receiver later.to earlier.to && replaces_body later.body earlier.body
 
--- both have the same tables, if both have any; and of stamps the later one is of a greater version,
--- or both touch the same words
+-- two installs have the same tables; of two stamps the later one is of a greater version, or both
+-- have the same touched words
 abbrev pub HaveSameLists : Body → Body → Type 0
 HaveSameLists (Install boot one) (Install of other) = one ≡ other
 HaveSameLists (Stamp boot version one) (Stamp of earlier other) =
     IsTrue (nat_lt earlier version) ⊎ (one ≡ other)
 HaveSameLists _ _ = ⊤
 
--- the later one says as much: it replaces the earlier one, if that is no cache rule
+-- the later message says as much: it replaces the earlier one, if that is no cache rule
 pub record SaysAsMuch (later earlier : Message) : Type 0 where
   pub message : IsTrue (replaces_message later earlier)
   pub lists : HaveSameLists later.body earlier.body
@@ -141,7 +141,7 @@ switch_of_message message = elim message.to [
   | receiver.Controller ↦ speaking_switch message.body
 ]
 
--- the switch for whose boot and messages the item makes a difference
+-- the switch that the item concerns: it begins its boot, or sends a message to it or from it
 abbrev pub concerned_switch : Item → Option ℕ
 concerned_switch (item.Sent number message) = switch_of_message message
 concerned_switch (item.Booted s boot) = Some s

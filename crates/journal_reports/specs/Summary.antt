@@ -90,7 +90,7 @@ counted_with s item = record {
   retired = unwrap_or (gives_retired item) s.retired;
 }
 
--- no count is the greatest of its type
+-- each count may still rise by one
 pub record CountsHaveRoom (s : Summary) : Type 0 where
   pub packets : s.packets + 1 < 2 ^ 64
   pub closed : s.closed + 1 < 2 ^ 64

@@ -7,9 +7,9 @@ use Rattle.journal_reports.specs.declared.traffic.Traffic.{Traffic}
 use Rattle.journal_reports.specs.Judging.{SaysAsMuch, concerned_switch, has_mark, is_named, matters_to, status_in}
 use Rattle.journal_reports.specs.Buckets.{IsKeptInBucket}
 
--- the switch's status at the end of the journal; whether these last items of it begin none of its
--- boots; and if they send a message that replaces one that matters, and deliver it later, such a
--- message is among the kept ones
+-- the row has the switch's status at the end of the journal; whether its last items, `after`, begin
+-- no boot of the switch; and for a message that matters it keeps one that says as much exactly if
+-- these items send and deliver one that replaces it
 pub record IsTraffic (journal after : List Item) (s : ℕ) (row : Traffic) : Type 0 where
   pub status : row.status ≡ status_in journal s
   pub in_boot : row.is_in_boot ≡ not (list_any (begins_boot s) after)
@@ -17,31 +17,31 @@ pub record IsTraffic (journal after : List Item) (s : ℕ) (row : Traffic) : Typ
   pub kept : (message : Message) → IsTrue (matters journal s message after)
       → IsKeptInBucket row.buckets.items message ↔ IsReplaced message after
 
--- these are the switches, by their numbers
+-- the rows are those of the switches, by their numbers
 abbrev pub AreTraffic : List Item → List Item → List Traffic → Type 0
 AreTraffic journal after rows = (s : ℕ) (d : Traffic) → s < length rows
     → IsTraffic journal after s (get_or rows s d)
 
--- a message that matters and was delivered is kept, and says as much as the other one
+-- the message matters, was delivered, and says as much as the other one
 pub record IsAdded (row : Traffic) (delivered : Bool) (message other : Message) : Type 0 where
   pub matters : IsTrue (matters_to row.status row.is_in_boot message)
   pub is_delivered : IsTrue delivered
   pub says : SaysAsMuch message other
 
--- the item adds such a message
+-- the item sends such a message, which the row then keeps
 abbrev pub Adds : List Bool → Traffic → Item → Message → Type 0
 Adds marks row (item.Sent number message) other =
     IsAdded row (has_mark marks number) message other
 Adds marks row _ other = ⊥
 
--- the item sends no message that matters, or that was received
+-- a message that the item sends doesn't matter, or was delivered, or one that says as much is kept
 abbrev pub IsMet : List Bool → Traffic → Item → Type 0
 IsMet marks row (item.Sent number message) =
     IsTrue (matters_to row.status row.is_in_boot message)
     → IsTrue (has_mark marks number) ⊎ IsKeptInBucket row.buckets.items message
 IsMet marks row _ = ⊤
 
--- a switch after one item before them, and the result for it
+-- a switch's row after the item before those that were read, and the result for that item
 pub record IsAfter (marks : List Bool) (item : Item) (before after : Traffic) (answer : Bool)
     : Type 0 where
   pub status : after.status ≡ before.status

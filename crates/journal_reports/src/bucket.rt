@@ -15,8 +15,8 @@ pub struct Bucket {
     pub messages: Vec<SharedMessage>,
 }
 
-/// The 64 buckets, as many as a network may have switches; the last of the 64 versions that a play
-/// may have is in the first. They are empty.
+/// 64 empty buckets, as many as a network may have switches; the last of the 64 versions that a
+/// play may have is in the first bucket.
 ///
 /// # Errors
 /// Only out of memory.
@@ -70,7 +70,7 @@ pub fn keep(buckets: &mut Vec<Bucket>, message: &SharedMessage) -> Result<(), Al
     Ok(())
 }
 
-/// The bucket of a message that says this. In a journal of steps each origin and each version has
+/// The bucket of a message with this body. In a journal of steps each origin and each version has
 /// its own bucket, so that few messages are kept in a bucket.
 pub fn bucket_of(body: &Body) -> u32
     ensures { result ≡ bucket_of body.now }
@@ -79,7 +79,7 @@ pub fn bucket_of(body: &Body) -> u32
     if subject < 64 { subject } else { 0 }
 }
 
-// The origin of an advert, or the version of tables.
+// An advert's origin, or the version of an install, its acknowledgement or an open; otherwise 0.
 fn subject(body: &Body) -> u32
     ensures { result ≡ subject body.now }
 {

@@ -1,4 +1,4 @@
-//! Which messages were delivered, by their numbers: a number beyond the end wasn't.
+//! Which messages were delivered, as marks by their numbers: one past the end wasn't.
 ghost use Rattle.std.specs.Prelude.{ℕ, ◌≡◌, ◌||◌, false, OnOk, slice_index_or};
 ghost use Rattle.update_machine.specs.Messages.{is_delivery};
 ghost use Rattle.journal_reports.specs.Judging.{MarksOneMore};
@@ -20,7 +20,7 @@ pub fn mark_item(marks: &mut Vec<bool>, item: &Item) -> Result<(), AllocError>
     }
 }
 
-// The message of this number was delivered.
+// Marks the message of this number as delivered.
 fn mark(marks: &mut Vec<bool>, number: usize) -> Result<(), AllocError>
     ensures { OnOk result (MarksOneMore number marks.old.items marks.new.items) }
 {

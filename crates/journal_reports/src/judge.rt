@@ -13,8 +13,8 @@ use std::alloc::{AllocError, Global};
 /// wait for it, and each message that still matters was delivered, or one that replaces it. The
 /// result is right for any journal. It is read backwards, so that what was sent and delivered
 /// after a message is known when the message is met. For a journal of a play, the time is
-/// proportional to the journal's length, plus the number of crashes, boots and risen versions
-/// times the number of switches. For other journals many messages may be kept, which takes longer.
+/// proportional to the journal's length, plus the number of switches times that of crashes, boots
+/// and rises of the current version. Other journals may fill buckets, which takes longer.
 ///
 /// # Errors
 /// Only out of memory.

@@ -8,8 +8,8 @@ use crate::status::SwitchStatus;
 use ctrl_msg::{are_same_tables, are_same_words};
 use journal::{Body, Message, Place};
 
-/// Whether the message, to the switch or from it, matters: one to it matters if the boot that the
-/// switch is in at the end didn't begin after the message.
+/// Whether the message, to the switch or from it, matters; one to it matters only if the switch's
+/// boot at the end didn't begin after the message.
 pub fn matters(message: &Message, status: &SwitchStatus, is_in_boot: bool) -> bool
     ensures { result ≡ matters_to status.now is_in_boot message.now }
 {
@@ -29,7 +29,7 @@ pub fn matters(message: &Message, status: &SwitchStatus, is_in_boot: bool) -> bo
     }
 }
 
-// An advert, or a body that carries this boot.
+// Whether the body is an advert, or carries this boot.
 fn is_for(body: &Body, boot: u32) -> bool
     ensures { result ≡ (is_advert body.now || carries_boot boot body.now) }
 {
@@ -39,7 +39,7 @@ fn is_for(body: &Body, boot: u32) -> bool
     }
 }
 
-// What the switch says in its boot.
+// Whether the switch says this, in its boot.
 fn is_of_boot(body: &Body, status: &SwitchStatus) -> bool
     ensures { result
         ≡ option_map_or (is_of_boot status.now.switch status.now.boot) (speaker body.now) false }
@@ -52,7 +52,7 @@ fn is_of_boot(body: &Body, status: &SwitchStatus) -> bool
     }
 }
 
-// Tables of a version before the current one.
+// Whether the body has tables of a version below the current one.
 fn are_old_tables(body: &Body, current: u32) -> bool
     ensures { result ≡ are_old_tables current body.now }
 {
@@ -62,7 +62,7 @@ fn are_old_tables(body: &Body, current: u32) -> bool
     }
 }
 
-// The acknowledgement of such tables.
+// Whether the body acknowledges tables of a version below the current one.
 fn is_old_answer(body: &Body, current: u32) -> bool
     ensures { result ≡ is_old_answer current body.now }
 {
@@ -72,15 +72,15 @@ fn is_old_answer(body: &Body, current: u32) -> bool
     }
 }
 
-/// Whether the later message says as much as the earlier one: it replaces it, if that matters.
+/// Whether the later message says as much as the earlier one, and so replaces it if that matters.
 pub fn says_as_much(later: &Message, earlier: &Message) -> bool
     ensures { IsTrue result ↔ SaysAsMuch later.now earlier.now }
 {
     replaces_message(later, earlier) && have_same_lists(&later.body, &earlier.body)
 }
 
-// Whether both have the same tables, if both have any; and of stamps, whether the later one is of a
-// greater version, or both touch the same words.
+// Whether two installs have the same tables; and of two stamps, whether the later one is of a
+// greater version, or both have the same touched words.
 fn have_same_lists(later: &Body, earlier: &Body) -> bool
     ensures { IsTrue result ↔ HaveSameLists later.now earlier.now }
 {
@@ -104,16 +104,16 @@ fn have_same_lists(later: &Body, earlier: &Body) -> bool
     }
 }
 
-// Whether it is to the same receiver and says the same or more, except for rows and partitions of
-// tables and for touched words.
+// Whether the later message has the same receiver and says the same or more, apart from the rows
+// and partitions of tables and from touched words.
 fn replaces_message(later: &Message, earlier: &Message) -> bool
     ensures { result ≡ replaces_message later.now earlier.now }
 {
     later.to == earlier.to && replaces_body(&later.body, &earlier.body)
 }
 
-// The body says what the other one does, or the same of a greater version or of a newer advert,
-// except for rows and partitions of tables and for touched words.
+// Whether the later body says what the earlier one does, of the same or a greater version, or of
+// the same or a newer advert, apart from the rows and partitions of tables and from touched words.
 fn replaces_body(later: &Body, earlier: &Body) -> bool
     ensures { result ≡ replaces_body later.now earlier.now }
 {
@@ -130,7 +130,7 @@ fn replaces_body(later: &Body, earlier: &Body) -> bool
     }
 }
 
-// Whether both are of one kind, other than cache rules and adverts.
+// Whether both are of the same kind, which is neither cache rule nor advert.
 fn is_same_kind(later: &Body, earlier: &Body) -> bool
     ensures { result ≡ is_same_kind later.now earlier.now }
 {
@@ -146,7 +146,7 @@ fn is_same_kind(later: &Body, earlier: &Body) -> bool
     }
 }
 
-/// The switch that says this to the controller.
+/// The switch that says this to the controller; `None` for other bodies.
 pub fn speaks(body: &Body) -> Option<u32>
     ensures { result ≡ speaking_switch body.now }
 {

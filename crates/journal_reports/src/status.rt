@@ -5,7 +5,7 @@ ghost use Rattle.journal_reports.specs.Judging.{is_missed, status_with, status_i
 use journal::Item;
 use std::alloc::{AllocError, Global};
 
-/// The status of a switch as far as it matters, and the current version.
+/// What decides which messages of a switch matter: its status, and the current version.
 #[derive(Clone, Copy, Debug)]
 pub struct SwitchStatus {
     pub switch: u32,
@@ -41,7 +41,7 @@ impl SwitchStatus {
         !self.is_up && self.is_waited_for
     }
 
-    // Updates it by one more item.
+    // Updates the status by one more item.
     fn go_on(&mut self, item: &Item)
         ensures { self.new ≡ status_with item.now self.old }
     {
@@ -69,8 +69,8 @@ impl SwitchStatus {
     }
 }
 
-/// Only the items that concern statuses: what they say of each switch is what the journal says.
-/// They are few.
+/// Only the items that concern statuses, which are few: what they say of each switch's status is
+/// what the whole journal says.
 ///
 /// # Errors
 /// Only out of memory.

@@ -21,9 +21,9 @@ pub struct Summary {
     pub cached: usize,
     /// Messages that were sent.
     pub messages: usize,
-    /// The version that new packets are to be stamped with.
+    /// The current version at the end.
     pub current: u32,
-    /// The last version that is retired.
+    /// The version up to which all are retired at the end; 0 if none is.
     pub retired: u32,
 }
 
@@ -87,7 +87,7 @@ impl Summary {
         }
     }
 
-    // The counts, with the packets that still travel: those that entered, minus those that ended.
+    // The counts with the packets that still travel: those that entered minus those that ended.
     fn with_travelling(self) -> Summary
         ensures { result ≡ with_travelling self }
     {

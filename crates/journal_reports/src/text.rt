@@ -28,7 +28,7 @@ pub fn summary_text(alloc: Global, summary: &Summary) -> Result<Vec<u8>, AllocEr
     Ok(text.into_bytes())
 }
 
-// Adds a line.
+// Appends a line with a title and a count.
 fn push_line(text: &mut String, title: &str, count: usize) -> Result<(), AllocError>
     ensures { OnOk result (string_bytes text.new
         ≡ string_bytes text.old ++ count_line title.now count) }

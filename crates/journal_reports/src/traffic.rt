@@ -14,9 +14,9 @@ use crate::status::{SwitchStatus, status_items};
 use journal::{Body, Item, Message, Place, SharedMessage};
 use std::alloc::{AllocError, Global};
 
-/// A switch at the end of a journal. And, of the items from some place on: whether they begin no
-/// boot of it, and the messages to it or from it that matter and that these items send and later
-/// deliver. Of two messages that say as much, only one is kept.
+/// A switch's status at the end of a journal; and, of the items from some place on, whether they
+/// begin no boot of it, and the messages to it or from it that matter and that these items send
+/// and later deliver. Of two messages that say as much, only one is kept.
 #[derive(Drop)]
 pub struct Traffic {
     pub status: SwitchStatus,
@@ -25,8 +25,8 @@ pub struct Traffic {
 }
 
 impl Traffic {
-    // Takes the item before them, which concerns the switch. Returns whether its message, if it
-    // sends one that matters, was received.
+    // Takes the item before those that were read, which concerns the switch. Returns false if the
+    // item sends a message that matters, which wasn't delivered and which none replaces.
     fn take_item(&mut self, item: &Item, delivered: &[bool]) -> Result<bool, AllocError>
         ensures { IfOk result (λ answer. IsAfter delivered.now item.now self.old self.new answer) }
     {
@@ -45,7 +45,7 @@ impl Traffic {
         }
     }
 
-    // The message of the item before them.
+    // Takes the message of an item, with the result of `take_item` for it.
     fn take_message(
         &mut self,
         message: &SharedMessage,
@@ -76,7 +76,7 @@ impl Traffic {
     }
 }
 
-/// Whether the controller misses none of the switches.
+/// Whether no switch is down while the controller waits for it.
 pub fn none_missed(rows: &[Traffic]) -> bool
     ensures { result ≡ list_all (λ row. not (is_missed row.status)) rows.now }
 {
@@ -104,8 +104,8 @@ pub fn at_end(alloc: Global, items: &[Item], count: u32) -> Result<Vec<Traffic>,
     Ok(rows)
 }
 
-/// Gives the item before those that were read only to the switch that it concerns. Returns whether
-/// its message, if it sends one that matters, was received.
+/// Gives the item before those that were read to the only switch that it concerns. Returns false if
+/// it sends a message that matters, which wasn't delivered and which none replaces.
 ///
 /// # Errors
 /// Only out of memory.
@@ -130,7 +130,7 @@ pub fn take_item(
     }
 }
 
-// The switch for which the item makes a difference, if any.
+// The switch that the item concerns, if any: it begins its boot, or sends it or from it a message.
 fn concerned(item: &Item) -> Option<u32>
     ensures { result ≡ concerned_switch item.now }
 {
@@ -141,7 +141,7 @@ fn concerned(item: &Item) -> Option<u32>
     }
 }
 
-// The switch that a message is to, or of.
+// The switch that a message is to, or from.
 fn party(message: &Message) -> Option<u32>
     ensures { result ≡ switch_of_message message.now }
 {

@@ -1,4 +1,4 @@
--- Adverts that were written before, each with its text as far as a line holds it.
+-- Adverts that were written before, each with its text, as much of it as a line holds.
 use Rattle.std.specs.Prelude.{[], ◌≡◌, ◌≤◌, All, None, Option, Some, take, ⊤}
 use Rattle.net_file.specs.declared.net.Net.{Net}
 use Rattle.journal_text.specs.Lines.{advert_text}

@@ -1,4 +1,4 @@
-//! Adverts that were written before: the text of one that comes again is copied.
+//! Adverts that were written before: if the same one is written again, its text is copied.
 ghost use Rattle.std.specs.Prelude.{◌≡◌, ◌≤◌, [], IfSome, length, take};
 ghost use Rattle.net_file.specs.declared.net.Net.{Net};
 ghost use Rattle.journal_text.specs.Lines.{advert_text};
@@ -39,7 +39,7 @@ impl AdvertText {
     }
 }
 
-/// Of each switch the advert that was written last, with its text where that is short.
+/// For each switch the advert of it that was written last, with its text, if that is short.
 #[derive(Drop)]
 pub(crate) struct AdvertTexts {
     kept: [Option<AdvertText>; 64],
@@ -48,7 +48,7 @@ pub(crate) struct AdvertTexts {
 }
 
 impl AdvertTexts {
-    /// None was written.
+    /// The empty table: no advert was written.
     pub fn new() -> AdvertTexts
         ensures { (net : Net) → AreAdvertTexts net result }
     {

@@ -59,7 +59,7 @@ fn push_row(line: &mut Line, net: &Net, row: u32, step: &Step)
     push_step(line, net, step);
 }
 
-// A packet and a switch after a text.
+// Adds a packet and a switch after a text.
 #[tactic(auto, using(lines::proofs::CallerLemmas::pushed_append))]
 fn push_at(line: &mut Line, net: &Net, text: &str, packet: u32, s: u32)
     ensures { line.new ≡ line_with line.old (packet_at net.now text.now packet s) }
@@ -69,7 +69,7 @@ fn push_at(line: &mut Line, net: &Net, text: &str, packet: u32, s: u32)
     push_name(line, net, s);
 }
 
-// The switches of a route.
+// Adds the switches of a route.
 #[tactic(auto, using(lines::proofs::CallerLemmas::pushed_append), unfolding(crate::specs::Lines::via_text))]
 fn push_via(line: &mut Line, net: &Net, route: &SharedRoute)
     ensures text { line.new ≡ line_with line.old (via_text net.now route.now) }
@@ -96,7 +96,7 @@ fn push_seeking(
     push_via(line, net, route);
 }
 
-// A packet's route after a text.
+// Adds a packet and its route after a text.
 #[tactic(auto, using(lines::proofs::CallerLemmas::pushed_append))]
 fn push_route(line: &mut Line, net: &Net, text: &str, packet: u32, route: &SharedRoute)
     ensures text { line.new ≡ line_with line.old
@@ -148,7 +148,7 @@ fn push_decided(
     push_how(line, net, how);
 }
 
-// Two numbers, each after a text.
+// Adds two numbers, each after a text.
 #[tactic(auto, using(lines::proofs::CallerLemmas::pushed_append), unfolding(crate::specs::Lines::two_text))]
 fn push_two(line: &mut Line, text: &str, n: u32, next: &str, m: u32)
     ensures { line.new ≡ line_with line.old (two_text text.now n next.now m) }
@@ -223,7 +223,7 @@ fn push_link(line: &mut Line, net: &Net, one: u32, two: u32, up: bool)
     }
 }
 
-// An item's line, without its line feed.
+// Adds an item's line, without its line feed.
 fn push_item(line: &mut Line, net: &Net, texts: &mut AdvertTexts, item: &Item)
     requires { AreAdvertTexts net.now texts.old }
     ensures text { line.new ≡ line_with line.old (item_line net.now item.now) }

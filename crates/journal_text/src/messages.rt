@@ -26,7 +26,7 @@ pub(crate) fn push_receiver(line: &mut Line, net: &Net, to: Place)
     }
 }
 
-// Adds a boot, after what was said before it.
+// Adds a boot after a text.
 #[tactic(auto, using(lines::proofs::CallerLemmas::pushed_append))]
 fn push_boot(line: &mut Line, text: &str, boot: u32)
     ensures { line.new ≡ line_with line.old (boot_text text.now boot) }
@@ -84,7 +84,7 @@ fn push_cache(line: &mut Line, version: u32, word: &Word, rule: Option<u32>, act
     push_ruled(line, rule, action);
 }
 
-/// Adds what an advert says.
+/// Adds an advert: its origin, boot and number, and the neighbours that it names.
 #[tactic(auto, using(lines::proofs::CallerLemmas::pushed_append))]
 pub(crate) fn push_advert(line: &mut Line, net: &Net, advert: &Advert)
     ensures text { line.new ≡ line_with line.old (advert_text net.now advert.now) }
@@ -103,7 +103,7 @@ pub(crate) fn push_advert(line: &mut Line, net: &Net, advert: &Advert)
     push_mask(line, net, up);
 }
 
-/// Adds what a message says.
+/// Adds a message's body.
 pub(crate) fn push_body(line: &mut Line, net: &Net, texts: &mut AdvertTexts, body: &Body)
     requires { AreAdvertTexts net.now texts.old }
     ensures text { line.new ≡ line_with line.old (body_text net.now body.now) }

@@ -19,7 +19,7 @@ pub(crate) fn push_mask(line: &mut Line, net: &Net, mask: u64)
     }
 }
 
-// Adds the names of a mask's switches, each behind a blank: each time that of the least one left.
+// Adds the names of a mask's switches, each after a blank, from the least number up.
 #[tactic(auto, using(crate::proofs::MaskLemmas::none_left, lines::proofs::CallerLemmas::pushed_nothing))]
 fn push_switches(line: &mut Line, net: &Net, mask: u64)
     ensures { line.new ≡ line_with line.old (names_text net.now (filter (has mask) switches)) }

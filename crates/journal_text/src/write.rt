@@ -16,8 +16,8 @@ const ROOMY_BYTES: usize = 800;
 /// Writes the text of a journal, about 65,536 bytes of whole lines at once, and allocates nothing
 /// itself. An empty text causes no write.
 ///
-/// On an error the sink has gained the bytes of the writes before it. A write that accepts nothing
-/// ends the call like a failed one.
+/// On an error the sink has the bytes of the writes before it. A write that accepts no byte is an
+/// error like a failed one.
 pub fn write_text<K: Sink>(journal: &Journal, net: &Net, sink: &mut K) -> Result<(), SinkError>
     requires { IsNet net.now }
     ensures after { IsAfterWrite (journal_text net.now journal.now) K.takes_memory

@@ -1,4 +1,4 @@
--- What a line of at most 2,048 bytes has of the pieces that are added at its end.
+-- What a line of at most 2,048 bytes keeps of the pieces that are added at its end.
 use Rattle.std.specs.Prelude.{◌++◌, List, take, ℕ}
 
 -- the line with a piece at its end, as far as there is room

@@ -1,4 +1,4 @@
--- What fields have by their types: numbers of 32 bits.
+-- What the types of fields ensure: their numbers have at most 32 bits.
 use Rattle.std.specs.Prelude.{◌<◌, ◌^◌, None, Option, Some, ℕ, ⊤}
 use Rattle.policy_rules.specs.declared.policy.Action.{Action}
 use Rattle.policy_rules.specs.declared.policy.Action.TheVariants.{Drop, Out}

@@ -1,4 +1,4 @@
-// The decimal digits of short numbers, put after the first bytes of a line's array.
+// The decimal digits of short numbers, written after the first `len` bytes of a line's array.
 ghost use Rattle.std.specs.Prelude.{◌≡◌, ◌<◌, ◌≤◌, ◌+◌, ◌/◌, ◌%◌, ◌++◌, [], ◌∷◌, take, decimal};
 
 /// The two digits of each number below 100, one after another.
@@ -21,7 +21,7 @@ fn put_pair(bytes: &mut [u8; 2048], len: usize, pair: u64)
     bytes[len + 1] = one;
 }
 
-/// Puts a number of one digit, and returns how many bytes there are then.
+/// Writes a number of one digit, and returns the new length.
 #[inline]
 pub(crate) fn put_digit(bytes: &mut [u8; 2048], len: usize, n: u64) -> usize
     requires short { n < 10 }
@@ -33,7 +33,7 @@ pub(crate) fn put_digit(bytes: &mut [u8; 2048], len: usize, n: u64) -> usize
     len + 1
 }
 
-// Puts a number of one or two digits, and returns how many bytes there are then.
+// Writes a number of one or two digits, and returns the new length.
 #[inline]
 fn put_first(bytes: &mut [u8; 2048], len: usize, n: u64) -> usize
     requires short { n < 100 }
@@ -49,7 +49,7 @@ fn put_first(bytes: &mut [u8; 2048], len: usize, n: u64) -> usize
     }
 }
 
-/// Puts a number of at most six digits, and returns how many bytes there are then.
+/// Writes a number of at most six digits, and returns the new length.
 #[inline]
 pub(crate) fn put_short(bytes: &mut [u8; 2048], len: usize, n: u64) -> usize
     requires short { n < 1000000 }

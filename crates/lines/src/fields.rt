@@ -29,7 +29,7 @@ pub fn push_address(line: &mut Line, address: u32)
     push_dotted(line, a, b, c, d);
 }
 
-// Adds a protocol by the name of ICMP, TCP or UDP, otherwise as its number.
+// Adds a protocol: `icmp`, `tcp` or `udp`, any other as its number.
 #[tactic(auto, unfolding(five_tuple::specs::Printing::proto_number_text))]
 fn push_protocol(line: &mut Line, proto: u8)
     ensures { line.new ≡ line_with line.old (proto_number_text proto) }

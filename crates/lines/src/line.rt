@@ -80,7 +80,7 @@ impl Line {
         }
     }
 
-    // Adds a number that may have more digits than one, which takes a call.
+    // Adds a number that may have more than one digit, in a call of its own.
     #[inline(never)]
     fn push_digits(&mut self, n: u64)
         ensures { self.new ≡ line_with self.old (decimal n) }
@@ -92,7 +92,7 @@ impl Line {
         }
     }
 
-    // Adds a number of any length.
+    // Adds a number of any length, also at the end of a line that is nearly full.
     #[cold]
     #[inline(never)]
     fn push_long_number(&mut self, n: u64)

@@ -5,7 +5,7 @@ ghost use Rattle.lines.specs.Pushes.{line_with};
 use crate::line::Line;
 use net_file::Net;
 
-/// Adds the name of the switch of this number, if the network has it.
+/// Adds the name of the switch of this number; nothing if the network doesn't have it.
 pub fn push_name(line: &mut Line, net: &Net, s: u32)
     ensures { line.new ≡ line_with line.old (name_of net.now s) }
 {

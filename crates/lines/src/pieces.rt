@@ -1,11 +1,11 @@
-// Pieces put after the first bytes of a line's array.
+// Pieces that are copied after the first `len` bytes of a line's array.
 ghost use Rattle.std.specs.Prelude.{◌≡◌, ◌≤◌, ◌+◌, ◌++◌, ◌<◌, length, take};
 ghost use Rattle.lines.specs.Pushes.{line_with};
 
 use crate::line::LINE_BYTES;
 
-/// Copies the front of a piece, as far as there is room, and returns how many bytes there are
-/// then.
+/// Copies a piece, or as much of it as there is room for, and returns the new length: at most
+/// 2,048.
 #[inline]
 pub(crate) fn put(bytes: &mut [u8; 2048], len: usize, piece: &[u8]) -> usize
     requires { len ≤ LINE_BYTES }
@@ -21,7 +21,7 @@ pub(crate) fn put(bytes: &mut [u8; 2048], len: usize, piece: &[u8]) -> usize
     }
 }
 
-// Copies as much of a piece as there is room for.
+// Copies as much of a piece as there is room for, if that isn't all of it.
 #[cold]
 #[inline(never)]
 fn fill(bytes: &mut [u8; 2048], len: usize, piece: &[u8])
@@ -53,7 +53,7 @@ fn put_whole(bytes: &mut [u8; 2048], len: usize, piece: &[u8])
 }
 
 // Copies the first N bytes of a piece and its last N, which may overlap. They pass through arrays,
-// so that the compiler knows that they aren't bytes of the line, and copies them at once.
+// so that the compiler knows that they aren't bytes of the line, and copies each in one move.
 #[inline]
 fn put_halves<const N: usize>(bytes: &mut [u8; 2048], len: usize, piece: &[u8])
     requires room { len + length piece.now ≤ 2048 }

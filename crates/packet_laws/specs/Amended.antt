@@ -1,7 +1,7 @@
 -- An amendment changes only what it touches: a header that none of its rows matches keeps its
--- first match, and each packet with that header is decided by it, under the version before or the
--- new one. When a `Stamp` raises a switch to the very next version, it removes from the cache no
--- rule that it doesn't touch, unless that version has an entry of its word.
+-- first match, which decides each packet with that header, under the version before or the new
+-- one. When a `Stamp` raises a switch to the very next version, the cache keeps each rule that the
+-- amendment doesn't touch, unless an entry of that version already has the rule's word.
 use Rattle.std.specs.Prelude.{[], if◌then◌else◌, ◌++◌, ◌+◌, ◌<◌, ◌||◌, ◌∷◌, ◌≡◌, ◌⊎◌, All, Any, Bool, Contains, IsFalse, List, Ok, Some, filter, map, nat_le, ℕ}
 use Rattle.update_machine.specs.Exports.{CacheEntry, Decision, Edit, Header, Hit, Item, Row, Setting, Stamp, body_to_switch, cache_of, decision_of, header_in, policy_in, stamp_of, touched_by}
 use Rattle.five_tuple.specs.Exports.{fields_of}
@@ -13,8 +13,8 @@ use Rattle.packet_laws.specs.Rules.{IsRightEntry}
 
 -- ---- headers
 
--- the policy of the version after this one is what a change makes of this one's; and no row that
--- the change removes or adds matches the header
+-- a change makes the policy of the next version from this version's, and no row that the change
+-- removes or adds matches the header
 pub record LeavesHeader (setting : Setting) (journal : List Item) (version : ℕ) (header : Header)
     : Type 0 where
   pub rows : List Row
@@ -25,7 +25,7 @@ pub record LeavesHeader (setting : Setting) (journal : List Item) (version : ℕ
   pub makes : applied rows change ≡ Ok changed
   pub apart : All (λ row. IsFalse (row_matches row (fields_of header))) (touched_rows rows change)
 
--- the version has a policy, by which this is the first match of the header
+-- the version has a policy, and this is the header's first match in it
 pub record IsMatchUnder (setting : Setting) (journal : List Item) (version : ℕ) (header : Header)
     (hit : Hit) : Type 0 where
   pub rows : List Row
@@ -56,37 +56,37 @@ ChangesLeaveOthers setting journal = (version : ℕ) (header : Header)
 
 -- ---- cache rules
 
--- the cache has a rule of this version for the word of the entry, which decides each header of it
--- as the version's policy does
+-- the cache has a rule of this version with the entry's word, and the rule decides each header of
+-- the word as the version's policy does
 abbrev pub HasUnder : Setting → List Item → ℕ → ℕ → CacheEntry → Type 0
 HasUnder setting journal s version entry =
     Any (λ kept. (kept.version ≡ version) × ((kept.word ≡ entry.word)
     × IsRightEntry setting journal kept)) (cache_of setting journal s).entries
 
--- this message, when it is delivered, tells the switch, in this boot, to stamp with a version
+-- the delivery of this message tells the switch, in this boot, to stamp with a version
 abbrev pub IsToldStamp : List Item → ℕ → ℕ → ℕ → ℕ → List WordValue → Type 0
 IsToldStamp before s number boot version touched =
     body_to_switch before s number ≡ Some (Stamp boot version touched)
 
--- when the cache moves to a version, the entry outlives it: it is of this version or a later one;
--- or of the version before, if its word meets no touched word and no entry of the version has it
+-- the entry outlives the cache's move to a version: it is of this version or a later one; or of
+-- the one before, if its word meets no touched word and no entry of the version has that word
 abbrev pub outlives : ℕ → List WordValue → List CacheEntry → CacheEntry → Bool
 outlives version touched entries entry =
     nat_le version entry.version || is_carried version touched entries entry
 
--- the same entry, of the same message, under the version, unless it is of a later one
+-- the entry, of the same message, under this version; or as it is, if its version isn't lower
 abbrev pub at_least : ℕ → CacheEntry → CacheEntry
 at_least version entry = if nat_le version entry.version then entry else under version entry
 
--- the entries that outlive it are left, each the same one, in their order, and no others
+-- exactly the entries that outlive the move are left, in their order, each at least at the version
 abbrev pub StayInOrder : ℕ → List WordValue → (before after : List CacheEntry) → Type 0
 StayInOrder version touched before after =
     after ≡ map (at_least version) (filter (outlives version touched before) before)
 
--- when the stamp of a switch rises to a version, because it is told to, the entries of its cache
--- stay in their order, except those of earlier versions that don't outlive the rise; and for each
--- entry of the version before whose word meets no word that the version's change touches there is
--- one under that version then: itself, or the one that had its word before
+-- when a message raises the stamp of a switch to a version, the entries of its cache stay in their
+-- order, except those of earlier versions that don't outlive the rise; and each entry of the
+-- version before whose word meets no word that the version's change touches has an entry under
+-- that version then: itself, or the one that had its word before
 pub record OutliveRise (setting : Setting) (before : List Item) (s number version : ℕ)
     : Type 0 where
   pub in_order : StayInOrder version (touched_by setting before version)

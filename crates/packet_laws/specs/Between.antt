@@ -1,4 +1,4 @@
--- When a fact is true between steps of a network that takes only steps that it may take.
+-- What it means that a fact is true between the steps that a network may take.
 use Rattle.std.specs.Prelude.{[], List, None, Option, Some, take, ℕ}
 use Rattle.update_machine.specs.Exports.{Answers, AnswersSoFar, Event, IsPlay, IsReached, Item, Setting, StepOfRow, after_steps}
 use Rattle.control_laws.specs.Exports.{AreEvents}
@@ -9,8 +9,8 @@ abbrev pub steps_played : (setting : Setting) (events : List Event) (journal : L
 steps_played setting events journal None play = play.answers.steps
 steps_played setting events journal (Some row) play = play.steps
 
--- it is true after any steps of the network, in each answer to events of it, and in what an answer
--- writes until some step ends; and after each step of a play
+-- it is true after any steps of the network; of each answer to its events, and of each beginning
+-- of one that ends where a step ends; and after each step of a play
 pub record HoldsBetween (Holds : Setting → List Item → Type 0) : Type 0 where
   pub reached : (setting : Setting) (journal : List Item) → IsReached setting journal
       → Holds setting journal

@@ -6,12 +6,12 @@ use Rattle.std.specs.Prelude.{[], ◌++◌, ◌+◌, ◌-◌, ◌∷◌, ◌≡�
 use Rattle.update_machine.specs.Exports.{Deliver, Event, Header, Hop, Item, One, Packet, Step, all_given, next_packet, serves}
 use Rattle.journal.specs.declared.item.Item.TheVariants as item
 
--- a row of a schedule that asks for one step by itself
+-- a row of a schedule that names one step
 pub record StepRow : Type 0 where
   pub row : ℕ
   pub step : Step
 
--- except for hops and deliveries, which are the steps of a drain or a flush too
+-- the step's row; none for a hop or a delivery, which may be a step of a drain or a flush too
 abbrev pub step_row : ℕ → Step → List StepRow
 step_row row (Hop packet) = []
 step_row row (Deliver message) = []
@@ -21,12 +21,12 @@ abbrev pub event_row : ℕ → Event → List StepRow
 event_row row (One step) = step_row row step
 event_row row _ = []
 
--- the rows of these events, the first of which has this row
+-- the step rows of these events; the first event has this row number
 abbrev pub step_rows : ℕ → List Event → List StepRow
 step_rows row [] = []
 step_rows row (event ∷ events) = event_row row event ++ step_rows (row + 1) events
 
--- those that were played: all, or those before the row at which the play stopped full
+-- the step rows that were played: all, or those before the row at which the play stopped full
 abbrev pub rows_played : Option ℕ → List Event → List StepRow
 rows_played None events = step_rows 1 events
 rows_played (Some row) events = step_rows 1 (take (row - 1) events)
@@ -37,12 +37,12 @@ abbrev pub gives_row : Item → List StepRow
 gives_row (item.Row row step) = step_row row step
 gives_row _ = []
 
--- those that a journal has, in order
+-- the step rows that a journal has, in order
 abbrev pub step_rows_in : List Item → List StepRow
 step_rows_in journal = all_given gives_row journal
 
--- the item says that packet i entered with this header at the switch, which serves, or that the
--- switch was closed to it, which doesn't
+-- the item says that packet i entered with this header at the switch, if the switch serves; or, if
+-- it doesn't, that it was closed to the packet
 abbrev pub IsEntryOf : Bool → ℕ → ℕ → Header → Item → Type 0
 IsEntryOf serving i s header (item.Entered packet switch came) =
     (packet ≡ i) × (switch ≡ s) × (came ≡ header) × IsTrue serving

@@ -1,4 +1,4 @@
--- All that a journal says of one packet, as one value, and how each item changes it.
+-- All that a journal says about one packet, as one value, and how each item changes it.
 use Rattle.std.specs.Prelude.{if◌then◌else◌, ◌+◌, ◌==◌, Bool, List, Option, Some, false, option_and_then, true, unwrap_or, ℕ}
 use Rattle.failover.specs.Exports.{with_link}
 use Rattle.update_machine.specs.Exports.{Decision, Exit, Header, Item, Leg, Seek, decision_of, folded_value, found_down, header_in, ingress_of, leg_of, port_in, retired_mark, route_in, route_place, standing, travels}
@@ -11,7 +11,7 @@ changes_mark i before mark (item.Entered packet switch header) =
     if packet == i then retired_mark before else mark
 changes_mark i before mark _ = mark
 
--- the mark up to which versions were retired when the packet entered
+-- the mark up to which versions were retired when the packet entered; 0 if it didn't enter
 unfoldable pub entry_mark : List Item → ℕ → ℕ
 entry_mark journal i = folded_value (changes_mark i) 0 journal
 
@@ -43,11 +43,11 @@ what_is_known journal i = record {
   mark = entry_mark journal i;
 }
 
--- the port by which a packet of this decision is to leave; 0 if it has none
+-- the port by which a packet with this decision leaves; 0 if it has no decision or no port
 abbrev pub port_decided : Option Decision → ℕ
 port_decided decision = unwrap_or (option_and_then (λ d. port_in d.action) decision) 0
 
--- what is known of the packet after an item of it, if versions up to this mark are retired
+-- what is known of the packet after an item that names it, when this is the retired mark
 abbrev pub facts_after : ℕ → Item → PacketFacts → PacketFacts
 facts_after mark (item.Entered packet switch header) facts = record facts {
   header = Some header;

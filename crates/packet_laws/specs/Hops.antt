@@ -10,7 +10,7 @@ changes_taken i before taken (item.Row row (Hop packet)) =
     if packet == i && travels before i then taken + 1 else taken
 changes_taken i before taken _ = taken
 
--- the hop steps of the packet while it travelled: each moved it on, or it arrived
+-- the hop steps of the packet while it travelled, also those in which it arrived or got stuck
 unfoldable pub hops_taken : List Item → ℕ → ℕ
 hops_taken journal i = folded_value (changes_taken i) 0 journal
 
@@ -43,11 +43,11 @@ detour_count journal i = count_of (is_detour i) journal
 abbrev pub routes_taken : List Item → ℕ → ℕ
 routes_taken journal i = search_count journal i + exit_count journal i + detour_count journal i
 
--- the switches of a route at most, and so the hops on it, its arrival included
+-- the most switches of a route, and so the most hops on it, counting its arrival
 abbrev pub most_switches : ℕ
 most_switches = 64
 
--- the hops of a packet at most: those of the routes of 64 versions, of one to its port and of one
--- around each of 256 links
+-- the most hops of a packet: 64 on each of its routes, which are at most 64 to authorities, one to
+-- its port and 256 around links
 abbrev pub most_hops : ℕ
 most_hops = 20544

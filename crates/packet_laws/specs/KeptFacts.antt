@@ -1,4 +1,4 @@
--- What each item keeps of each packet and of each cache rule, whatever stage the packet is in.
+-- The invariants of packets and cache rules that each item keeps, whatever a packet's stage is.
 use Rattle.std.specs.Prelude.{◌+◌, ◌<◌, ◌≡◌, ◌≤◌, ◌⊎◌, All, IsFalse, IsTrue, List, None, Option, Some, slice_get, ℕ, ⊤}
 use Rattle.update_machine.specs.Exports.{Body, CacheRule, Decision, Header, Item, Message, NamesOwnPort, Seek, Setting, cache_of, current_mark, message_of, next_packet, policy_at}
 use Rattle.failover.specs.Exports.{has_link}
@@ -13,8 +13,8 @@ abbrev pub Avoids : List ℕ → List ℕ → Type 0
 Avoids down route = (k one two : ℕ) → slice_get route k ≡ Some one
     → slice_get route (k + 1) ≡ Some two → IsFalse (has_link down one two)
 
--- it was decided by the first match of a version that wasn't retired when it entered and is at
--- most the current one
+-- the packet was decided by the first match of a version that wasn't retired when it entered and
+-- is at most the current one
 pub record IsRightlyDecided (setting : Setting) (journal : List Item) (facts : PacketFacts)
     (header : Header) : Type 0 where
   pub decision : Decision
@@ -27,9 +27,9 @@ pub record IsRightlyDecided (setting : Setting) (journal : List Item) (facts : P
   pub sought : (version partition : ℕ) → facts.leg ≡ Some (Seek version partition)
       → IsSought setting journal facts.mark header version partition
 
--- the invariants of a packet of which this is known, in this stage: it is undecided when it comes
--- in; it is at its place of a route that leads to a target of its leg, also if it found the next
--- link down; and while it moves on, its route uses no link that it found down
+-- the invariants of a packet with these facts in this stage: it is undecided when it enters, and
+-- then decided rightly; it is at its place on a route to a target of its leg, even if it found the
+-- next link down; and while it is on its way, its route uses no link that it found down
 pub record HasKeptFacts (setting : Setting) (journal : List Item) (facts : PacketFacts)
     (stage : Option Stage) : Type 0 where
   pub under_way : IsTrue facts.travels → IsUnderWay setting journal facts
@@ -47,7 +47,7 @@ BringsRight setting journal (CacheRule version word rule action) =
     IsRightRule setting journal version word rule action
 BringsRight setting journal _ = ⊤
 
--- all packets, those that didn't enter, all messages that were sent, and all caches
+-- this is true of all packets, of those that didn't enter, of all messages sent, and of all caches
 pub record AllKept (setting : Setting) (journal : List Item) : Type 0 where
   pub packets : (i : ℕ) → HasKeptFacts setting journal (what_is_known journal i) (stage_of journal i)
   pub unknown : (i : ℕ) → next_packet journal ≤ i → IsUnknown (what_is_known journal i)

@@ -8,8 +8,8 @@ use Rattle.packet_laws.specs.StrongCauses.{StrongCause}
 use Rattle.packet_laws.specs.Travelling.{PacketsTravel}
 use Rattle.packet_laws.specs.Whole.{KeepVersionsWhole}
 
--- the packet took few routes: one to authority switches for each of 64 versions, one to its port,
--- and one around each of 256 links; and, while it travelled, few hops, on its route and in all
+-- the packet took at most 64 routes to authorities, one to its port and 256 around links; and,
+-- while it travelled, at most 64 hops on its last route, and 20,544 in all
 pub record TakesFew (journal : List Item) (i : ℕ) : Type 0 where
   pub searches : search_count journal i ≤ 64
   pub exits : exit_count journal i ≤ 1
@@ -18,8 +18,8 @@ pub record TakesFew (journal : List Item) (i : ℕ) : Type 0 where
   pub on_route : hops_on_route journal i ≤ most_switches
   pub hops : hops_taken journal i ≤ most_hops
 
--- the journal, which may end within a step, is a run of the machine; its ends have their causes,
--- and its items the strong ones; the versions are whole; and each packet took few routes and hops
+-- the journal, which may end within a step, is a run of the machine; the ends of packets have their
+-- causes, all items their strong ones; versions are whole; and packets took few routes and hops
 pub record HoldsSoFar (setting : Setting) (journal : List Item) : Type 0 where
   pub run : IsRun setting journal
   pub causes : HaveCauses (HasCause setting) [] journal
@@ -33,13 +33,13 @@ pub record IsKeptBehind (setting : Setting) (journal : List Item) : Type 0 where
   pub packets : PacketsTravel setting journal
   pub settled : AreSettled setting journal
 
--- the items begin with a step's row, or there are none
+-- there are no items, or the first one is a step's row
 abbrev pub BeginStep : List Item → Type 0
 BeginStep [] = ⊤
 BeginStep (item.Row row step ∷ items) = ⊤
 BeginStep _ = ⊥
 
--- after the first n items of the journal a step begins, or nothing is left: the last one has ended
+-- a step ends with the first n items of the journal: the next one begins a step, or there is none
 abbrev pub EndsStep : List Item → ℕ → Type 0
 EndsStep journal n = BeginStep (drop n journal)
 

@@ -1,4 +1,4 @@
--- A packet on its way: it is at a place of a route that ends at a target of its leg.
+-- A packet on its way: it is at a place on a route that ends at a target of its leg.
 use Rattle.std.specs.Prelude.{[], ◌+◌, ◌-◌, ◌<◌, ◌∷◌, ◌≡◌, ◌≤◌, IsTrue, List, None, Option, Some, false, find, length, nat_eq, slice_get, ℕ}
 use Rattle.base.specs.Exports.{has, list_any}
 use Rattle.failover.specs.Exports.{IsRouteList, no_links}
@@ -34,8 +34,8 @@ StartsAt switch route = slice_get route 0 ≡ Some switch
 
 -- ---- legs
 
--- a partition of a version's plan, by its place there, which is its number, whose region holds the
--- header
+-- the partition at this place of the version's plan, which is its number; it is the first whose
+-- region holds the header
 pub record IsPartitionOf (setting : Setting) (journal : List Item) (header : Header)
     (version partition : ℕ) (hosted : Hosted) : Type 0 where
   pub found : slice_get (plan_at setting journal version) partition ≡ Some hosted
@@ -53,7 +53,7 @@ pub record IsSought (setting : Setting) (journal : List Item) (mark : ℕ) (head
   pub hosted : Hosted
   pub own : IsPartitionOf setting journal header version partition hosted
 
--- on its way to an authority switch it is undecided
+-- on its way to an authority the packet is undecided, and its route leads to one of the partition
 pub record IsSeeking (setting : Setting) (journal : List Item) (held : Option Decision) (mark : ℕ)
     (route : List ℕ) (header : Header) (version partition : ℕ) : Type 0 where
   pub undecided : held ≡ None
@@ -61,7 +61,7 @@ pub record IsSeeking (setting : Setting) (journal : List Item) (held : Option De
   pub open sought use *
   pub leads : LeadsTo setting hosted.1 route
 
--- on its way out it was decided, with its port, and its route leads to that port's switch
+-- on its way out the packet was decided to leave by the port, and its route leads to that switch
 pub record IsExiting (setting : Setting) (held : Option Decision) (route : List ℕ) (port : ℕ)
     : Type 0 where
   pub decision : Decision
@@ -71,7 +71,7 @@ pub record IsExiting (setting : Setting) (held : Option Decision) (route : List 
   pub has_port : owner_of setting.net.switches port ≡ Some owner
   pub leads : LeadsTo setting (owner ∷ []) route
 
--- the invariants of a packet of this decision, mark and route on its leg
+-- the invariants of a packet with this decision, mark and route on this leg
 abbrev pub IsBound : Setting → List Item → Option Decision → ℕ → List ℕ → Header → Leg → Type 0
 IsBound setting journal held mark route header (Seek version partition) =
     IsSeeking setting journal held mark route header version partition
@@ -83,7 +83,7 @@ IsOnLeg setting journal facts header leg =
 
 -- ---- travelling packets
 
--- it entered with a header, at a switch
+-- the packet entered with a header, at a switch of the network
 pub record HasComeIn (setting : Setting) (told : Option Header) (first : Option ℕ) : Type 0 where
   pub header : Header
   pub ingress : ℕ
@@ -92,7 +92,7 @@ pub record HasComeIn (setting : Setting) (told : Option Header) (first : Option 
   pub came : first ≡ Some ingress
   pub at_first : ingress < length setting.net.switches
 
--- it is at a switch
+-- the packet is at a switch of the network
 pub record StandsThere (setting : Setting) (place : Option ℕ) : Type 0 where
   pub switch : ℕ
   pub stands : place ≡ Some switch
@@ -106,7 +106,7 @@ pub record IsUnderWay (setting : Setting) (journal : List Item) (facts : PacketF
   pub open place use *
   pub mark : facts.mark ≤ retired_mark journal
 
--- and, once its switch is done with it, it is at its place of the route of its leg
+-- a packet on its way also has a leg, and is at its place on the leg's route
 pub record IsOnWay (setting : Setting) (journal : List Item) (facts : PacketFacts) : Type 0 where
   pub under_way : IsUnderWay setting journal facts
   pub leg : Leg

@@ -1,6 +1,6 @@
--- The causes of packets' items: what the journal says just before each, as the switch that writes
--- it finds it. The causes are read off only the items, for steps of all kinds; packets are those
--- of Yu, Rexford, Freedman and Wang, "Scalable Flow-Based Networking with DIFANE".
+-- The causes of packets' items: what the journal says just before each, where its switch finds the
+-- packet. They depend only on the items, for steps of all kinds; packets are those of Yu, Rexford,
+-- Freedman and Wang, "Scalable Flow-Based Networking with DIFANE".
 use Rattle.std.specs.Prelude.{◌==◌, ◌≡◌, ◌⊎◌, Bool, IsFalse, IsTrue, List, None, Option, Some, false, true, unwrap_or, ℕ, ⊤}
 use Rattle.update_machine.specs.Exports.{Action, AuthorityRule, Body, CacheEntry, CacheRule, Cause, Crash, Decision, Exit, Header, How, IsLinkStep, Item, Leaving, Leg, Lose, Message, Packet, Restart, Seek, Setting, Update, authority_rule, cache_rule, cause_at, decision_of, first_place, found_down, header_at, holds_version, ingress_of, is_at, is_up, last_given, leaving_item, leg_of, lookup_at, near, next_packet, next_switch, owner, present_step, route_for, serves, stamp_of, standing, travels}
 use Rattle.base.specs.Exports.{has}
@@ -26,13 +26,13 @@ gives_row_test _ = Some false
 unfoldable pub ends_with_row : List Item → Bool
 ends_with_row journal = unwrap_or (last_given gives_row_test journal) false
 
--- it enters, or is refused, right after its row, under the next number
+-- the packet enters, or is refused, right after its row, under the next number
 pub record IsOfRow (before : List Item) (packet switch : ℕ) (header : Header) : Type 0 where
   pub number : packet ≡ next_packet before
   pub row : present_step before ≡ Some (Packet switch header)
   pub behind : IsTrue (ends_with_row before)
 
--- it is on its way, and its route ends here
+-- the packet is on its way, and its route ends here
 pub record Arrives (before : List Item) (packet : ℕ) : Type 0 where
   pub moving : stage_of before packet ≡ Some OnWay
   pub last : next_switch before packet ≡ None
@@ -50,7 +50,7 @@ abbrev pub IsLookedUp : List Item → ℕ → ℕ → Type 0
 IsLookedUp before packet switch =
     (stage_of before packet ≡ Some CameIn) ⊎ Misses before packet switch
 
--- under this version, the switch's stamp
+-- the switch looks it up under this version, its stamp
 abbrev pub IsLookedUpBy : List Item → ℕ → ℕ → ℕ → Type 0
 IsLookedUpBy before packet switch version =
     IsLookedUp before packet switch × (version ≡ stamp_of before switch)
@@ -66,7 +66,7 @@ pub record IsRedirected (setting : Setting) (before : List Item)
       ≡ found.Redirect partition targets
   pub stamp : version ≡ stamp_of before switch
 
--- it was decided by a port of another switch
+-- its decision, just made, is a port of another switch
 pub record IsSentOut (setting : Setting) (before : List Item) (packet switch port : ℕ) : Type 0
   where
     pub judged : stage_of before packet ≡ Some Judged
@@ -107,7 +107,7 @@ pub record TakesDetour (setting : Setting) (before : List Item) (packet : ℕ) (
   pub blocked : IsBlockedOn before packet leg
   pub leads : route_for setting before packet switch leg ≡ Some route
 
--- its switch knows no route for the leg, which it takes or on which it found a link down
+-- its switch knows no route for a leg that it takes, or on which it found a link down
 pub record FindsNoRoute (setting : Setting) (before : List Item) (packet switch : ℕ)
     (cause : Cause) (leg : Leg) (down : List ℕ) : Type 0 where
   pub at : IsAt before packet switch
@@ -124,7 +124,7 @@ pub record MovesOver (setting : Setting) (before : List Item) (packet next : ℕ
   pub goes_on : next_switch before packet ≡ Some next
   pub usable : IsTrue (has (near setting before switch) next)
 
--- or that link isn't usable
+-- it finds the link to the next switch of its route unusable
 pub record MeetsDown (setting : Setting) (before : List Item) (packet one two : ℕ) : Type 0 where
   pub at : IsAt before packet one
   pub moving : stage_of before packet ≡ Some OnWay
@@ -140,7 +140,7 @@ pub record AnswersHere (setting : Setting) (before : List Item)
       ≡ found.Authority partition place
   pub stamp : version ≡ stamp_of before switch
 
--- the packet seeks the partition, in which this is the first rule that holds its header
+-- the packet seeks the partition, and this is the place of the first rule there with its header
 pub record IsSoughtHere (setting : Setting) (before : List Item)
     (packet version partition place : ℕ) : Type 0 where
   pub seeks : leg_of before packet ≡ Some (Seek version partition)
@@ -155,7 +155,7 @@ pub record AuthorityFinds (setting : Setting) (before : List Item) (packet switc
   pub says : AnswersHere setting before packet switch version partition place
       ⊎ IsSoughtHere setting before packet version partition place
 
--- a cached rule decides it
+-- a cached rule decides the packet
 pub record CacheDecides (setting : Setting) (before : List Item) (packet switch version : ℕ)
     (rule : Option ℕ) (action : Action) (message : ℕ) : Type 0 where
   pub looked_up : IsLookedUp before packet switch
@@ -197,7 +197,7 @@ pub record IsDecided (setting : Setting) (before : List Item) (packet version : 
   pub at : IsAt before packet switch
   pub by : DecidesBy setting before packet switch version rule action how
 
--- the authority rule that decided the packet is sent to its ingress, another switch
+-- the authority's rule that decided the packet is sent to its ingress, which is another switch
 pub record SendsRule (setting : Setting) (before : List Item) (message : Message) : Type 0 where
   pub packet : ℕ
   pub switch : ℕ
@@ -216,7 +216,7 @@ pub record SendsRule (setting : Setting) (before : List Item) (message : Message
 
 -- ---- ends
 
--- it was just decided by a port of its switch, or arrives there
+-- its decision, just made, is a port of its switch; or it arrives at the switch of its port
 abbrev pub IsAtPort : Setting → List Item → ℕ → ℕ → ℕ → Type 0
 IsAtPort setting before packet switch port =
     ((stage_of before packet ≡ Some Judged) × ((owner setting port == switch) ≡ true)
@@ -231,7 +231,7 @@ pub record LeavesHere (setting : Setting) (before : List Item) (packet port : �
   pub at_port : IsAtPort setting before packet switch port
   pub own : item.Left packet port leaving ≡ leaving_item before packet port
 
--- it was just decided to drop it
+-- its decision, just made, is to drop it
 pub record IsDroppedHere (before : List Item) (packet : ℕ) : Type 0 where
   pub switch : ℕ
   pub at : IsAt before packet switch
@@ -249,7 +249,7 @@ gives_fall _ = None
 unfoldable pub fallen_switch : List Item → Option ℕ
 fallen_switch journal = unwrap_or (last_given gives_fall journal) None
 
--- it is at a switch that went down in this crash, and not before
+-- the packet is at the switch that went down in this very crash
 pub record IsLostInCrash (before : List Item) (packet : ℕ) : Type 0 where
   pub switch : ℕ
   pub crashes : present_step before ≡ Some (Crash switch)

@@ -9,7 +9,7 @@ pub record IsServed (journal : List Item) (packet : ℕ) : Type 0 where
   pub stands : standing journal packet ≡ Some switch
   pub serving : IsTrue (serves journal switch)
 
--- each travelling packet is
+-- each travelling packet is at a switch that serves
 abbrev pub AreServed : List Item → Type 0
 AreServed journal = (packet : ℕ) → IsTrue (travels journal packet) → IsServed journal packet
 

@@ -15,7 +15,7 @@ pub record IsRightRule (setting : Setting) (journal : List Item) (version : ℕ)
       IsFirstMatch (policy_at setting journal version) header
       (record { rule = rule; action = action })
 
--- the entry is such a rule
+-- the cache entry is a right rule
 abbrev pub IsRightEntry : Setting → List Item → CacheEntry → Type 0
 IsRightEntry setting journal entry =
     IsRightRule setting journal entry.version entry.word entry.rule entry.action

@@ -3,14 +3,14 @@
 use Rattle.std.specs.Prelude.{[], ◌++◌, ◌∷◌, ◌⊎◌, List, Option, ℕ}
 use Rattle.update_machine.specs.Exports.{AreAll, AreSome, HaveRoom, IsFull, Item, Setting, Step, StepOfRow, after_steps}
 
--- after these steps the journal is full, and there is a next one
+-- after these steps the journal is full, and the loop has a next one
 pub record StopsAt (setting : Setting) (next : List Item → Option Step) (row : ℕ)
     (before : List Item) (steps : List StepOfRow) : Type 0 where
   pub more : StepOfRow
   pub allowed : AreSome setting next row before (steps ++ more ∷ [])
   pub full : IsFull (after_steps setting before steps)
 
--- steps that began with room, and are all of them, or stop there
+-- steps that each began with room; they are the whole loop, or stop at a full journal
 pub record GoesOrStops (setting : Setting) (next : List Item → Option Step) (row : ℕ)
     (before : List Item) : Type 0 where
   pub steps : List StepOfRow

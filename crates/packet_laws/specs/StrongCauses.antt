@@ -1,6 +1,6 @@
--- Causes as strong as a reader may require. With them a run whose rows are the schedule's keeps
--- the promise: each packet is decided by one whole version that wasn't retired when it entered, or
--- was lost by a row, or was stuck because no route was known.
+-- Causes that are strong enough for the promise. A run with them, whose rows are the schedule's,
+-- keeps it: each packet is decided by one whole version that wasn't retired when it entered, or is
+-- lost by a row, or stuck because no route is known.
 use Rattle.std.specs.Prelude.{◌<◌, ◌≡◌, ◌≢◌, ◌≤◌, IsFalse, List, None, Some, ℕ, ⊤}
 use Rattle.failover.specs.Exports.{IsRoute}
 use Rattle.update_machine.specs.Exports.{Cause, Exit, FindsNextDown, FindsNoPath, Item, LeavesRightly, Leg, Seek, SeeksOwn, Setting, cause_at, current_mark, decision_of, found_down, holds_version, leg_of, links_known, route_from, standing, targets_of}
@@ -12,14 +12,14 @@ use Rattle.packet_laws.specs.KeptFacts.{Avoids}
 use Rattle.packet_laws.specs.Stages.{Blocked, stage_of}
 use Rattle.packet_laws.specs.PacketCauses.{PacketCause}
 
--- a link of the network, from where the packet is to the next switch of its route, which its
--- switch can't use
+-- the link from where the packet is to the next switch of its route is one of the network, and its
+-- switch can't use it
 pub record FindsLinkDown (setting : Setting) (before : List Item) (packet one two : ℕ) : Type 0
   where
     pub finds : FindsNextDown setting before packet one two
     pub linked : HasLink setting.net one two
 
--- on its way to an authority, and until it is decided, the packet is undecided, and its version
+-- the packet is undecided, and the version, by which it seeks an authority or is being decided,
 -- wasn't retired when it entered and is at most the current one
 pub record SeeksRightly (before : List Item) (packet version : ℕ) : Type 0 where
   pub undecided : decision_of before packet ≡ None
@@ -35,21 +35,21 @@ abbrev pub RaisesVersion : List Item → ℕ → ℕ → Type 0
 RaisesVersion before packet version = (earlier partition : ℕ)
     → leg_of before packet ≡ Some (Seek earlier partition) → earlier < version
 
--- this is also true if the switch that decides it doesn't have the version that it seeks
+-- so does a decision by a switch that doesn't have the version that the packet seeks
 abbrev pub RaisesUnheld : List Item → ℕ → ℕ → Type 0
 RaisesUnheld before packet version = (earlier partition switch : ℕ)
     → leg_of before packet ≡ Some (Seek earlier partition)
     → standing before packet ≡ Some switch → IsFalse (holds_version before switch earlier)
     → earlier < version
 
--- and if it is stuck on a leg that it was about to take, because no link was found down on it
+-- so does a lookup after which the packet is stuck at once, before it found a link of the leg down
 abbrev pub RaisesOnLeg : List Item → ℕ → Leg → Type 0
 RaisesOnLeg before packet (Seek version partition) =
     (stage_of before packet ≢ Some Blocked) → RaisesVersion before packet version
 RaisesOnLeg before packet (Exit port) = ⊤
 
--- the packet is stuck with the links that it found down, and for only one cause: its switch finds
--- no route
+-- the packet is stuck, with the links that it found down, only because its switch finds no route;
+-- the cause follows the cause rule
 pub record IsStuckOnLeg (setting : Setting) (before : List Item) (packet switch : ℕ)
     (cause : Cause) (leg : Leg) (down : List ℕ) : Type 0 where
   pub stuck : FindsNoPath setting before packet switch leg
@@ -74,14 +74,14 @@ pub record IsLeastRoute (setting : Setting) (before : List Item) (packet : ℕ) 
       IsRoute links switch (targets_of setting before leg) (Some route))
   pub avoids : AvoidsFound before packet route
 
--- it exits by the port of its decision
+-- it takes a least route to the port of its decision
 pub record ExitsByLeast (setting : Setting) (before : List Item) (packet : ℕ) (route : List ℕ)
     : Type 0 where
   pub port : ℕ
   pub own_leg : SeeksOwn setting before packet (Exit port)
   pub by : IsLeastRoute setting before packet (Exit port) route
 
--- it continues on its leg
+-- it takes another least route on its leg
 pub record TurnsToLeast (setting : Setting) (before : List Item) (packet : ℕ) (route : List ℕ)
     : Type 0 where
   pub leg : Leg

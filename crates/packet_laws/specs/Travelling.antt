@@ -7,7 +7,7 @@ use Rattle.packet_laws.specs.Facts.{what_is_known}
 use Rattle.packet_laws.specs.KeptFacts.{Avoids, BringsRight}
 use Rattle.packet_laws.specs.Rest.{IsServed}
 
--- the packet is at its place of a route that leads over links of the network to a target of its
+-- the packet is at its place on a route that leads over links of the network to a target of its
 -- leg, and uses none that it found down; its switch serves; and each switch that serves has the
 -- version by which it seeks an authority, or stamps with a greater one
 pub record IsTravelling (setting : Setting) (journal : List Item) (packet : ℕ) : Type 0 where

@@ -7,18 +7,18 @@ use Rattle.packet_laws.specs.Amended.{ChangesLeaveOthers, UntouchedStay}
 use Rattle.packet_laws.specs.Travelling.{RulesAreRight}
 
 pub record KeepVersionsWhole (setting : Setting) (journal : List Item) : Type 0 where
-  -- each item of switches and of the controller was written for its cause: what is sent for a boot
-  -- was sent while that boot was known and the switch wasn't over; and the current mark rose only
-  -- when each member had acknowledged each version above the old mark, up to the new one
+  -- each item of switches and of the controller has its cause: a message for a boot was sent while
+  -- that boot was known and the switch wasn't over; and the current mark rose only when each member
+  -- had acknowledged each version above the old mark, up to the new one
   pub causes : HaveCauses (HasItemCause setting) [] journal
   -- the known boot of a switch is at most its own, and no message carries a greater one
   pub boots : BootsAreKnown journal
   -- a switch that serves is a member in its own boot
   pub serving : ServingIsKnown journal
-  -- what a switch acknowledged it heard in that boot, and stamps with
+  -- a switch heard the tables that it acknowledged in its boot; it acknowledged no greater stamp
   pub heard : (s : ℕ) → AcksHold journal s
-  -- it is told to open or to stamp only at a version that it acknowledged, at one version in each
-  -- boot
+  -- it is told to open or to stamp only at a version that it acknowledged, and to open at only one
+  -- version in each boot
   pub acknowledged : HaveCauses (IsAckedFirst setting) [] journal
   pub opened : OpensAtOneVersion journal
   -- the tables that are sent are those that their version's plan gives the switch, and stay so
@@ -33,11 +33,11 @@ pub record KeepVersionsWhole (setting : Setting) (journal : List Item) : Type 0 
   pub holding : ServingHold setting journal
   -- a switch that is told to stamp with a version also gets what its change touches
   pub touched : StampsSayTouched setting journal
-  -- each cache rule says what its own version says of each header of its word
+  -- each cache rule decides each header of its word as its own version does
   pub rules : RulesAreRight setting journal
-  -- and when a `Stamp` raises a switch to the very next version, its amendment removes from the
-  -- cache none that it doesn't touch, unless that version has an entry of its word: they stay, in
-  -- their order
+  -- when a `Stamp` raises a switch to the very next version, its cache keeps, in their order, the
+  -- rules that the amendment doesn't touch, unless an entry of that version already has the rule's
+  -- word
   pub untouched : UntouchedStay setting journal
   -- a header that an amendment doesn't touch is decided alike by the versions before and after it
   pub alike : ChangesLeaveOthers setting journal

@@ -1,4 +1,4 @@
-//! The laws.
+//! Laws about packets on their way, cache rules, drains, flushes and plays.
 ghost use Rattle.std.specs.Prelude.{[], All, ◌≡◌, ◌++◌, ◌*◌, ◌-◌, ◌<◌, ◌≤◌, Some, List, length, ℕ, Option};
 ghost use Rattle.steps.specs.Steps.{IsEvent};
 ghost use Rattle.steps.specs.declared.step.Step.TheVariants.{Deliver, Hop};
@@ -82,11 +82,11 @@ pub fn answers_are_runs()
     ensures { HoldsReached (λ setting journal. IsSetting setting → IsRun setting journal) }
 {}
 
-/// And their causes are so strong that a run with them whose rows are the schedule's keeps the
-/// promise. A packet that is stuck on its way to an authority is undecided, and its version wasn't
-/// retired when it entered and is at most the current one; the same is true of the version of each
-/// decision. Links found down are links of the network; packets enter, and are lost, by the row
-/// of the step that is taken.
+/// The items' causes are so strong that a run with them keeps the promise if its rows are the
+/// schedule's. A packet that is stuck on its way to an authority is undecided, and its version
+/// wasn't retired when it entered and is at most the current one; the same is true of the version
+/// of each decision. Links found down are links of the network; packets enter, and are lost, by
+/// the row of the step that is taken.
 pub fn causes_are_strong()
     ensures { HoldsReached (λ setting journal.
         IsSetting setting → HaveCauses (StrongCause setting) [] journal) }
@@ -120,8 +120,8 @@ pub fn packets_take_few_hops()
         → (i : ℕ) → hops_taken journal i ≤ most_hops) }
 {}
 
-/// A drain ends, after any steps of the network: each hop of the packet with the least number that
-/// travels leaves fewer hops to take. So the drain has all its hops, at most 20,544 for each
+/// A drain ends, after any steps of the network: each hop of the travelling packet with the least
+/// number leaves fewer hops to take. So the drain takes all its hops, at most 20,544 for each
 /// packet that entered.
 pub fn drains_end()
     ensures fewer { (setting : Setting) (journal : List Item) (row i : ℕ)
@@ -144,7 +144,7 @@ pub fn deliveries_rise()
         → next_waiting (journal ++ piece setting journal row (Deliver n)) ≡ Some m → n < m }
 {}
 
-/// In a play a flush has all its deliveries, or stops before one that would begin full.
+/// In a play a flush makes all its deliveries, or stops before one that would find a full journal.
 pub fn flushes_end()
     ensures { (setting : Setting) (journal : List Item) (row : ℕ)
         → GoesOrStops setting next_delivery row journal }
@@ -159,9 +159,9 @@ pub fn plays_exist()
 
 /// The rows of a play's journal are those of its events that were played, in order, except for
 /// hops and deliveries, which drains and flushes cause too. Right after each packet row is what
-/// became of the packet: the packet with the next number entered with that header at that switch,
-/// which serves, or the switch was closed to it, which doesn't. No other packet enters or is
-/// refused.
+/// became of the packet: it has the next number, and entered with that header at that switch, if
+/// the switch serves; or the switch, if it doesn't serve, was closed to it. No other packet enters
+/// or is refused.
 pub fn packet_rows_are_entered()
     ensures { (setting : Setting) (events : List Event) (journal : List Item)
         (full : Option ℕ) → IsPlay setting events journal full
@@ -175,10 +175,10 @@ pub fn answered_rows_are_entered()
 {}
 
 /// At each moment, within a step too, what is known of boots, versions and marks is right; each
-/// switch has the version that it stamps with; each cache rule says what its version says; and an
-/// amendment changes no decision of another header and, when a `Stamp` raises a switch to the very
-/// next version, removes from its cache no rule that it doesn't touch, unless that version has an
-/// entry of its word.
+/// switch that serves has the version that it stamps with; each cache rule decides as its version
+/// does. An amendment changes no decision of a header that it doesn't touch; when a `Stamp` raises
+/// a switch to the very next version, its cache keeps the rules that the amendment doesn't touch,
+/// unless an entry of that version already has the rule's word.
 pub fn items_keep_versions_whole()
     ensures { HoldsReached (λ setting journal.
         IsSetting setting → KeepVersionsWhole setting journal) }

@@ -1,4 +1,4 @@
-//! The laws of what is true on the way.
+//! Laws about what is true on the way to a journal: at each moment, and after each step.
 ghost use Rattle.std.specs.Prelude.{List, Option, ℕ};
 ghost use Rattle.update_machine.specs.Exports.{Event, IsPlay, IsSetting, Item, Setting};
 ghost use Rattle.control_laws.specs.Always.{AreEvents, HoldsReached};
@@ -31,8 +31,8 @@ pub fn steps_are_kept()
     marks_settle();
 }
 
-/// The same was true on the way of each play of events of a network: at each moment, and after
-/// each of its steps.
+/// The same was true on the way to the journal of each play of a network's events: at each moment,
+/// and after each of its steps.
 pub fn plays_held_on_the_way()
     ensures { (setting : Setting) (events : List Event) (journal : List Item) (full : Option ℕ)
         → IsSetting setting → AreEvents setting events → IsPlay setting events journal full

@@ -14,20 +14,20 @@ use Rattle.policy_file.specs.Reading.{RowFormat, policy_heading, policy_of, row_
 use Rattle.policy_file.specs.declared.error.PolicyRefusal.{PolicyRefusal}
 use Rattle.policy_file.specs.declared.error.PolicyRefusal.TheVariants as why
 
--- what is made of a value, or the same refusal
+-- what `make` makes of the value that was read, or the same refusal
 abbrev pub on_ok : {X Y R : Type 0} → (X → Y) → Result X R → Result Y R
 on_ok make read = result_map_both make (λ refusal. refusal) read
 
 abbrev pub change_heading : List (List ℕ)
 change_heading = codes "op" ∷ policy_heading
 
--- the edit that removes the row of the only priority in the fields
+-- the edit that removes the row of a priority, which is the only field
 abbrev pub removal_read : List (List ℕ) → Result Edit PolicyRefusal
 removal_read (priority ∷ []) =
     with_field (number_up_to 4294967295 priority) why.Priority (λ priority. Ok (Remove priority))
 removal_read _ = Err why.Width
 
--- the edit that the fields state, or the first refusal among them
+-- the edit that the fields state, or the refusal of the first field that can't be read
 abbrev pub edit_read : List (List ℕ) → Result Edit PolicyRefusal
 edit_read [] = Err why.Op
 edit_read (op ∷ fields) =
@@ -35,7 +35,7 @@ edit_read (op ∷ fields) =
     else if bytes_eq op (codes "add") then on_ok Add (row_read fields)
     else Err why.Op
 
--- no two edits of a change do the same to the row of one priority
+-- no two edits of a change do the same to a row of the same priority
 abbrev pub change_rows : RowFormat Edit
 change_rows = record { heading = change_heading; read = edit_read; repeats = repeats }
 

@@ -1,4 +1,4 @@
--- Policies against the ports of a network: bit p of a mask is for the port p.
+-- Which rows of a policy name a port outside a mask, in which bit p is for port p.
 use Rattle.std.specs.Prelude.{◌+◌, ◌==◌, Bool, List, Option, not, option_map, position, true, ℕ}
 use Rattle.base.specs.Exports.{bit_at}
 use Rattle.policy_rules.specs.declared.policy.Action.{Action}
@@ -32,7 +32,7 @@ first_in_change ports edits =
     option_map (λ place. record { row = place + 1 })
     (position (λ edit. not (adds_port_of ports edit)) edits)
 
--- the first row of the file of which this is true
+-- the first row of the file that names, or adds a row that names, a port outside the mask
 abbrev pub first_in_file : ℕ → PolicyFile → Option NoPort
 first_in_file ports (Whole rows) = first_without_port ports rows
 first_in_file ports (Change edits) = first_in_change ports edits

@@ -9,7 +9,7 @@ use Rattle.base.specs.declared.row.InRow.{InRow}
 use Rattle.policy_file.specs.declared.error.PolicyRefusal.{PolicyRefusal}
 use Rattle.policy_file.specs.declared.error.PolicyRefusal.TheVariants as why
 
--- the numbers by which refusals are known outside
+-- the number of each refusal, as it is printed and documented
 abbrev pub policy_code : PolicyRefusal → ℕ
 policy_code why.Header = 1
 policy_code why.Width = 2
@@ -29,13 +29,13 @@ policy_heading =
     codes "priority" ∷ codes "src" ∷ codes "dst" ∷ codes "sport" ∷ codes "dport" ∷ codes "proto"
     ∷ codes "action" ∷ []
 
--- what follows from a field's value; or why there is none, if the text has none
+-- what `next` makes of a field's value, or the refusal if the field has none
 abbrev pub with_field : {X Y : Type 0} → Option X → PolicyRefusal → (X → Result Y PolicyRefusal)
     → Result Y PolicyRefusal
 with_field (Some value) refusal next = next value
 with_field None refusal next = Err refusal
 
--- the row that the fields state, or the first refusal among them
+-- the row that the fields state, or the refusal of the first field that can't be read
 abbrev pub row_read : List (List ℕ) → Result Row PolicyRefusal
 row_read (priority ∷ src ∷ dst ∷ sport ∷ dport ∷ proto ∷ action ∷ []) =
     with_field (number_up_to 4294967295 priority) why.Priority (λ priority.
@@ -89,7 +89,7 @@ abbrev pub first_some : {X : Type 0} → (ℕ → Option X) → ℕ → Option X
 first_some at zero = None
 first_some at (suc n) = option_or (first_some at n) (at n)
 
--- the same, with the row, counted from 1
+-- why the record at this place is refused, if it is, with its row, counted from 1
 abbrev pub refused_at : {X : Type 0} → RowFormat X → List (List (List ℕ)) → ℕ
     → Option (InRow PolicyRefusal)
 refused_at format records place =
@@ -124,7 +124,7 @@ rows_in format bytes = rows_under_heading format (records_of bytes)
 
 -- ---- policies
 
--- no two rows of a policy have one priority
+-- no two rows of a policy have the same priority
 abbrev pub policy_rows : RowFormat Row
 policy_rows = record {
   heading = policy_heading;

@@ -9,7 +9,7 @@ use crate::row::{is_heading, read_priority, read_row};
 use csv_records::{ByteRecord, field, has_text};
 use policy_rules::Edit;
 
-// The name of the first field of an edit, and its keywords.
+// The name of an edit's first field, and the keywords of that field.
 pub const OP: &str = "op";
 
 pub const REMOVE: &str = "remove";
@@ -28,8 +28,8 @@ pub fn is_change_heading(fields: &ByteRecord) -> bool
 /// fields of one.
 ///
 /// # Errors
-/// `Op` if the first field is another one, `Width` if another number of fields follows
-/// it; otherwise the first field that is none of its kind.
+/// `Op` if the first field is neither, `Width` if the wrong number of fields follows it; otherwise
+/// the refusal of the first field that can't be read.
 #[tactic(auto, using(crate::proofs::EditFields::edits))]
 pub fn read_edit(fields: &ByteRecord) -> Result<Edit, PolicyRefusal>
     ensures edit { result ≡ edit_read (fields_of fields.now) }
@@ -44,7 +44,7 @@ pub fn read_edit(fields: &ByteRecord) -> Result<Edit, PolicyRefusal>
     Err(PolicyRefusal::Op)
 }
 
-// The edit that removes the row of the priority that the second field, the last one, has.
+// The edit that removes the row of a priority, which is the second and last field.
 #[tactic(auto, using(crate::proofs::EditFields::edits))]
 fn read_removal(fields: &ByteRecord) -> Result<Edit, PolicyRefusal>
     ensures edit { result ≡ removal_read (drop 1 (fields_of fields.now)) }

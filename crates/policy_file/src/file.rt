@@ -12,7 +12,7 @@ use csv_records::{ByteRecord, Records};
 use policy_rules::{Amendment, PolicyFile};
 use std::alloc::{AllocError, Global};
 
-/// Whether the text is that of a change, by its heading.
+/// Whether the text is that of a change: whether its first record is the heading of one.
 ///
 /// # Errors
 /// Only out of memory.
@@ -28,9 +28,9 @@ pub fn is_change(alloc: Global, bytes: &[u8]) -> Result<bool, AllocError>
     Ok(is_change_heading(&fields))
 }
 
-/// The change that the text states.
+/// Reads the change that the text states.
 ///
-/// The text's records are read as those of a policy are: the heading
+/// The text's records are read like those of a policy: the heading
 /// `op,priority,src,dst,sport,dport,proto,action`, and then one for each of at most 2,000 edits,
 /// `remove` with the priority of a row, or `add` with the seven fields of one.
 ///
@@ -67,7 +67,7 @@ pub fn read_change(alloc: Global, bytes: &[u8]) -> Result<Amendment, PolicyError
     }
 }
 
-/// What the text states: a change if its first record is the heading of one, otherwise a policy.
+/// Reads what the text states: a change if its first record is the heading of one, or a policy.
 ///
 /// # Errors
 /// Those of `read_change` or of `read_policy`: `Header` exactly if the first record is

@@ -16,17 +16,17 @@ use std::alloc::{AllocError, Global};
 
 /// A row of a file, of one kind.
 pub trait FileRow: Drop {
-    /// How a file states such rows.
+    /// How a file states rows of this kind.
     ghost format: { RowFormat Self };
 
     /// True of a row that names a port below 64, or none.
     ghost has_small_port: { Self → Type 0 };
 
-    /// Whether the record is the heading of such rows.
+    /// Whether the record is the heading of rows of this kind.
     fn is_heading(fields: &ByteRecord) -> bool
         ensures { result ≡ is_heading format.heading (fields_of fields.now) };
 
-    /// The row that the record states.
+    /// The row that the record states, or why it states none.
     fn read(fields: &ByteRecord) -> Result<Self, PolicyRefusal>
         ensures row { result ≡ format.read (fields_of fields.now) }
         ensures small_port { IfOk result has_small_port };
@@ -60,16 +60,16 @@ impl FileRow for Edit {
     }
 }
 
-/// The rows that a text states, up to its end or to the first record that states none, and why that
-/// does not.
+/// The rows that a text states, up to its end or to the first record that is refused, and why that
+/// one is.
 #[derive(Drop)]
 pub struct Reading<R> {
     pub rows: Vec<R>,
     pub refusal: Option<PolicyRefusal>,
 }
 
-/// Reads the rows under the heading of the text, until it ends, a record states no row, or there
-/// are too many.
+/// Reads the rows under the text's heading, until it ends, a record states no row, or there are too
+/// many. An error is `Header` in row 0 if that heading is missing, or out of memory.
 pub fn read_rows<R: FileRow>(alloc: Global, bytes: &[u8]) -> Result<Reading<R>, PolicyError>
     ensures read { IfOk result (λ reading.
         IsReadFrom R.format bytes.now reading.rows.items reading.refusal) }
@@ -86,7 +86,7 @@ pub fn read_rows<R: FileRow>(alloc: Global, bytes: &[u8]) -> Result<Reading<R>, 
     Ok(read_records(alloc, &mut records, &mut fields)?)
 }
 
-// Reads rows until the records end, one states no row, or there are too many.
+// Reads rows until the records end, one states no row, or there are more than 2,000.
 fn read_records<R: FileRow>(
     alloc: Global,
     records: &mut Records<'_>,

@@ -9,7 +9,7 @@ use thiserror::Error;
 
 /// A row, counted from 1, whose action names a port that doesn't exist.
 #[derive(Clone, Copy, Debug, PartialEq, Eq, Error)]
-#[error("row {row} names a port that is not there")]
+#[error("row {row} names a port that doesn't exist")]
 pub struct NoPort {
     pub row: u32,
 }
@@ -33,7 +33,7 @@ fn place_without_port(ports: u64, rows: &[Row]) -> Option<usize>
     rows.iter().position(|row| !has_port(ports, row.action))
 }
 
-/// Checks that each action names a port of the mask, in which bit p is for the port p, or no port.
+/// Checks that each action names no port, or one of the mask, in which bit p is for port p.
 ///
 /// # Errors
 /// The first row whose action names another port; a port of 64 or more is in no mask.

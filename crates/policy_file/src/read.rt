@@ -9,7 +9,7 @@ use base::{Failure, InRow};
 use policy_rules::Policy;
 use std::alloc::Global;
 
-/// The policy that the text states.
+/// Reads the policy that the text states.
 ///
 /// The text's records are those of the crate `csv` with its presets, of any width: the heading
 /// `priority,src,dst,sport,dport,proto,action`, and then one for each of at most 2,000 rows. So a

@@ -37,8 +37,8 @@ fn has_texts(fields: &ByteRecord, place: usize, one: &str, next: &str) -> bool
     has_text(fields, place, one) && has_text(fields, place + 1, next)
 }
 
-/// Whether the record's fields from this place on are the names of a row's fields: from the first
-/// one on, whether it is the heading of a policy.
+/// Whether the record's fields from this place on are the names of a row's fields; from place 0,
+/// whether the record is the heading of a policy.
 #[tactic(auto, using(crate::proofs::RowFields::sevens))]
 pub fn is_heading(fields: &ByteRecord, from: usize) -> bool
     ensures { result ≡ is_heading policy_heading (drop from (fields_of fields.now)) }
@@ -52,7 +52,7 @@ pub fn is_heading(fields: &ByteRecord, from: usize) -> bool
         && has_texts(fields, from + 5, PROTO, ACTION)
 }
 
-/// The priority that the field has.
+/// The priority that the field states, up to 4294967295; `None` if it states none.
 pub fn read_priority(text: &[u8]) -> Option<u32>
     ensures { result ≡ number_up_to 4294967295 text.now }
 {
@@ -63,8 +63,8 @@ pub fn read_priority(text: &[u8]) -> Option<u32>
 /// The row that the record's fields from this place on state.
 ///
 /// # Errors
-/// `Width` if there aren't seven fields from there on; otherwise the first field that is
-/// none of its kind.
+/// `Width` if there aren't seven fields from there on; otherwise the refusal of the first
+/// field that can't be read.
 #[tactic(auto, using(crate::proofs::RowFields::sevens))]
 pub fn read_row(fields: &ByteRecord, from: usize) -> Result<Row, PolicyRefusal>
     ensures row { result ≡ row_read (drop from (fields_of fields.now)) }

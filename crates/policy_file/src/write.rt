@@ -92,7 +92,7 @@ fn priorities_are_read_back()
     printed_forms_are_read_back();
 }
 
-// What is written as a record.
+// A row that is written as a CSV record.
 trait CsvRecord {
     /// The heading of such records.
     ghost heading: { List (List ℕ) };

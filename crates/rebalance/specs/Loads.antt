@@ -1,6 +1,6 @@
--- How many packets asked each partition in a play, and the load of a placement: of the targets of
--- a partition the first one is asked, and each has its rules. A placement gives each partition, by
--- its number, the list of its targets.
+-- How many packets of a play the authorities of each partition decided, and the load of a
+-- placement: packets go to a partition's first target, and each target has its rules. A placement
+-- gives each partition, by its number, the list of its targets.
 use Rattle.std.specs.Prelude.{if◌then◌else◌, ◌+◌, ◌<◌, ◌==◌, ◌≡◌, ◌≤◌, All, AllPairs, Bool, List, None, Option, Some, count_by, filter, filter_map, fold, length, map, max, nat_eq, not, slice_index, sum, sum_by, take, ℕ}
 use Rattle.base.specs.Exports.{div_ceil, list_any, range_with_len}
 use Rattle.update_machine.specs.Exports.{How, Item, current_mark}
@@ -8,7 +8,7 @@ use Rattle.journal.specs.declared.item.Item.TheVariants as item
 use Rattle.placement.specs.Placement.{is_target, targets_at}
 use Rattle.policy_rules.specs.declared.packet.How.TheVariants as how
 
--- ---- how often a partition was asked
+-- ---- how often a partition's authorities decided
 
 abbrev pub partition_asked : How → Option ℕ
 partition_asked (how.Authority switch partition) = Some partition
@@ -24,11 +24,11 @@ asked_in version _ = None
 abbrev pub all_asked : ℕ → List Item → List ℕ
 all_asked version journal = filter_map (asked_in version) journal
 
--- how often the partition was asked, under the version that is current at the end
+-- how often the partition's authorities decided, by the version that is current at the end
 unfoldable pub weight : List Item → ℕ → ℕ
 weight journal partition = count_by (nat_eq partition) (all_asked (current_mark journal) journal)
 
--- of this many partitions, by their numbers
+-- the weights of this many partitions, by their numbers
 abbrev pub weights_of : List Item → ℕ → List ℕ
 weights_of journal parts = map (weight journal) (range_with_len 0 parts)
 
@@ -39,14 +39,14 @@ abbrev pub is_primary : List (List ℕ) → ℕ → ℕ → Bool
 is_primary placement partition switch =
     list_any (nat_eq switch) (take 1 (targets_at placement partition))
 
--- the sum of the weights of the partitions whose first target it is
+-- the sum of the weights of the partitions whose first target the switch is
 abbrev pub traffic : List ℕ → List (List ℕ) → ℕ → ℕ
 traffic weights placement switch =
     sum_by (slice_index weights)
     (filter (λ partition. is_primary placement partition switch)
     (range_with_len 0 (length weights)))
 
--- the sum of the sizes, in rules, of the partitions that have it among their targets
+-- the sum of the sizes, in rules, of the partitions of which the switch is a target
 abbrev pub rules_at : List ℕ → List (List ℕ) → ℕ → ℕ
 rules_at sizes placement switch =
     sum_by (slice_index sizes)
@@ -61,7 +61,7 @@ unfoldable pub greatest_traffic : ℕ → List ℕ → List (List ℕ) → ℕ
 greatest_traffic switches weights placement =
     greatest (map (traffic weights placement) (range_with_len 0 switches))
 
--- switches have numbers below 64
+-- the greatest traffic of any switch: switches have numbers below 64
 abbrev pub peak : List ℕ → List (List ℕ) → ℕ
 peak weights placement = greatest_traffic 64 weights placement
 
@@ -69,7 +69,7 @@ peak weights placement = greatest_traffic 64 weights placement
 abbrev pub usable_rooms : List ℕ → ℕ
 usable_rooms rooms = count_by (λ room. not (room == 0)) rooms
 
--- the greatest weight, and an even share of the weights, if any switch has room
+-- the bound of the peak: the greatest weight or, if greater, an even share for switches with room
 unfoldable pub bound : List ℕ → List ℕ → ℕ
 bound weights rooms = if usable_rooms rooms == 0
     then 0
@@ -77,8 +77,8 @@ bound weights rooms = if usable_rooms rooms == 0
 
 -- ---- where there is room
 
--- each partition has this many different targets that exist, and no switch has more rules than
--- room
+-- each partition has one and this many more different targets that exist, and no switch has more
+-- rules than room
 pub record Fits (sizes rooms : List ℕ) (backups : ℕ) (placement : List (List ℕ)) : Type 0 where
   pub number : length placement ≡ length sizes
   pub targets : (partition : ℕ) → partition < length sizes

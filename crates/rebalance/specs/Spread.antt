@@ -1,5 +1,5 @@
--- The spread of partitions over switches by how often each was asked, and the placement that is
--- proposed. Partitions take their turns by falling weight, and then by number.
+-- The spread of partitions over switches by their weights, and the placement that is proposed.
+-- Partitions take their turns by falling weight, and then by number.
 use Rattle.std.specs.Prelude.{◌<◌, ◌≡◌, ◌≤◌, ◌⊎◌, All, List, length, ℕ}
 use Rattle.placement.specs.Placement.{AreHosted, IsPlacement, IsRefused, TurnRule, turn_rule}
 use Rattle.placement.specs.declared.turns.Load.TheVariants as load
@@ -21,13 +21,13 @@ FindsFewer sizes weights rooms backups partition =
 
 -- ---- what is proposed
 
--- the spread is lower than the old placement, and so it is proposed
+-- the peak of the spread is lower than that of the old placement, and so it is proposed
 pub record IsLower (sizes weights rooms : List ℕ) (backups : ℕ) (old new : List (List ℕ))
     : Type 0 where
   pub spread : IsSpread sizes weights rooms backups new
   pub lower : peak weights new < peak weights old
 
--- no spread is lower, and so the old placement stays
+-- no spread has a lower peak, and so the old placement stays
 pub record KeepsPlacement (sizes weights rooms : List ℕ) (backups : ℕ) (old new : List (List ℕ))
     : Type 0 where
   pub same : new ≡ old
@@ -47,12 +47,12 @@ pub record AreWeighed (sizes weights rooms : List ℕ) : Type 0 where
   pub few : length rooms ≤ 64
 
 pub record SpreadLaws (sizes weights rooms : List ℕ) (backups : ℕ) : Type 0 where
-  -- a spread fits, and so does a placement only by size
+  -- a spread fits, and so does a placement by size, as plans have it
   pub fits : (placement : List (List ℕ)) → IsSpread sizes weights rooms backups placement
       → Fits sizes rooms backups placement
   pub placed : (placement : List (List ℕ)) → IsPlacement sizes rooms backups placement
       → Fits sizes rooms backups placement
-  -- there is at most one spread, or one partition that is refused
+  -- there is at most one spread; if a partition is refused there is none, and only one is refused
   pub one : (placement other : List (List ℕ)) → IsSpread sizes weights rooms backups placement
       → IsSpread sizes weights rooms backups other → placement ≡ other
   pub refused : (placement : List (List ℕ)) (partition : ℕ)

@@ -1,9 +1,9 @@
-//! A better placement of partitions: it is computed from how many packets asked each partition in
-//! a play.
+//! A better placement of partitions, computed from how often the authorities of each one decided a
+//! packet in a play.
 //!
 //! A partition's weight is how often its authorities decided a packet by the version that is
-//! current at the end. Packets ask the first of its targets, so the traffic of a switch is the sum
-//! of the weights of the partitions whose first target it is, and the peak of a placement is the
+//! current at the end. Packets go to the first of its targets, so a switch's traffic is the sum of
+//! the weights of the partitions whose first target it is, and the peak of a placement is the
 //! greatest traffic. `spread` promises the defined spread: partitions by falling weight, each on
 //! the switches of least traffic that have room. `spread_laws` says that it fits, that there is at
 //! most one, that no placement that fits has a peak below `bound`, and that a proposal is never

@@ -5,8 +5,8 @@ ghost use Rattle.rebalance.specs.Loads.{bound, greatest, peak, traffic, usable_r
 use base::MAX_SWITCHES;
 use policy_rules::Targets;
 
-/// The greatest traffic of a switch, if partitions of these weights have these targets. It
-/// allocates nothing.
+/// The greatest traffic of any switch, if the partitions with these weights have these targets.
+/// Allocates nothing.
 pub fn peak(weights: &[u64], targets: &[Targets]) -> u64
     requires each { length targets.now ≡ length weights.now }
     requires small { sum weights.now < 2 ^ 64 }
@@ -17,9 +17,9 @@ pub fn peak(weights: &[u64], targets: &[Targets]) -> u64
     greatest(&carried)
 }
 
-/// The peak that each placement that fits these rooms has at least: the greatest weight, or an
-/// even share of all weights for each switch that has any room; 0 if none has. It allocates
-/// nothing.
+/// A lower bound of the peak of each placement that fits these rooms: the greatest weight or, if
+/// greater, an even share of all weights for each switch that has any room; 0 if none has.
+/// Allocates nothing.
 #[tactic(auto, unfolding(crate::specs::Loads::bound))]
 pub fn bound(weights: &[u64], rooms: &[u32]) -> u64
     requires { sum weights.now < 2 ^ 64 }
@@ -32,7 +32,7 @@ pub fn bound(weights: &[u64], rooms: &[u32]) -> u64
     greatest(weights).max(sum(weights).div_ceil(usable))
 }
 
-// Adds the weight of each partition to what its first target carries.
+// Adds the weight of each partition to the traffic of its first target.
 fn carry(carried: &mut [u64], weights: &[u64], targets: &[Targets])
     requires none { (s : ℕ) → slice_index carried.old s ≡ 0 }
     requires each { length targets.now ≡ length weights.now }
@@ -45,7 +45,7 @@ fn carry(carried: &mut [u64], weights: &[u64], targets: &[Targets])
     }
 }
 
-// Adds the weight to what the first of the targets carries, if there is one.
+// Adds the weight to the traffic of the first of the targets.
 fn add_first(carried: &mut [u64], targets: &Targets, weight: u64)
     requires { All (λ load. load + weight < 2 ^ 64) carried.old }
     ensures { (s : ℕ) → s < length carried.old → slice_index carried.new s

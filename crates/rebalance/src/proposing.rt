@@ -5,7 +5,7 @@ use crate::peaks::peak;
 use policy_rules::Targets;
 
 /// The placement that is proposed to replace the old one: the spread of these weights if there is
-/// one and its peak is lower, otherwise the old one. It allocates nothing.
+/// one and its peak is lower, otherwise the old one. Allocates nothing.
 pub fn proposed(weights: &[u64], spread: Option<Vec<Targets>>, old: Vec<Targets>) -> Vec<Targets>
     requires old { length old.items ≡ length weights.now }
     requires new { IfSome spread (λ new. length new.items ≡ length weights.now) }

@@ -10,13 +10,13 @@ use std::alloc::Global;
 /// The targets of partitions of these sizes, in rules, and of these weights, on switches of these
 /// rooms, in rules: for each partition an authority switch and this many backups.
 ///
-/// Partitions come by falling weight, then by number. Each is put on the switches of least
+/// Partitions take turns by falling weight, then by number. Each gets the switches of least
 /// traffic, and then of least number, among those that have room for it besides the partitions that
-/// they have. The traffic of the first rises by its weight.
+/// they have. The traffic of its first target rises by its weight.
 ///
 /// # Errors
-/// `NoRoom` with the first partition, by falling weight and then by number, that finds fewer
-/// switches than it needs.
+/// `NoRoom` with the first partition in that order that finds fewer switches with room than it
+/// needs; or out of memory.
 pub fn spread(
     alloc: Global,
     sizes: &[u32],

@@ -5,9 +5,9 @@ ghost use Rattle.update_machine.specs.Marks.{current_mark, gives_current};
 use journal::{How, Item, Journal};
 use std::alloc::{AllocError, Global};
 
-/// How often each of this many partitions was asked, by their numbers: the decisions of its
-/// authorities by the version that is current at the end of the journal. Decisions by cached rules
-/// and those by other versions don't count.
+/// The weights of this many partitions, by their numbers: how often their authorities decided by
+/// the version that is current at the end of the journal. Decisions by cached rules and by other
+/// versions don't count.
 ///
 /// # Errors
 /// Only out of memory.

@@ -1,5 +1,5 @@
--- What the calls of a switch require, as laws of journals establish it: of versions, tables, boots
--- and adverts, whatever steps were taken.
+-- What the calls of a switch require follows from the laws of versions, tables, boots and adverts,
+-- whatever steps were taken.
 use Rattle.std.specs.Prelude.{◌-◌, ◌<◌, ◌^◌, ◌≡◌, IsFalse, IsTrue, List, Some, length, ℕ}
 use Rattle.update_machine.specs.Exports.{Body, Header, Item, Leg, Setting, is_up, message_of, serves as serves_in, to_switch}
 use Rattle.switch_core.specs.Exports.{CanLookUp, IsAtAuthority, IsSoundBody, SwitchValue, serves, with_message}
@@ -13,7 +13,7 @@ pub record CanReceive (switch : SwitchValue) (header : Header) (leg : Leg) : Typ
   pub stamped : CanLookUp switch
   pub authority : IsAtAuthority switch header leg
 
--- there is a next number for its own advert, now and once it heard any message
+-- there is a next number for its own advert, now and after it hears any message
 pub record HasNextSeq (switch : SwitchValue) : Type 0 where
   pub now : switch.seq < 2 ^ 32 - 1
   pub then : (n : ℕ) (body : Body) → (with_message switch n body).seq < 2 ^ 32 - 1

@@ -14,8 +14,8 @@ post_in journal n = option_map (λ message. (
   },
 )) (message_of journal n)
 
--- the posts have the frames of the messages that the journal says, and it says of no later number
--- that it is delivered or forgotten
+-- each post has the frames of the journal's message, and what became of it; the journal says of no
+-- later number that it was delivered or forgotten
 pub record IsBagOf (journal : List Item) (posts : List Post) : Type 0 where
   pub many : next_message journal ≡ length posts + 1
   pub each : (n : ℕ) → item_numbered posts n ≡ post_in journal n

@@ -1,4 +1,4 @@
--- The controller, as a journal says it: its marks, and the plans of the versions that it may still
+-- The controller, as a journal has it: its marks, and the plans of the versions that it may still
 -- install, in the two-phase update of Reitblatt, Foster, Rexford, Schlesinger and Walker,
 -- "Abstractions for Network Update", SIGCOMM 2012.
 use Rattle.std.specs.Prelude.{◌≡◌, List, Ok, map, ℕ}
@@ -25,8 +25,8 @@ pub record IsControllerOf (setting : Setting) (journal : List Item)
   pub marks : AreMarksOf setting journal controller.marks
   pub plans : controller.plans ≡ map (plan_to_keep setting journal) (versions_from_current journal)
 
--- the plan is that of the next version, if this file is submitted, and this is what the file
--- touches
+-- the plan is that of the next version, if this file is submitted, and these are the words that
+-- the file touches
 pub record IsPlanOfNext (setting : Setting) (journal : List Item) (file : ℕ) (plan : PlanValue)
     (touched : List WordValue) : Type 0 where
   pub policy : next_policy setting journal file ≡ Ok plan.policy

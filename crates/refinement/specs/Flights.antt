@@ -4,7 +4,7 @@ use Rattle.update_machine.specs.Exports.{Exit, Item, Leg, Setting, decision_of, 
 use Rattle.travelling.specs.Travelling.{Flight}
 use Rattle.tunnel.specs.Exports.{TunnelValue}
 
--- its leg; any if it has none
+-- its leg; the exit by port 0 if it has none
 abbrev pub own_leg : List Item → ℕ → Leg
 own_leg journal i = unwrap_or (leg_of journal i) (Exit 0)
 

@@ -8,8 +8,8 @@ use Rattle.control_laws.specs.Exports.{BodiesNameThere, StampsSayTouched}
 use Rattle.refinement.specs.Links.{relinked_switch}
 use Rattle.refinement.specs.SwitchOf.{switch_of}
 
--- the message of this number was sent to the switch, and says this: of whatever boot, and whether
--- or not the switch is up
+-- the message of this number was sent to the switch, and has this body; it may be for any boot,
+-- and the switch may be down
 pub record IsSentTo (setting : Setting) (before : List Item) (n s : ℕ) (body : Body)
     : Type 0 where
   pub sent : message_of before n ≡ Some (to_switch s body)
@@ -53,7 +53,7 @@ pub record HearingRefines : Type 0 where
       ≡ record (with_message (switch_of setting before s) n body) {
         is_open = (switch_of setting before s).is_open;
       }
-  -- by whether it opens
+  -- the switch doesn't open, or opens with this stamp
   pub shut : (setting : Setting) (before : List Item) (n s : ℕ) (body : Body) →
       IsNet setting.net → IsSentTo setting before n s body →
       opening_stamp (switch_of setting before s) body ≡ None → HearsShut setting before n s body

@@ -28,7 +28,7 @@ pub record KnowledgeRefines : Type 0 where
       lookup_of (switch_of setting journal s).cache.entries
       (stamp_tables (switch_of setting journal s)) header
       ≡ lookup_at setting journal s header
-  -- its routes by its usable links and the adverts that it has, and what these cut off
+  -- its routes over its usable links and those of its adverts, and which targets are isolated there
   pub route : (setting : Setting) (journal : List Item) (s : ℕ) (targets down : List ℕ) →
       route_of (switch_of setting journal s).database s targets (near setting journal s) down
       ≡ route_from setting journal s targets down

@@ -21,7 +21,7 @@ pub record LivesRefine : Type 0 where
   pub crash : (setting : Setting) (journal : List Item) (s : ℕ) →
       switch_of setting (journal ++ item.Down s ∷ []) s
       ≡ crashed_switch (switch_of setting journal s)
-  -- the boot is one that the switch was never in
+  -- the next boot is one that the switch was never in
   pub restart : (setting : Setting) (journal : List Item) (s : ℕ) →
       HaveCauses (HasItemCause setting) [] journal →
       switch_of setting (journal ++ item.Booted s (boot_of journal s + 1) ∷ []) s
@@ -29,7 +29,7 @@ pub record LivesRefine : Type 0 where
   pub expiry : (setting : Setting) (journal : List Item) (s place message : ℕ) →
       switch_of setting (journal ++ item.Expired s place message ∷ []) s
       ≡ entry_expired (switch_of setting journal s) place
-  -- and which expiry is written
+  -- an expiry writes the message that brought the entry at its place, if there is one
   pub expires : (setting : Setting) (journal : List Item) (s place : ℕ) →
       expire_items setting s place journal
       ≡ expired_by s place (message_at setting journal s place)

@@ -14,14 +14,14 @@ abbrev pub link_step : Bool → ℕ → ℕ → Step
 link_step true one two = LinkUp one two
 link_step false one two = LinkDown one two
 
--- the step is over, or goes on, and no item of it is the switch's own, nor a call of it
+-- the items are those of the step so far; none concerns the switch itself, or is a call of it
 pub record LeavesSwitch (s : ℕ) (before : List Item) (row : ℕ) (step : Step) (items : List Item)
     : Type 0 where
   pub in_step : NoRows items
   pub apart : NoneConcern (concerns_switch s) before (item.Row row step ∷ items)
   pub calls : NoneConcern (concerns_calls s) before (item.Row row step ∷ items)
 
--- a switch whose links changed with the step, which was this before it
+-- the switch after a step, before which it was this: it made its next advert if its links changed
 abbrev pub relinked_switch : Setting → List Item → List Item → ℕ → SwitchValue → SwitchValue
 relinked_switch setting before now s switch =
     if has_changed setting before now s then near_changed switch (near setting now s) else switch

@@ -7,9 +7,9 @@ use Rattle.update_machine.specs.Marks as machine
 use Rattle.version_update.specs.Exports.{MarksValue, has_acked, is_member, is_over, record_of}
 use Rattle.version_update.specs.declared.record.SwitchRecord.{SwitchRecord}
 
--- what is known of a switch is what the journal says: its boot, and whether it is over or a member;
--- while it isn't over, which versions it acknowledged; and of a member at which version it opened,
--- and with which it is known to stamp
+-- what the controller knows of a switch is what the journal says: its boot, and whether it is over
+-- or a member; while it isn't over, which versions it acknowledged; and of a member at which
+-- version it was opened, and its acknowledged stamp
 pub record IsKnown (items : List Item) (s : ℕ) (known : SwitchRecord) : Type 0 where
   pub boot : known.boot ≡ machine.known_boot items s
   pub over : is_over known.phase ≡ machine.is_over items s

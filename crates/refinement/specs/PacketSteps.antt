@@ -1,5 +1,5 @@
--- What a switch returns for a packet, and what the step of the same packet is in the definitions
--- over journals.
+-- What a switch returns for a packet is what the packet's step writes by the definitions over
+-- journals.
 use Rattle.std.specs.Prelude.{[], ◌++◌, ◌+◌, ◌<◌, ◌==◌, ◌∷◌, ◌≡◌, ◌≤◌, IsTrue, List, Option, Some, false, length, ℕ}
 use Rattle.message_bag.specs.Exports.{Post, new_post, with_delivered, with_forgotten}
 use Rattle.update_machine.specs.Exports.{Header, Hop, IsReached, IsSetting, Item, Message, NoneConcern, Packet, Ports, Setting, concerns_messages, near, next_message, next_packet, piece}
@@ -59,7 +59,7 @@ pub record MayHop (setting : Setting) (journal : List Item) (t : Flight) : Type 
       (near setting journal (here t.tunnel)) t.tunnel).end ≡ hop.Arrive
       → IsAtAuthority (switch_of setting journal (here t.tunnel)) t.tunnel.header t.tunnel.leg
 
--- this is also true for a packet on its way, at the switch where it is
+-- the same is true of the hop of a packet on its way, at the switch where it is
 pub record GoesOn (setting : Setting) (journal : List Item) (row i : ℕ) (t : Flight)
     (ports : Ports) : Type 0 where
   pub may : MayHop setting journal t
@@ -80,8 +80,8 @@ HopsRefine = (setting : Setting) (journal : List Item) (row i : ℕ) (t : Flight
 
 -- ---- messages
 
--- posts are those of the journal as messages are sent, delivered and forgotten, and no other item
--- changes them
+-- the posts stay those of the journal when a message is sent, delivered or forgotten; no other
+-- item changes them
 pub record BagsRefine : Type 0 where
   pub begun : IsBagOf [] []
   pub sent : (before : List Item) (posts : List Post) (message : Message) → IsBagOf before posts

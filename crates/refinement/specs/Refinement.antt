@@ -1,4 +1,4 @@
--- How all that a world has is tied to its journal.
+-- What it means that all that a world has is as its journal says.
 use Rattle.std.specs.Prelude.{◌+◌, ◌<◌, ◌≡◌, Bool, List, filter, length, slice_index, slice_index_or, ℕ}
 use Rattle.message_bag.specs.Exports.{Post}
 use Rattle.controller.specs.Exports.{ControllerValue}

@@ -1,11 +1,11 @@
--- What a journal says of a switch: the whole record of it, as the switch keeps it.
+-- What a journal says of a switch, as the record that the switch keeps.
 use Rattle.std.specs.Prelude.{[], if◌then◌else◌, ◌++◌, ◌==◌, ◌∷◌, List, None, Option, Some, filter, filter_map, fold, ℕ}
 use Rattle.base.specs.Exports.{list_any}
 use Rattle.update_machine.specs.Exports.{Body, Collect, Install, Item, Setting, Tables, adverts_known, boot_of, cache_of, greatest_number, handled_count, heard, holds_version, is_in_first_boot, is_up, own_seq, serves, stamp_of, tables_at}
 use Rattle.switch_core.specs.Exports.{SwitchValue}
 
--- the version up to which a body tells the switch to drop tables: the greatest of the switch's
--- boot is kept
+-- the version up to which a body tells the switch to drop tables; the switch keeps the greatest
+-- that it heard in its boot
 abbrev pub collect_in : Body → Option ℕ
 collect_in (Collect boot version) = Some version
 collect_in _ = None
@@ -20,7 +20,7 @@ abbrev pub tables_begun : Setting → List Item → ℕ → List Tables
 tables_begun setting journal s =
     if is_in_first_boot journal s then tables_at setting journal 1 s ∷ [] else []
 
--- one more, if there is none of its version
+-- all these tables, and then the new ones unless there are some of their version
 abbrev pub with_tables : List Tables → Tables → List Tables
 with_tables all tables =
     if list_any (λ other. other.version == tables.version) all then all else all ++ tables ∷ []

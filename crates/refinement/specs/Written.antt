@@ -19,7 +19,7 @@ written_items journal [] = []
 written_items journal (act ∷ acts) =
     item_of journal act ∷ written_items (journal ++ item_of journal act ∷ []) acts
 
--- at a resend the switch sends its messages, and then the controller
+-- at a resend the switch sends its messages, and then the controller sends its own
 abbrev pub acts_of_resend : Setting → List Item → ℕ → ControllerValue → List Act
 acts_of_resend setting journal s controller =
     map Post (resent_by_switch setting journal s) ++ resend_acts controller s

@@ -1,7 +1,7 @@
 //! What ties the code to the definitions: what each kind of step does to all that a world has.
 //!
 //! Its switches, the packets on their way, the messages, the controller and the links are what the
-//! journal says (`RefineJournal`); after the items of the step they are so again. The laws say
+//! journal says (`RefineJournal`), and they are again after the items of the step. The laws say
 //! what each call of a switch adds to the journal, and that it may be made; they give the acts of
 //! the controller as items one after another, and what a switch returns for a packet as the items
 //! of its step; they say that each message that is sent has a short encoding, and that there is

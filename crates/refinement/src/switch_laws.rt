@@ -1,4 +1,4 @@
-//! The laws.
+//! Laws about switches: what steps, messages and links do to them.
 ghost use Rattle.refinement.specs.Exports.{RequirementsHold, CallsRefine, HearingRefines, KnowledgeRefines, LivesRefine, LinksRefine};
 
 /// Items that don't concern a switch don't change its record. In a step that does nothing to the
@@ -8,8 +8,8 @@ pub fn links_change_switches()
     ensures { LinksRefine }
 {}
 
-/// A message that is delivered to a switch is heard: of whatever boot, up or down, closed or open.
-/// What the journal says then are the switch's replies, or that it opens with its stamp.
+/// A switch hears each message that is delivered to it: for any boot, up or down, closed or open.
+/// The journal then has the switch's replies, or that it opens with its stamp.
 pub fn messages_are_heard()
     ensures { HearingRefines }
 {}
@@ -20,8 +20,8 @@ pub fn switches_forget()
     ensures { LivesRefine }
 {}
 
-/// The calls of a switch are counted: one for a packet that enters, and one or two for a packet
-/// that is there and moves on.
+/// The calls of a switch are counted: one for a packet that enters or is refused, one for a packet
+/// that moves on or is stuck at a down link, and two for one that arrives.
 pub fn calls_are_counted()
     ensures { CallsRefine }
 {}

@@ -1,4 +1,4 @@
-//! The laws.
+//! Laws about the controller, about packets that enter or move on, and about messages.
 ghost use Rattle.std.specs.Prelude.{List, ℕ, ◌≡◌, ◌≢◌, ◌+◌, ◌-◌, ◌<◌, ◌++◌, Some, [], ◌∷◌, length, map, IsFalse, IsTrue};
 ghost use Rattle.version_update.specs.Marks.{MarksValue, at_switch};
 ghost use Rattle.version_update.specs.Record.{after_over};
@@ -15,15 +15,15 @@ ghost use Rattle.update_machine.specs.Exports.{HaveCauses, IsReached, IsSetting,
 ghost use Rattle.control_laws.specs.Exports.{BodiesNameThere, HasItemCause, asks_controller};
 ghost use Rattle.refinement.specs.Exports.{AreMarksOf, AreSpelled, AreWritten, BagsRefine, EntriesRefine, HopsRefine, IsControllerOf, IsPlanOfNext, plan_to_keep, acts_of_resend, written_items};
 
-/// A controller begins as a journal without items says, if its plan is the first version's.
+/// A new controller is as the empty journal says, if its plan is that of version 1.
 pub fn controllers_begin()
     ensures { (setting : Setting) (plan : PlanValue) → plan ≡ (plan_to_keep setting [] 1).plan
         → IsControllerOf setting [] (first_controller (length setting.net.switches) plan) }
 {}
 
 /// The submission of the next version's plan writes what an update writes; if the marks refuse it,
-/// the code that the journal has for that refusal. The newest policy, to which a change is
-/// applied, is that of the journal's newest version.
+/// that is the code of the refusal. The newest policy, to which a change is applied, is that of
+/// the journal's newest version.
 pub fn controllers_submit()
     ensures taken { (setting : Setting) (before : List Item) (row file : ℕ)
         (old new : ControllerValue) (plan : PlanValue) (touched : List WordValue)
@@ -53,8 +53,8 @@ pub fn controllers_submit()
         → newest_policy controller ≡ policy_in setting before (version_count before) }
 {}
 
-/// A message that is delivered to the controller writes what its delivery writes, whatever it
-/// says. What it names is known, on a network that takes only steps that it may take.
+/// What the controller does when it hears a message is what the delivery of that message writes.
+/// If what messages name exists, what this one names is known to the controller's marks.
 pub fn controllers_hear()
     ensures items { (setting : Setting) (before : List Item) (row number : ℕ) (body : Body)
         (old new : ControllerValue)
@@ -70,7 +70,7 @@ pub fn controllers_hear()
         → message_of journal number ≡ Some (to_controller body) → NamesThere body marks }
 {}
 
-/// The confirmation that a switch that is down is over writes what the step writes.
+/// What the controller does when a switch is confirmed as down is what that step writes.
 pub fn controllers_confirm()
     ensures { (setting : Setting) (before : List Item) (row s : ℕ) (old new : ControllerValue)
         → HaveCauses (HasItemCause setting) [] before → IsControllerOf setting before old
@@ -82,7 +82,7 @@ pub fn controllers_confirm()
 {}
 
 /// What a controller sends again is what the journal says that it sends again. A resend writes
-/// that after what the switch itself sends again, or that nothing happens if both send nothing.
+/// that after what the switch itself sends again, or `Nothing` if both send nothing.
 pub fn controllers_resend()
     ensures messages { (setting : Setting) (journal : List Item) (s : ℕ)
         (controller : ControllerValue) → HaveCauses (HasItemCause setting) [] journal
@@ -103,8 +103,8 @@ pub fn controllers_resend()
         (piece setting before row (Resend s)) }
 {}
 
-/// Items that don't concern the controller don't change its marks and its plans, nor do the steps
-/// by which it hears nothing and is asked to do nothing.
+/// Items that don't concern the controller change neither its marks nor its plans; nor do steps,
+/// except for a delivery to it, an update and a confirmation.
 pub fn others_leave_controllers()
     ensures items { (setting : Setting) (before items : List Item) (controller : ControllerValue)
         → HaveCauses (HasItemCause setting) [] before
@@ -117,7 +117,7 @@ pub fn others_leave_controllers()
         → IsControllerOf setting (before ++ piece setting before row step) controller }
 {}
 
-/// Acts of several parts write one part after another, and messages write that they are sent.
+/// The acts of a list write their items in order, and messages as acts write that they are sent.
 pub fn acts_write_in_turn()
     ensures parts { (journal : List Item) (first later : List Act)
         → written_items journal (first ++ later)

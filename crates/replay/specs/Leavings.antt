@@ -5,7 +5,7 @@ use Rattle.journal.specs.declared.item.Item.TheVariants as item
 use Rattle.meters.specs.Exports.{BoardValue, PortLeavings, Seen, board_after, kept_meters}
 use Rattle.net_file.specs.Exports.{port_mask}
 
--- what an item says of a packet that left
+-- the leaving that an item records, with its port; none for other items
 abbrev pub left_by : Item → PortLeavings
 left_by (item.Left packet port leaving) = (port, leaving) ∷ []
 left_by _ = []
@@ -34,6 +34,6 @@ pub record KeepUpWithin (before after : List Item) (old new : BoardValue Seen) :
   pub longer : after ≡ whole ++ written
   pub kept : KeepUp before whole old new
 
--- the meters that stay while the packets of this journal leave the network
+-- the meters that stay when the packets of this journal have left
 abbrev pub kept_by : Net → List Item → List Seen → List Seen
 kept_by net journal meters = kept_meters (port_mask net.switches) (left_in journal) meters

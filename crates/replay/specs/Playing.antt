@@ -10,14 +10,14 @@ use Rattle.replay.specs.declared.error.ReplayError.{ReplayError}
 use Rattle.policy_rules.specs.Exports.{NoPlan}
 use Rattle.replay.specs.declared.error.ReplayError.TheVariants as replayed
 
--- the step that the event asks for next after this journal, whether it has begun or not
+-- the next step of the event after this journal; none if it has taken all its steps
 abbrev pub next_step : Event → Bool → List Item → Option Step
 next_step (One step) false journal = Some step
 next_step (One step) true journal = None
 next_step Flush is_begun journal = next_delivery journal
 next_step Drain is_begun journal = next_hop journal
 
--- how many packets the steps of an event bring in, refused ones counted
+-- how many packets enter or are refused in the steps of an event
 abbrev pub brought_in : Event → ℕ
 brought_in (One step) = comes_in step
 brought_in _ = 0
@@ -30,8 +30,8 @@ pub record Happens (setting : Setting) (row : ℕ) (event : Event) (before after
   pub room : HaveRoom setting before steps
   pub written : after ≡ after_steps setting before steps
 
--- after this journal, the event of the row took the steps that began with room; there is a next
--- one, which isn't taken, because the journal is full
+-- after this journal, the event of the row took the steps that began with room; it has a next one,
+-- which isn't taken because the journal is full
 pub record StopsWithin (setting : Setting) (row : ℕ) (event : Event) (before after : List Item)
     : Type 0 where
   pub steps : List StepOfRow
@@ -55,12 +55,12 @@ pub record BeginsEvent (setting : Setting) (row : ℕ) (event : Event) (before a
 
 -- ---- refusals
 
--- out of memory is no refusal
+-- the error for why there is no plan; out of memory is an error of its own
 abbrev pub error_of : PlanError → ReplayError
 error_of why.NoMemory = replayed.NoMemory
 error_of error = replayed.Plan error
 
--- why there is no first plan, or memory ran out
+-- the error says why the first policy has no plan, or that memory ran out
 abbrev pub IsPlanRefusal : Result (List Hosted) NoPlan → ReplayError → Type 0
 IsPlanRefusal plan (replayed.Plan (why.TooManyWords words)) = plan ≡ Err (no_plan.TooManyWords words)
 IsPlanRefusal plan (replayed.Plan why.TooManyLeaves) = plan ≡ Err no_plan.TooManyLeaves

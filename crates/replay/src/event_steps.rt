@@ -15,13 +15,13 @@ use world::{StepError, World};
 
 /// Takes all steps of an event of this row: the one that it names; for a drain, hops of the packet
 /// with the least number that travels, until none travels; for a flush, deliveries of the message
-/// with the least number that waits, until none waits, those that are sent meanwhile included.
+/// with the least number that waits, until none waits, including those that are sent meanwhile.
 /// After each step the meters record the packets that left in it.
 ///
 /// # Errors
-/// `Full` if a step would begin with a full journal; then the journal has the steps
-/// before it, and the world can go on. Otherwise only out of memory; then the journal has the
-/// first steps of the event and a part of the next one.
+/// `Full` if a step would begin with a full journal; then the journal has the steps before it, and
+/// the world isn't spent. Otherwise only out of memory; then the journal has the first steps of
+/// the event and perhaps a part of the next one.
 pub fn take_steps<M: Meter>(
     world: &mut World,
     board: &mut Board<M>,
@@ -63,7 +63,7 @@ pub fn take_steps<M: Meter>(
     Ok(())
 }
 
-// The step that the event asks for next, whether it has begun or not.
+// The next step of the event; `None` if it has taken all its steps.
 fn next_of(world: &World, event: &Event, is_begun: bool) -> Option<Step>
     requires { world.now.is_spent ≡ false }
     ensures { result ≡ next_step event.now is_begun world.now.journal }

@@ -8,7 +8,7 @@ use controller::Plan;
 use std::alloc::AllocError;
 use world::World;
 
-/// The plan of the version that is current, shared.
+/// The plan of the current version, shared.
 ///
 /// # Errors
 /// Only out of memory.

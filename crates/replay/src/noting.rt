@@ -10,7 +10,7 @@ use std::alloc::AllocError;
 /// Lets the meters record each packet that left in these items, in their order.
 ///
 /// # Errors
-/// Only out of memory, of the board.
+/// Only out of memory, in the board or in a meter.
 pub fn note_left<M: Meter>(board: &mut Board<M>, items: &[Item]) -> Result<(), AllocError>
     ensures { OnOk result
         (StayOn (left_in items.now) (seen_board M.seen board.old) (seen_board M.seen board.new)) }

@@ -34,7 +34,7 @@ pub struct Played<M> {
     pub journal: Journal,
     /// The meters that stayed, in their order.
     pub meters: Vec<M>,
-    /// The flow records of the meters that left, as each left.
+    /// The flow records of the meters that left, as they were when each left.
     pub gone: Flows,
     /// The plan of the version that is current after the journal.
     pub plan: Plan,
@@ -47,11 +47,11 @@ pub struct Played<M> {
 /// of the schedule. A drain is hops of the packet with the least number that travels, until none
 /// does; a flush is deliveries of the message with the least number that waits, until none does.
 /// If a step would begin with a full journal, the play ends before it. After each step the meters
-/// record the packets that left; meters of no port of the network are dropped, and so are those
+/// record the packets that left; meters at no port of the network are dropped, and so are those
 /// that leave.
 ///
 /// # Errors
-/// `Plan` exactly if the first policy has no plan on the network, unless memory runs out.
+/// `Plan` exactly if the first policy has no plan on the network, unless memory runs out first.
 pub fn replay<M: Meter>(
     alloc: Global,
     net: &Net,

@@ -1,6 +1,6 @@
 //! Files that several tests use.
 
-/// Two switches and the link between them, of which b decides.
+/// Two switches with a link between them; b is the authority.
 pub const PAIR: &str = "leaf_rules = 8\ncache = 4\n\
     switch = [{ name = \"a\", ports = [1] }, { name = \"b\", ports = [2], authority = 100 }]\n\
     link = [{ ends = [\"a\", \"b\"] }]\n";

@@ -1,7 +1,7 @@
 //! Worked runs of the program, over files and outputs in memory: faults, refusals, meters, load
 //! cases and plans at their limits, files that are cut short, and plays that stop full.
 //!
-//! Only tests, mostly such that no file of `examples` can have them.
+//! Only tests, mostly of cases that no file of `examples` can have.
 #![tactic(auto)]
 
 #[cfg(test)]

@@ -7,7 +7,7 @@ use std::alloc::{AllocError, Global};
 /// The status of a run, its output and its line of errors.
 pub type Ran = (u8, MemSink, MemSink);
 
-/// These arguments, each of which owns its text.
+/// These arguments as owned strings.
 pub fn owned(alloc: Global, args: &[&str]) -> Result<Vec<String>, AllocError> {
     let mut all = Vec::new(alloc);
     for arg in args {
@@ -16,7 +16,7 @@ pub fn owned(alloc: Global, args: &[&str]) -> Result<Vec<String>, AllocError> {
     Ok(all)
 }
 
-/// A run, the journal of what it played, and how many of its meters stayed.
+/// A run, the journal of what it played, and how many of its meters were given back.
 pub type Metered = (Ran, Journal, usize);
 
 /// A run with these arguments over this shelf and these sinks, with these meters.

@@ -68,7 +68,7 @@ load_net = record {
 abbrev pub address_of_bytes : ℕ → ℕ → ℕ → ℕ → ℕ
 address_of_bytes a b c d = a * 2 ^ 24 + b * 2 ^ 16 + c * 2 ^ 8 + d
 
--- one draw says whether a row drops and, if it doesn't, a second one its port
+-- one draw decides whether a row drops; if it doesn't, a second one draws its port
 abbrev pub drop_draw : ℕ → ℕ
 drop_draw x = draw_below 4 (next_drawn x)
 
@@ -125,7 +125,7 @@ header_drawn x = header_of (record {
 abbrev pub packet_drawn : ℕ → Step
 packet_drawn x = step.Packet (draw_below 8 (next_drawn x)) (header_drawn (next_drawn x))
 
--- a packet at a switch, which is then drained, and what was sent is delivered
+-- a packet enters at a switch and is drained, and then what was sent is delivered
 abbrev pub group_at : ℕ → List Event
 group_at x = One (packet_drawn x) ∷ Drain ∷ Flush ∷ []
 

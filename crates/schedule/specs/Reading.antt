@@ -10,7 +10,7 @@ use Rattle.schedule.specs.Rows.{event_of, schedule_heading}
 use Rattle.schedule.specs.declared.error.ScheduleRefusal.{ScheduleRefusal}
 use Rattle.schedule.specs.declared.error.ScheduleRefusal.TheVariants as why
 
--- why a row is refused, if it is: it states no event, or it is row 100,001
+-- why the row of this number is refused, if it is: it states no event, or is past row 100,000
 abbrev pub refusal_in : Net → ℕ → ℕ → List (List ℕ) → Option ScheduleRefusal
 refusal_in net files row fields =
     if nat_lt max_events row then Some why.TooManyRows else result_err (event_of net files fields)
@@ -30,7 +30,7 @@ refusals_from net files first records =
 abbrev pub events_in : Net → ℕ → List (List (List ℕ)) → List Event
 events_in net files records = filter_map (λ fields. result_ok (event_of net files fields)) records
 
--- the events that the rows state, one each; or the first refusal
+-- the events that the records state, one each; or the first refusal
 abbrev pub events_of : Net → ℕ → List (List (List ℕ)) → Result (List Event) (InRow ScheduleRefusal)
 events_of net files records =
     option_map_or Err (slice_get (refusals_from net files 1 records) 0)

@@ -1,9 +1,9 @@
--- Why a text states no schedule.
+-- Why a text isn't a schedule.
 use Rattle.std.specs.Prelude.{ℕ}
 use Rattle.schedule.specs.declared.error.ScheduleRefusal.{ScheduleRefusal}
 use Rattle.schedule.specs.declared.error.ScheduleRefusal.TheVariants as why
 
--- the numbers by which refusals are known outside
+-- the number of each refusal, as it is printed and documented
 abbrev pub schedule_code : ScheduleRefusal → ℕ
 schedule_code why.Header = 1
 schedule_code why.Width = 2

@@ -25,11 +25,11 @@ schedule_heading = codes "event" ∷ codes "arguments" ∷ []
 abbrev pub switch_in : Net → List ℕ → Result ℕ ScheduleRefusal
 switch_in net name = ok_or (switch_number net.switches name) why.Switch
 
--- the number of a packet, a message or a place
+-- the number of a packet, a message or a cache place, at most 999,999,999
 abbrev pub number_read : List ℕ → Result ℕ ScheduleRefusal
 number_read text = ok_or (number_up_to max_number text) why.Number
 
--- a policy file, from 1
+-- the number of a policy file, from 1
 abbrev pub file_in : ℕ → List ℕ → Result ℕ ScheduleRefusal
 file_in files text =
     with_value (ok_or (number_up_to files text) why.File) (λ file.

@@ -25,7 +25,7 @@ pub fn events(alloc: Global, draws: &mut Draws, half: u32) -> Result<Vec<Event>,
     Ok(events)
 }
 
-// Adds this many packets, each of which ends before the next one enters.
+// Adds this many packets, each drained before the next one enters.
 #[tactic(auto, using(crate::proofs::LoadCases::groups_more))]
 fn push_groups(events: &mut Vec<Event>, draws: &mut Draws, count: u32) -> Result<(), AllocError>
     ensures { OnOk result (

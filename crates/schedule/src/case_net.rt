@@ -34,7 +34,7 @@ fn ring(alloc: Global) -> Result<Net, AllocError>
     })
 }
 
-// The switch of this number, which has the port of its number.
+// The switch `ni`, which has the port i.
 fn switch(alloc: Global, i: u32) -> Result<SwitchRow, AllocError>
     requires { i < 8 }
     ensures { IfOk result (λ row. row ≡ switch_row i) }

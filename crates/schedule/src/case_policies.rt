@@ -8,7 +8,7 @@ use five_tuple::{PortRange, Prefix, Proto};
 use policy_rules::{Action, Policy, Row};
 use std::alloc::{AllocError, Global};
 
-/// A policy of this many rows, whose priorities are their places from 1.
+/// A drawn policy of this many rows, whose priorities are their places from 1.
 ///
 /// # Errors
 /// Only out of memory.

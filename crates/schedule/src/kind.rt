@@ -65,7 +65,7 @@ impl Kind {
     }
 }
 
-// The first of the kinds that the keyword names.
+// The first of these kinds whose keyword the text is.
 fn first_named(kinds: &[Kind], text: &[u8]) -> Option<Kind>
     ensures { result ≡ find (λ kind. bytes_eq (keyword_of kind) text.now) kinds.now }
 {
@@ -86,7 +86,7 @@ pub fn read_kind(text: &[u8]) -> Option<Kind>
     }
 }
 
-// The kind that the keyword names, found letter by letter: no other needs to be tried.
+// The kind that the keyword names, matched letter by letter, so that no other is tried.
 fn named(text: &[u8]) -> Option<Kind>
     ensures { IfSome result (λ kind. IsTrue (bytes_eq (keyword_of kind) text.now)) }
 {

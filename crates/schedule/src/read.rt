@@ -14,7 +14,7 @@ use net_file::Net;
 use std::alloc::Global;
 use steps::{Event, MAX_EVENTS};
 
-/// The events that the text states for the network and this many policy files.
+/// Reads the events that the text states for the network and this many policy files.
 ///
 /// The text's records are those of the crate `csv` with its presets, of any width: the heading
 /// `event,arguments`, and then one for each of at most 100,000 events. So a byte-order mark,
@@ -44,7 +44,7 @@ pub fn read_schedule(
         let refusal = ScheduleRefusal::Header;
         return Err(ScheduleError::Refused(InRow { refusal, row: 0 }));
     }
-    // Hardly a row has fewer bytes than these.
+    // Few rows have fewer than eight bytes.
     let likely = bytes.len() / 8;
     let mut events = Vec::with_capacity(alloc, likely.min(MAX_EVENTS))?;
     while records.read_next(&mut fields)? {

@@ -8,7 +8,7 @@ use policy_rules::{Partition, Rule, Targets};
 use std::alloc::AllocError;
 use ternary::Word;
 
-/// Adds the start of a partition's line.
+/// Adds the start of a partition's line: its number and its region.
 #[tactic(auto, using(lines::proofs::CallerLemmas::pushed_append))]
 pub fn push_region(entry: &mut Line, number: u64, region: &Word)
     ensures { entry.new ≡ line_with entry.old (region_text number region.now) }
@@ -56,7 +56,7 @@ fn set_rule(entry: &mut Line, rule: &Rule)
     entry.push("\n");
 }
 
-/// Adds the lines of rules.
+/// Appends the lines of rules to the text; fails only out of memory.
 pub fn add_rules(text: &mut Vec<u8>, entry: &mut Line, rules: &[Rule]) -> Result<(), AllocError>
     ensures { OnOk result (text.new.items ≡ text.old.items ++ rule_lines rules.now) }
 {

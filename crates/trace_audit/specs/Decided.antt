@@ -7,7 +7,7 @@ use Rattle.trace_audit.specs.Reading.{IsPrinted, TraceLine, Open, Whole, latest_
 use Rattle.trace_audit.specs.Told.{Told, told_of}
 use Rattle.trace_audit.specs.Told as told
 
--- ---- what was told
+-- ---- what lines say
 
 abbrev pub with_told : Option Told → List Told → List Told
 with_told None more = more
@@ -21,8 +21,8 @@ all_told (Open text ∷ lines) = all_told lines
 
 -- ---- versions
 
--- the policies of the versions after what is told: a line that submits the next version adds the
--- policy that its file makes
+-- the policies of the versions after a line: one that submits the next version adds the policy
+-- that its file makes
 abbrev pub policies_with : List PolicyFile → List (List Row) → Told → List (List Row)
 policies_with files policies (told.Submitted file version) = if version == length policies + 1
     then policies ++ option_to_list (made_policy files file (latest_policy policies)) else policies
@@ -33,34 +33,34 @@ policies_from files policies [] = policies
 policies_from files policies (first ∷ more) =
     policies_from files (policies_with files policies first) more
 
--- the policy of the first file, and those that were submitted; the first version's first
+-- the policy of the first file, and then those that these lines submit, by version
 abbrev pub policies_told : List PolicyFile → List Told → List (List Row)
 policies_told files ts = policies_from files (option_to_list (made_policy files 1 None)) ts
 
--- no version above this one is retired by it
+-- the line retires no version above this one
 abbrev pub RetiresUpTo : ℕ → Told → Type 0
 RetiresUpTo mark (told.Retired version) = version ≤ mark
 RetiresUpTo mark _ = ⊤
 
--- the mark: the greatest version that was retired, or 0
+-- the mark after these lines: the greatest version that they retire, or 0
 pub record IsMark (ts : List Told) (mark : ℕ) : Type 0 where
   pub greatest : All (RetiresUpTo mark) ts
   pub retired : (mark ≡ 0) ⊎ Contains ts (told.Retired mark)
 
 -- ---- packets
 
--- neither a row nor an entry
+-- the line is neither a row nor an entry
 abbrev pub IsBetween : Told → Type 0
 IsBetween (told.Row header) = ⊥
 IsBetween (told.Entered packet) = ⊥
 IsBetween _ = ⊤
 
--- no entry of this packet
+-- the line is no entry of this packet
 abbrev pub EntersOther : ℕ → Told → Type 0
 EntersOther packet (told.Entered other) = other ≢ packet
 EntersOther packet _ = ⊤
 
--- no decision of this packet
+-- the line is no decision of this packet
 abbrev pub DecidesOther : ℕ → Told → Type 0
 DecidesOther packet (told.Decided other version rule action) = other ≢ packet
 DecidesOther packet _ = ⊤
@@ -111,7 +111,7 @@ pub record IsDecidedOnce (files : List PolicyFile) (before after : List Told) (p
   pub decided : HasDecision files before packet action
   pub none_later : All (DecidesOther packet) after
 
--- a packet that lines say is dropped, or out by a port, was decided like that
+-- a packet that the lines say is dropped, or out by a port, was decided like that
 abbrev pub IsJustified : List PolicyFile → List Told → List Told → ℕ → End → Type 0
 IsJustified files before after packet Dropped =
     IsDecidedOnce files before after packet action.Drop

@@ -1,4 +1,4 @@
--- An index of a policy's rows: which of them are in one slot, and which are looked at for a
+-- An index of a policy's rows: which of them are in the same slot, and which are compared with a
 -- header.
 use Rattle.std.specs.Prelude.{if◌then◌else◌, ◌%◌, ◌&&◌, ◌*◌, ◌+◌, ◌/◌, ◌<◌, ◌==◌, ◌^◌, ◌≡◌, ◌≢◌, ◌≤◌, All, Bool, Contains, List, MatchOption, None, Option, Some, length, nat_lt, slice_get, true, ℕ}
 use Rattle.base.specs.Exports.{option_map_or, position_or_len}
@@ -26,25 +26,25 @@ pub record IsSoundShape (shape : Shape) : Type 0 where
   pub src : shape.src ≤ 32
   pub dst : shape.dst ≤ 32
 
--- shapes with one more, if it isn't there yet
+-- the shapes after one more was added, unless it was among them
 pub record Notes (before : List Shape) (shape : Shape) (after : List Shape) : Type 0 where
   pub there : position_or_len (is_shape shape) after < length after
   pub kept : (row : Row) → HasShape before row → HasShape after row
   pub sound : IsSoundShape shape → All IsSoundShape before → All IsSoundShape after
 
--- sound ones, and each row's
+-- the shapes are sound, and that of each row is among them
 pub record AreShapesOf (rows : List Row) (shapes : List Shape) : Type 0 where
   pub sound : All IsSoundShape shapes
   pub there : All (HasShape shapes) rows
 
 -- ---- slots
 
--- of 32 bits, from both addresses
+-- a hash of 32 bits of both addresses
 abbrev pub mixed_of : ℕ → ℕ → ℕ
 mixed_of src dst = (src * 2654435769 % 2 ^ 32 + dst * 2246822519 % 2 ^ 32) % 2 ^ 32
 
--- of blocks that begin with these addresses: each of this many shapes has an equal share of 4,096
--- slots, and this is one of the share of the shape at this place
+-- the slot of blocks that begin with these addresses: each of this many shapes has an equal share
+-- of 4,096 slots, and the slot is in the share of the shape at this place
 abbrev pub slot_of : ℕ → ℕ → ℕ → ℕ → ℕ
 slot_of shapes place src dst =
     place * (4096 / shapes) + mixed_of src dst * (4096 / shapes) / 2 ^ 32
@@ -53,12 +53,12 @@ abbrev pub slot_of_row : List Shape → Row → ℕ
 slot_of_row shapes row =
     slot_of (length shapes) (shape_place shapes row) row.src.address row.dst.address
 
--- none of the rows from one place on and before the other is in the slot
+-- none of the rows from place `from` on and before `bound` is in the slot
 abbrev pub LackSlot : List Shape → List Row → ℕ → ℕ → ℕ → Type 0
 LackSlot shapes rows slot from bound = (k : ℕ) (row : Row) → from ≤ k → k < bound
     → slice_get rows k ≡ Some row → slot_of_row shapes row ≢ slot
 
--- the place of the last row before the bound that is in the slot, if one is
+-- the place of the last row before the bound that is in the slot; none if no row is
 abbrev pub IsLastBefore : List Shape → List Row → ℕ → ℕ → Option ℕ → Type 0
 IsLastBefore shapes rows slot bound None = LackSlot shapes rows slot 0 bound
 IsLastBefore shapes rows slot bound (Some place) = (row : Row) × (place < bound)
@@ -97,7 +97,7 @@ better_of row fields hit =
     if option_map_or (λ priority. nat_lt priority row.priority) hit.rule true
     && row_matches row fields then hit_of (Some row) else hit
 
--- with the matching rows of a slot, a hit at least as good as the first one
+-- the hit is at least as good as the first one and as each matching row of the slot
 pub record IsBetter (shapes : List Shape) (rows : List Row) (slot : ℕ) (fields : Fields)
     (first hit : Hit) : Type 0 where
   pub matching : IsMatchIn rows fields first → IsMatchIn rows fields hit
@@ -105,7 +105,7 @@ pub record IsBetter (shapes : List Shape) (rows : List Row) (slot : ℕ) (fields
   pub reached : (k : ℕ) (row : Row) → slice_get rows k ≡ Some row
       → slot_of_row shapes row ≡ slot → row_matches row fields ≡ true → IsNoHigher hit row
 
--- a matching row's hit, or the default, which each matching row has no greater priority than
+-- a matching row's hit, or the default; no matching row has a greater priority
 pub record IsBest (rows : List Row) (fields : Fields) (hit : Hit) : Type 0 where
   pub matching : IsMatchIn rows fields hit
   pub reached : All (λ row. row_matches row fields ≡ true → IsNoHigher hit row) rows

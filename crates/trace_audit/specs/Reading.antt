@@ -1,5 +1,5 @@
--- How a trace is read: each line may be a move of the abstract machine, and is good if the machine
--- may take that move.
+-- How a trace is read: a line may state a move of the abstract machine, and is good if the machine
+-- may take it; a line of an item that is no move is good too.
 use Rattle.std.specs.Prelude.{[], if◌then◌else◌, ◌-◌, ◌==◌, ◌∷◌, ◌≡◌, ◌≤◌, List, None, Option, Some, length, option_to_list, slice_get, ℕ}
 use Rattle.base.specs.Exports.{result_ok}
 use Rattle.five_tuple.specs.Exports.{parts_round}
@@ -14,7 +14,7 @@ use Rattle.trace_audit.specs.Told as told
 abbrev pub numbered_file : List PolicyFile → ℕ → Option PolicyFile
 numbered_file files file = if file == 0 then None else slice_get files (file - 1)
 
--- the policy that it has, or makes of the newest one, if there is one
+-- the policy that the file of this number has, or makes of the newest one, if there is one
 abbrev pub made_policy : List PolicyFile → ℕ → Option (List Row) → Option (List Row)
 made_policy files file newest = result_ok (made_by (numbered_file files file) newest)
 
@@ -23,7 +23,7 @@ latest_policy policies = slice_get policies (length policies - 1)
 
 -- ---- states
 
--- what a reader knows: the machine, and the pending header of a packet's row
+-- what a reader knows: the machine, and the header of a packet's row that has no entry yet
 pub record TraceState : Type 0 where
   pub machine : Machine
   pub pending : Option Header
@@ -44,7 +44,7 @@ pub record IsPrinted (rule action : List ℕ) (hit : Hit) : Type 0 where
   pub of_rule : rule ≡ rule_text hit.rule
   pub of_action : action ≡ action_text hit.action
 
--- what is told leads from one state to another
+-- what a line says leads from one state to another
 abbrev pub Follows : List PolicyFile → TraceState → Told → TraceState → Type 0
 Follows files old (told.Row header) new = new ≡ record old { pending = header }
 Follows files old (told.Entered packet) new = (header : Header) × (old.pending ≡ Some header)

@@ -7,8 +7,8 @@ use Rattle.trace_audit.specs.Reading.{IsPrinted, TraceLine}
 use Rattle.trace_audit.specs.Told.{Told}
 use Rattle.trace_audit.specs.Told as told
 
--- the items of what is told after these: the one that it states, if it is a move, otherwise none.
--- A packet enters with the header of its row. What the machine doesn't look at may be anything.
+-- the items of a line after these: the one that it states if it is a move, otherwise none. A packet
+-- enters with the header of its row. Fields that the machine doesn't read may be anything.
 abbrev pub AreItemsOf : List Told → Told → List Item → Type 0
 AreItemsOf before (told.Entered packet) items = (switch : ℕ) × (header : Header)
     × IsWaiting before header × (items ≡ item.Entered packet switch header ∷ [])
@@ -26,7 +26,7 @@ AreItemsOf before (told.Ended packet Stuck) items = (switch : ℕ) × (cause : C
 AreItemsOf before (told.Row header) items = items ≡ []
 AreItemsOf before told.Nothing items = items ≡ []
 
--- the items of all that is told after these, one after another
+-- the items of all lines after these, in order
 abbrev pub AreItems : List Told → List Told → List Item → Type 0
 AreItems before [] items = items ≡ []
 AreItems before (first ∷ more) items = (front rest : List Item) × (items ≡ front ++ rest)

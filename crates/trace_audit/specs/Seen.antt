@@ -1,4 +1,4 @@
--- How contracts see the code's values, and what its parts say about them.
+-- The values of the definitions that contracts see for values of the code.
 use Rattle.std.specs.Prelude.{if◌then◌else◌, ◌-◌, ◌==◌, Bool, List, MatchBool, None, Option, Some, nat_le, option_map, slice_get, ℕ}
 use Rattle.base.specs.Exports.{get, nat_cmp, option_or}
 use Rattle.five_tuple.specs.Exports.{header_of}
@@ -36,11 +36,11 @@ told_seen (line.Decided packet version rule action) =
 told_seen (line.Ended packet end) = told.Ended packet (end_seen end)
 told_seen line.Nothing = told.Nothing
 
--- what the decision of a packet says, if it has one
+-- the action of a packet's decision, if it has one
 abbrev pub action_seen : TracePacket → Action
 action_seen p = if p.is_out then Out p.port else Drop
 
--- the decision of this rule
+-- the decision by this rule with this action; none if it is undecided
 abbrev pub decision_by : DecidedBy → ℕ → Action → Option Hit
 decision_by Undecided priority action = None
 decision_by Default priority action = Some (record { rule = None; action = action })
@@ -71,11 +71,11 @@ packet_seen p = record {
   end = ending_by p.ending (action_seen p);
 }
 
--- of a run of items that have numbers from the first one on, the one of this number
+-- the item of this number in a run whose numbers begin with `first`
 abbrev pub run_get : {A : Type 0} → ℕ → List A → ℕ → Option A
 run_get first run number = if nat_le first number then slice_get run (number - first) else None
 
--- of each number the packet that is known there, if one is: in the run, or else among the others
+-- the packet that is known by this number, if one is: in the run, or else among the others
 abbrev pub packets_seen : Packets → ℕ → Option Packet
 packets_seen p number = option_map packet_seen
     (option_or (run_get p.first p.run.items number) (get nat_cmp p.others number))
@@ -91,11 +91,11 @@ state_seen a = record {
   pending = a.pending;
 }
 
--- this packet instead of what was known of its number
+-- the packets with this one instead of what was known by its number
 abbrev pub with_one : (ℕ → Option Packet) → ℕ → Packet → ℕ → Option Packet
 with_one packets number packet = λ other. if other == number then Some packet else packets other
 
--- what was told led from one state to another; or it leads to none
+-- if good, what a line says led from one state to the other; if not, it leads to none
 abbrev pub IsTaken : List PolicyFile → TraceState → Told → TraceState → Bool → Type 0
 IsTaken files old told new good = MatchBool good
     (Follows files old told new) ((other : TraceState) → Follows files old told other → ⊥)

@@ -10,18 +10,18 @@ use Rattle.steps.specs.Exports.{max_events, max_number}
 pub data Told : Type 0 where
   -- a row of a schedule, with its header if it is a packet's
   Row : (header : Option Header) → Told
-  -- a move of the abstract machine; of a decision the texts of its rule and its action
+  -- a move of the abstract machine; a decision has its rule and its action as texts
   Entered : (packet : ℕ) → Told
   Submitted : (file version : ℕ) → Told
   Retired : (version : ℕ) → Told
   Decided : (packet version : ℕ) (rule action : List ℕ) → Told
   Ended : (packet : ℕ) (end : End) → Told
-  -- what the machine doesn't know
+  -- an item that is no move, a meter's line, or the verdict of `--quiet`
   Nothing : Told
 
 -- ---- words
 
--- what is before and after the first such byte of the text; or it has none
+-- the parts of the text before and after the first such byte; none if it has no such byte
 abbrev pub IsCut : ℕ → List ℕ → Option (Bor (List ℕ) × Bor (List ℕ)) → Type 0
 IsCut byte text cut = MatchOption cut
     (parts_round byte text ≡ text ∷ [])
@@ -35,7 +35,7 @@ abbrev pub words_left : Option (Bor (List ℕ)) → List (List ℕ)
 words_left None = []
 words_left (Some text) = words_of text.now
 
--- no blank in it
+-- the word has no blank
 abbrev pub has_no_blank : List ℕ → Bool
 has_no_blank word = list_all (λ b. not (b == 32)) word
 
@@ -44,36 +44,36 @@ abbrev pub begins_with : List ℕ → List (List ℕ) → Bool
 begins_with word (first ∷ next ∷ more) = bytes_eq first word
 begins_with word _ = false
 
--- what is after the word and a blank, if the text begins with them
+-- the part of the text after the word and a blank, if it begins with them
 abbrev pub IsRestAfter : List ℕ → List ℕ → Option (Bor (List ℕ)) → Type 0
 IsRestAfter word text after = MatchOption after
     (begins_with word (words_of text) ≡ false)
     (λ rest. words_of text ≡ word ∷ words_of rest.now)
 
--- the first word is taken, and more follow
+-- the first word is this one and was taken, and more words follow
 abbrev pub IsWordTaken : List ℕ → List (List ℕ) → List (List ℕ) → Type 0
 IsWordTaken word old new = (next : List ℕ) × (more : List (List ℕ))
     × (old ≡ word ∷ next ∷ more) × (new ≡ next ∷ more)
 
--- the first word is taken, and said is whether it passes
+-- the first word was taken, and `said` is whether it passes the test
 abbrev pub TakesWord : List (List ℕ) → (List ℕ → Bool) → List (List ℕ) → Bool → Type 0
 TakesWord old passes new said = (next : List ℕ) × (old ≡ next ∷ new) × (said ≡ passes next)
 
--- no word or more than one
+-- there is no word, or more than one
 abbrev pub IsNoSingle : List (List ℕ) → Type 0
 IsNoSingle words = (words ≡ []) ⊎ ((one : List ℕ) × (two : List ℕ) × (more : List (List ℕ))
     × (words ≡ one ∷ two ∷ more))
 
--- of a packet, a file or a version
+-- the number of a packet, a file or a version
 abbrev pub number_of_word : List ℕ → Option ℕ
 number_of_word word = number_up_to max_number word
 
--- `v` and the number of a version
+-- the version of the word `vV`
 abbrev pub version_of_word : List ℕ → Option ℕ
 version_of_word word =
     if bytes_eq (take 1 word) (codes "v") then number_of_word (drop 1 word) else None
 
--- the number of a row, cut at the colon after it
+-- the parts of a word cut at its colons are the number of a row and nothing after it
 abbrev pub is_row_number : List (List ℕ) → Bool
 is_row_number (number ∷ [] ∷ []) = option_map_or (nat_le 1) (number_up_to max_events number) false
 is_row_number _ = false
@@ -84,7 +84,7 @@ pair_told told _ _ = None
 
 -- ---- rows
 
--- `row R: packet S SRC DST SPORT DPORT PROTO`, after the kind
+-- the words of `row R: packet S SRC DST SPORT DPORT PROTO` after `packet`
 abbrev pub packet_row_told : List ℕ → List (List ℕ) → Option Told
 packet_row_told row (switch ∷ src ∷ dst ∷ sport ∷ dport ∷ proto ∷ []) =
     if is_row_number (parts_round 58 row) && is_name switch
@@ -92,7 +92,7 @@ packet_row_told row (switch ∷ src ∷ dst ∷ sport ∷ dport ∷ proto ∷ []
     (packet_fields_of src dst sport dport proto) else None
 packet_row_told row _ = None
 
--- any other row may be of any form
+-- a row of another kind may have any form
 abbrev pub row_told : List (List ℕ) → Option Told
 row_told (row ∷ kind ∷ fields) =
     if bytes_eq kind (codes "packet") then packet_row_told row fields else Some (Row None)
@@ -147,17 +147,17 @@ stuck_told _ = None
 
 -- ---- lines
 
--- a blank and any bytes
+-- a blank and any bytes follow
 abbrev pub any_told : List (List ℕ) → Option Told
 any_told (more ∷ others) = Some Nothing
 any_told [] = None
 
--- only the word
+-- nothing follows
 abbrev pub alone_told : List (List ℕ) → Option Told
 alone_told [] = Some Nothing
 alone_told _ = None
 
--- words of items that are no moves
+-- the first words of items that are no moves
 abbrev pub silent_words : List (List ℕ)
 silent_words = codes "closed" ∷ codes "tunnelled" ∷ codes "exit" ∷ codes "hopped" ∷ codes "found"
     ∷ codes "rerouted" ∷ codes "sent" ∷ codes "delivered" ∷ codes "forgotten" ∷ codes "expired"
@@ -197,6 +197,6 @@ told_by_words (first ∷ args) =
     if bytes_eq first [] then indented_told args else None
 told_by_words [] = None
 
--- what a line says; none if it is bad whatever comes before it
+-- what a line says; none if it is bad whatever precedes it
 unfoldable pub told_of : List ℕ → Option Told
 told_of line = told_by_words (words_of line)

@@ -26,7 +26,7 @@ pub(crate) struct Auditor {
     pending: Option<Header>,
 }
 
-/// The policy that a file has, or makes of the newest one, if there is one.
+/// The policy that the file of this number has, or makes of the newest one, if there is one.
 #[tactic(auto, using(crate::proofs::PoliciesMade::policy_of, crate::proofs::PoliciesMade::no_policy))]
 fn made_policy(
     alloc: Global,
@@ -52,7 +52,7 @@ fn numbered_file(files: &[PolicyFile], file: u32) -> Option<&PolicyFile>
     files.get(file as usize - 1)
 }
 
-// What the file makes of the newest policy, if there is one.
+// The policy that the file has, or makes of the newest one; `None` if it makes none.
 fn made_by(
     alloc: Global,
     file: &PolicyFile,
@@ -70,7 +70,7 @@ fn made_by(
     }
 }
 
-// The policy with the change applied to it, if it can be.
+// The policy with the change applied to it; `None` if the policy refuses it.
 #[tactic(auto, using(crate::proofs::PoliciesMade::some_made, crate::proofs::PoliciesMade::none_made))]
 fn changed(alloc: Global, policy: &Policy, change: &Amendment) -> Result<Option<Policy>, AllocError>
     ensures { IfOk result (λ made. made ≡ result_ok (applied policy.now change.now)) }
@@ -201,7 +201,7 @@ impl Auditor {
         Ok(true)
     }
 
-    /// Takes what a line says, and returns whether the machine allows it.
+    /// Takes the move that a line states, and returns whether the machine may take it.
     ///
     /// # Errors
     /// Only out of memory.

@@ -16,19 +16,19 @@ pub(crate) struct Shape {
     pub dst: u32,
 }
 
-/// How many slots the rows of a policy are put in.
+/// How many slots an index has.
 const SLOTS: usize = 4096;
 
-/// An index is made if there are at least this many rows for each shape.
+/// An index is made only if there are at least this many rows for each shape.
 const ROWS_A_SHAPE: usize = 16;
 
-/// The rows of a policy by their blocks of addresses, so that few are looked at for a header:
+/// The rows of a policy by their blocks of addresses, so that few are compared with a header:
 /// tuple space search (Srinivasan, Suri, Varghese, "Packet Classification using Tuple Space
-/// Search"). Each shape has its own share of the slots, and for a header one slot of each share is
-/// looked into. So no row is looked at twice, whatever the rows are.
+/// Search"). Each shape has its own share of the slots, and a header is looked up in one slot of
+/// each share. So it is compared with no row twice, whatever the rows are.
 #[derive(Drop)]
 pub(crate) struct Index {
-    // The shapes that rows have.
+    // The shapes of the rows, each once.
     shapes: Vec<Shape>,
     // For each slot its last row, by its place in the policy.
     last: Vec<Option<u32>>,
@@ -113,7 +113,7 @@ impl Shape {
     }
 }
 
-// Adds the shape to the others.
+// Adds the shape unless it is among these.
 fn note(shapes: &mut Vec<Shape>, shape: Shape) -> Result<(), AllocError>
     ensures { OnOk result (Notes shapes.old.items shape shapes.new.items) }
 {
@@ -123,7 +123,7 @@ fn note(shapes: &mut Vec<Shape>, shape: Shape) -> Result<(), AllocError>
     Ok(())
 }
 
-// The shapes of the rows, if they are few.
+// The shapes of the rows; `None` if there are too many of them for an index.
 fn shapes_of(alloc: Global, rows: &[Row]) -> Result<Option<Vec<Shape>>, AllocError>
     requires { IsPolicy rows.now }
     ensures { IfOk result (λ some. IfSome some (λ shapes. AreShapesOf rows.now shapes.items)) }
@@ -179,7 +179,7 @@ impl Index {
         Ok(Some(index))
     }
 
-    // The best of the hit and of the rows in the slot that match.
+    // The best of the hit and of the matching rows in the slot.
     fn best_in(&self, rows: &[Row], slot: usize, fields: &Fields, hit: Hit) -> Hit
         requires index { IsIndexOf rows.now self.now }
         requires slot { slot < 4096 }
@@ -194,7 +194,7 @@ impl Index {
         best
     }
 
-    // The best of all rows that match.
+    // The best of all matching rows; the default if none matches.
     fn best(&self, rows: &[Row], fields: &Fields) -> Hit
         requires rows { IsPolicy rows.now }
         requires index { IsIndexOf rows.now self.now }
@@ -212,7 +212,7 @@ impl Index {
 }
 
 impl IndexedPolicy {
-    /// The version that has this policy.
+    /// The policy with an index of its rows, if they have few shapes.
     ///
     /// # Errors
     /// Only out of memory.
@@ -223,14 +223,14 @@ impl IndexedPolicy {
         Ok(IndexedPolicy { policy, index })
     }
 
-    /// Its policy.
+    /// The policy itself.
     pub fn policy(&self) -> &Policy
         ensures { result.now ≡ self.now }
     {
         &self.policy
     }
 
-    /// The first match of a header: there is only one.
+    /// The only first match of a header.
     pub fn first_match(&self, header: &Header) -> Hit
         ensures is { IsFirstMatch self.now header.now result }
         ensures only { (hit : Hit) → IsFirstMatch self.now header.now hit → hit ≡ result }

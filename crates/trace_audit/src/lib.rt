@@ -1,7 +1,7 @@
 //! A checker of printed traces: whether the text of a journal is one that the abstract machine
 //! allows.
 //!
-//! `audit` reads a trace line by line. What a line says is a table over its first words
+//! `audit` reads a trace line by line. What a line says is defined by its first words
 //! (`specs/Told.antt`); a line is good if the machine may take the move that it states
 //! (`specs/Reading.antt`). `audit` promises to return Yes exactly if every line is good, and
 //! otherwise the number of the first one that isn't. So on Yes the moves are a run of the machine

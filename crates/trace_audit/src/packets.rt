@@ -38,7 +38,7 @@ pub(crate) struct TracePacket {
     entry_mark: u32,
     // The priority of the row that decided it.
     priority: u32,
-    // The port by which it is to leave, if it is to.
+    // The port by which it leaves, if `is_out`.
     port: u32,
     sport: u16,
     dport: u16,
@@ -92,7 +92,7 @@ impl TracePacket {
         self.entry_mark
     }
 
-    // What its decision says, if it has one.
+    // The action of its decision, if it has one.
     fn decided_action(&self) -> Action
         ensures { result ≡ action_seen self.now }
     {
@@ -162,11 +162,11 @@ impl TracePacket {
 /// The packets by their numbers.
 #[derive(Drop)]
 pub(crate) struct Packets {
-    // The number of the first one of the run.
+    // The number of the first packet of the run.
     first: u32,
     // Packets whose numbers follow one another, as in the trace of a replay.
     run: Vec<TracePacket>,
-    // In order: a trace may choose numbers that a hash would put in one group.
+    // A tree, not a hash map: a trace may choose numbers that all have the same hash.
     others: BTreeMap<u32, TracePacket>,
 }
 

@@ -41,7 +41,7 @@ pub(crate) enum LineMeaning<'a> {
         packet: u32,
         end: End,
     },
-    /// What the machine doesn't know.
+    /// An item that is no move, a meter's line, or the verdict of `--quiet`.
     Nothing,
 }
 
@@ -55,14 +55,14 @@ fn number(word: &[u8]) -> Option<u32>
     Some(number as u32)
 }
 
-// A version after `v`.
+// The version of a word `vV`.
 fn version(word: &[u8]) -> Option<u32>
     ensures { result ≡ version_of_word word.now }
 {
     number(word.strip_prefix(b"v".as_slice())?)
 }
 
-// Whether the word is the number of a row and a colon.
+// Whether the word is the number of a row, from 1, and a colon.
 #[tactic(auto, using(crate::proofs::TraceLines::row_number_rest))]
 fn is_row_number(word: &[u8]) -> bool
     ensures { result ≡ is_row_number (parts_round 58 word.now) }
@@ -97,7 +97,7 @@ fn read_packet_row<'a>(row: &[u8], mut words: Words<'a>) -> Option<LineMeaning<'
     Some(LineMeaning::Row(Some(Header::pack(&fields))))
 }
 
-// Inlined, this and others below would slow down the loop over the lines.
+// If this and others below were inlined, the loop over the lines would be slower.
 #[inline(never)]
 fn read_row<'a>(mut words: Words<'a>) -> Option<LineMeaning<'a>>
     ensures { option_map told_seen result ≡ row_told words.entry }
@@ -207,7 +207,7 @@ fn read_stuck<'a>(mut words: Words<'a>) -> Option<LineMeaning<'a>>
 
 // ---- lines
 
-// The words of items that are no moves, but for `nothing`.
+// The first words of items that are no moves, except `nothing`.
 const SILENT: [&[u8]; 17] = [
     b"closed",
     b"tunnelled",
@@ -235,7 +235,7 @@ fn is_among(words: &[&[u8]], word: &[u8]) -> bool
     words.iter().any(|w| word == *w)
 }
 
-// An item that is no move: `nothing` and no more, or another such word and any bytes.
+// An item that is no move: only `nothing`, or another such word, a blank and any bytes.
 fn read_silent<'a>(mut words: Words<'a>) -> Option<LineMeaning<'a>>
     ensures { option_map told_seen result ≡ silent_told words.entry }
 {
@@ -272,8 +272,8 @@ fn read_rare<'a>(mut words: Words<'a>) -> Option<LineMeaning<'a>>
     }
 }
 
-// An item, after the first of its two blanks, each of which ends an empty word. The words that
-// each packet has are tried first.
+// An item, after the first of its two blanks, each of which ends an empty word. The first words
+// of the items that each packet has are tried first.
 #[tactic(auto, unfolding(crate::specs::Told::item_told))]
 fn read_item<'a>(mut words: Words<'a>) -> Option<LineMeaning<'a>>
     ensures { option_map told_seen result ≡ indented_told words.entry }
@@ -293,7 +293,7 @@ fn read_item<'a>(mut words: Words<'a>) -> Option<LineMeaning<'a>>
     read_rare(words)
 }
 
-/// What a line says; `None` if it is bad whatever comes before it.
+/// What a line says; `None` if it is bad whatever precedes it.
 #[tactic(auto, using(crate::proofs::TraceLines::other_line), unfolding(crate::specs::Told::told_of))]
 pub(crate) fn read_line<'a>(line: &'a [u8]) -> Option<LineMeaning<'a>>
     ensures { option_map told_seen result ≡ told_of line.now }

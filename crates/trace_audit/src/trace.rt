@@ -24,9 +24,9 @@ pub enum Verdict {
 }
 
 /// Whether the trace is the printed run of an abstract machine that has these files of policies
-/// and changes, and begins with the policy of the first one: each line that states a move states
-/// one that the machine may take then, and no line is of another form than those of a journal. If
-/// the first file is a change, the machine begins with no policy.
+/// and changes, and begins with the policy of the first one: each line has the form of a line of
+/// a printed journal, and if it states a move, the machine may take it then. If the first file is
+/// a change, the machine begins with no policy.
 ///
 /// # Errors
 /// Only out of memory.
@@ -58,7 +58,7 @@ pub fn audit(alloc: Global, trace: &[u8], files: &[PolicyFile]) -> Result<Verdic
     Ok(Verdict::Yes)
 }
 
-// The proof knows that each file is sound once it is read.
+// Each file is sound, by the invariant of its type.
 fn files_are_sound(files: &[PolicyFile])
     ensures { All IsPolicyFile files.now }
 {

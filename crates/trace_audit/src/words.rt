@@ -19,7 +19,7 @@ fn near_place_of(text: &[u8], byte: u8) -> Option<usize>
     text.iter().position(|b| *b == byte)
 }
 
-// What is before and after this place, that of the first such byte; `None` if there is none.
+// The parts before and after this place, which is that of the first such byte; or `None`.
 #[inline(always)]
 fn cut_at(text: &[u8], at: Option<usize>) -> Option<(&[u8], &[u8])>
     requires { (byte : ℕ) × (at ≡ position (λ b. b == byte) text.now) }
@@ -31,7 +31,7 @@ fn cut_at(text: &[u8], at: Option<usize>) -> Option<(&[u8], &[u8])>
     }
 }
 
-/// What is before and after the first such byte; `None` if there is none.
+/// The parts of the text before and after the first such byte; `None` if there is none.
 pub(crate) fn cut(text: &[u8], byte: u8) -> Option<(&[u8], &[u8])>
     ensures { IsCut byte text.now result }
 {
@@ -46,7 +46,7 @@ pub(crate) fn cut_near(text: &[u8], byte: u8) -> Option<(&[u8], &[u8])>
     cut_at(text, near_place_of(text, byte))
 }
 
-// What follows the word and a blank, if the text begins with them.
+// The text after the word and a blank, if it begins with them.
 #[inline(always)]
 fn after<'a>(text: &'a [u8], word: &[u8]) -> Option<&'a [u8]>
     requires { IsTrue (has_no_blank word.now) }
@@ -69,7 +69,7 @@ fn after<'a>(text: &'a [u8], word: &[u8]) -> Option<&'a [u8]>
 /// The words of a line that are still to be read. Contracts see them.
 #[derive(Drop)]
 pub(crate) struct Words<'a> {
-    // What follows the words that were read; none if they were all.
+    // The text after the words that were read; none if all were read.
     rest: Option<&'a [u8]>,
 }
 
@@ -101,7 +101,7 @@ impl<'a> Words<'a> {
         self.rest.is_some()
     }
 
-    /// Takes the next word, if there is one.
+    /// Takes the next word; `None` if there is none.
     #[inline(always)]
     pub fn next(&mut self) -> Option<&'a [u8]>
         ensures some { IfSome result (λ word. self.old ≡ word.now ∷ self.new) }
@@ -120,7 +120,7 @@ impl<'a> Words<'a> {
         }
     }
 
-    /// The next word, if it is the last one.
+    /// The next word, if it is the only one left.
     #[inline(always)]
     pub fn last(mut self) -> Option<&'a [u8]>
         ensures some { IfSome result (λ word. self.entry ≡ word.now ∷ []) }
@@ -154,7 +154,7 @@ impl<'a> Words<'a> {
         }
     }
 
-    /// Takes the next word, if there is one, and returns whether it is this one.
+    /// Takes the next word, and returns whether it is this one; `None` if there is none.
     #[inline(always)]
     pub fn next_is(&mut self, word: &[u8]) -> Option<bool>
         requires { IsTrue (has_no_blank word.now) }

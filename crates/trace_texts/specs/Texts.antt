@@ -6,7 +6,7 @@ use Rattle.journal_text.specs.Lines.{journal_text}
 use Rattle.steps.specs.Exports.{max_events, max_number}
 use Rattle.trace_audit.specs.Exports.{AreGood, lines_of}
 
--- the line of a meter, or that of whether the network is quiet
+-- the line is a meter's, or the one that says whether the network is quiet
 pub record IsLastLine (line : List ℕ) : Type 0 where
   pub rest : List ℕ
   pub begins : (line ≡ codes "meter " ++ rest) ⊎ (line ≡ codes "quiet " ++ rest)
@@ -15,13 +15,13 @@ pub record IsLastLine (line : List ℕ) : Type 0 where
 abbrev pub with_line_feeds : List (List ℕ) → List ℕ
 with_line_feeds lines = flat_map (λ line. line ++ 10 ∷ []) lines
 
--- the journal answers the events, or those before the row at which it is full
+-- the journal answers the events; or, if the play stopped full, has the steps before that
 abbrev pub IsAnsweredTo : Setting → List Event → List Item → Option ℕ → Type 0
 IsAnsweredTo setting events journal None = Answers setting events journal
 IsAnsweredTo setting events journal (Some row) = StopsFull setting events journal row
 
--- for each journal that answers at most 100,000 events, on a network whose files have numbers that
--- a trace may have, its text and whole last lines after it are good lines
+-- the text of each journal that answers at most 100,000 events, of at most 999,999,999 files, is
+-- made of good lines, and so are the last lines after it
 abbrev pub TextsAreGood : Type 0
 TextsAreGood = (setting : Setting) (events : List Event) (journal : List Item) (full : Option ℕ)
     (last : List (List ℕ)) → IsSetting setting → AreEvents setting events

@@ -1,4 +1,4 @@
--- The files of policies, and the plans of what they have or make on a network.
+-- The policy files, and the plans of the policies that they have or make on a network.
 use Rattle.std.specs.Prelude.{[], ◌∷◌, ◌≡◌, ◌⊎◌, Err, IsSome, List, None, Ok, Option, Result, Some, length, slice_index_or, ℕ}
 use Rattle.net_file.specs.Exports.{IsNet}
 use Rattle.update_machine.specs.Exports.{Change, Inapplicable, Net, PolicyFile, Row, Whole, apply_code, made_by, plan_code, touched_of}
@@ -28,7 +28,7 @@ abbrev pub first_policy : List PolicyFile → Option (List Row)
 first_policy [] = None
 first_policy (first ∷ files) = own_policy first
 
--- the file at a place; one of no edits if there is none
+-- the file at a place; a change without edits if there is none
 abbrev pub file_or_none : List PolicyFile → ℕ → PolicyFile
 file_or_none files place = slice_index_or files place (Change [])
 
@@ -64,15 +64,15 @@ pub record HasThisPlan (net : Net) (making : Making) (plan : PlanValue) (told : 
   pub planned : plan_of plan.policy net ≡ Ok plan.hosted
   pub told_is : told ≡ making.1
 
--- about what a file makes: it is a policy that has this plan; or there is none, or it has none,
--- for the reason with this code
+-- what a file makes compiles to this: the plan of its policy, or the code of why there is no
+-- policy or no plan
 abbrev pub IsMade : Net → Making → Compiled → Type 0
 IsMade net making (Planned plan told) = HasThisPlan net making plan told
 IsMade net making (Refused code) =
     ((why : Inapplicable) × (making.0 ≡ Err why) × (apply_code why ≡ code))
     ⊎ ((rows : List Row) × (making.0 ≡ Ok rows) × HasNoPlan net rows code)
 
--- what is kept of each file, if it was compiled, is for this newest policy
+-- for each file that was compiled, the result that is kept is that for this newest policy
 pub record AreCompiled (net : Net) (files : List PolicyFile) (newest : List Row)
     (kept : List (Option Compiled)) : Type 0 where
   pub sound : IsNet net

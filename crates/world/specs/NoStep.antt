@@ -2,6 +2,6 @@
 use Rattle.update_machine.specs.Exports.{Failure, Refused}
 use Rattle.world.specs.declared.error.Full.{Full}
 
--- no step begins: so many messages were sent
+-- no step begins, because the journal is full
 abbrev pub no_step : Failure Full
 no_step = Refused (record {})

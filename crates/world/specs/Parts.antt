@@ -22,7 +22,7 @@ pub record AreSoundParts (parts : Parts) : Type 0 where
 abbrev pub HoldNewest : Parts → Type 0
 HoldNewest parts = newest_policy parts.controller ≡ Some parts.files.newest
 
--- all that they have
+-- the state of the parts, which their journal describes
 abbrev pub state_in : Parts → NetworkState
 state_in parts = record {
   switches = parts.switches.items;
@@ -41,13 +41,13 @@ PartsRefineJournal parts =
 
 -- ---- one step
 
--- the network, its ports and the files stay
+-- the network, its ports and the files stay the same
 pub record KeepNet (before after : Parts) : Type 0 where
   pub same_net : after.files.net ≡ before.files.net
   pub same_files : after.files.files ≡ before.files.files
   pub same_ports : after.ports ≡ before.ports
 
--- all but the switches, their usable links and the log stays, and so do the packets on their way
+-- all parts stay the same but the switches, their usable links, the journal and the messages
 pub record KeepRest (before after : Parts) : Type 0 where
   pub files : after.files ≡ before.files
   pub ports : after.ports ≡ before.ports
@@ -87,7 +87,7 @@ pub record HasBegun (step : Step) (parts : Parts) : Type 0 where
   pub row : ℕ
   pub begins : BeginsStep before row step parts
 
--- a step that was begun is played
+-- the call plays a step that was begun
 abbrev pub Plays : {T E : Type 0} → Step → Result T E → Parts → Parts → Type 0
 Plays step result old new =
     (before : List Item) (row : ℕ) → BeginsStep before row step old

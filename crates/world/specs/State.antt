@@ -43,7 +43,7 @@ state_at world = record {
   near = world.near;
 }
 
--- it is as its journal says
+-- the world is as its journal says
 abbrev pub RefinesJournal : WorldValue → Type 0
 RefinesJournal world =
     RefineJournal (setting_at world) world.journal (state_at world)
@@ -54,7 +54,7 @@ pub record IsBegun (setting : Setting) (world : WorldValue) : Type 0 where
   pub silent : world.journal ≡ []
   pub able : world.is_spent ≡ false
 
--- how many packets a step brings in, refused ones counted
+-- how many packets enter or are refused in a step
 abbrev pub comes_in : Step → ℕ
 comes_in (Packet switch header) = 1
 comes_in _ = 0

@@ -13,22 +13,22 @@ const TOO_MANY_LEAVES: u32 = 14;
 /// Too few switches have room for one of its partitions.
 const NO_ROOM: u32 = 15;
 
-/// It has a plan, but no more versions may be unretired.
+/// It has a plan, but eight versions aren't retired yet.
 pub const TOO_MANY_LIVE: u32 = 16;
 
-/// It has a plan, but there may be no more versions in all.
+/// It has a plan, but there are 64 versions already.
 pub const TOO_MANY_VERSIONS: u32 = 17;
 
-/// The change removes a row that the newest policy hasn't.
+/// The change removes a row that the newest policy doesn't have.
 pub const ABSENT: u32 = 24;
 
-/// The change adds a row of the priority of one that stays.
+/// The change adds a row with the priority of one that stays.
 pub const TAKEN: u32 = 25;
 
 /// The change would leave too many rows.
 pub const TOO_MANY_ROWS: u32 = 26;
 
-/// The code of why a policy has no plan; `None` exactly where memory ran out.
+/// The code of why a policy has no plan; `None` exactly if memory ran out.
 pub fn code_of(error: PlanError) -> Option<u32>
     ensures { result ≡ code_of error }
 {

@@ -1,6 +1,6 @@
 //! The controller's part: policies that are updated, switches that are confirmed as down, and what
 //! is sent again because it may have been lost: the hello and the adverts of a switch, and what
-//! the controller knows that it lacks.
+//! the controller didn't hear that it has.
 ghost use Rattle.std.specs.Prelude.{◌≡◌, ◌==◌, ◌++◌, length, map};
 ghost use Rattle.controller.specs.declared.sends.Act.TheVariants.{Post};
 ghost use Rattle.steps.specs.declared.step.Step.TheVariants.{Confirm as ConfirmStep, Resend as ResendStep, Update as UpdateStep};
@@ -16,8 +16,8 @@ use std::alloc::{AllocError, Global};
 use world_log::adverts_again;
 
 impl Parts {
-    /// The policy of the file, or the one that it makes of the newest version's, becomes the newest
-    /// version, unless there is none, or it has no plan, or the controller refuses it.
+    /// Makes the file's policy, or the one that its change makes, the newest version. If there is
+    /// none, or it has no plan, or the controller refuses it, writes the code of that refusal.
     ///
     /// # Errors
     /// Only out of memory; then a part of the items is written.

@@ -16,8 +16,8 @@ use std::alloc::{AllocError, Global};
 use world_log::{Log, relink, usable};
 
 impl Parts {
-    /// A message is delivered: its switch or the controller hears it, and sends its replies. A
-    /// switch that opens changes which links are usable.
+    /// Delivers a message: its switch or the controller hears it, and sends its replies. A switch
+    /// that opens changes which links are usable. Nothing happens if it can't be delivered.
     ///
     /// # Errors
     /// Only out of memory; then a part of the items is written.
@@ -53,8 +53,8 @@ impl Parts {
         }
     }
 
-    /// Links came back or failed, or switches began or ceased to serve: the switches whose usable
-    /// links changed tell their neighbours.
+    /// Finds the usable links again after a link or a switch changed; the switches whose usable
+    /// links changed send their neighbours adverts.
     ///
     /// # Errors
     /// Only out of memory; then a part of the items is written.
@@ -87,7 +87,7 @@ impl Parts {
     }
 }
 
-// The controller hears the message.
+// The controller hears the message, and does what follows from it.
 fn deliver_to_controller(
     alloc: Global,
     log: &mut Log,

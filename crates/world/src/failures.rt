@@ -11,7 +11,7 @@ use world_log::{hello, set_ends};
 
 impl Parts {
     /// The switch goes down, unless it is down already: it loses what it learnt, and the packets
-    /// that are there are lost. The other ends of its usable links tell their neighbours.
+    /// there are lost. The switches at the other ends of its usable links send new adverts.
     ///
     /// # Errors
     /// Only out of memory; then a part of the items is written.
@@ -47,8 +47,8 @@ impl Parts {
     }
 
     /// The link of two switches comes back, or fails, at both of its ends, and the switches whose
-    /// usable links changed tell their neighbours. Nothing happens if the link is in that state
-    /// already.
+    /// usable links changed send their neighbours adverts. Nothing happens if the link is in that
+    /// state already.
     ///
     /// # Errors
     /// Only out of memory; then a part of the items is written.

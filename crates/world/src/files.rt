@@ -15,12 +15,12 @@ use std::alloc::{AllocError, Global};
 use std::marker::Model;
 use switch_table::Touched;
 
-/// The result of compiling the policy of a file, or the one that it makes of the newest policy.
+/// The result of compiling a file's policy, or the one that its change makes of the newest policy.
 #[derive(Drop)]
 pub enum Compiled {
-    /// It has this plan. With what a change touches of the newest policy.
+    /// Its plan, and the words that the file touches of the newest policy.
     Planned(Plan, Touched),
-    /// There is none, or it has no plan on the network, for the reason with this code.
+    /// There is no policy, or it has no plan on the network, for the reason with this code.
     Refused { code: u32 },
 }
 
@@ -37,15 +37,15 @@ impl Clone for Compiled {
     }
 }
 
-/// The files, with the plan of the newest version, to whose policy changes are applied. Each is
-/// compiled at most once, and a change once for each newest version: clones of a plan share it.
+/// The files, with the plan of the newest version, to whose policy changes are applied. A policy
+/// is compiled at most once, a change once for each newest version; clones of a plan share it.
 /// Contracts see the network, the files and the newest version's policy.
 #[derive(Drop)]
 pub struct Files {
     net: Net,
     files: Vec<PolicyFile>,
     newest: Plan,
-    // As many as files.
+    // One for each file: the result, if the file was compiled for this newest policy.
     compiled: Vec<Option<Compiled>>,
 }
 
@@ -91,8 +91,8 @@ impl Files {
         })
     }
 
-    /// The plan of the policy that the file at this place, from 0, has, or that it makes of the
-    /// newest policy, and what it touches of the newest policy; or why there is none.
+    /// The plan of the policy that the file at this place, from 0, has or makes of the newest
+    /// policy, and what it touches of that; or the code of why there is none.
     ///
     /// # Errors
     /// Only out of memory.
@@ -134,7 +134,7 @@ pub fn first_policy(files: &[PolicyFile]) -> &Policy
     }
 }
 
-// Forgets the results for changes.
+// Forgets the results for changes, which depend on the newest policy.
 fn forget_changes(files: &[PolicyFile], compiled: &mut Vec<Option<Compiled>>)
     requires { length compiled.old.items ≡ length files.now }
     ensures { KeepsWhole files.now compiled.old.items compiled.new.items }

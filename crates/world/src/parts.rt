@@ -16,9 +16,9 @@ use world_log::{Log, Site};
 pub struct Parts {
     pub files: Files,
     pub ports: Ports,
-    /// For each switch those to which it has a link that is up.
+    /// For each switch the mask of those to which it has a link that is up.
     pub links: [u64; 64],
-    /// For each switch those to which it has a usable link.
+    /// For each switch the mask of those to which it has a usable link.
     pub near: [u64; 64],
     pub switches: Vec<Switch>,
     pub log: Log,
@@ -55,7 +55,7 @@ impl Parts {
         }
     }
 
-    // A packet enters.
+    // A packet enters at a switch, or is refused there.
     fn packet(&mut self, alloc: Global, switch: u32, header: &Header) -> Result<(), AllocError>
         requires { HasBegun (PacketStep switch header.now) self.old }
         ensures { Plays (PacketStep switch header.now) result self.old self.new }
@@ -94,7 +94,7 @@ impl Parts {
         self.log.lose(packet)
     }
 
-    // A message is never delivered again.
+    // The message is forgotten: it is never delivered after that.
     fn forget(&mut self, number: u32) -> Result<(), AllocError>
         requires { HasBegun (ForgetStep number) self.old }
         ensures { Plays (ForgetStep number) result self.old self.new }
@@ -106,7 +106,7 @@ impl Parts {
         self.log.journal.push(Item::Forgotten { number })
     }
 
-    // A cached rule times out.
+    // A cached rule expires.
     fn expire(&mut self, switch: u32, place: u32) -> Result<(), AllocError>
         requires { HasBegun (ExpireStep switch place) self.old }
         ensures { Plays (ExpireStep switch place) result self.old self.new }

@@ -62,7 +62,7 @@ impl World {
     /// serves, and no packet entered yet. The later files may be changes.
     ///
     /// # Errors
-    /// Why the first policy has no plan on the network.
+    /// Why the first policy has no plan on the network, or out of memory.
     pub fn begin(alloc: Global, net: &Net, files: Vec<PolicyFile>) -> Result<World, PlanError>
         requires net { IsNet net.now }
         requires first { IsSome (first_policy files.items) }
@@ -100,9 +100,9 @@ impl World {
         })
     }
 
-    /// Takes the step of this row of a schedule, and writes what happens into the journal. If
-    /// there is no room for a step, the step may be any, as a flush that calls this with a great
-    /// number needs.
+    /// Takes the step of this row of a schedule, and writes what happens into the journal. If the
+    /// journal has no room for a step, the step may name anything: a flush may call this with a
+    /// number that is too great.
     ///
     /// # Errors
     /// `Full` exactly if so many messages were sent that no step begins; then nothing
@@ -128,8 +128,8 @@ impl World {
         ensures spent { self.old.is_spent ≡ true
             → (IsErrOf result NoMemory) × (self.new ≡ self.old) }
 
-        // However the step ends, what is written is a run whose ends have causes, and the versions
-        // are whole.
+        // However the step ends, the journal is a run whose ends have causes, and the versions are
+        // whole.
         ensures so_far { self.old.is_spent ≡ false
             → HoldsSoFar (setting_at self.old) self.new.journal }
     {
@@ -185,7 +185,7 @@ impl World {
         &self.parts.log.journal
     }
 
-    /// What happened so far; all else is dropped. It allocates nothing.
+    /// The journal; the rest of the world is dropped. Allocates nothing.
     pub fn into_journal(self) -> Journal
         ensures { result ≡ self.journal }
     {

@@ -9,13 +9,13 @@ use Rattle.switch_core.specs.Exports.{SwitchValue, near_changed, next_advert, se
 
 -- ---- links that are up
 
--- the neighbours of each switch as masks, by its number
+-- `near` has at each switch's number the mask of its neighbours
 abbrev pub AreNear : Net → List ℕ → Type 0
 AreNear net near = (s : ℕ) → s < 64 → slice_index near s ≡ links_of net.links s
 
 -- ---- a link that fails or comes back
 
--- both ends of the link of these two switches are up, or down; all other links are as before
+-- the link of these two switches is up, or down, at both ends; all other links are as before
 abbrev pub SetsLink : List ℕ → ℕ → ℕ → Bool → List ℕ → Type 0
 SetsLink before one two up after = (s k : ℕ) → s < 64 → k < 64
     → has (slice_index after s) k ≡ (if joins s k (record { one = one; two = two }) then up
@@ -27,11 +27,11 @@ SetsLink before one two up after = (s k : ℕ) → s < 64 → k < 64
 abbrev pub serves_at : List SwitchValue → ℕ → Bool
 serves_at switches s = option_map_or serves (slice_get switches s) false
 
--- the usable ones of these links, if the switch itself serves, and these others do
+-- of these links, those whose other end serves; none if the switch itself doesn't serve
 abbrev pub near_where : ℕ → Bool → (ℕ → Bool) → ℕ
 near_where links own others = mask_of (λ k. has links k && own && others k)
 
--- the switches to which a switch has a usable link, if its links to these are up: both ends serve
+-- the switches to which a switch has a usable link, if these links are up: both ends serve
 unfoldable pub near_by : List ℕ → List SwitchValue → ℕ → ℕ
 near_by links switches s =
     near_where (slice_index links s) (serves_at switches s) (serves_at switches)
@@ -46,30 +46,30 @@ near_all links switches = map (near_by links switches) (range_with_len 0 64)
 abbrev pub all_held : SwitchValue → List Advert
 all_held switch = filter_map (held_advert switch.database) switches
 
--- what the switch sends a neighbour, by whether it had a usable link to it before
+-- what the switch sends a neighbour: its own advert over a link that it had, all over a new one
 abbrev pub adverts_over : SwitchValue → Advert → Bool → ℕ → List Message
 adverts_over switch own had neighbour = elim had [
   | true ↦ advert_to neighbour own ∷ []
   | false ↦ map (advert_to neighbour) (all_held switch)
 ]
 
--- the same, if it has a usable link to that
+-- the same, if it has a usable link to the other switch now
 abbrev pub adverts_near : SwitchValue → Advert → ℕ → ℕ → ℕ → List Message
 adverts_near switch own had near other =
     if has near other then adverts_over switch own (has had other) other else []
 
--- one advert, if there is one
+-- the message with the advert, if there is one
 abbrev pub advert_if_held : ℕ → Option Advert → List Message
 advert_if_held other None = []
 advert_if_held other (Some advert) = advert_to other advert ∷ []
 
--- all that it has, if it has a usable link to that
+-- all adverts that it has, if it has a usable link to the other switch
 abbrev pub adverts_all_near : SwitchValue → ℕ → ℕ → List Message
 adverts_all_near switch near other =
     if has near other then map (advert_to other) (all_held switch) else []
 
 -- what a switch that is up sends again: to the controller its boot, and to its neighbours among
--- this many switches all that it has
+-- this many switches all adverts that it has
 abbrev pub adverts_again : ℕ → ℕ → ℕ → SwitchValue → List Message
 adverts_again s count near switch = if switch.is_up
     then to_controller (Hello s switch.boot)
@@ -77,7 +77,7 @@ adverts_again s count near switch = if switch.is_up
     (filter (has near) (range_with_len 0 count))
     else []
 
--- it is up, and its usable links changed
+-- the switch is up, and its usable links changed
 abbrev pub links_change : ℕ → ℕ → SwitchValue → Bool
 links_change had near switch = switch.is_up && not (had == near)
 
@@ -86,7 +86,7 @@ abbrev pub relinked_as : ℕ → ℕ → SwitchValue → SwitchValue
 relinked_as had near switch = if links_change had near switch then near_changed switch near
     else switch
 
--- and sends to its neighbours among this many switches
+-- and sends its neighbours among this many switches that advert, or all over a new link
 abbrev pub adverts_on_change : ℕ → ℕ → ℕ → SwitchValue → List Message
 adverts_on_change count had near switch = if links_change had near switch
     then flat_map (λ other. adverts_over (near_changed switch near) (next_advert switch near)

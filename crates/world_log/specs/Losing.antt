@@ -5,13 +5,13 @@ use Rattle.update_machine.specs.Exports.{Item}
 use Rattle.journal.specs.declared.item.Item.TheVariants as item
 use Rattle.travelling.specs.Travelling.{Flights, flight, stands_at}
 
--- the packets below a number that are at the switch, ascending
+-- the numbers below `bound` of the packets that are at the switch, ascending
 abbrev pub numbers_below : Flights → ℕ → ℕ → List ℕ
 numbers_below flights switch bound =
     filter (λ i. stands_at switch (flight flights i)) (range_with_len 0 bound)
 
--- of the packets below a number those that were at the switch are lost: their losses are written,
--- and they no longer travel; no other loss is written, and all others are as before
+-- of the packets below a number exactly those that were at the switch are lost: each loss is
+-- written, and they no longer travel; all other packets are as before
 pub record AreLostBelow (before : Flights) (switch bound : ℕ) (journal now : List Item)
     (after : Flights) : Type 0 where
   pub within : bound ≤ length before

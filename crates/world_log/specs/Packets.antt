@@ -22,7 +22,7 @@ coming_in packet header switch = record {
   down = no_links;
 }
 
--- the switch's result for it
+-- what the switch returns for the packet that enters
 abbrev pub entry : SwitchValue → ℕ → Ports → ℕ → Header → Option Answer
 entry s near ports packet header =
     admitted s (around near ports) (incoming_packet s packet header)
@@ -45,7 +45,7 @@ arrival s near ports flight =
 
 -- ---- when it moves on
 
--- a link was found down, and the packet takes this route around it, unless it is stuck
+-- what a link that was found down writes, with the packet's route around it unless it is stuck
 abbrev pub turned_items : ℕ → ℕ → Option ℕ → HopEnd → List ℕ → List Item
 turned_items packet here None end route = []
 turned_items packet here (Some other) (hop.Stuck cause) route =
@@ -53,7 +53,7 @@ turned_items packet here (Some other) (hop.Stuck cause) route =
 turned_items packet here (Some other) _ route =
     item.FoundDown packet here other ∷ item.Rerouted packet route ∷ []
 
--- it is at the end of its route, moves to the next switch or is stuck
+-- what is written when the packet is at the end of its route, moves to the next switch or is stuck
 abbrev pub ended_items : ℕ → SwitchValue → ℕ → Ports → Flight → HopEnd → List Item
 ended_items number s near ports t hop.Arrive = arrival_items number s near ports t
 ended_items number s near ports t (hop.Move other) = item.Hopped t.tunnel.packet other ∷ []
@@ -64,12 +64,12 @@ abbrev pub ended_posts : SwitchValue → ℕ → Ports → Flight → HopEnd →
 ended_posts s near ports t hop.Arrive = arrival_posts s near ports t
 ended_posts s near ports t _ = []
 
--- the switch is called again if the packet arrives
+-- the switch, called once more if the packet arrives
 abbrev pub ended_switch : SwitchValue → HopEnd → SwitchValue
 ended_switch s hop.Arrive = call_counted s
 ended_switch s _ = s
 
--- the packet after the switch's move
+-- the packet as the switch's move leaves it
 abbrev pub hopped_flight : SwitchValue → ℕ → Flight → Flight
 hopped_flight s near t = record t { tunnel = (hop_answer s near t.tunnel).tunnel }
 
@@ -117,8 +117,8 @@ abbrev pub followed_flight : SwitchValue → ℕ → Ports → Flight → Option
 followed_flight s near ports t =
     ended_flight s near ports (record t { tunnel = (followed t).tunnel }) (followed t).end
 
--- the packet that is there, with this version and this rule, on its leg to these targets, is this
--- one; its switch was called to move it on, and the link to another is down
+-- the packet `t` is at this switch, with this version and rule, on this leg to these targets; the
+-- switch was called to move it on, and found the link to `other` down
 pub record MeetsDownLink (at : Standing) (its_version : ℕ) (its_rule : Option ℕ) (its_leg : Leg)
     (its_targets : List ℕ) (other : ℕ) (before after : SwitchValue) (near : ℕ) (t : Flight)
     : Type 0 where
@@ -136,7 +136,7 @@ pub record MeetsDownLink (at : Standing) (its_version : ℕ) (its_rule : Option 
 
 -- ---- what a hop needs, and all that it does to a log and to the switches
 
--- the packet, which has this number, is at the switch, whose calls for it may be made, and which can
+-- the packet of this number is at the switch, which may be called to move it on, and which can
 -- decide it if it arrives there
 pub record MayGoOn (packet : ℕ) (s : SwitchValue) (near : ℕ) (t : Flight) : Type 0 where
   pub known : t.tunnel.packet ≡ packet
@@ -147,7 +147,7 @@ pub record MayGoOn (packet : ℕ) (s : SwitchValue) (near : ℕ) (t : Flight) : 
       → IsAtAuthority s t.tunnel.header t.tunnel.leg
   pub ingress : t.tunnel.ingress < 64
 
--- what its hop wrote and posted, where it is then, and how often its switch was called
+-- after the packet's hop: what was written and posted, where it is, and its switch's count of calls
 pub record HasHopped {T E : Type 0} (result : Result T E) (packet : ℕ) (before : SwitchValue)
     (near : ℕ) (ports : Ports) (old : Log) (after : SwitchValue) (new : Log) (t : Flight)
     : Type 0 where
@@ -173,7 +173,7 @@ module _ {T E : Type 0} (result : Result T E) (packet : ℕ) (near : List ℕ) (
     pub rest : new ≡ record old { journal = new.journal }
     pub switches : after ≡ before
 
-  -- after the hop of a packet, if it was on its way
+  -- after a hop: of this packet, or of none if it wasn't on its way
   abbrev pub Hops : Option Flight → Type 0
   Hops None = DoesNothing
   Hops (Some t) = HopsThere t

@@ -14,7 +14,7 @@ act_item number (act.Current version) = item.Current version
 act_item number (act.Retired version) = item.Retired version
 act_item number (act.Post message) = item.Sent number message
 
--- the next message's number once this was done
+-- the number of the next message after the act
 abbrev pub number_after : ℕ → Act → ℕ
 number_after number (act.Post message) = number + 1
 number_after number _ = number
@@ -45,12 +45,12 @@ abbrev pub IsSpelled : Act → Type 0
 IsSpelled (act.Post message) = HasShortSpelling message
 IsSpelled _ = ⊤
 
--- this is true of all that is sent when these acts are done
+-- the bag has room for all that these acts send, and each message has a short encoding
 pub record MayNote (bag : List Post) (acts : List Act) : Type 0 where
   pub few : length bag + length (act_posts acts) < 2 ^ 32
   pub spelled : All IsSpelled acts
 
--- a log after it; if memory ran out, a part of the items is written
+-- the log after these acts; if memory ran out, a part of the items is written
 pub record HasNoted {T E : Type 0} (result : Result T E) (acts : List Act) (old new : Log)
     : Type 0 where
   pub written : OnOk result (new.journal ≡ old.journal ++ act_items (length old.bag + 1) acts)

@@ -15,7 +15,7 @@ use Rattle.tunnel.specs.Exports.{TunnelValue}
 use Rattle.travelling.specs.Travelling.{Flight, Standing, WithOne}
 use Rattle.world_log.specs.declared.log.Log.{Log}
 
--- the items begin with what was written after the old journal
+-- the new journal is the old one and the first of these items
 pub record IsPart (old items new : List Item) : Type 0 where
   pub written : List Item
   pub rest : List Item
@@ -37,7 +37,7 @@ packet_standing at = packet_with at.packet at.header at.ingress at.down
 
 -- ---- on a leg
 
--- it takes the route from there, or is stuck
+-- the packet takes the route from its switch, or is stuck there
 abbrev pub set_item : Standing → Leg → Result TunnelValue Cause → Item
 set_item at leg (Ok tunnel) = takes_route at.packet tunnel.leg tunnel.route
 set_item at leg (Err cause) = item.Stuck at.packet at.switch cause leg at.down
@@ -76,7 +76,7 @@ decided_items at decision sends onward =
     item.Decided at.packet decision.version decision.rule decision.action decision.how
     ∷ sends ++ end_item at decision onward ∷ []
 
--- it travels on if it is to exit elsewhere
+-- the packet travels on if another switch has its port
 abbrev pub decided_flight : Decision → Next → Option Flight
 decided_flight decision (next.Exit tunnel) =
     Some (record { tunnel = tunnel; version = decision.version; rule = decision.rule })

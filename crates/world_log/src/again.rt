@@ -37,7 +37,7 @@ pub fn adverts_again(
     Ok(messages)
 }
 
-// What the switch sends the other one again, if it has a usable link to that.
+// What the switch sends the other one again, if it has a usable link to it.
 fn send_neighbour(
     messages: &mut Vec<Message>,
     switch: &Switch,
@@ -54,7 +54,7 @@ fn send_neighbour(
     Ok(())
 }
 
-/// By this a switch tells the controller that it is up, in this boot.
+/// The message by which a switch tells the controller that it is up, in this boot.
 pub fn hello(switch: u32, boot: u32) -> Message
     ensures { result ≡ to_controller (Hello switch boot) }
 {

@@ -5,8 +5,8 @@
 //! result, posts the messages that it sends under the next numbers, and changes, of the packets on
 //! their way, only the one that it names, or at a crash those that are there. `hop` takes all
 //! switches, and changes only the packet's own. If memory runs out, the journal has a part of the
-//! items. How the items depend on earlier ones is stated by the
-//! crates above.
+//! items. How the items depend on earlier ones is stated by the crates that use this one, such as
+//! `refinement`.
 //!
 //! A link is usable if it is up and both of its ends serve. `usable` promises these links as
 //! masks, and `relink` that each switch that is up and whose usable links changed makes its next

@@ -21,7 +21,7 @@ pub struct Log {
 }
 
 impl Log {
-    /// The message is sent, under the next number.
+    /// Sends the message under the next number: posts it in the bag, and writes the item.
     ///
     /// # Errors
     /// Only out of memory; then nothing is written.
@@ -38,7 +38,7 @@ impl Log {
         self.journal.push(Item::Sent { number, message })
     }
 
-    // The packet is stuck on this leg.
+    // Ends the packet, which is stuck on this leg.
     pub(crate) fn stuck(
         &mut self,
         alloc: Global,
@@ -65,7 +65,7 @@ impl Log {
         )
     }
 
-    // The packet ends with this item.
+    // Writes this item, with which the packet ends: it leaves the table.
     pub(crate) fn end(&mut self, packet: u32, item: Item) -> Result<(), AllocError>
         ensures { LogAfter result (item ∷ []) [] packet None self.old self.new }
     {
@@ -73,8 +73,8 @@ impl Log {
         self.journal.push(item)
     }
 
-    // The packet moves on to this place of its route, at this switch. It allocates only the
-    // journal's memory.
+    // Moves the packet on to this place of its route, at this switch. Allocates only the journal's
+    // memory.
     pub(crate) fn move_on(&mut self, packet: u32, place: u32, switch: u32) -> Result<(), AllocError>
         requires { IsSomeAnd (flight self.old.travelling packet) (HasPlace place) }
         ensures { LogAfter result (HoppedItem packet switch ∷ []) [] packet
@@ -86,7 +86,7 @@ impl Log {
     }
 }
 
-/// The packet leaves by the port, with the version and the rule of its decision.
+/// The item of a packet that leaves by the port, with the version and the rule of its decision.
 pub fn leaves(at: &Standing, port: u32) -> Item
     ensures { result ≡ left_item (standing_kept at.now) at.now.version at.now.rule port }
 {
@@ -103,7 +103,7 @@ pub fn leaves(at: &Standing, port: u32) -> Item
     }
 }
 
-/// The packet takes the route on the leg.
+/// The item of a packet that takes the route on the leg.
 pub fn takes_route(packet: u32, leg: Leg, route: SharedRoute) -> Item
     ensures { result ≡ takes_route packet leg route }
 {

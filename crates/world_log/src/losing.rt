@@ -10,7 +10,7 @@ use journal::Item;
 use std::alloc::AllocError;
 
 impl Log {
-    /// The packet is lost. It leaves the table once that is written.
+    /// Writes that the packet is lost, and then removes it from the table.
     ///
     /// # Errors
     /// Only out of memory; then nothing changes.
@@ -26,8 +26,8 @@ impl Log {
         Ok(())
     }
 
-    /// The packets at the switch are lost, ascending by number, and each leaves the table once its
-    /// loss is written. The search for the next continues after each of them, and reads no other
+    /// Loses the packets at the switch, ascending by number; each leaves the table once its loss is
+    /// written. The search for the next one continues after each of them, and reads no other
     /// packet.
     ///
     /// # Errors

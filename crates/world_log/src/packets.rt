@@ -20,7 +20,7 @@ use ternary::Word;
 use travelling::{Standing, StoredFlight};
 
 impl Log {
-    /// A packet enters at the switch, which is asked what becomes of it there.
+    /// A packet enters at the switch; writes and does what the switch returns for it.
     ///
     /// # Errors
     /// Only out of memory; then a part of the items is written.
@@ -77,7 +77,7 @@ impl Log {
     /// The packet of this number, if it is on its way, moves on from the switch where it is, or is
     /// at the end of its route; otherwise only `Nothing` is written. If the link to the next switch
     /// is found down, it takes another route on its leg, or is stuck. `near` has for each switch
-    /// those to which it has a usable link.
+    /// the mask of those to which it has a usable link.
     ///
     /// A move over a usable link allocates only the journal's memory.
     ///
@@ -231,7 +231,7 @@ impl Log {
         }
     }
 
-    // Carries out what becomes of the packet.
+    // Writes and does what the switch returned for the packet.
     fn settle(
         &mut self,
         alloc: Global,
@@ -271,8 +271,8 @@ impl Log {
         }
     }
 
-    // The packet begins the leg on its switch's route, which the item and the table share, or is
-    // stuck there.
+    // The packet begins the leg on the route that its switch finds, which the item and the table
+    // share, or is stuck there.
     fn set_out(
         &mut self,
         alloc: Global,
@@ -303,8 +303,8 @@ impl Log {
         }
     }
 
-    // The rule of the decision with this word, if there is one, is sent to the switch where the
-    // packet entered.
+    // Sends the decision's rule with this word, if there is one, to the switch where the packet
+    // entered.
     fn send_rule(
         &mut self,
         alloc: Global,

@@ -13,7 +13,7 @@ use journal::{Item, Message};
 use std::alloc::{AllocError, Global};
 
 impl Log {
-    /// The messages are sent, each under the next number.
+    /// Sends the messages, each under the next number.
     ///
     /// # Errors
     /// Only out of memory; then a part of the items is written.
@@ -30,7 +30,7 @@ impl Log {
         self.note_each(alloc, messages)
     }
 
-    /// The controller does this, one after another.
+    /// Writes the controller's acts in order, and sends their messages.
     ///
     /// # Errors
     /// Only out of memory; then a part of the items is written.
@@ -41,7 +41,7 @@ impl Log {
         self.note_each(alloc, acts)
     }
 
-    /// The messages are sent, and then the controller does this.
+    /// Sends the messages, and then writes the controller's acts.
     ///
     /// # Errors
     /// Only out of memory; then a part of the items is written.
@@ -58,7 +58,7 @@ impl Log {
         self.note_acts(alloc, acts)
     }
 
-    // These are done, one after another.
+    // Writes each of these in order.
     fn note_each<T: Noted>(&mut self, alloc: Global, all: Vec<T>) -> Result<(), AllocError>
         requires { MayNote self.old.bag (map T.act all.items) }
         ensures { HasNoted result (map T.act all.items) self.old self.new }
@@ -70,12 +70,12 @@ impl Log {
     }
 }
 
-// What is written into a log as something that the controller does.
+// A value that is written into a log as an act of the controller.
 trait Noted: Drop {
-    /// What it does.
+    /// The act.
     ghost act: { Self → ActValue };
 
-    /// It is done: one mark rises, or one message is sent.
+    /// Writes that one mark rises, or sends one message; out of memory, it writes nothing.
     fn note(self, log: &mut Log, alloc: Global) -> Result<(), AllocError>
         requires few { length log.old.bag + length (act_post (act self)) < 2 ^ 32 }
         requires spelled { IsSpelled (act self) }

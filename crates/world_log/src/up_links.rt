@@ -19,7 +19,7 @@ pub fn link_masks(net: &Net) -> [u64; 64]
     near
 }
 
-/// Each of the two switches has a link to the other one that is up, or has none.
+/// Sets the link of these two switches up or down in both of their masks.
 pub fn set_ends(links: &mut [u64; 64], one: u32, two: u32, up: bool)
     requires one { one < 64 }
     requires two { two < 64 }
@@ -30,7 +30,7 @@ pub fn set_ends(links: &mut [u64; 64], one: u32, two: u32, up: bool)
     links[two as usize] = set_end(links[two as usize], one, up);
 }
 
-// These switches with this one, or without it.
+// The mask with this switch, or without it.
 fn set_end(mask: u64, other: u32, up: bool) -> u64
     requires { other < 64 }
     ensures { (k : ℕ) → k < 64 → has result k ≡ (if other == k then up else has mask k) }

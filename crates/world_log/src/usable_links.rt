@@ -11,7 +11,7 @@ use failover::Advert;
 use std::alloc::{AllocError, Global};
 use switch_core::Switch;
 
-/// The switches to which each switch has a usable link, if these links are up.
+/// For each switch the mask of those to which it has a usable link, if these links are up.
 pub fn usable(links: &[u64; 64], switches: &[Switch]) -> [u64; 64]
     requires { length switches.now ≤ 64 }
     ensures { result ≡ near_all links.now switches.now }
@@ -44,8 +44,8 @@ fn usable_from(links: u64, serving: u64, s: u32) -> u64
     if has(serving, s) { links & serving } else { 0 }
 }
 
-/// Each switch that is up, and whose usable links changed, makes its advert of them. Returns what
-/// they send their neighbours, by ascending number.
+/// Each switch that is up, and whose usable links changed, makes its next advert. Returns what
+/// they send their neighbours, by ascending number of the sender.
 ///
 /// # Errors
 /// Only out of memory.
@@ -70,7 +70,7 @@ pub fn relink(
     Ok(messages)
 }
 
-// The switch had these usable links, and has these now.
+// `relink` for one switch, which had these usable links before and has these now.
 #[tactic(auto, using(crate::proofs::RelinkingAdverts::near_steps))]
 fn relink_one(
     messages: &mut Vec<Message>,
@@ -95,7 +95,7 @@ fn relink_one(
     Ok(())
 }
 
-// What the switch sends the other one, if it has a usable link to that.
+// What the switch sends the other one, if it has a usable link to it.
 fn send_near(
     messages: &mut Vec<Message>,
     switch: &Switch,
@@ -114,7 +114,7 @@ fn send_near(
     Ok(())
 }
 
-// Over a link that it had the switch sends its own advert, and over a new one all that it has.
+// Sends the switch's own advert over a link that it had, and all that it has over a new one.
 fn send_adverts(
     messages: &mut Vec<Message>,
     switch: &Switch,
@@ -132,7 +132,7 @@ fn send_adverts(
     send_all_held(messages, switch, other)
 }
 
-/// The switch sends all adverts that it has.
+/// Adds messages with all adverts that the switch has, for the other switch.
 ///
 /// # Errors
 /// Only out of memory.
@@ -151,7 +151,7 @@ pub fn send_all_held(
     Ok(())
 }
 
-// The advert, if there is one, to this switch.
+// Adds a message with the advert, if there is one, for this switch.
 fn send_one(
     messages: &mut Vec<Message>,
     other: u32,
@@ -166,7 +166,7 @@ fn send_one(
     Ok(())
 }
 
-// The advert for this switch.
+// The message with the advert for this switch.
 fn advert_to(switch: u32, advert: &Advert) -> Message
     ensures { result ≡ advert_to switch advert.now }
 {

@@ -1,4 +1,4 @@
--- What the headline says of a journal, and how it prints.
+-- Which facts of the headline are true of a journal, and how it prints.
 use Rattle.std.specs.Prelude.{[], ◌∷◌, ◌≡◌, Bool, List, None, false, true, ℕ}
 use Rattle.update_machine.specs.Exports.{Event, HasCause, HaveCauses, IsRun, Item, One, all_given}
 use Rattle.journal.specs.declared.item.Item.TheVariants as item
@@ -10,8 +10,8 @@ use Rattle.wrong_journals.specs.Office.{office, text_of, two_switches}
 abbrev pub PrintsAs : List Item → List (List ℕ) → Type 0
 PrintsAs journal lines = journal_text two_switches journal ≡ text_of lines
 
--- the schedule of the rows that a journal has: then the only way its entries can fail is that a
--- packet enters by no row
+-- the schedule of the rows that a journal has: so its entries can differ from the schedule's only
+-- if a packet enters by no row
 abbrev pub event_in : Item → List Event
 event_in (item.Row row step) = One step ∷ []
 event_in _ = []
@@ -35,7 +35,7 @@ pub record IsTried (is_run has_causes is_entered : Bool) (journal : List Item) :
 abbrev pub IsRight : List Item → Type 0
 IsRight journal = IsTried true true true journal
 
--- one is false, and the other two are true
+-- it is no run, has an end without its cause, or an entry without its row; the rest is true
 abbrev pub IsNoRun : List Item → Type 0
 IsNoRun journal = IsTried false true true journal
 

@@ -70,13 +70,13 @@ denied = header_to 167838981
 abbrev pub in_at_a : Header → List Item
 in_at_a header = item.Row 1 (Packet 0 header) ∷ item.Entered 1 0 header ∷ []
 
--- or does so after an update
+-- an allowed packet enters at a, after an update
 abbrev pub in_behind_update : List Item
 in_behind_update =
     item.Row 1 (Update 2) ∷ item.Submitted 2 2 ∷ item.Row 2 (Packet 0 allowed)
     ∷ item.Entered 1 0 allowed ∷ []
 
--- it gets rule 100 of a version at a, with this action
+-- the packet gets rule 100 of a version at a, with this action
 abbrev pub gets : ℕ → Action → Item
 gets version action = item.Decided 1 version (Some 100) action (Authority 0 0)
 
@@ -86,7 +86,7 @@ gets version action = item.Decided 1 version (Some 100) action (Authority 0 0)
 abbrev pub printed_in_at_a : List (List ℕ)
 printed_in_at_a = codes "row 1: packet a 1.2.3.4 10.2.0.1 5000 80 tcp" ∷ codes "  entered 1 a" ∷ []
 
--- or does so after an update
+-- the same after an update
 abbrev pub printed_behind_update : List (List ℕ)
 printed_behind_update =
     codes "row 1: update 2" ∷ codes "  submitted file 2 version 2"

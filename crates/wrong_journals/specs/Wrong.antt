@@ -31,7 +31,7 @@ half_and_half = in_behind_update ++ gets 2 (Out 2) ∷ []
 
 -- ---- ends
 
--- a packet that is to leave by port 2 leaves by port 1
+-- a packet that is decided to leave by port 2 leaves by port 1
 abbrev pub other_port : List Item
 other_port =
     in_at_a allowed ++ gets 1 (Out 2)
@@ -45,7 +45,7 @@ dropped_undecided = in_at_a allowed ++ item.Dropped 1 ∷ []
 abbrev pub lost_by_nothing : List Item
 lost_by_nothing = in_at_a allowed ++ item.Lost 1 ∷ []
 
--- a packet that is to leave by port 2 of b is stuck at a, which knows the link to b
+-- a packet that is decided to leave by port 2 of b is stuck at a, which knows the link to b
 abbrev pub stuck_beside_a_route : List Item
 stuck_beside_a_route =
     in_at_a allowed ++ gets 1 (Out 2) ∷ item.Stuck 1 0 NoRoute (Exit 2) no_links ∷ []

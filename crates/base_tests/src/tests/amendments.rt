@@ -94,7 +94,7 @@ fn decides(policy: &Policy) -> bool {
         && policy.scan(&header(80)) == Hit::of(&drop_row(50))
 }
 
-// Whether the change is listed and made in the order of its rows, and not twice.
+// Whether the change lists its rows, makes the new policy in order, and can't be applied twice.
 fn is_made_once(alloc: Global) -> Option<bool> {
     let change = securing(alloc)?;
     let policy = amended(alloc, &change)?.ok()?;
@@ -108,7 +108,7 @@ fn changes_rows_in_their_order(rt: HostRuntime) {
     assert!(rt; is_made_once(rt.alloc()) == Some(true));
 }
 
-// Whether a row that is removed and added is another one.
+// Whether a change may remove a row and add another one of the same priority.
 fn is_replaced(alloc: Global) -> Option<bool> {
     let wide = row(100, Prefix::new(0, 0), None, Action::Out(1));
     let change = change(alloc, &[100], &[wide]).ok()?;
@@ -149,7 +149,7 @@ fn adding(alloc: Global, least: u32) -> Option<Amendment> {
     Amendment::of_edits(alloc, added).ok()
 }
 
-// Whether two rows and 1998 of these are a policy, and two and 1999 are too many.
+// Whether two rows and 1998 more are a policy, and two and 1999 more are too many.
 fn takes_most(alloc: Global) -> Option<bool> {
     let (most, more) = (adding(alloc, 1002)?, adding(alloc, 1001)?);
     let policy = amended(alloc, &most)?.ok()?;
@@ -164,7 +164,7 @@ fn takes_2000_rows_and_no_more(rt: HostRuntime) {
     assert!(rt; takes_most(rt.alloc()) == Some(true));
 }
 
-// The edit that repeats one, in a change that removes and adds these.
+// The refusal of a change that removes and adds these, with the edit that repeats an earlier one.
 fn repeated(alloc: Global, removed: &[u32], added: &[Row]) -> Option<Failure<Repeated>>
     requires { length removed.now + length added.now < 2 ^ 32 }
 {

@@ -1,4 +1,4 @@
-//! Meters of several kinds on one board, each in a box that its maker made.
+//! Meters of several kinds on one board, each in a box.
 ghost use Rattle.std.specs.Prelude.{◌≡◌, ◌<◌, []};
 ghost use Rattle.std.specs.List.{list_any};
 ghost use Rattle.std.specs.Option.{is_none};
@@ -82,7 +82,7 @@ fn leaving_from(packet: u32, x: u32) -> Leaving
     }
 }
 
-// What is recorded of port 3: this many packets from 10.1.1.X.
+// The flow record of this many packets from 10.1.1.X at port 3.
 fn record_from(x: u32, packets: u64) -> FlowRecord
     requires { x < 256 }
 {
@@ -101,13 +101,13 @@ fn note_all<M: Meter>(board: &mut Board<M>, leavings: &[(u32, Leaving)]) -> Resu
     Ok(())
 }
 
-// The port of the meter of this place, and how many packets it recorded.
+// The port of the meter at this place, and how many packets it recorded.
 fn told(kept: &[Box<dyn Meter>], place: usize) -> Option<(u32, u64)> {
     let meter = kept.get(place)?;
     Some((meter.port(), meter.notes()))
 }
 
-// Whether of the meters of all kinds the recorders of ports 3 and 2 remain after four packets.
+// Whether only the recorders of ports 3 and 2 remain after four packets.
 fn leave_in_time(mut board: Board<Box<dyn Meter>>) -> Result<bool, AllocError> {
     let leavings = [
         (3, leaving(1, Some(50))),
@@ -138,7 +138,7 @@ fn each_kind_leaves_at_its_time(rt: HostRuntime) -> Result<(), Fail> {
     Ok(())
 }
 
-// Whether the meter of this place has these records.
+// Whether the meter at this place has these records.
 fn has_records(
     kept: &[Box<dyn Meter>],
     place: usize,
@@ -191,7 +191,7 @@ fn three_meters(alloc: Global) -> Result<Vec<FlowMeter>, AllocError> {
     Ok(meters)
 }
 
-// Whether their records are in order once they have left.
+// Whether the records of three meters are in order after all have left.
 fn stay_in_order(meters: Vec<FlowMeter>) -> Result<bool, AllocError> {
     let mut board = Board::new(meters, 0b1000);
     note_all(
@@ -209,7 +209,7 @@ fn stay_in_order(meters: Vec<FlowMeter>) -> Result<bool, AllocError> {
     Ok(kept.is_empty() && gone.items() == each.as_slice())
 }
 
-/// The records of meters that left are in the order in which they left; of those that left at one
+/// The records of meters that left are in the order in which they left; if several left at the same
 /// packet, in the order of the board.
 #[test]
 fn records_stay_in_order(rt: HostRuntime) -> Result<(), Fail> {

@@ -62,7 +62,7 @@ fn reads_what_is_removed_and_added(rt: HostRuntime) {
 
 const WHOLE: &[u8] = b"priority,src,dst,sport,dport,proto,action\n5,any,any,any,any,any,drop\n";
 
-// Whether the file of this text is a change, by its heading and as it is read.
+// Whether the file of this text is a change, by its heading; `None` if reading it says otherwise.
 fn is_change_file(alloc: Global, text: &[u8]) -> Option<bool> {
     let is_change = is_change(alloc, text).ok()?;
     let is_read = matches!(read_file(alloc, text).ok()?, PolicyFile::Change(_));
@@ -73,12 +73,12 @@ fn is_change_file(alloc: Global, text: &[u8]) -> Option<bool> {
     }
 }
 
-// Whether the text has another heading than this reader looks for.
+// Whether a reader refused the text for its heading.
 fn has_other_heading<T: Drop>(outcome: Result<T, PolicyError>) -> bool {
     refusal(outcome) == Some((1, 0))
 }
 
-// Whether a change and a whole policy are known by their headings, and no reader takes another.
+// Whether a change and a policy are known by their headings, and no reader accepts another one.
 fn are_known(alloc: Global) -> Result<bool, AllocError> {
     let change = file(alloc)?;
     Ok(
@@ -96,7 +96,7 @@ fn files_are_known_by_their_headings(rt: HostRuntime) {
     assert!(rt; are_known(rt.alloc()) == Ok(true));
 }
 
-// Third rows, each with the code of its refusal.
+// Texts of a third row, each with the code of its refusal.
 const REFUSED: [(&str, u32); 15] = [
     ("swap,5", 22),
     ("Remove,5,5", 22),

@@ -1,4 +1,4 @@
-//! The words of cache rules by differing bits, compared with those of their definition.
+//! The words of cache rules, computed by differing bits, compared with those of their definition.
 ghost use Rattle.std.specs.Prelude.{◌<◌, length};
 
 use crate::packets::web_header;
@@ -35,7 +35,7 @@ fn rule(value: u128, mask: u128) -> Option<Rule> {
     })
 }
 
-// Tcp to 10.1.0.0/16, port 80; to 10.1.2.0/24; from 1.0.0.0/8 to 10.0.0.0/8; tcp; all.
+// TCP to 10.1.0.0/16, port 80; to 10.1.2.0/24; from 1.0.0.0/8 to 10.0.0.0/8; TCP; all.
 fn rules() -> Option<[Rule; 5]> {
     Some([
         rule(

@@ -1,4 +1,4 @@
-//! A finder over the regions of a tree that is cut at bit 71, and on the low side at bit 103.
+//! A finder for the regions of a tree that is cut at bit 71, and on its low side at bit 103.
 ghost use Rattle.std.specs.Prelude.{◌≡◌, [], ◌∷◌, false, true, IfOk};
 ghost use Rattle.ternary.specs.Meets.{any_word, fix_of};
 ghost use Rattle.switch_table.specs.Tables.{AreSoundTables};

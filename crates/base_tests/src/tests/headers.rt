@@ -127,7 +127,7 @@ fn reads_protocols(rt: HostRuntime) {
     }
 }
 
-// What a text is read as.
+// The kind of field that a text is read as.
 #[derive(Clone, Copy)]
 enum FieldKind {
     Prefix,
@@ -170,7 +170,7 @@ fn writes_fields(rt: HostRuntime) {
     }
 }
 
-// Whether a packet and an address are written so.
+// Whether a packet and an address are written like this.
 fn are_written(alloc: Global, packet: &str, address: &[u8]) -> Result<bool, AllocError> {
     let fields = web_fields(47).to_string(alloc)?;
     let source = write_address(alloc, 0x0a01_0101)?;

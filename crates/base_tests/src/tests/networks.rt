@@ -107,7 +107,7 @@ fn refuses_with_code_and_row(rt: HostRuntime) {
     }
 }
 
-// Two switches, their link, and a second row of links.
+// Two switches, their link, and the beginning of a second link.
 const PAIR: &str = "[[switch]]\nname = \"a\"\n[[switch]]\nname = \"b\"\n[[link]]\n\
      ends = [\"a\", \"b\"]\n[[link]]\n";
 
@@ -164,8 +164,8 @@ fn three(alloc: Global) -> Result<Net, NetError>
     read_net(alloc, text.as_bytes())
 }
 
-// Whether the switches are known by their names, and 2 and 0 are printed by theirs, and one that
-// doesn't exist isn't.
+// Whether switch 2 is found by its name, and 2 and 0 are printed by theirs, and one that doesn't
+// exist as no name.
 fn have_names(alloc: Global, net: &Net) -> Result<bool, AllocError>
     requires { IsNet net.now }
 {

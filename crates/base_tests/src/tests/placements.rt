@@ -5,7 +5,7 @@ use base::Failure;
 use placement::{NoRoom, place};
 use std::alloc::Global;
 
-// Whether one partition of 3 rules finds no room on one switch, which has so much.
+// Whether one partition of 3 rules finds too few switches, if there is one with this room.
 fn has_no_room(alloc: Global, room: u32, backups: u32) -> bool
     requires { backups ≤ 3 }
 {
@@ -39,7 +39,7 @@ fn rooms_too_small_and_large_enough(rt: HostRuntime) {
 
 #[test]
 fn the_least_loaded_switch_with_room_comes_first(rt: HostRuntime) {
-    // Partition 1 goes to switch 0 and 2 to switch 1; then 0 fits only beside 1, and 3 beside 2.
+    // Partition 1 goes to switch 0 and 2 to switch 1; then 0 fits only with 1, and 3 joins 2.
     let wanted: [&[u32]; 4] = [&[0], &[0], &[1], &[1]];
     assert!(rt; is_placed(rt.alloc(), &[2, 5, 5, 1], &[10, 6], 0, &wanted));
 }

@@ -69,7 +69,7 @@ fn refuses_other_headings(rt: HostRuntime) {
     assert!(rt; empty == Some((1, 0)) && short == Some((1, 0)));
 }
 
-// Second rows, each with the code of its refusal.
+// Texts of a second row, each with the code of its refusal.
 const REFUSED: [(&str, u32); 9] = [
     ("8,any,any,any,any,any", 2),
     ("4294967296,any,any,any,any,any,drop", 3),

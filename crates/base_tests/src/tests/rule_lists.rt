@@ -1,4 +1,4 @@
-//! The rules of policies with known words, and lists of targets.
+//! The rules of policies whose words are known, and lists of targets.
 ghost use Rattle.std.specs.Prelude.{◌<◌, ◌^◌, length};
 
 use crate::packets::web_header;
@@ -40,12 +40,12 @@ fn rules_of(alloc: Global, rows: &[Row]) -> Option<Vec<Rule>>
     to_rules(alloc, &policy_of(alloc, rows)?).ok()
 }
 
-// Of 10.0.0.0/8, to port 2.
+// TCP to 10.0.0.0/8 leaves by port 2.
 fn wide_row() -> Row {
     row(100, Prefix::new(0x0a00_0000, 8), (ANY, ANY), Action::Out(2))
 }
 
-// Of 10.1.0.0/16 and port 80, dropped.
+// TCP to 10.1.0.0/16, port 80, is dropped.
 fn web_row() -> Row {
     let web = PortRange { low: 80, high: 80 };
     row(200, Prefix::new(0x0a01_0000, 16), (ANY, web), Action::Drop)
@@ -80,7 +80,7 @@ const SCANNED: [(u32, Hit); 3] = [
     ),
 ];
 
-// The place of the first row of the table that isn't so, or how many rows it has.
+// The place of the first row of the table that a scan doesn't give, or how many rows it has.
 fn scanned(alloc: Global) -> Option<usize> {
     let policy = policy_of(alloc, &[wide_row(), web_row()])?;
     for (place, (dst, hit)) in SCANNED.iter().enumerate() {
@@ -96,14 +96,14 @@ fn scans_for_the_first_match(rt: HostRuntime) {
     assert!(rt; scanned(rt.alloc()) == Some(3));
 }
 
-// The place, the name and the mask of each rule, and a destination that it is the first for.
+// The place, the name and the mask of each rule, and a destination that it is the first to match.
 const LISTED: [(usize, Option<u32>, u128, u32); 3] = [
     (0, Some(200), 0xffff_0000_0000_ffff_ff, 0x0a01_0505),
     (1, Some(100), 0xff00_0000_0000_0000_ff, 0x0a02_0001),
     (2, None, 0, 0x0b00_0001),
 ];
 
-// Whether the rule of this place has its rank, this name and this mask.
+// Whether the rule at this place has its place as its rank, this name and this mask.
 fn is_listed(rules: &[Rule], place: usize, name: Option<u32>, mask: u128) -> bool {
     match rules.get(place) {
         Some(rule) => {
@@ -113,7 +113,7 @@ fn is_listed(rules: &[Rule], place: usize, name: Option<u32>, mask: u128) -> boo
     }
 }
 
-// The place of the first row of the table that isn't so, or how many rules there are.
+// The place of the first row of the table that isn't the rule's, or how many rules there are.
 fn listed(alloc: Global) -> Option<usize> {
     let rules = two_rules(alloc)?;
     for (place, name, mask, dst) in &LISTED {
@@ -130,7 +130,7 @@ fn lists_rows_by_falling_priority_and_hits_the_first(rt: HostRuntime) {
     assert!(rt; listed(rt.alloc()) == Some(3));
 }
 
-// How many rules a row of two ranges of 30 blocks makes, beside the default.
+// How many rules a row with two ranges of 30 blocks makes, with the default.
 fn rule_count(alloc: Global) -> Option<usize> {
     let ports = PortRange {
         low: 1,

@@ -1,4 +1,4 @@
-//! The tree over forty rules, compared with the search through them.
+//! The tree of forty rules, compared with a search through the list.
 ghost use Rattle.std.specs.Prelude.{◌<◌, ◌^◌, IfOk, length};
 
 use crate::packets::web_header;

@@ -9,7 +9,7 @@ use std::alloc::{AllocError, Global};
 const NETWORK: &[u8] = b"switch = [{ name = 'a', ports = [1] }, { name = 'b' }, { name = 'c' }]
 link = [{ ends = ['b', 'a'] }]";
 
-// The rows of a run over other switches: the sixth names one that the network lacks.
+// The rows of a run on other switches: the sixth names one that the network doesn't have.
 const DAY: &str = "packet,a,10.0.1.5,10.0.2.10,40000,443,tcp
 drain
 flush
@@ -61,7 +61,7 @@ fn header() -> Header {
     })
 }
 
-// Whether the event of this place is so.
+// Whether this is the event that is expected at this place.
 fn is_event(place: usize, event: &Event) -> bool {
     let wanted = match place {
         0 => Event::One(Step::Packet {
@@ -99,7 +99,7 @@ fn events(alloc: Global, text: &[u8]) -> Option<Vec<Event>> {
     read_schedule(alloc, text, &net, 1).ok()
 }
 
-// The place of the first event that is another one, or how many there are.
+// The place of the first event that isn't the expected one, or how many there are.
 fn read_events(alloc: Global) -> Option<usize> {
     let events = events(alloc, EVENTS)?;
     for (place, event) in events.iter().enumerate() {
@@ -134,7 +134,7 @@ fn refused(alloc: Global, text: &[u8], files: u32) -> Option<(u32, u32)> {
     refusal(read_schedule(alloc, text, &net, files))
 }
 
-// The same of these rows.
+// The same for the text of these rows.
 fn refused_rows(alloc: Global, rows: &str, files: u32) -> Result<Option<(u32, u32)>, AllocError> {
     let text = under_heading(alloc, rows)?;
     Ok(refused(alloc, &text, files))
@@ -148,7 +148,7 @@ fn refuses_days_and_headings(rt: HostRuntime) {
     assert!(rt; refused(rt.alloc(), wide, 1) == Some((1, 0)));
 }
 
-// Second rows, each with the code of its refusal.
+// Texts of a second row, each with the code of its refusal.
 const REFUSED: [(&str, u32); 19] = [
     ("drain,now", 2),
     ("packet,z,1.2.3.4,10.2.0.1,any,80", 2),

@@ -1,4 +1,4 @@
-//! Files and outputs, at each kind.
+//! Files and outputs, with each kind of shelf and of sink.
 use shelf::{
     CalmShelf, CalmSink, DiskShelf, MemShelf, MemSink, Shelf, ShelfError, Sink, SinkError, StdSink,
     write_whole,
@@ -28,7 +28,7 @@ fn gives(shelf: &mut impl Shelf, name: &str, limit: u64, content: &[u8]) -> bool
     }
 }
 
-// Whether a shelf in memory, whose first call fails, returns the one file or says why not.
+// Whether a shelf in memory, whose first read fails, then returns its one file, and each error.
 fn gives_in_memory(alloc: Global) -> Result<bool, AllocError> {
     let mut shelf = MemShelf::new(alloc, one_file(alloc)?, vec![in alloc; 1]?);
     Ok(
@@ -68,7 +68,7 @@ fn keeps_what_came_before_a_fault(rt: HostRuntime) {
     assert!(rt; keeps_first(rt.alloc()) == Ok(true));
 }
 
-// Whether this many bytes are written.
+// Whether a sink gets this many bytes.
 fn takes(alloc: Global, count: usize) -> Result<bool, AllocError> {
     let bytes = vec![in alloc; 7u8; count]?;
     let mut calm = CalmSink::new(alloc);
@@ -112,7 +112,7 @@ fn tells_a_full_slice(rt: HostRuntime) {
     assert!(rt; written.err() == Some(SinkError::Failed) && room.as_slice() == b"fou".as_slice());
 }
 
-// What it accepts is buffered until the flush, which finds room for three bytes.
+// What the stream accepts is buffered until the flush, which has room for only three bytes.
 #[test]
 fn tells_a_failed_flush(rt: HostRuntime) -> Result<(), Fail> {
     let mut room = [0; 3];

@@ -2,7 +2,7 @@
 use std::alloc::{AllocError, Global};
 use ternary::Word;
 
-// The word of these numbers, or the word without bits if these numbers are no word.
+// The word of these numbers, or the word of all headers if there is none.
 fn word(value: u128, mask: u128) -> Word {
     match Word::new(value, mask) {
         Some(word) => word,
@@ -32,7 +32,7 @@ fn words_meet_and_cover(rt: HostRuntime) {
     assert!(rt; are_met(&high) && are_covered(&high));
 }
 
-// Whether both numbers of a word are printed so.
+// Whether both numbers of a word are printed like this.
 fn is_printed(alloc: Global, wanted: &str) -> Result<bool, AllocError> {
     let word = word(0x0a02_0000_0000_0000_06, 0xff02_0000_0000_0000_ff);
     Ok(word.to_string(alloc)?.as_str() == wanted)

@@ -29,7 +29,7 @@ fn sent(alloc: Global, number: u32, to: Place, body: Body) -> Result<Item, Fail>
     Ok(Item::Sent { number, message })
 }
 
-// Pushes the item; nothing more is known of the journal.
+// Pushes the item, with no contract about the journal.
 fn push(journal: &mut Journal, item: Item) -> Result<(), Fail> {
     journal.push(item)?;
     Ok(())
@@ -144,7 +144,7 @@ fn exiting(alloc: Global) -> Result<Item, Fail> {
     })
 }
 
-// Stuck at a, on its way to a port, where it found the link to b down.
+// Packet 2 is stuck at a, on its way to port 2; it found the link to b down.
 fn stuck(alloc: Global) -> Result<Item, Fail> {
     let mut down = DownSet::empty();
     down.add(0, 1);

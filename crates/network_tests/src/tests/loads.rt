@@ -1,4 +1,4 @@
-//! How many packets asked partitions, and a better placement of them.
+//! The weights of partitions, and a placement of them with a lower peak.
 use base::Failure;
 use journal::{Action, How, Item, Journal};
 use placement::{NoRoom, place};
@@ -24,8 +24,8 @@ fn asked(partition: u32) -> How {
     }
 }
 
-// Pushes these decisions, each of a packet, a version and how it was decided; nothing more is known
-// of the journal.
+// Pushes these decisions, each of a packet by a version and in this way, with no contract about
+// the journal.
 fn push_decided(journal: &mut Journal, all: &[(u32, u32, How)]) -> Result<(), AllocError> {
     for (packet, version, how) in all {
         journal.push(decided(*packet, *version, *how))?;
@@ -42,7 +42,7 @@ fn weigh(alloc: Global, journal: &Journal, wanted: &[u64]) -> Result<bool, Alloc
     Ok(weights(alloc, journal, 3)?.as_slice() == wanted)
 }
 
-// Whether partitions weigh what their authorities decided by the current version.
+// Whether weights count only what authorities decided by the current version.
 fn weigh_by_version(alloc: Global) -> Result<bool, AllocError> {
     let mut journal = Journal::new(alloc);
     let first = [
@@ -76,7 +76,7 @@ fn are_at(placement: &[Targets], switches: &[u32]) -> bool {
 
 #[test]
 fn a_spread_lowers_the_peak(rt: HostRuntime) -> Result<(), Fail> {
-    // Three partitions, asked once, never and twice, on a switch without room and two with.
+    // Three partitions of weights 1, 0 and 2, on a switch without room and two with room.
     let alloc = rt.alloc();
     let old = place(alloc, &[1, 1, 1], &[0, 8, 8], 0)?;
     let new = spread(alloc, &[1, 1, 1], &[1, 0, 2], &[0, 8, 8], 0)?;

@@ -1,4 +1,4 @@
-//! The marks of versions, of one switch and of two.
+//! The marks of versions, with one switch and with two.
 use version_update::{Marks, Phase, Settled, SubmitError};
 
 fn hello(marks: &mut Marks, s: u32, boot: u32) -> Option<Settled> {
@@ -29,7 +29,7 @@ fn over(marks: &mut Marks, s: u32) -> Option<Settled> {
     Some(marks.over(s))
 }
 
-// Whether a version is added, and none is current by it.
+// Whether a version is added, and none becomes current with it.
 fn is_added(marks: &mut Marks) -> bool {
     match marks.submit() {
         Ok(answer) => answer.current.is_none(),
@@ -37,7 +37,7 @@ fn is_added(marks: &mut Marks) -> bool {
     }
 }
 
-// Whether no version is added, for this many that aren't retired, and the count stays.
+// Whether no version is added, because eight aren't retired, and the count stays.
 fn is_refused(marks: &mut Marks) -> bool {
     marks.refusal() == Some(SubmitError::TooManyLive)
         && marks.submit().err() == Some(SubmitError::TooManyLive)
@@ -62,14 +62,14 @@ fn is_filled(marks: &mut Marks) -> bool {
     is_refused(marks)
 }
 
-// Whether version 2 is current once it is installed, which makes no room yet.
+// Whether version 2 becomes current when it is installed, which makes no room yet.
 fn is_current(marks: &mut Marks) -> Option<bool> {
     let answer = installed(marks, 0, 1, 2)?;
     let is_so = answer.current == Some(2) && answer.stamps == 1 && answer.retired.is_none();
     Some(is_so && is_refused(marks))
 }
 
-// Whether version 1 is retired once the stamp of version 2 is acknowledged, which makes room.
+// Whether version 1 is retired when the stamp of version 2 is acknowledged, which makes room.
 fn is_retired(marks: &mut Marks) -> Option<bool> {
     let answer = stamped(marks, 0, 1, 2)?;
     let is_so = answer.retired == Some(1) && answer.collects == 1;
@@ -92,7 +92,7 @@ fn joins(marks: &mut Marks) -> Option<bool> {
     Some(is_taken && is_old && opens && marks.count() == 1)
 }
 
-// Whether version 2 then is installed at both, and current with the second.
+// Whether version 2 is then installed at both, and becomes current with the second.
 fn is_installed(marks: &mut Marks) -> Option<bool> {
     let is_second = is_added(marks) && marks.count() == 2;
     let is_early = installed(marks, 0, 2, 2)?.current.is_some() || marks.count() != 2;

@@ -1,4 +1,4 @@
-//! Messages that come out of a bag again.
+//! Messages of a post bag, which are delivered or forgotten.
 ghost use Rattle.std.specs.Prelude.{IfOk};
 ghost use Rattle.wire.specs.Messages.{HasSpelling};
 
@@ -25,7 +25,7 @@ fn install(alloc: Global) -> Result<Message, Fail>
     })
 }
 
-// A switch that boots.
+// The message of a switch that boots.
 fn hello() -> Message
     ensures { HasSpelling result }
 {
@@ -43,7 +43,7 @@ fn told(bag: &PostBag, number: u32) -> Result<Option<(Option<u32>, Option<u32>)>
     }
 }
 
-// Posts a message that isn't too long, if the bag isn't full.
+// Posts a message of at most 1 MiB, if the bag isn't full.
 fn post(bag: &mut PostBag, alloc: Global, message: &Message) -> Result<u32, Fail>
     requires { HasSpelling message.now }
 {
@@ -63,7 +63,7 @@ fn deliver(bag: &mut PostBag, number: u32) -> bool {
     true
 }
 
-// Forgets the message, if it exists.
+// Forgets the message, if it may still be delivered.
 fn forget(bag: &mut PostBag, number: u32) -> bool {
     if !bag.may_be_delivered(number) {
         return false;
@@ -80,7 +80,7 @@ fn posted(alloc: Global, bag: &mut PostBag) -> Result<bool, Fail> {
     Ok(hello.body.is_for_controller() && first == 1 && second == 2 && bag.sent() == 2)
 }
 
-// Whether both wait, and only the first one once the second is delivered.
+// Whether the first message is there, and is the only one that waits after the second is delivered.
 fn wait(bag: &mut PostBag) -> Result<bool, Fail> {
     let are_there = told(bag, 0)?.is_none() && told(bag, 1)? == Some((Some(2), Some(3)));
     let is_delivered = deliver(bag, 2);

@@ -8,7 +8,7 @@ use net_file::{Net, read_net};
 use std::alloc::Global;
 use std::test::Fail;
 
-/// Two switches and the link between them, of which b decides.
+/// Two switches with a link between them; b is the authority.
 pub fn pair(alloc: Global) -> Result<Net, Fail>
     ensures { IfOk result IsNet }
 {
@@ -33,7 +33,7 @@ pub fn header() -> Header
 /// A header as a row of a journal has it.
 pub const FIRST: &str = "1.2.3.4 10.2.0.1 5000 80 tcp";
 
-/// What becomes of the first packet if b has no row that decides it.
+/// What is printed of the first packet at b, if no row matches it.
 pub const DROPPED: &str = "  decided 1 v1 rule default drop authority b part 0\n\
     \x20 sent 1 a cache version 1 word 00000000000000000000000000/00000000000000000000000000 \
     rule default drop\n\

@@ -34,7 +34,7 @@ enum ShortItem {
     Hello(u32),
     Forgotten(u32),
     Delivered(u32),
-    /// The switch 1 is down, or it is confirmed as that.
+    /// Switch 1 goes down, or is confirmed as down.
     Down,
     Over,
 }
@@ -153,7 +153,7 @@ fn crashes_are_confirmed(rt: HostRuntime) -> Result<(), Fail> {
 
 // Journals of one switch that waits, and what it waits for.
 const WAITING: [(&[ShortItem], &[ShortItem]); 5] = [
-    // an update is answered though its first message was forgotten: it was sent again
+    // an update goes on though its first message was forgotten, because it was sent again
     (
         &[
             ShortItem::Install(1, 1),

@@ -15,8 +15,8 @@ const fn advert(origin: u32, boot: u32, seq: u32, up: u64) -> Advert {
 }
 
 // Adverts that are heard one after another, by origin, boot, seq and neighbours, each with whether
-// it is news: the boot counts before the seq, of equal ones the first stays, and there are 64
-// switches.
+// it is news: the boot takes precedence over the seq, the first of equal ones stays, and there are
+// at most 64 switches.
 const HEARD: [(u32, u32, u32, u64, bool); 5] = [
     (3, 1, 2, 0b1, true),
     (3, 1, 2, 0b10, false),
@@ -84,7 +84,7 @@ fn without_b_d() -> DownSet {
     down
 }
 
-// Whether the route from this switch, with these neighbours, to the first of these targets is so.
+// Whether this is the route from the switch, with these neighbours, to the first target it reaches.
 fn is_route(
     base: &Database,
     (from, near): (u32, u64),
@@ -142,7 +142,7 @@ fn sets_out() -> Option<Tunnel> {
     Some(Tunnel::begin(1, header, 0, leg, targets, route, no_links()))
 }
 
-// Goes on to the next switch of the route.
+// Moves on to the next switch of the route.
 fn goes_on(packet: &mut Tunnel) -> Option<u32> {
     let next = packet.next()?;
     packet.advance();
@@ -156,7 +156,7 @@ fn finds_down(packet: &mut Tunnel) -> Option<u32> {
     Some(next)
 }
 
-// Takes a new route from where it is.
+// Takes a new route from the switch where it is.
 fn turns(packet: &mut Tunnel, near: u64) -> bool {
     packet.reroute(&square(), near)
 }
@@ -165,7 +165,7 @@ fn is_on(packet: &Tunnel, route: &[u32], place: u32) -> bool {
     packet.route.items() == route && packet.place == place
 }
 
-// Whether it goes to b, and there finds the link to d down.
+// Whether it moves to b, and there finds the link to d down.
 fn finds_b_d_down(packet: &mut Tunnel) -> bool {
     packet.here() == 0
         && goes_on(packet) == Some(1)
@@ -174,7 +174,7 @@ fn finds_b_d_down(packet: &mut Tunnel) -> bool {
         && packet.down.has(3, 1)
 }
 
-// Whether it goes round that link, and keeps its route if it has no links.
+// Whether it takes a route around that link, and keeps it if its switch has no usable links.
 fn goes_round(packet: &mut Tunnel) -> bool {
     turns(packet, 0b0001)
         && is_on(packet, &[1, 0, 2, 3], 0)

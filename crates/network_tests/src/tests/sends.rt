@@ -227,7 +227,7 @@ fn sent(
     heard(rt, alloc, controller, &body)
 }
 
-// Makes the calls one after another, and asserts that just these acts follow each.
+// Makes the calls one after another, and asserts that exactly these acts follow each.
 fn follows(rt: &impl Abort, alloc: Global, calls: &[(Call, &[Seen])]) -> Result<(), Fail> {
     let (mut controller, plan) = two_switches(alloc)?;
     for (call, wanted) in calls {

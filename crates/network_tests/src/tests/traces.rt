@@ -49,7 +49,7 @@ const GOOD: [&[&str]; 8] = [
     &["row 0:  packet\n", "row \n", "  nothing\n", "quiet \n"],
 ];
 
-/// Such traces with the number of the first bad line.
+/// Traces under the two rows, each with the number of its first bad line.
 const BAD: [(&[&str], u32); 44] = [
     // no header is pending, or none any longer
     (&[ENTERED], 1),

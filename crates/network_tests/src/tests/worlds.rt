@@ -11,8 +11,8 @@ use std::test::Fail;
 use steps::Step;
 use world::World;
 
-/// After the first packet, which b drops because the policy has no row: its rule is cached,
-/// decides the second one, and times out; the third one is lost.
+/// What follows after the first packet, which b drops because the policy has no row: its rule is
+/// cached, decides the second one, and expires; the third one is lost.
 const REST: &str = "row 3: deliver 1\n\
     \x20 delivered 1\n\
     row 4: packet a 1.2.3.4 10.2.0.1 5000 80 tcp\n\
@@ -42,7 +42,7 @@ fn take(rt: &impl Abort, world: &mut World, row: u32, step: &Step) -> Result<(),
     Ok(())
 }
 
-// Three packets enter at a.
+// Takes steps in which three packets enter at a.
 fn play(rt: &impl Abort, world: &mut World) -> Result<(), Fail>
     requires { 1 ≤ length world.old.net.switches }
 {

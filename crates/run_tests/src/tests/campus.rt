@@ -1,14 +1,14 @@
 //! A whole day of a campus: caches, a link that fails, and an update. These are the files of
 //! `crates/examples/data/day`, where the gate compares what they print.
 
-/// Four switches around a square, of which two decide.
+/// Four switches in a square, two of which are authorities.
 pub const CAMPUS: &str = "backups = 1\n\
     switch = [{ name = \"a\", ports = [1] }, { name = \"b\", authority = 1000 }, \
     { name = \"c\", authority = 1000 }, { name = \"d\", ports = [2, 3] }]\n\
     link = [{ ends = [\"a\", \"b\"] }, { ends = [\"a\", \"c\"] }, { ends = [\"b\", \"d\"] }, \
     { ends = [\"c\", \"d\"] }]\n";
 
-/// Servers attached to d, and the way out.
+/// A policy for servers at d and for what leaves the campus.
 pub const ONE: &str = "priority,src,dst,sport,dport,proto,action\n\
     600,any,10.0.2.10/32,any,443,tcp,out:2\n\
     500,10.0.1.0/24,10.0.2.0/24,1024-65535,22,tcp,out:2\n\

@@ -7,11 +7,11 @@ use std::test::Fail;
 const POLICY: &str = "priority,src,dst,sport,dport,proto,action\n\
     100,10.0.0.0/8,any,any,80,tcp,out:3\n50,any,any,any,any,any,drop\n";
 
-/// Another row that replaces the first one.
+/// A change that replaces the first row by another one.
 const OTHER: &str = "op,priority,src,dst,sport,dport,proto,action\n\
     remove,100\nadd,90,10.0.0.0/8,any,any,443,tcp,out:4\n";
 
-/// And another that replaces that one.
+/// A change that replaces that row by a third one.
 const THIRD: &str = "op,priority,src,dst,sport,dport,proto,action\n\
     remove,90\nadd,80,10.0.0.0/8,any,any,443,tcp,drop\n";
 
@@ -27,7 +27,7 @@ const SWAP: &str = "op,priority,src,dst,sport,dport,proto,action\nswap,5\n";
 const TWICE: &str = "op,priority,src,dst,sport,dport,proto,action\n\
     remove,100\nadd,100,any,any,any,any,any,out:1\nremove,100\n";
 
-/// The second row names a port that the network lacks.
+/// The second row names a port that the network doesn't have.
 const PORT_5: &str = "op,priority,src,dst,sport,dport,proto,action\n\
     remove,100\nadd,100,any,any,any,any,any,out:5\n";
 
@@ -84,7 +84,7 @@ fn adding(alloc: Global) -> Result<String, AllocError> {
     Ok(text)
 }
 
-/// The codes of changes that don't fit come in their order.
+/// A change that can't be applied is refused with the code of the first reason, in their order.
 #[test]
 fn refuses_changes(rt: HostRuntime) -> Result<(), Fail> {
     let alloc = rt.alloc();
@@ -99,9 +99,9 @@ fn refuses_changes(rt: HostRuntime) -> Result<(), Fail> {
 const UPDATES: &str = "event,arguments\n\
     update,2\nupdate,3\nupdate,2\nupdate,1\nupdate,3\nupdate,2\n";
 
-/// No version but the first is current. Each change is applied to the newest one all the same, and
-/// what became of it before doesn't matter: the third policy has no row 100, and the fourth, which
-/// is the first file's again, has that but no row 90.
+/// Only version 1 becomes current. Yet each change is applied to the newest version, whatever
+/// became of the change before: the third policy has no row 100, and the fourth, which is the first
+/// file's again, has that but no row 90.
 const VERSIONS: &str = "row 1: update 2\n\
     \x20 submitted file 2 version 2\n\
     \x20 sent 1 s0 install boot 1 version 2\n\

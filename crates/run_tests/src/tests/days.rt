@@ -1,4 +1,4 @@
-//! The day of a campus, at which reads and writes fail and whose files are cut short.
+//! The day of a campus, with reads and writes that fail, and files that are cut short.
 use crate::runs::{Recorded, calls, ended, recorded_over, shelf_with_fault};
 use crate::tests::campus::{DAY_ARGS, DAY_FILES};
 use shelf::{MemShelf, MemSink};

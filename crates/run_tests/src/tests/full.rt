@@ -1,4 +1,4 @@
-//! The hub of a star of 64 switches, which sends everything again until no more fits.
+//! The hub of a star of 64 switches, which sends everything again until the journal is full.
 use crate::files::DROP;
 use crate::runs::{Ran, calls, ended, metered, shelf_of};
 use shelf::MemSink;
@@ -8,7 +8,7 @@ use std::test::Fail;
 
 const ARGS: [&str; 5] = ["replay", "s.csv", "p.csv", "--net", "n.toml"];
 
-/// A hub that decides, with a link to each of 63 other switches.
+/// A hub that is the authority, with a link to each of 63 other switches.
 fn star(alloc: Global) -> Result<String, Fail> {
     let mut switches = String::new(alloc);
     let mut links = String::new(alloc);

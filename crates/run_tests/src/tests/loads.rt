@@ -48,7 +48,7 @@ fn draws_the_case(rt: HostRuntime) -> Result<(), Fail> {
     Ok(())
 }
 
-/// The packets that met no row at the switch of this number.
+/// The packets that this authority decided by the default, because no row matched them.
 fn unmatched_at(alloc: Global, items: &[Item], authority: u32) -> Result<Vec<u32>, AllocError> {
     let mut packets = Vec::new(alloc);
     for item in items {
@@ -67,7 +67,7 @@ fn unmatched_at(alloc: Global, items: &[Item], authority: u32) -> Result<Vec<u32
     Ok(packets)
 }
 
-/// The play is that of the case: no row matches a packet, at the authority n1.
+/// The play is that of the case: the authority n1 decides, and no row matches any packet.
 #[test]
 fn plays_the_case(rt: HostRuntime) -> Result<(), Fail> {
     let alloc = rt.alloc();

@@ -95,8 +95,8 @@ fn flows_are_told(rt: HostRuntime) -> Result<(), Fail> {
     Ok(())
 }
 
-/// A meter of a port that the network lacks comes back if the grammar doesn't have the arguments,
-/// and with a plan; it is dropped by a play, and if a file of a play is refused.
+/// A meter at a port that the network doesn't have is given back if the grammar doesn't have the
+/// arguments, and by `compile`; it is dropped by a play, and if a file of a play is refused.
 #[test]
 fn meters_come_back_where_nothing_is_played(rt: HostRuntime) -> Result<(), Fail> {
     let alloc = rt.alloc();

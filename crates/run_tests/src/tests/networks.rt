@@ -10,8 +10,8 @@ const OTHER_PORT: &str = "priority,src,dst,sport,dport,proto,action\n7,any,any,a
 
 const NO_ROOM: &str = "switch = [{ name = \"a\", ports = [1, 2] }]\n";
 
-/// Schedules, policies and networks, of which one file is refused before the next one is looked at:
-/// the network, the schedule, the policy's ports and its plan.
+/// Schedules, policies and networks, one of which is refused before the next one is checked: the
+/// network, the schedule, the policy's ports and its plan.
 const REFUSED: [(&str, &str, &str, &str); 4] = [
     (
         HOP_01,

@@ -129,8 +129,8 @@ fn refuses_with_a_cause(rt: HostRuntime) {
     }
 }
 
-/// The read, the write and the write of the line of errors that fails, how many bytes a write takes
-/// at most, and how the run ends: its status, its output and its line of errors.
+/// The read, the write and the write of the line of errors that fail, the most bytes that a write
+/// accepts, and how the run ends: its status, its output and its line of errors.
 const FAULTS: [(u64, u64, u64, u64, u8, &str, &str); 4] = [
     (0, 2, 0, 10, 5, "row 1: pac", "difane: write fault\n"),
     (1, 0, 0, u64::MAX, 4, "", "difane: read fault\n"),
@@ -184,7 +184,7 @@ fn refuses_a_policy_too_long(rt: HostRuntime) {
     assert!(rt; ends(ran, 3, "", "difane: input p.csv code 20 row 0\n"));
 }
 
-// Only the status: a play that sends this many messages is long.
+// Tests only the status: a play that sends so many messages takes long.
 #[test]
 fn tells_a_full_play(rt: HostRuntime) {
     let status = Status::Full { row: 247 };

@@ -27,8 +27,8 @@ const PLAN: [&str; 2] = [
     \u{20} rank 1 rule 10 word 00000000800000000000000000/00000000800000000000000000 out:1\n",
 ];
 
-/// Of partitions that were asked once, never and twice, the first moves to the switch of the
-/// second; if none was asked, all stay. The meters come back, with no packet recorded.
+/// Of partitions of weights 1, 0 and 2 the first moves to the switch of the second; if all weights
+/// are 0, all stay. The meters are given back, with no packet recorded.
 #[test]
 fn placements_are_proposed(rt: HostRuntime) -> Result<(), Fail> {
     let alloc = rt.alloc();

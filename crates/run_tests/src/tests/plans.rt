@@ -100,7 +100,7 @@ fn plans_within_room(rt: HostRuntime) -> Result<(), Fail> {
     Ok(())
 }
 
-/// 513 rows, each of which is alone in its leaf.
+/// 513 rows, each in a leaf of its own.
 fn hosts(alloc: Global) -> Result<String, Fail> {
     let mut text = String::from_str(alloc, "priority,src,dst,sport,dport,proto,action\n")?;
     for k in 1..514u32 {
@@ -114,7 +114,7 @@ fn hosts(alloc: Global) -> Result<String, Fail> {
     Ok(text)
 }
 
-/// 3,600 words.
+/// Four rows of 900 words each.
 const WIDE_ROWS: &str = "priority,src,dst,sport,dport,proto,action\n\
     1,any,any,1-65534,1-65534,any,drop\n\
     2,any,any,1-65534,1-65534,any,drop\n\
@@ -128,7 +128,7 @@ fn plans_up_to_4096_words(rt: HostRuntime) -> Result<(), Fail> {
     Ok(())
 }
 
-/// Whether the rules of the policy have no tree of 512 leaves with a rule each.
+/// Whether the tree of the policy's rules, of one rule in each leaf, has more than 512 leaves.
 fn has_too_many_leaves(alloc: Global, policy: &str) -> Result<bool, Fail> {
     let rules = to_rules(alloc, &read_policy(alloc, policy.as_bytes())?)?;
     Ok(matches!(

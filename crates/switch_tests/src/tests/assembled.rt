@@ -1,4 +1,4 @@
-//! Frames of messages, put together in another order than theirs.
+//! Frames of messages, fed to an assembler in another order than theirs.
 ghost use Rattle.wire.specs.Messages.{HasSpelling};
 
 use crate::tests::messages::{collect, install};
@@ -7,7 +7,7 @@ use std::alloc::Global;
 use std::test::*;
 use wire::{Assembler, Frames, encode, split};
 
-// The frames of a message that isn't too long.
+// The frames of a message; `None` if its encoding is longer than 1 MiB, or out of memory.
 fn frames(alloc: Global, message: &Message) -> Option<Frames>
     requires { HasSpelling message.now }
 {
@@ -20,7 +20,7 @@ fn frames(alloc: Global, message: &Message) -> Option<Frames>
     split(alloc, message).ok()
 }
 
-// Whether this is the message's only frame.
+// Whether this is the only frame of the `Collect` message.
 fn is_one(alloc: Global, frame: &[u8]) -> Option<bool> {
     let frames = frames(alloc, &collect())?;
     Some(frames.get(0) == Some(frame) && frames.get(1).is_none())
@@ -55,7 +55,7 @@ fn have_lengths(frames: &Frames) -> bool {
     frames.get(4).is_none()
 }
 
-// Whether the last of the frames that come in another order, one of them twice, makes it whole.
+// Whether only the last of these frames, in another order and with one twice, makes it whole.
 fn are_put_together(alloc: Global, frames: &Frames) -> bool {
     let mut assembler = Assembler::new(alloc);
     for place in [3, 1, 1, 0] {

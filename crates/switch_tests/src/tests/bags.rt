@@ -1,4 +1,4 @@
-//! Messages that come out of a bag of frames.
+//! Messages that are posted in a bag of frames and taken out again.
 ghost use Rattle.wire.specs.Messages.{HasSpelling};
 
 use crate::tests::messages::{collect, hello, install, install_of};
@@ -10,7 +10,7 @@ use std::test::*;
 use switch_table::Tables;
 use wire::encode;
 
-// Posts a message that isn't too long, if the bag isn't full.
+// Posts a message of at most 1 MiB, if the bag has fewer than 1,000.
 fn post(bag: &mut Bag, alloc: Global, message: &Message) -> Result<u32, Fail>
     requires { HasSpelling message.now }
 {
@@ -37,8 +37,8 @@ fn installed(bag: &Bag, number: u32) -> Result<Option<(Place, u32, usize)>, Fail
     }
 }
 
-// Posts two small messages round three installations: of tables of 40,000 bytes, of 52 bytes, and
-// of the first ones again.
+// Posts three installations, of tables of 40,000 bytes, of 52 bytes, and of the first ones again,
+// with a small message before and after them.
 fn post_five(alloc: Global, bag: &mut Bag) -> Result<[u32; 5], Fail> {
     Ok([
         post(bag, alloc, &collect())?,
@@ -89,7 +89,7 @@ fn first_rules(tables: &Tables) -> Option<&[Rule]> {
     }
 }
 
-// Whether the installation of this number is this one, whose tables have one partition.
+// Whether the message of this number is this installation, whose tables have one partition.
 fn gives(bag: &Bag, number: u32, message: &Message) -> Result<bool, Fail> {
     let taken = take(bag, number)?;
     match (&taken.body, &message.body) {
@@ -137,7 +137,7 @@ fn installations_of_the_same_tables_each_come_out_as_their_own(
         let message = install_of(alloc, *version, *switch, *boot, *defaults, *rows)?;
         assert!(rt; post(&mut bag, alloc, &message)? == *number);
     }
-    // Each is delivered twice.
+    // Each is taken twice.
     for (number, version, switch, boot, defaults, rows) in INSTALLATIONS
         .iter()
         .chain(&INSTALLATIONS)

@@ -1,10 +1,10 @@
-//! The words of cache rules after an earlier rule.
+//! The words of cache rules that must not overlap an earlier rule.
 use cache_maker::widen;
 use five_tuple::{Fields, Header};
 use policy_rules::{Action, Rule, first_hit};
 use ternary::Word;
 
-// Tcp to 10.1.0.0/16, port 80, is dropped; other tcp to 10.0.0.0/8 leaves; the default drops.
+// TCP to 10.1.0.0/16, port 80, is dropped; other TCP to 10.0.0.0/8 leaves; the default drops.
 fn rules() -> Option<[Rule; 3]> {
     let web = Word::new(
         0x00000000_0a010000_0000_0050_06,

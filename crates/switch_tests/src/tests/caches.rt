@@ -1,4 +1,4 @@
-//! Caches by calls, and tables that a clone shares.
+//! Calls of caches, and tables that a clone shares.
 use policy_rules::{Action, Targets};
 use std::alloc::Global;
 use std::test::Fail;
@@ -17,7 +17,7 @@ fn entry(version: u32, address: u128, message: u32) -> Result<CacheEntry, Fail> 
     })
 }
 
-// Adds the entry; nothing more is known of the cache.
+// Adds the entry, with no contract about the cache.
 fn accept(cache: &mut Cache, stamp: u32, entry: CacheEntry) -> Result<(), Fail> {
     cache.accept(stamp, entry)?;
     Ok(())
@@ -39,7 +39,7 @@ fn the_first_entry_goes_from_a_full_cache(rt: HostRuntime) -> Result<(), Fail> {
     Ok(())
 }
 
-// A cache that was raised from version 1 to 2.
+// Adds entries of versions 1 and 2, raises the cache from version 1 to 2, and adds an old entry.
 fn raised(cache: &mut Cache) -> Result<(), Fail> {
     accept(cache, 1, entry(1, 0x0a02_0000, 1)?)?;
     accept(cache, 1, entry(2, 0x0a02_0000, 2)?)?;
@@ -137,7 +137,7 @@ fn of_hosts(alloc: Global, count: u32) -> Result<Cache, Fail> {
     Ok(cache)
 }
 
-// The message of the first entry for this address, as the masks lead to it and as the list has it.
+// The message of the first entry for this address, as found by the masks and in the list.
 fn told_twice(cache: &Cache, address: u32) -> (Option<u32>, Option<u32>) {
     let number = u128::from(address) << 40;
     let listed = cache
@@ -170,7 +170,7 @@ fn pairs(alloc: Global, numbers: &[u128]) -> Result<Touched, Fail> {
     Ok(touched)
 }
 
-// A cache of the addresses 0 to 11, after it is carried to each version, which touches these
+// A cache of the addresses 0 to 11, carried to each of these versions in turn, which touch these
 // pairs.
 fn carried_by(alloc: Global, versions: &[(u32, &[u128])]) -> Result<Cache, Fail> {
     let mut cache = of_hosts(alloc, 12)?;
@@ -180,8 +180,8 @@ fn carried_by(alloc: Global, versions: &[(u32, &[u128])]) -> Result<Cache, Fail>
     Ok(cache)
 }
 
-/// Of twelve addresses six are in the pairs 1, 2 and 4: whether a list has all three of them, two
-/// or one, what is carried is the same. The pairs from 6 on touch nothing.
+/// Six of twelve addresses are in the pairs 1, 2 and 4: the same entries are carried, whether one
+/// list has three of these pairs, two or one. The pairs from 6 on touch nothing.
 #[test]
 fn three_words_touch_what_each_of_them_does(rt: HostRuntime) -> Result<(), Fail> {
     let ways: [(u32, &[(u32, &[u128])]); 5] = [

@@ -64,7 +64,7 @@ pub fn cache_rule() -> Message
     }
 }
 
-// Rules that drop: of no row, in 38 bytes each, and of a row, in 42 bytes each.
+// Rules that drop: this many defaults, encoded in 38 bytes each, and this many of rows, in 42.
 fn rules(alloc: Global, defaults: u32, rows: u32) -> Result<Vec<Rule>, Fail>
     ensures { IfOk result (λ rules. length rules.items < 2 ^ 32) }
 {
@@ -91,7 +91,7 @@ fn rules(alloc: Global, defaults: u32, rows: u32) -> Result<Vec<Rule>, Fail>
     Ok(rules)
 }
 
-/// An installation of one partition: its tables are encoded in 52 bytes, and 38 or 42 for each
+/// An installation of one partition: its tables are encoded in 52 bytes, plus 38 or 42 for each
 /// rule.
 pub fn install(alloc: Global, defaults: u32, rows: u32) -> Result<Message, Fail>
     ensures { IfOk result HasSpelling }

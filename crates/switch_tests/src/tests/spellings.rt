@@ -38,7 +38,7 @@ fn stamps_have_their_words(rt: HostRuntime) -> Result<(), Fail> {
     Ok(())
 }
 
-// Whether the bytes encode the Hello of the switch 0 in its second boot.
+// Whether the bytes encode the `Hello` of switch 0 in its second boot.
 fn is_hello(alloc: Global, bytes: &[u8]) -> bool {
     match decode(alloc, bytes) {
         Ok(read) => {
@@ -53,7 +53,7 @@ fn a_spelling_is_read(rt: HostRuntime) {
     assert!(rt; is_hello(rt.alloc(), &[255, 7, 0, 0, 0, 0, 2]));
 }
 
-// Whether the encoding is decoded, and neither a part of it nor one with a byte more is.
+// Whether the encoding is decoded, but no proper beginning of it, nor the encoding and a byte more.
 fn is_read_alone(alloc: Global, message: &Message) -> Result<bool, AllocError>
     requires { HasSpelling message.now }
 {

@@ -1,5 +1,5 @@
-//! One switch by its calls: a packet decided at an authority switch, a packet on its way to one
-//! and at a link that is down, and a switch through two versions, a crash and a new boot.
+//! Calls of one switch: a packet decided at an authority switch, a packet on its way to one and at
+//! a link that is down, and a switch with two versions, a crash and a new boot.
 ghost use Rattle.std.specs.Prelude.{◌≡◌, [], ◌∷◌, None, IfOk, IsSomeAnd, IsTrue};
 ghost use Rattle.five_tuple.specs.declared.header.Header.{Header};
 ghost use Rattle.ternary.specs.Meets.{any_word};
@@ -42,7 +42,7 @@ fn tables(alloc: Global, version: u32, auth: Vec<Partition>) -> Result<Tables, F
     })
 }
 
-// Of a switch that is no authority.
+// Tables of a switch that is no authority.
 #[tactic(auto, using(crate::proofs::TestTables::sound_ingress))]
 fn ingress_tables(alloc: Global, version: u32) -> Result<SharedTables, Fail>
     ensures sound { IfOk result AreSoundTables }
@@ -52,7 +52,7 @@ fn ingress_tables(alloc: Global, version: u32) -> Result<SharedTables, Fail>
     Ok(SharedTables::new(alloc, tables)?)
 }
 
-// Of the authority switch.
+// Tables of the authority switch.
 #[tactic(auto, using(crate::proofs::TestTables::sound_authority, crate::proofs::TestTables::own_whole))]
 fn authority_tables(alloc: Global, version: u32) -> Result<SharedTables, Fail>
     ensures sound { IfOk result AreSoundTables }
@@ -98,7 +98,7 @@ const FIELDS: Fields = Fields {
     proto: 6,
 };
 
-// A packet that entered at a, and looks for partition 0 of this version at the end of its way.
+// A packet that entered at a, seeks partition 0 of this version, and is at the end of its route.
 fn seeking(version: u32) -> Result<Tunnel, Fail>
     ensures { IfOk result (λ t. t.leg ≡ Seek version 0) }
 {
@@ -119,7 +119,7 @@ fn is_at(packet: &Tunnel, switch: &Switch) -> bool
     packet.here() == switch.number()
 }
 
-// Whether it is there at the end of its route.
+// Whether the packet is at the switch, at the end of its route.
 fn is_at_end(packet: &Tunnel, switch: &Switch) -> bool
     ensures here { IsTrue result → StandsAt switch.now packet.now.route packet.now.place }
     ensures last { IsTrue result → next packet.now ≡ None }
@@ -153,14 +153,14 @@ fn acknowledged(heard: &Heard) -> Option<(u32, u32)> {
     }
 }
 
-// Whether it accepts tables of this version.
+// Whether b accepts tables of this version, and acknowledges them.
 fn takes_in(alloc: Global, b: &mut Switch, boot: u32, version: u32) -> Result<bool, Fail> {
     let tables = authority_tables(alloc, version)?;
     let heard = b.hear(1, &Body::Install { boot, tables }, 0b101)?;
     Ok(acknowledged(&heard) == Some((boot, version)))
 }
 
-// Whether it stamps with this version from now on.
+// Whether b stamps with this version from now on, and acknowledges it.
 fn rises_to(alloc: Global, b: &mut Switch, version: u32) -> Result<bool, Fail> {
     let touched = Shared::new(alloc, Touched::all())?;
     let stamp = Body::Stamp {
@@ -172,7 +172,7 @@ fn rises_to(alloc: Global, b: &mut Switch, version: u32) -> Result<bool, Fail> {
     Ok(acknowledged(&heard) == Some((1, version)))
 }
 
-// Whether it drops the tables of version 1.
+// Whether b drops the tables of version 1.
 fn drops_version_one(b: &mut Switch) -> Result<bool, Fail> {
     let collect = Body::Collect {
         boot: 1,
@@ -182,13 +182,13 @@ fn drops_version_one(b: &mut Switch) -> Result<bool, Fail> {
     Ok(!b.holds_version(1))
 }
 
-// Whether it opens at this version.
+// Whether b opens at this version.
 fn opens_at(b: &mut Switch, boot: u32, version: u32) -> Result<bool, Fail> {
     let heard = b.hear(4, &Body::OpenAt { boot, version }, 0b101)?;
     Ok(heard.opened == Some(version))
 }
 
-// It hears of a rule for its cache, in a message of this number.
+// b hears a rule for its cache, in a message of this number.
 fn learns(b: &mut Switch, number: u32, version: u32) -> Result<(), Fail> {
     let rule = Body::CacheRule {
         version,
@@ -244,7 +244,7 @@ fn is_decided(arrived: &Arrived, version: u32) -> bool {
     }
 }
 
-// Whether a packet that looks for version 1, which the switch doesn't have, is decided by version
+// Whether a packet that seeks version 1, which the switch doesn't have, is decided by version
 // 2.
 fn arrives_anew(b: &mut Switch, ports: &Ports) -> Result<bool, Fail> {
     let packet = seeking(1)?;
@@ -327,8 +327,8 @@ fn rises(alloc: Global, b: &mut Switch) -> Result<bool, Fail> {
     Ok(takes && rises)
 }
 
-// Whether it then decides by the cached rule of version 2 until that is removed, and by version 2
-// once version 1 is dropped.
+// Whether b then decides by the cached rule of version 2 until that expires, and, after version 1
+// was dropped, decides a packet that seeks it by version 2.
 fn decides_anew(b: &mut Switch, ports: &Ports) -> Result<bool, Fail> {
     let is_cached = enters(b, ports, 2, How::Cached { message: 6 }) && b.expire(0) == Some(6);
     Ok(is_cached && drops_version_one(b)? && arrives_anew(b, ports)?)
@@ -343,7 +343,7 @@ fn one_version_follows_another(rt: HostRuntime) -> Result<(), Fail> {
     Ok(())
 }
 
-// Whether b opens in its second boot at version 3, and not of its old boot.
+// Whether b opens in its second boot at version 3, and not by a message for its old boot.
 fn boots_anew(alloc: Global, b: &mut Switch) -> Result<bool, Fail> {
     let is_old = opens_at(b, 1, 1)?;
     Ok(!is_old && takes_in(alloc, b, 2, 3)? && opens_at(b, 2, 3)?)
@@ -371,7 +371,7 @@ const fn advert(origin: u32, seq: u32, up: u64) -> Advert {
     }
 }
 
-// How many messages follow when b hears this advert in a message of this number.
+// How many messages b sends when it hears this advert in a message of this number.
 fn hears(b: &mut Switch, number: u32, advert: Advert) -> Result<usize, Fail> {
     let heard = b.hear(number, &Body::Advertise { advert }, 0b101)?;
     Ok(heard.replies.items().len())
