@@ -3,7 +3,7 @@ use thiserror::Error;
 
 /// The bytes are the encoding of no message.
 #[derive(Clone, Copy, Debug, PartialEq, Eq, Error)]
-#[error("the bytes are no message's")]
+#[error("the bytes encode no message")]
 pub struct Malformed;
 
 /// Why bytes aren't decoded to a message: they are malformed, or memory ran out.

@@ -105,9 +105,9 @@ impl World {
     /// number that is too great.
     ///
     /// # Errors
-    /// `Full` exactly if so many messages were sent that no step begins; then nothing
-    /// changes. Otherwise only out of memory: then the journal has a part of the step's items, and
-    /// each further step returns the same at once, full or not, and changes nothing.
+    /// `Full` exactly if so many messages were sent that no step begins, and memory did not run out
+    /// before; then nothing changes. Otherwise only out of memory: then the journal has a part of
+    /// the step's items, and each further step returns the same at once and changes nothing.
     pub fn step(&mut self, row: u32, step: &Step) -> Result<(), StepError>
         requires may { HasRoom self.old.journal
             → IsStep self.old.net (length self.old.files) step.now }
