@@ -6,16 +6,16 @@ model and of each example. For the words of DIALECT it looks, too, at the commen
 definitions, at the manual page, and at the heads of scripts, which `--help` prints.
 
 It ends with 1 if a sentence or a cell of a table has more than 40 words, or a line that is no row
-of a table, no link and no code more than 100 columns; if any of these has a word of DIALECT; or if
-a page has one of PAGES_ONLY. With each word it prints the plain one. Text in backticks
-counts as one word.
+of a table, no link and no code more than 100 columns; if any of these has a word of DIALECT; if a
+page has one of PAGES_ONLY; or if README.md has more than 150 lines. With each word it prints the
+plain one. Text in backticks counts as one word.
 """
 import re
 import sys
 from pathlib import Path
 
 HOME = Path(__file__).resolve().parent.parent
-LONGEST, COLUMNS = 40, 100
+LONGEST, COLUMNS, README_LINES = 40, 100, 150
 DIALECT = {
     r"wants?(?: of memory)?": "out of memory, running out of memory, needs",
     r"takes? (?:no |any )?memory(?! of)": "allocates nothing, allocates",
@@ -75,6 +75,11 @@ PAGES_ONLY = {  # words that comments may have
     r"behind a blank": "after a blank",
     r"[Tt]he judge": "the function, by its name",
     r"(?:is|are|was|were) said of": "says about",
+    r"also (?:if|inside|in the middle)": "even if, even inside",
+    r"dearer": "more expensive",
+    r"in the place of (?:a|the)": "instead of",
+    r"be had": "available",
+    r"(?:each|every) other one": "its name: each other switch",
 }
 
 
@@ -140,6 +145,8 @@ def main():
             if len(line) > COLUMNS and " " in line[:COLUMNS] and not re.match(r"[|!]|    ", line)
         ]
         wrong += dialect(lines, DIALECT | PAGES_ONLY)
+        if page == HOME / "README.md" and len(lines) > README_LINES:
+            wrong.append((len(lines), f"more than {README_LINES} lines"))
         for number, text in texts_of(lines):
             for sentence in re.split(r"(?<=[.?!])\s+", re.sub(r"`[^`]*`", "code", text)):
                 if len(sentence.split()) > LONGEST:
