@@ -95,7 +95,7 @@ head_is (Install boot t) bytes fits long = record {
 }
 head_is b bytes fits long = all_of b bytes (fits_short b refl fits) long
 
-fields_of_message : (m : Message) → message.fits m ≡ true → fields_fit m.body ≡ true
+pub fields_of_message : (m : Message) → message.fits m ≡ true → fields_fit m.body ≡ true
 unfolding message body
 fields_of_message m fits =
     (and_parts (receiver.fits m.to) (fields_fit m.body)

@@ -5,10 +5,12 @@ pub mod FrameArrivals
 pub mod InOrder
 pub mod InstallationSpelling
 pub mod TablesRestamped
+mod FramesOfReceivers
 mod FirstFrameSpans
 mod InstallationFrames
 mod PostedMessages
 mod RepeatedMessages
+mod CopiedMessages
 mod ComingOut
 pub mod FramedMessages
 pub mod NumberedPosts

@@ -4,7 +4,7 @@ use Rattle.base.proofs.Exports.{All-push, get_or_from_slice_get, get_push_at, ge
 use Rattle.ctrl_msg.specs.declared.message.Message.{Message}
 use Rattle.wire.specs.Exports.{frames, message as form}
 use Rattle.message_bag.proofs.FramedMessages.{framed_is}
-use Rattle.message_bag.specs.Exports.{AreKeptFrames, ArePostedAdverts, First, IsPostedAdvert, frames_in, item_numbered, no_first, posted_frames}
+use Rattle.message_bag.specs.Exports.{AreKeptFrames, ArePostedAdverts, First, IsLike, IsPostedAdvert, frames_in, item_numbered, no_first, posted_frames}
 use Rattle.message_bag.specs.declared.sharing_bag.PostedAdvert.{PostedAdvert}
 
 -- ---- a number of a list
@@ -99,6 +99,18 @@ one_set bag (a ∷ adverts) zero o posted is (suc k) = posted (suc k)
 one_set bag (a ∷ adverts) (suc place) o posted is zero = posted zero
 one_set bag (a ∷ adverts) (suc place) o posted is (suc k) =
     one_set bag adverts place o (λ j. posted (suc j)) is k
+
+-- the message of an advert that says the same, perhaps to another receiver
+pub likened : (bag : List (List (List ℕ))) (adverts : List (Option PostedAdvert)) (place : ℕ) (last : PostedAdvert) (m : Message)
+    → ArePostedAdverts bag adverts → get_or adverts place None ≡ Some last → last.message.body ≡ m.body
+    → IsLike bag last.number m
+likened bag adverts place last m posted there same =
+    let is : IsPostedAdvert bag (Some last) = subst (IsPostedAdvert bag) there (posted place) in
+    (last.message.to, is ∙ ap (λ b. Some (posted_frames (record { to = last.message.to; body = b }))) same)
+
+-- to the same receiver it is the same
+pub same_advert : (one other : Message) → one.to ≡ other.to → one.body ≡ other.body → one ≡ other
+same_advert one other to body = ap (λ t. record { to = t; body = one.body }) to ∙ ap (λ b. record { to = other.to; body = b }) body
 
 -- an empty place behind the others says nothing
 pub padded_same : (adverts : List (Option PostedAdvert)) (place : ℕ)

@@ -4,7 +4,7 @@ use Rattle.base.proofs.Exports.{and_parts, div_ceil, div_ceil_times, drop-append
 use Rattle.ctrl_msg.specs.declared.message.Place.{Place}
 use Rattle.ctrl_msg.specs.declared.message.Body.TheVariants.{Install}
 use Rattle.switch_table.specs.declared.tables.Tables.{Tables}
-use Rattle.wire.specs.Exports.{begun_with, equal_chunks, frame, frames, frames_from, frames_of_version, list_of, most_of_chunk, n4, partition, region, spelled_front, tables}
+use Rattle.wire.specs.Exports.{equal_chunks, frame, frames, frames_from, frames_of_version, list_of, most_of_chunk, n4, partition, region, spelled_front, tables}
 use Rattle.wire.proofs.FrameBytes.{length_n4}
 use Rattle.message_bag.specs.Exports.{frame_count, table_chunks, table_frames}
 use Rattle.message_bag.proofs.InstallationSpelling.{installed}
@@ -68,20 +68,22 @@ frames_are : (t : Tables) → table_frames t
     ≡ frame 1 (frame_count t) (n4.spell t.version ++ take 16372 (rows t)) ∷ frames_from 2 (frame_count t) (others (rows t))
 frames_are t = ap (frames_from 1 (frame_count t)) (chunks_are t)
 
-begun : (version place count : ℕ) (head rest : List ℕ) → length head ≡ 4
-    → begun_with version (frame place count (head ++ rest)) ≡ frame place count (n4.spell version ++ rest)
+-- a frame whose chunk begins with other bytes
+pub replaced : (place count : ℕ) (head new rest : List ℕ) (end : ℕ) → end ≡ 8 + length head
+    → take 8 (frame place count (head ++ rest)) ++ new ++ drop end (frame place count (head ++ rest))
+    ≡ frame place count (new ++ rest)
 unfolding frame
-begun version place count head rest len =
+replaced place count head new rest end is =
     let header = n4.spell place ++ n4.spell count in
     let eight : length header ≡ 8 =
     omega (arith, length-append (n4.spell place) (n4.spell count), length_n4 place, length_n4 count) in
     let front : take 8 (header ++ (head ++ rest)) ≡ header = take_at header (head ++ rest) 8 eight in
-    let back : drop 12 (header ++ (head ++ rest)) ≡ rest =
-    ap (drop 12) (sym (append_assoc header head rest))
-    ∙ drop_at (header ++ head) rest 12 (omega (arith, length-append header head)) in
-    ap (λ h. h ++ n4.spell version ++ drop 12 (header ++ (head ++ rest))) front
-    ∙ ap (λ r. header ++ n4.spell version ++ r) back
-    ∙ append_assoc header (n4.spell version) rest
+    let back : drop end (header ++ (head ++ rest)) ≡ rest =
+    ap (drop end) (sym (append_assoc header head rest))
+    ∙ drop_at (header ++ head) rest end (omega (arith, length-append header head)) in
+    ap (λ h. h ++ new ++ drop end (header ++ (head ++ rest))) front
+    ∙ ap (λ r. header ++ new ++ r) back
+    ∙ append_assoc header new rest
 
 -- behind a first frame
 pub behind : (version : ℕ) (first : List ℕ) (t : Tables)
@@ -91,7 +93,7 @@ behind version first t =
     let rest = take 16372 (rows t) in
     let last = frames_from 2 count (others (rows t)) in
     ap (λ fs. frames_of_version version (first ∷ fs)) (frames_are t)
-    ∙ ap (λ f. first ∷ f ∷ last) (begun version 1 count (n4.spell t.version) rest (length_n4 t.version))
+    ∙ ap (λ f. first ∷ f ∷ last) (replaced 1 count (n4.spell t.version) (n4.spell version) rest 12 (omega (arith, length_n4 t.version)))
     ∙ ap (λ n. first ∷ frame 1 n (n4.spell version ++ rest) ∷ frames_from 2 n (others (rows t))) (sym (same_count version t))
     ∙ ap (λ fs. first ∷ fs) (sym (frames_are (record t { version = version })))
 

@@ -2,6 +2,7 @@
 -- from 1 in the order in which they were posted.
 use Rattle.std.specs.Prelude.{[], if◌then◌else◌, ◌≡◌, Bool, List, None, Option, Some, is_some, map, option_and_then, true, ℕ}
 use Rattle.ctrl_msg.specs.declared.message.Message.{Message}
+use Rattle.ctrl_msg.specs.declared.message.Place.{Place}
 use Rattle.wire.specs.Exports.{frames, message as form}
 use Rattle.message_bag.specs.Deliveries as statuses
 use Rattle.message_bag.specs.Numbered.{item_numbered, with_changed}
@@ -10,6 +11,11 @@ use Rattle.message_bag.specs.declared.deliveries.MessageState.{MessageState}
 -- the frames of a message; one that has no encoding has none
 unfoldable pub posted_frames : Message → List (List ℕ)
 posted_frames message = if form.fits message then frames message else []
+
+-- the frames of this number are those of the same message, perhaps to another receiver
+abbrev pub IsLike : List (List (List ℕ)) → ℕ → Message → Type 0
+IsLike bag number m =
+    (to : Place) × (item_numbered bag number ≡ Some (posted_frames (record m { to = to })))
 
 abbrev pub Post : Type 0
 Post = List (List ℕ) × MessageState

@@ -3,7 +3,9 @@ ghost use Rattle.ctrl_msg.specs.declared.message.Body.TheVariants.{Install};
 ghost use Rattle.wire.specs.Frames.{frames};
 ghost use Rattle.wire.specs.Messages.{HasSpelling, message as form};
 ghost use Rattle.message_bag.specs.KeptFrames.{IsPosted, tables_version};
+ghost use Rattle.message_bag.specs.Feeding.{HasShortSpelling};
 ghost use Rattle.message_bag.specs.Numbered.{item_numbered};
+ghost use Rattle.message_bag.specs.Posts.{IsLike};
 
 use crate::firsts::Firsts;
 use crate::reading::{message_of_frame, tables_of};
@@ -11,7 +13,7 @@ use crate::tables::{TableFrames, spell};
 use ctrl_msg::{Message, SharedTables};
 use std::alloc::{AllocError, Global};
 use std::marker::Model;
-use wire::append;
+use wire::{append, set_receiver};
 
 /// The messages that were posted, numbered from 1 in their order. Contracts see the list of their
 /// frames.
@@ -90,6 +92,42 @@ impl Bag {
     {
         self.firsts.repeat(number as usize - 1)?;
         Ok(self.len() as u32)
+    }
+
+    /// Posts a message that differs at most in its receiver from the one of this number, and
+    /// returns its own number. It isn't encoded: its first frame is a copy of that one's.
+    ///
+    /// # Errors
+    /// Only out of memory, or if the first frames before this message's have 2^32 bytes or more;
+    /// then nothing changes.
+    pub fn post_like(&mut self, message: &Message, number: u32) -> Result<u32, AllocError>
+        requires spelling { HasShortSpelling message.now }
+        requires like { IsLike self.old number message.now }
+        requires few { length self.old < 2 ^ 32 - 1 }
+        ensures fits { OnOk result (form.fits message.now ≡ true) }
+        ensures number { IfOk result (λ number. number ≡ length self.old + 1) }
+        ensures posted { OnOk result (self.new ≡ self.old ++ frames message.now ∷ []) }
+        ensures unchanged { OnErr result (self.new ≡ self.old) }
+    {
+        self.post_copy(message, number)?;
+        Ok(self.len() as u32)
+    }
+
+    // Posts a copy of the message of this number, to the receiver of this one.
+    fn post_copy(&mut self, message: &Message, number: u32) -> Result<(), AllocError>
+        requires spelling { HasShortSpelling message.now }
+        requires like { IsLike self.old number message.now }
+        ensures fits { OnOk result (form.fits message.now ≡ true) }
+        ensures posted { OnOk result (self.new ≡ self.old ++ frames message.now ∷ []) }
+        ensures unchanged { OnErr result (self.new ≡ self.old) }
+    {
+        let Some((frame, tables)) = self.firsts.get(number as usize - 1) else {
+            unreachable!();
+        };
+        self.scratch.clear();
+        self.scratch.extend_from_slice(frame)?;
+        set_receiver(&mut self.scratch, message.to);
+        self.firsts.push(&self.scratch, tables)
     }
 
     // Posts a message that is no installation: it has one frame.

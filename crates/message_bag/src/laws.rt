@@ -5,7 +5,7 @@ ghost use Rattle.ctrl_msg.specs.declared.message.Message.{Message};
 ghost use Rattle.ctrl_msg.specs.declared.message.Place.{Place};
 ghost use Rattle.switch_table.specs.declared.tables.Tables.{Tables};
 ghost use Rattle.wire.specs.Assembly.{AreAllHeld, IsRefusedFrame};
-ghost use Rattle.wire.specs.Frames.{AreFrames, count_in_frame, frames, frames_of_version};
+ghost use Rattle.wire.specs.Frames.{AreFrames, count_in_frame, frames, frames_of_receiver, frames_of_version};
 ghost use Rattle.message_bag.specs.Feeding.{AreAllAmong, AreOf, HasFrames, held_after};
 ghost use Rattle.message_bag.specs.Installing.{install_frames};
 
@@ -45,4 +45,11 @@ pub fn frames_of_another_version()
     ensures { (to : Place) (boot version : ℕ) (tables : Tables)
         → frames (record { to = to; body = Install boot (record tables { version = version }) })
         ≡ frames_of_version version (frames (record { to = to; body = Install boot tables })) }
+{}
+
+/// The same message to another receiver has the same frames, except for the one byte of the
+/// receiver where the first one begins.
+pub fn frames_of_another_receiver()
+    ensures { (m : Message) (to : Place)
+        → frames (record m { to = to }) ≡ frames_of_receiver to (frames m) }
 {}

@@ -10,7 +10,9 @@
 //! vector, so that a message of a few bytes takes a few bytes. The other frames, of tables, are
 //! shared by all installations of the same tables, for any boot and any switch. If an advert that
 //! `post_shared` posts is equal to the last one of its switch to its receiver, both share the
-//! message and the frames. Tables that differ only in their versions share all frames except the
+//! message and the frames. If it is equal to the last one of its switch to another receiver, its
+//! frame is a copy of that one's with the byte of the receiver changed, so an advert is encoded
+//! once for all neighbours. Tables that differ only in their versions share all frames except the
 //! one that begins with the version, into which its four bytes are written.
 //! So rows and partitions are encoded, cut, assembled and decoded once, and trees to find a rule
 //! are built once: the messages that are taken share the tables that came out of the frames, and
@@ -42,6 +44,6 @@ pub use bag::Bag;
 pub use deliveries::{Deliveries, MessageState};
 pub use laws::{
     frames_are_of_one_message, frames_behind_the_first_carry_the_tables, frames_come_in_any_order,
-    frames_of_another_version,
+    frames_of_another_receiver, frames_of_another_version,
 };
 pub use post_bag::PostBag;

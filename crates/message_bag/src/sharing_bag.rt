@@ -1,9 +1,9 @@
 //! A bag that shares an advert with the last equal one of its switch to its receiver: the message,
-//! and its frames.
+//! and its frames. An advert to another receiver is not encoded again.
 ghost use Rattle.std.specs.Prelude.{◌≡◌, ◌<◌, ◌+◌, ◌-◌, ◌^◌, ◌++◌, ◌∷◌, [], ℕ, None, Some, get_or, length, IfOk, IfSome, IsTrue, OnErr, OnOk};
 ghost use Rattle.message_bag.specs.Feeding.{HasShortSpelling};
 ghost use Rattle.message_bag.specs.Posts.{posted_frames};
-ghost use Rattle.message_bag.specs.Sharing.{IsPostedAdvert};
+ghost use Rattle.message_bag.specs.Sharing.{ArePostedAdverts, IsPostedAdvert};
 
 use crate::bag::Bag;
 use base::{MAX_SWITCHES, Shared};
@@ -23,8 +23,8 @@ pub struct PostedAdvert {
 #[derive(Drop)]
 pub struct SharingBag {
     bag: Bag,
-    // For each receiver and each switch, the switch's last advert that `post_shared` posted to the
-    // receiver.
+    // First for each switch its last advert that `post_shared` encoded; then for each receiver and
+    // each switch the switch's last advert that it posted to the receiver.
     last: Vec<Option<PostedAdvert>>,
 }
 
@@ -79,6 +79,7 @@ impl SharingBag {
     /// # Errors
     /// Only out of memory, or if the first frames of earlier messages have 2^32 bytes or more;
     /// then nothing changes.
+    #[tactic(auto, using(crate::proofs::RepeatedMessages::same_advert))]
     pub fn post_shared(
         &mut self,
         alloc: Global,
@@ -97,8 +98,8 @@ impl SharingBag {
             return Ok((number, shared));
         };
         match find(&self.last, place, &message) {
-            Some(last) => post_again(&mut self.bag, last),
-            None => self.post_advert(alloc, place, message),
+            Some(last) if last.message.get().to == message.to => post_again(&mut self.bag, last),
+            _ => self.post_advert(alloc, place, message),
         }
     }
 
@@ -109,7 +110,7 @@ impl SharingBag {
         place: usize,
         message: Message,
     ) -> Result<(u32, Shared<Message>), AllocError>
-        requires place { place < 4096 }
+        requires place { place < 4160 }
         requires spelling { HasShortSpelling message }
         requires few { length self.old < 2 ^ 32 - 1 }
         ensures number { IfOk result (λ both. both.0 ≡ length self.old + 1) }
@@ -120,7 +121,8 @@ impl SharingBag {
         let message = Shared::new(alloc, message)?;
         let shared = message.clone()?;
         make_place(&mut self.last, place)?;
-        let number = self.bag.post(shared.get())?;
+        let origin = place % MAX_SWITCHES as usize;
+        let number = post_first(&mut self.bag, &mut self.last, origin, &message)?;
         self.last[place] = Some(PostedAdvert { message, number });
         Ok((number, shared))
     }
@@ -140,28 +142,57 @@ fn post_again(bag: &mut Bag, last: &PostedAdvert) -> Result<(u32, Shared<Message
     Ok((number, shared))
 }
 
-// The last advert of this place, if this message is the same.
+// Posts an advert that isn't its switch's last one to its receiver. It is encoded only if it isn't
+// the last one that its switch sent any receiver.
+fn post_first(
+    bag: &mut Bag,
+    adverts: &mut Vec<Option<PostedAdvert>>,
+    origin: usize,
+    advert: &Shared<Message>,
+) -> Result<u32, AllocError>
+    requires there { origin < length adverts.old.items }
+    requires adverts { ArePostedAdverts bag.old adverts.old.items }
+    requires spelling { HasShortSpelling advert.now }
+    requires few { length bag.old < 2 ^ 32 - 1 }
+    ensures number { IfOk result (λ number. number ≡ length bag.old + 1) }
+    ensures posted { OnOk result (bag.new ≡ bag.old ++ posted_frames advert.now ∷ []) }
+    ensures unchanged { OnErr result (bag.new ≡ bag.old) }
+    ensures adverts { ArePostedAdverts bag.new adverts.new.items }
+    ensures as_many { length adverts.new.items ≡ length adverts.old.items }
+{
+    if let Some(last) = find(adverts, origin, advert.get()) {
+        return bag.post_like(advert.get(), last.number);
+    }
+    let message = advert.clone()?;
+    let number = bag.post(advert.get())?;
+    adverts[origin] = Some(PostedAdvert { message, number });
+    Ok(number)
+}
+
+// The advert of this place, if its body is equal to this message's.
 fn find<'a>(
     adverts: &'a [Option<PostedAdvert>],
     place: usize,
     message: &Message,
 ) -> Option<&'a PostedAdvert>
-    ensures same { IfSome result (λ last. last.now.message ≡ message.now) }
+    ensures same { IfSome result (λ last. last.now.message.body ≡ message.now.body) }
     ensures there { IfSome result (λ last. get_or adverts.now place None ≡ Some last.now) }
 {
     match adverts.get(place) {
-        Some(Some(last)) if are_same_advert(last.message.get(), message) => Some(last),
+        Some(Some(last)) if are_same_advert(&last.message.get().body, &message.body) => Some(last),
         _ => None,
     }
 }
 
-// The place of an advert to a switch; `None` for any other message.
+// The place of an advert to a switch, after the 64 places of the switches' last adverts; `None` for
+// any other message. Its remainder by 64 is the switch whose advert it is.
 fn place_of(message: &Message) -> Option<usize>
-    ensures { IfSome result (λ place. place < 4096) }
+    ensures { IfSome result (λ place. place < 4160) }
 {
     match (message.to, &message.body) {
         (Place::Switch(to), Body::Advertise { advert }) => {
-            let place = to % MAX_SWITCHES * MAX_SWITCHES + advert.origin % MAX_SWITCHES;
+            let row = to % MAX_SWITCHES + 1;
+            let place = row * MAX_SWITCHES + advert.origin % MAX_SWITCHES;
             Some(place as usize)
         }
         _ => None,
@@ -171,7 +202,7 @@ fn place_of(message: &Message) -> Option<usize>
 // Makes sure that there is this place, by pushing empty ones.
 #[tactic(auto, using(crate::proofs::RepeatedMessages::padded_same))]
 fn make_place(adverts: &mut Vec<Option<PostedAdvert>>, place: usize) -> Result<(), AllocError>
-    requires { place < 4096 }
+    requires { place < 4160 }
     ensures there { OnOk result (place < length adverts.new.items) }
     ensures same { (k : ℕ) → get_or adverts.new.items k None ≡ get_or adverts.old.items k None }
 {
@@ -181,14 +212,12 @@ fn make_place(adverts: &mut Vec<Option<PostedAdvert>>, place: usize) -> Result<(
     Ok(())
 }
 
-// Whether both are the same advert to the same receiver.
-fn are_same_advert(one: &Message, other: &Message) -> bool
+// Whether both are the same advert.
+fn are_same_advert(one: &Body, other: &Body) -> bool
     ensures { IsTrue result → one.now ≡ other.now }
 {
-    match (&one.body, &other.body) {
-        (Body::Advertise { advert }, Body::Advertise { advert: same }) => {
-            one.to == other.to && advert == same
-        }
+    match (one, other) {
+        (Body::Advertise { advert }, Body::Advertise { advert: same }) => advert == same,
         _ => false,
     }
 }

@@ -4,8 +4,9 @@ use Rattle.base.specs.Exports.{div_ceil, from_be_bytes, w32}
 use Rattle.ctrl_msg.specs.declared.message.Body.{Body}
 use Rattle.ctrl_msg.specs.declared.message.Body.TheVariants.{Install}
 use Rattle.ctrl_msg.specs.declared.message.Message.{Message}
+use Rattle.ctrl_msg.specs.declared.message.Place.{Place}
 use Rattle.wire.specs.Fields.{n4}
-use Rattle.wire.specs.Messages.{message}
+use Rattle.wire.specs.Messages.{message, receiver}
 
 -- the most bytes of a chunk: a frame has 16,384 at most, and 8 of them say where its chunk belongs
 abbrev pub most_of_chunk : ℕ
@@ -62,6 +63,16 @@ begun_with version bytes = take 8 bytes ++ n4.spell version ++ drop 12 bytes
 -- begins with the version
 abbrev pub frames_of_version : ℕ → List (List ℕ) → List (List ℕ)
 frames_of_version version fs = slice_set fs 1 (begun_with version (slice_index_or fs 1 []))
+
+-- ---- the same message to another receiver
+
+-- the frame whose chunk begins with the one byte of this receiver
+abbrev pub begun_for : Place → List ℕ → List ℕ
+begun_for to bytes = take 8 bytes ++ receiver.spell to ++ drop 9 bytes
+
+-- the frames of the same message to this receiver: the first one begins with it
+abbrev pub frames_of_receiver : Place → List (List ℕ) → List (List ℕ)
+frames_of_receiver to fs = slice_set fs 0 (begun_for to (slice_index_or fs 0 []))
 
 -- ---- the parts of a frame
 

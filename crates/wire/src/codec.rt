@@ -1,4 +1,4 @@
-ghost use Rattle.std.specs.Prelude.{◌≡◌, ◌<◌, ◌++◌, true, OnOk, IfOk, IfErr};
+ghost use Rattle.std.specs.Prelude.{◌≡◌, ◌<◌, ◌++◌, ◌∷◌, [], true, OnOk, IfOk, IfErr};
 ghost use Rattle.ctrl_msg.specs.declared.message.Message.{Message};
 ghost use Rattle.base.specs.Refusals.{IfRefused};
 ghost use Rattle.wire.specs.Fields as form;
@@ -33,15 +33,25 @@ pub(crate) fn read_receiver(reader: &mut ByteReader) -> Result<Place, WireError>
     }
 }
 
-#[tactic(auto, unfolding(crate::specs::Messages::receiver))]
+/// The byte of a receiver.
+#[tactic(auto, unfolding(crate::specs::Messages::receiver, crate::specs::Fields::switch, crate::specs::Fields::n1, crate::specs::Format::spelled_number))]
+pub(crate) fn receiver_byte(to: Place) -> u8
+    requires { IsPlace to }
+    ensures fits { kinds.receiver.fits to ≡ true }
+    ensures spelled { kinds.receiver.spell to ≡ result ∷ [] }
+{
+    match to {
+        Place::Controller => 255,
+        Place::Switch(switch) => switch as u8,
+    }
+}
+
 pub(crate) fn put_receiver(out: &mut Vec<u8>, to: Place) -> Result<(), AllocError>
     requires { IsPlace to }
     ensures { OnOk result (AppendsForm kinds.receiver to out.old.items out.new.items) }
 {
-    match to {
-        Place::Controller => put_n1(out, 255),
-        Place::Switch(switch) => put_switch(out, switch),
-    }
+    out.push(receiver_byte(to))?;
+    Ok(())
 }
 
 #[tactic(auto, unfolding(crate::specs::Messages::install_form))]

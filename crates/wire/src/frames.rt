@@ -1,12 +1,12 @@
-ghost use Rattle.std.specs.Prelude.{◌≡◌, ◌<◌, ◌≤◌, ◌^◌, ◌↔◌, Some, length, map, take, drop, slice_get, IfOk, IfSome, IsNone};
-ghost use Rattle.wire.specs.Frames.{AreFrames, begun_with, chunks_behind_head, head_len, frames_of, frames_of_version};
+ghost use Rattle.std.specs.Prelude.{◌≡◌, ◌<◌, ◌≤◌, ◌^◌, ◌↔◌, Some, true, length, map, take, drop, slice_get, IfOk, IfSome, IsNone};
+ghost use Rattle.wire.specs.Frames.{AreFrames, begun_for, begun_with, chunks_behind_head, head_len, frames_of, frames_of_version};
 ghost use Rattle.wire.specs.Messages as kinds;
-ghost use Rattle.wire.specs.Messages.{HasSpelling};
+ghost use Rattle.wire.specs.Messages.{HasSpelling, IsPlace};
 
-use crate::codec::encode;
+use crate::codec::{encode, receiver_byte};
 use crate::frame::{Frame, HEADER_LEN};
 use crate::writer::put_n4;
-use ctrl_msg::{Body, Message};
+use ctrl_msg::{Body, Message, Place};
 use std::alloc::{AllocError, Global};
 use std::marker::Model;
 
@@ -82,6 +82,17 @@ fn begun_with(alloc: Global, version: u32, frame: &[u8]) -> Result<Frame, AllocE
     put_n4(&mut bytes, version)?;
     bytes.extend_from_slice(split_front(frame, VERSION_END).1)?;
     Frame::of_bytes(bytes)
+}
+
+/// Writes this receiver into the first frame of a message, so that it is the one of the same
+/// message to this receiver.
+pub fn set_receiver(frame: &mut [u8], to: Place)
+    requires receiver { IsPlace to }
+    requires long { 9 ≤ length frame.old }
+    ensures fits { kinds.receiver.fits to ≡ true }
+    ensures written { frame.new ≡ begun_for to frame.old }
+{
+    frame[HEADER_LEN] = receiver_byte(to);
 }
 
 /// The frames of a message: for an installation its first six bytes are a chunk, and the rest is

@@ -34,5 +34,5 @@ pub use assembler::Assembler;
 pub use codec::{append, decode, encode};
 pub use error::{Malformed, WireError};
 pub use frame::HEADER_LEN;
-pub use frames::{Frames, split};
+pub use frames::{Frames, set_receiver, split};
 pub use front::{append_front, decode_front};

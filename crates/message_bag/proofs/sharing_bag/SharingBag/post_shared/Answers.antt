@@ -5,18 +5,3 @@ pub invariant_of-self : goal.invariant_of-self
 invariant_of-self c =
     posted_either c.post_again.result c.self.inside.bag c.post_again.new.bag _ c.self.inside.last.items
     c.post_again.ensures.posted c.post_again.ensures.unchanged c.self.invariant
-
-pub invariant_of-self-in-Some-find-2 : goal.invariant_of-self-in-Some-find-2
-invariant_of-self-in-Some-find-2 c =
-    posted_either c.post_again.result c.self.inside.bag c.post_again.new.bag _ c.self.inside.last.items
-    c.post_again.ensures.posted c.post_again.ensures.unchanged c.self.invariant
-
-pub invariant_of-self-in-Some-find-3 : goal.invariant_of-self-in-Some-find-3
-invariant_of-self-in-Some-find-3 c =
-    posted_either c.post_again.result c.self.inside.bag c.post_again.new.bag _ c.self.inside.last.items
-    c.post_again.ensures.posted c.post_again.ensures.unchanged c.self.invariant
-
-pub invariant_of-self-in-Some-find-4 : goal.invariant_of-self-in-Some-find-4
-invariant_of-self-in-Some-find-4 c =
-    posted_either c.post_again.result c.self.inside.bag c.post_again.new.bag _ c.self.inside.last.items
-    c.post_again.ensures.posted c.post_again.ensures.unchanged c.self.invariant
