@@ -60,6 +60,7 @@ impl Bag {
     /// # Errors
     /// Only out of memory, or if the first frames of earlier messages have 2^32 bytes or more;
     /// then nothing changes.
+    #[inline(always)]
     pub fn post(&mut self, message: &Message) -> Result<u32, AllocError>
         requires spelling { HasSpelling message.now }
         requires short { length (form.spell message.now) < 2 ^ 40 }
@@ -98,7 +99,7 @@ impl Bag {
     /// returns its own number. It isn't encoded: its first frame is a copy of that one's.
     ///
     /// # Errors
-    /// Only out of memory, or if the first frames before this message's have 2^32 bytes or more;
+    /// Only out of memory, or if the first frames of earlier messages have 2^32 bytes or more;
     /// then nothing changes.
     pub fn post_like(&mut self, message: &Message, number: u32) -> Result<u32, AllocError>
         requires spelling { HasShortSpelling message.now }
@@ -131,6 +132,7 @@ impl Bag {
     }
 
     // Posts a message that is no installation: it has one frame.
+    #[inline(always)]
     fn post_alone(&mut self, message: &Message) -> Result<(), AllocError>
         requires spelling { HasSpelling message.now }
         requires short { length (form.spell message.now) < 2 ^ 40 }

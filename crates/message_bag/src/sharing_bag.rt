@@ -62,6 +62,7 @@ impl SharingBag {
     /// # Errors
     /// Only out of memory, or if the first frames of earlier messages have 2^32 bytes or more;
     /// then nothing changes.
+    #[inline(always)]
     pub fn post(&mut self, message: &Message) -> Result<u32, AllocError>
         requires spelling { HasShortSpelling message.now }
         requires few { length self.old < 2 ^ 32 - 1 }
@@ -79,6 +80,7 @@ impl SharingBag {
     /// # Errors
     /// Only out of memory, or if the first frames of earlier messages have 2^32 bytes or more;
     /// then nothing changes.
+    #[inline(always)]
     #[tactic(auto, using(crate::proofs::RepeatedMessages::same_advert))]
     pub fn post_shared(
         &mut self,
@@ -104,6 +106,7 @@ impl SharingBag {
     }
 
     // Posts an advert, which is the last one of this place from now on.
+    #[inline(never)]
     fn post_advert(
         &mut self,
         alloc: Global,

@@ -1,11 +1,11 @@
 -- What a cache keeps as it goes over to a version.
-use Rattle.std.proofs.Common.{[], ◌&&◌, ◌++◌, ◌+◌, ◌||◌, ◌∙◌, ◌∷◌, ◌≡◌, ◌≤◌, ◌⊎◌, All, AllPairs, Any, Bool, Contains, IfSome, List, None, Option, Some, ap, append-nil, arith, cond, eq-eqb, eqb, eqb-true, false, filter, filter_map, get_or, inl, inr, le-leb, leb, leb-true, length, map, not, refl, subst, sym, true, ℕ}
-use Rattle.base.proofs.Exports.{All-contains_itself, All-filter_map, All-weaker, AllPairs-filter_map, Any-from_list_any, Contains-filter_map, cons_option, false_from_ne_true, filter_map-append, get_or_default, length-filter_map, list_any, list_any-from_Any, map-append}
+use Rattle.std.proofs.Common.{[], ◌&&◌, ◌++◌, ◌+◌, ◌||◌, ◌∙◌, ◌∷◌, ◌≡◌, ◌≤◌, ◌⊎◌, All, AllPairs, Any, Bool, Contains, IfSome, List, None, Option, Some, ap, append-nil, arith, cond, drop, eq-eqb, eqb, eqb-true, false, filter, filter_map, get_or, inl, inr, le-leb, le-ltb, leb, leb-true, length, length-append, not, refl, subst, sym, true, ℕ}
+use Rattle.base.proofs.Exports.{All-contains_itself, All-filter_map, All-weaker, AllPairs-filter_map, Any-from_list_any, Contains-filter_map, cons_option, false_from_ne_true, filter_map-append, get_or_default, length-filter_map, list_any, list_any-from_Any}
 use Rattle.ternary.specs.Exports.{WordValue, any_word}
 use Rattle.ternary.proofs.CallerLemmas.{any_covers, meets_cover}
-use Rattle.switch_table.specs.Exports.{CacheValue, HaveDistinctKeys, IsCache, Pair, WasCarried, after_carry, after_raise, all_touched, carried_entry, has_key, is_carried, key_of, meets_any, pair_of, same_key, under}
+use Rattle.switch_table.specs.Exports.{CacheValue, HaveDistinctKeys, IsCache, WasCarried, after_accept, after_carry, after_raise, all_touched, carried_entry, is_carried, meets_any, same_key, under}
 use Rattle.switch_table.specs.declared.cache.CacheEntry.{CacheEntry}
-use Rattle.switch_table.proofs.PairLemmas.{apart-sym, has_key_of_pairs, none_before, same_key_from, same_key_parts}
+use Rattle.switch_table.proofs.PairLemmas.{apart-sym, none_before, same_key_from, same_key_parts}
 
 -- ---- an entry that goes over
 
@@ -267,38 +267,39 @@ all_carried version cache =
     ap (λ es. record { entries = es; capacity = cache.capacity })
     (all_left version cache.entries cache.entries)
 
--- ---- pairs of what is left
+-- ---- what is left, entry by entry
 
 -- an entry of which nothing is left ..
-pub left_out : (shift : ℕ) (f : CacheEntry → Option CacheEntry) (before : List CacheEntry)
-    (entry : CacheEntry) (pairs : List Pair) → f entry ≡ None
-    → pairs ≡ map (pair_of shift) (filter_map f before)
-    → pairs ≡ map (pair_of shift) (filter_map f (before ++ entry ∷ []))
-left_out shift f before entry pairs none are =
-    are ∙ ap (map (pair_of shift)) (sym (filter_map-append f before (entry ∷ [])
+pub left_out : (f : CacheEntry → Option CacheEntry) (before : List CacheEntry) (entry : CacheEntry)
+    → f entry ≡ None → filter_map f before ≡ filter_map f (before ++ entry ∷ [])
+left_out f before entry none =
+    sym (filter_map-append f before (entry ∷ [])
     ∙ ap (λ o. filter_map f before ++ cons_option o []) none
-    ∙ append-nil (filter_map f before)))
+    ∙ append-nil (filter_map f before))
 
--- .. or something
-pub left_in : (shift : ℕ) (f : CacheEntry → Option CacheEntry) (before : List CacheEntry)
-    (entry left : CacheEntry) (pairs new : List Pair) → f entry ≡ Some left
-    → pairs ≡ map (pair_of shift) (filter_map f before) → new ≡ pairs ++ pair_of shift left ∷ []
-    → new ≡ map (pair_of shift) (filter_map f (before ++ entry ∷ []))
-left_in shift f before entry left pairs new some are made =
-    made ∙ ap (λ ps. ps ++ pair_of shift left ∷ []) are
-    ∙ sym (map-append (pair_of shift) (filter_map f before) (left ∷ []))
-    ∙ ap (map (pair_of shift)) (sym (filter_map-append f before (entry ∷ [])
-    ∙ ap (λ o. filter_map f before ++ cons_option o []) some))
-
--- whose key is not there
-pub left_absent : (shift : ℕ) (f : CacheEntry → Option CacheEntry) (before : List CacheEntry)
-    (entry left : CacheEntry) (rest : List CacheEntry) (pairs : List Pair)
-    → HaveDistinctKeys (filter_map f (before ++ entry ∷ rest)) → f entry ≡ Some left
-    → pairs ≡ map (pair_of shift) (filter_map f before) → has_key (key_of shift left) pairs ≡ false
-left_absent shift f before entry left rest pairs distinct some are =
-    let all : filter_map f (before ++ entry ∷ rest) ≡ filter_map f before ++ left ∷ filter_map f rest =
-    filter_map-append f before (entry ∷ rest)
-    ∙ ap (λ o. filter_map f before ++ cons_option o (filter_map f rest)) some in
-    ap (has_key (key_of shift left)) are ∙ has_key_of_pairs shift left (filter_map f before)
-    ∙ none_before (filter_map f before) left (filter_map f rest)
-    (subst HaveDistinctKeys all distinct)
+-- .. or something, which a cache of what is left of those before it accepts
+pub left_in : (f : CacheEntry → Option CacheEntry) (before : List CacheEntry)
+    (entry left : CacheEntry) (rest : List CacheEntry) (capacity : ℕ) → f entry ≡ Some left
+    → IsCache (record { entries = filter_map f (before ++ entry ∷ rest); capacity = capacity })
+    → after_accept 0 left (record { entries = filter_map f before; capacity = capacity })
+    ≡ record { entries = filter_map f (before ++ entry ∷ []); capacity = capacity }
+left_in f before entry left rest capacity some is =
+    let old = filter_map f before in
+    let with_it = old ++ left ∷ [] in
+    let all : (later : List CacheEntry)
+    → filter_map f (before ++ entry ∷ later) ≡ old ++ left ∷ filter_map f later =
+    λ later. filter_map-append f before (entry ∷ later)
+    ∙ ap (λ o. old ++ cons_option o (filter_map f later)) some in
+    let late = le-ltb left.version 0 (omega arith) in
+    let absent = none_before old left (filter_map f rest)
+    (subst HaveDistinctKeys (all rest) is.distinct) in
+    let fits = le-ltb capacity (length with_it) (omega (
+      arith,
+      is.few,
+      ap length (all rest),
+      length-append old (left ∷ filter_map f rest),
+      length-append old (left ∷ []),
+    )) in
+    (λ i. cond (late i || absent i) (record { entries = old; capacity = capacity })
+    (record { entries = cond (fits i) (drop 1 with_it) with_it; capacity = capacity }))
+    ∙ (λ i. record { entries = sym (all []) i; capacity = capacity })

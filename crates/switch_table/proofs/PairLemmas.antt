@@ -1,6 +1,6 @@
 -- Cache entries as pairs, whose keys add a shift to versions: what a push, a removal and a filter
 -- make of them, and that no two have one key.
-use Rattle.std.proofs.Common.{[], ◌&&◌, ◌++◌, ◌+◌, ◌-◌, ◌<◌, ◌^◌, ◌||◌, ◌∙◌, ◌∷◌, ◌≡◌, ◌≤◌, All, Bool, List, Option, ap, arith, cond, drop, eq-eqb, eqb, eqb-true, false, filter, get_or, le-leb, leb, leb-true, length, length-append, map, refl, remove, subst, suc, sym, true, zero, ℕ}
+use Rattle.std.proofs.Common.{[], ◌&&◌, ◌++◌, ◌+◌, ◌-◌, ◌<◌, ◌^◌, ◌||◌, ◌∙◌, ◌∷◌, ◌≡◌, ◌≤◌, All, Bool, List, Option, ap, arith, cond, drop, eq-eqb, eqb, eqb-true, false, filter, get_or, le-leb, leb, leb-true, length, length-append, refl, remove, subst, suc, sym, true, zero, ℕ}
 use Rattle.base.proofs.Exports.{All-cons, All-filter, All-head, All-nil, All-push, All-remove, All-tail, All-weaker, AllByRecursion, AllPairs-cons, IsDistinct, all_pairs_push, and_from, and_parts, count_by-le-length, false_from_ne_true, false≢true, get_or-append_seam, get_or_default, keys_of, length-filter, list_any, list_any-from_Any, map-append, map-remove}
 use Rattle.ternary.specs.Exports.{WordValue, word_eq}
 use Rattle.switch_table.specs.Exports.{AreMasked, AreUpTo, HasMaskOf, HaveDistinctKeys, HaveOwnKeys, HaveVersions, HoldsEntries, Pair, equal_keys, has_key, kept_entries, kept_entry, key_of, pair_of, same_key}
@@ -191,34 +191,6 @@ entries_from shift version pairs are =
     entries_filtered shift (λ (pair : Pair). leb (version + shift) pair.0.number)
     (λ (entry : CacheEntry). leb version entry.version)
     (λ pair is. leb-shift shift version pair.0.number is.0) pairs are
-
--- ---- pairs of entries
-
-pub entries_of_pairs : (shift : ℕ) (entries : List CacheEntry)
-    → kept_entries shift (map (pair_of shift) entries) ≡ entries
-entries_of_pairs shift [] = refl
-entries_of_pairs shift (entry ∷ entries) =
-    let here = entry_of_pair shift entry in
-    let rest = entries_of_pairs shift entries in
-    λ i. here i ∷ rest i
-
-pub versions_of_pairs : (shift newest : ℕ) (entries : List CacheEntry) → newest < 2 ^ 32
-    → AreUpTo newest entries → HaveVersions shift (map (pair_of shift) entries)
-versions_of_pairs shift newest [] small up_to = All-nil (HasVersion shift)
-versions_of_pairs shift newest (entry ∷ entries) small up_to =
-    let IsUpTo = λ (e : CacheEntry). e.version ≤ newest in
-    let here : entry.version ≤ newest = All-head IsUpTo entry entries up_to in
-    All-cons (HasVersion shift) (pair_of shift entry) (map (pair_of shift) entries)
-    (omega (arith, here), omega (arith, here, small))
-    (versions_of_pairs shift newest entries small (All-tail IsUpTo entry entries up_to))
-
-pub has_key_of_pairs : (shift : ℕ) (entry : CacheEntry) (entries : List CacheEntry)
-    → has_key (key_of shift entry) (map (pair_of shift) entries) ≡ list_any (same_key entry) entries
-has_key_of_pairs shift entry [] = refl
-has_key_of_pairs shift entry (x ∷ xs) =
-    let here = same_key-is shift entry x in
-    let rest = has_key_of_pairs shift entry xs in
-    sym (λ i. here i || sym rest i)
 
 -- no entry before another one has its key
 pub none_before : (before : List CacheEntry) (entry : CacheEntry) (rest : List CacheEntry) →

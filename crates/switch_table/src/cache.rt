@@ -184,8 +184,7 @@ impl Cache {
             self.newest = version;
             return Ok(());
         }
-        self.slots = self.carried(version, touched, self.shift)?;
-        self.newest = self.newest.max(version);
+        *self = self.carried(version, touched)?;
         Ok(())
     }
 
@@ -229,19 +228,17 @@ impl Cache {
         Ok(())
     }
 
-    // Slots with what is left of the entries, in order, under keys of this shift.
-    fn carried(&self, version: u32, touched: &Touched, shift: u64) -> Result<Slots, AllocError>
-        requires { shift ≤ 2 ^ 32 }
-        ensures { IfOk result (λ slots. slots ≡ map (pair_of shift)
-            (filter_map (carried_entry version touched.now self.now.entries) self.now.entries)) }
+    // A new cache of what is left of the entries, in order.
+    fn carried(&self, version: u32, touched: &Touched) -> Result<Cache, AllocError>
+        ensures { IfOk result (λ cache. cache ≡ after_carry version touched.now self.now) }
     {
-        let mut slots = Slots::new(self.slots.allocator());
+        let mut cache = Cache::new(self.slots.allocator(), self.capacity);
         for entry in self.entries() {
             if let Some(left) = self.carried_entry(version, touched, &entry) {
-                slots.push(left.key(shift), left.learnt())?;
+                cache.accept(0, left)?;
             }
         }
-        Ok(slots)
+        Ok(cache)
     }
 
     // The entry after the carry; `None` if it is removed.

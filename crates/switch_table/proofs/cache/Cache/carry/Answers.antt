@@ -1,8 +1,8 @@
-use Rattle.std.proofs.Common.{◌+◌, ◌-◌, ◌<◌, ◌∙◌, ◌≡◌, All, ap, arith, filter, filter_map, map, subst, sym}
-use Rattle.switch_table.specs.Exports.{AreUpTo, CacheValue, HaveVersions, HoldsEntries, Pair, after_carry, carried_entry, is_carried_key, kept_entries, pair_of}
+use Rattle.std.proofs.Common.{◌+◌, ◌-◌, ◌<◌, ◌∙◌, ◌≡◌, All, ap, arith, filter, filter_map, subst, sym}
+use Rattle.switch_table.specs.Exports.{HaveVersions, HoldsEntries, Pair, after_carry, carried_entry, is_carried_key, kept_entries}
 use Rattle.switch_table.proofs.CarryLemmas.{left_few}
 use Rattle.switch_table.proofs.OverLemmas.{IsBelow, below_newest, carried_pairs, masked_carried, pairs_over, up_to_carried, versions_over}
-use Rattle.switch_table.proofs.PairLemmas.{entries_of_pairs, holds_of, versions_of_pairs}
+use Rattle.switch_table.proofs.PairLemmas.{holds_of}
 use Rattle.switch_table.proofs.cache.Cache.carry.Goals as goal
 use Rattle.switch_table.proofs.cache.Cache.carry.Goals.{After-keep_carried}
 
@@ -60,33 +60,3 @@ returns-then-self-version-clause-ok c =
     let left = gone_over (goal.at.returns-then-self-version-clause-ok c).After-keep_carried in
     (λ i. record { entries = left i; capacity = c.self.inside.capacity })
     ∙ ap (after_carry c.args.version c.args.touched.now) c.self.view_is
-
-pub invariant_of-self-2 : goal.invariant_of-self-2
-invariant_of-self-2 c =
-    let shift = c.self.inside.shift in
-    let newest = c.max-self-inside.result in
-    let version = c.args.version in
-    let touched = c.args.touched.now in
-    let entries = kept_entries shift c.self.inside.slots in
-    let after = filter_map (carried_entry version touched entries) entries in
-    let are = c.in_ok-self-inside.ensures ∙ ap (λ (cache : CacheValue). map (pair_of shift)
-    (filter_map (carried_entry version touched cache.entries) cache.entries)) (sym c.self.view_is) in
-    let up_to : AreUpTo newest after =
-    up_to_carried version c.self.inside.newest newest touched entries c.self.invariant.up_to
-    (omega (arith, c.max-self-inside.ensures)) (omega (arith, c.max-self-inside.ensures)) in
-    holds_of c.self.inside.masks shift newest c.self.inside.capacity c.in_ok-self-inside.field-0
-    after c.self.invariant.fits
-    (omega (arith, c.self.invariant.falls, c.max-self-inside.ensures))
-    (subst (HaveVersions shift) (sym are)
-    (versions_of_pairs shift newest after c.max-self-inside.type_inv up_to))
-    (ap (kept_entries shift) are ∙ entries_of_pairs shift after) up_to
-    (masked_carried c.self.inside.masks version touched entries c.self.invariant.masked)
-    (left_few version c.self.inside.capacity touched entries c.self.invariant.few)
-
-pub returns-clause-ok : goal.returns-clause-ok
-returns-clause-ok c =
-    let shift = c.self.inside.shift in
-    let after = filter_map (carried_entry c.args.version c.args.touched.now c.args.self.now.entries)
-    c.args.self.now.entries in
-    let left = ap (kept_entries shift) c.in_ok-self-inside.ensures ∙ entries_of_pairs shift after in
-    λ i. record { entries = left i; capacity = (c.self.view_is i).capacity }
