@@ -41,8 +41,7 @@ same_sum a b fits e = grind (arith, nat_tests)
 
 pub has-xor_other : (mask k j : ℕ) → j ≢ k → has (bit_xor mask (2 ^ k)) j ≡ has mask j
 unfolding has
-has-xor_other mask k j apart =
-    rw (bit_at_xor mask (2 ^ k) j)
+has-xor_other mask k j apart = rw (bit_at_xor mask (2 ^ k) j)
     (same_sum (bit_at mask j) (bit_at (2 ^ k) j) (bit_at-lt mask j) (bit_at-pow_other k j apart))
 
 -- a mask of some switches is above 0
@@ -60,8 +59,7 @@ same_bit a b a_fits b_fits e = grind (arith, nat_tests)
 pub same_masks : (a b : ℕ) → a < 2 ^ 64 → b < 2 ^ 64 → ((k : ℕ) → k < 64 → has a k ≡ has b k) →
     a ≡ b
 unfolding has
-same_masks a b a_fits b_fits h =
-    same_from_bits_below 64 a b a_fits b_fits
+same_masks a b a_fits b_fits h = same_from_bits_below 64 a b a_fits b_fits
     (λ k below. same_bit _ _ (bit_at-lt a k) (bit_at-lt b k) (h k below))
 
 pub has_only_same : (test : Bool) (k : ℕ) → has (only_if test k) k ≡ test
@@ -78,21 +76,16 @@ pub mask_where_below : {X : Type 0} (test : X → Bool) (k : ℕ) (xs : List X) 
     has (mask_where test k xs) z ≡ false
 unfolding mask_where
 mask_where_below test k [] z below = has-zero z
-mask_where_below test k (x ∷ xs) z below =
-    let apart : z ≢ k = omega arith in
-    let rest = mask_where_below test (k + 1) xs z (omega arith) in
-    rw (has-or, has_only_other _ _ _ apart, rest) refl
+mask_where_below test k (x ∷ xs) z below = let apart : z ≢ k = omega arith in
+    rw (has-or, has_only_other _ _ _ apart, mask_where_below test (k + 1) xs z (omega arith)) refl
 
-pub mask_where_at : {X : Type 0} (test : X → Bool) (k : ℕ) (xs : List X) (d : X) (z j : ℕ) →
-    z ≡ k + j →
-    j < length xs → has (mask_where test k xs) z ≡ test (get_or xs j d)
+pub mask_where_at : {X : Type 0} (test : X → Bool) (k : ℕ) (xs : List X) (d : X) (z j : ℕ)
+    → z ≡ k + j → j < length xs → has (mask_where test k xs) z ≡ test (get_or xs j d)
 unfolding mask_where
 mask_where_at test k [] d z j e below = absurd (omega arith)
-mask_where_at test k (x ∷ xs) d z zero e below =
-    let same : z ≡ k = omega arith in
+mask_where_at test k (x ∷ xs) d z zero e below = let same : z ≡ k = omega arith in
     rw (has-or, mask_where_below test (k + 1) xs z (omega arith), same, has_only_same) (or-false _)
-mask_where_at test k (x ∷ xs) d z (suc j) e below =
-    let apart : z ≢ k = omega arith in
+mask_where_at test k (x ∷ xs) d z (suc j) e below = let apart : z ≢ k = omega arith in
     rw (has-or, has_only_other _ _ _ apart)
     (mask_where_at test (k + 1) xs d z j (omega arith) (omega arith))
 
@@ -100,14 +93,12 @@ pub only_if_lt : (test : Bool) (k n : ℕ) → k < n → only_if test k < 2 ^ n
 only_if_lt true k n below = pow_below k n below
 only_if_lt false k n below = pow_pos n
 
-pub mask_where_lt : {X : Type 0} (test : X → Bool) (k : ℕ) (xs : List X) (n : ℕ) →
-    k + length xs ≤ n →
-    mask_where test k xs < 2 ^ n
+pub mask_where_lt : {X : Type 0} (test : X → Bool) (k : ℕ) (xs : List X) (n : ℕ) → k + length xs ≤ n
+    → mask_where test k xs < 2 ^ n
 unfolding mask_where
 mask_where_lt test k [] n fits = pow_pos n
-mask_where_lt test k (x ∷ xs) n fits =
-    or_lt n _ _ (only_if_lt (test x) k n (omega arith)) (mask_where_lt test (k + 1) xs n
-    (omega arith))
+mask_where_lt test k (x ∷ xs) n fits = or_lt n _ _ (only_if_lt (test x) k n (omega arith))
+    (mask_where_lt test (k + 1) xs n (omega arith))
 
 -- ---- the least switch
 
@@ -157,8 +148,7 @@ has_mask_past test k past = has_above (mask_of test) k (mask_of_lt test) past
 
 pub mask_of_is : (mask : ℕ) (test : ℕ → Bool) → mask < 2 ^ 64
     → ((k : ℕ) → k < 64 → has mask k ≡ test k) → mask ≡ mask_of test
-mask_of_is mask test fits same =
-    same_masks mask (mask_of test) fits (mask_of_lt test)
+mask_of_is mask test fits same = same_masks mask (mask_of test) fits (mask_of_lt test)
     (λ k below. same k below ∙ sym (has_mask test k below))
 
 pub laws : MaskLaws

@@ -23,9 +23,7 @@ pub find_same : {X : Type 0} (p q : X → Bool) → ((x : X) → p x ≡ q x) �
     → find p xs ≡ find q xs
 find_same p q same [] = refl
 find_same p q same (x ∷ xs) =
-    let here : p x ≡ q x = same x in
-    let rest : find p xs ≡ find q xs = find_same p q same xs in
-    rw (here, rest) refl
+    let rest : find p xs ≡ find q xs = find_same p q same xs in rw ((same x), rest) refl
 
 pub count_by-cons : {X : Type 0} (test : X → Bool) (x : X) (xs : List X)
     → count_by test (x ∷ xs) ≡ cond (test x) 1 0 + count_by test xs
@@ -39,12 +37,11 @@ count-filter-le test kept xs =
 pub length-filter_map : {X Y : Type 0} (f : X → Option Y) (xs : List X)
     → length (filter_map f xs) ≤ length xs
 length-filter_map f [] = omega arith
-length-filter_map {Y = Y} f (x ∷ xs) = by_made (f x) (length-filter_map f xs)
-  where
-    by_made : (o : Option Y) → length (filter_map f xs) ≤ length xs
-        → length (cons_option o (filter_map f xs)) ≤ length (x ∷ xs)
-    by_made None less = omega (arith, less)
-    by_made (Some y) less = omega (arith, less)
+length-filter_map {Y = Y} f (x ∷ xs) = by_made (f x) (length-filter_map f xs) where
+  by_made : (o : Option Y) → length (filter_map f xs) ≤ length xs
+      → length (cons_option o (filter_map f xs)) ≤ length (x ∷ xs)
+  by_made None less = omega (arith, less)
+  by_made (Some y) less = omega (arith, less)
 
 pub in_cons_option : {X : Type 0} (first : Option X) (rest : List X) (x : X) → Contains rest x
     → Contains (cons_option first rest) x

@@ -15,8 +15,7 @@ get_pushed (y ∷ xs) x zero = grind arith
 get_pushed (y ∷ xs) x (suc i) = rw suc-suc (get_pushed xs x i)
 
 pub get_set_found : {X : Type 0} (f : X → X) (xs : List X) (i j : ℕ) (found : Option X)
-    → slice_get xs i ≡ found
-    → slice_get (option_map_or (λ x. set xs i (f x)) found xs) j
+    → slice_get xs i ≡ found → slice_get (option_map_or (λ x. set xs i (f x)) found xs) j
     ≡ (if j == i then option_map f (slice_get xs j) else slice_get xs j)
 get_set_found f [] i j None at = either_way_same (j == i) None
 get_set_found f [] i j (Some x) at = absurd (cc)
@@ -69,8 +68,7 @@ one_item xs i k x y here same there = same_Some x y (sym here ∙ ap (slice_get 
 -- a function of a list from an element on, as a loop reads it
 pub at_item : {X Y : Type 0} (f : List X → Y) (xs : List X) (i : ℕ) (x : X) → i < length xs
     → x ≡ get_or xs i x → f (drop i xs) ≡ f (x ∷ drop (i + 1) xs)
-at_item f xs i x within is =
-    at_drop_more f xs i x within ∙ ap (λ y. f (y ∷ drop (i + 1) xs)) (sym is)
+at_item f xs i x within is = cc (at_drop_more f xs i x within, is)
 
 pub drop_at_item : {M : Type 0} (meters : List M) (at : ℕ) (meter : M) → at < length meters
     → get_or meters at meter ≡ meter → drop at meters ≡ meter ∷ drop (at + 1) meters
@@ -88,9 +86,8 @@ seam_at front back at long =
 
 pub remove-set : {M : Type 0} (meters : List M) (at : ℕ) (new : M) → at < length meters
     → remove (set meters at new) at ≡ take at meters ++ drop (at + 1) meters
-remove-set meters at new within =
-    rw (take-set, add-one) (ap (λ rest. take at meters ++ rest)
-    (drop-set-lt (suc at) meters at new (omega arith)))
+remove-set meters at new within = rw (take-set, add-one)
+    (ap (λ rest. take at meters ++ rest) (drop-set-lt (suc at) meters at new (omega arith)))
 
 pub drop_removed : {M : Type 0} (meters : List M) (at : ℕ) (new : M) → at < length meters
     → drop at (remove (set meters at new) at) ≡ drop (at + 1) meters
@@ -101,9 +98,7 @@ drop_removed meters at new within =
 pub map-remove : {X Y : Type 0} (f : X → Y) (xs : List X) (k : ℕ) →
     map f (remove xs k) ≡ remove (map f xs) k
 map-remove f xs k =
-    map-append f (take k xs) (drop (suc k) xs)
-    ∙ ap (λ ys. ys ++ map f (drop (suc k) xs)) (sym (take-map f k xs))
-    ∙ ap (λ ys. take k (map f xs) ++ ys) (sym (drop-map f (suc k) xs))
+    cc (map-append f (take k xs) (drop (suc k) xs), take-map f k xs, drop-map f (suc k) xs)
 
 pub put_last : {X : Type 0} (xs : List X) (y : X) (i : ℕ) (d : X) → i < length xs →
     swap_remove (xs ++ y ∷ []) i d ≡ set xs i y
@@ -150,9 +145,7 @@ pub mapped_more : {X : Type 0} (f : X → X) (xs ys : List X) (i : ℕ) (d y : X
     → ys ≡ map f (take i xs) ++ drop i xs → y ≡ f (get_or ys i d)
     → set ys i y ≡ map f (take (i + 1) xs) ++ drop (i + 1) xs
 mapped_more f xs ys i d y within e made =
-    ap (λ l. set l i y) e ∙ ap (λ v. set (map f (take i xs) ++ drop i xs) i v)
-    (made ∙ ap f (mapped_read f xs ys i d e)) ∙ mapped_next f xs i d within
-    ∙ ap (λ n. map f (take n xs) ++ drop n xs) (sym (add-one i))
+    cc (e, made, mapped_read f xs ys i d e, mapped_next f xs i d within, add-one i)
 
 -- a front that is put back in its place
 pub take_put_back : {X : Type 0} (n : ℕ) (old new : List X) → length new ≡ length (take n old)
@@ -162,5 +155,4 @@ take_put_back zero old (x ∷ new) len = absurd (omega arith)
 take_put_back (suc n) [] [] len = refl
 take_put_back (suc n) [] (x ∷ new) len = absurd (omega arith)
 take_put_back (suc n) (o ∷ old) [] len = absurd (omega arith)
-take_put_back (suc n) (o ∷ old) (x ∷ new) len =
-    ap (λ l. x ∷ l) (take_put_back n old new (omega arith))
+take_put_back (suc n) (o ∷ old) (x ∷ new) len = cc (take_put_back n old new (omega arith))

@@ -18,25 +18,20 @@ sum_each f most xs few = sum_by-le f most xs (λ k d within. few (get_or xs k d)
 pub sum_filter : {X : Type 0} (f : X → ℕ) (test : X → Bool) (xs : List X)
     → sum_by f (filter test xs) ≡ sum_by (λ x. cond (test x) (f x) 0) xs
 sum_filter f test [] = refl
-sum_filter f test (x ∷ xs) = by_test (test x) refl (sum_filter f test xs)
-  where
-    by_test : (b : Bool) → test x ≡ b
-        → sum_by f (filter test xs) ≡ sum_by (λ y. cond (test y) (f y) 0) xs
-        → sum_by f (cond b (x ∷ filter test xs) (filter test xs))
-        ≡ sum_by (λ y. cond (test y) (f y) 0) (x ∷ xs)
-    by_test true e rest =
-        sum_by-cons f x (filter test xs) ∙ ap (λ k. f x + k) rest
-        ∙ ap (λ b. cond b (f x) 0 + sum_by (λ y. cond (test y) (f y) 0) xs) (sym e)
-        ∙ sym (sum_by-cons (λ y. cond (test y) (f y) 0) x xs)
-    by_test false e rest =
-        rest ∙ sym (zero_plus (sum_by (λ y. cond (test y) (f y) 0) xs))
-        ∙ ap (λ b. cond b (f x) 0 + sum_by (λ y. cond (test y) (f y) 0) xs) (sym e)
-        ∙ sym (sum_by-cons (λ y. cond (test y) (f y) 0) x xs)
+sum_filter f test (x ∷ xs) = by_test (test x) refl (sum_filter f test xs) where
+  by_test : (b : Bool) → test x ≡ b
+      → sum_by f (filter test xs) ≡ sum_by (λ y. cond (test y) (f y) 0) xs
+      → sum_by f (cond b (x ∷ filter test xs) (filter test xs))
+      ≡ sum_by (λ y. cond (test y) (f y) 0) (x ∷ xs)
+  by_test true e rest = cc
+      (sum_by-cons f x (filter test xs), rest, e, sum_by-cons (λ y. cond (test y) (f y) 0) x xs)
+  by_test false e rest = rest ∙ sym (zero_plus (sum_by (λ y. cond (test y) (f y) 0) xs))
+      ∙ ap (λ b. cond b (f x) 0 + sum_by (λ y. cond (test y) (f y) 0) xs) (sym e)
+      ∙ sym (sum_by-cons (λ y. cond (test y) (f y) 0) x xs)
 
 pub sum_some : {X : Type 0} (f : X → ℕ) (test : X → Bool) (xs : List X)
     → sum_by f (filter test xs) ≤ sum_by f xs
-sum_some f test xs =
-    omega (arith, sum_by-filter_both test (λ x. not (test x)) (λ x. refl) f xs)
+sum_some f test xs = omega (arith, sum_by-filter_both test (λ x. not (test x)) (λ x. refl) f xs)
 
 pub length_filter_less : {X : Type 0} (test : X → Bool) (xs : List X)
     → length (filter test xs) ≤ length xs
@@ -57,8 +52,7 @@ filter_filter {X} p q r both (x ∷ xs) = by_case (p x) (q x) refl (filter_filte
 
 pub filter_all : {X : Type 0} (p : X → Bool) (xs : List X) → All (λ x. p x ≡ true) xs → filter p xs ≡ xs
 filter_all p [] all = refl
-filter_all p (x ∷ xs) all =
-    let here : p x ≡ true = all 0 x (omega arith) in
+filter_all p (x ∷ xs) all = let here : p x ≡ true = all 0 x (omega arith) in
     rw here (ap (λ ys. x ∷ ys) (filter_all p xs (All-tail (λ x. p x ≡ true) x xs all)))
 
 -- a filter by what another test implies changes nothing
@@ -72,8 +66,7 @@ filter_implied p q (x ∷ xs) implied = by (p x) refl (q x) refl
         → filter p (filter q (x ∷ xs)) ≡ filter p (x ∷ xs)
     by true one true other rest = rw (other, one) (ap (λ ys. x ∷ ys) rest)
     by true one false other rest =
-        let also = All-head (λ x. p x ≡ true → q x ≡ true) x xs implied one in
-        absurd (cc)
+        let also = All-head (λ x. p x ≡ true → q x ≡ true) x xs implied one in absurd (cc)
     by false one true other rest = rw (other, one) rest
     by false one false other rest = rw (other, one) rest
 
@@ -81,9 +74,8 @@ pub filter_same_on : {X : Type 0} (P : X → Type 0) (p q : X → Bool) → ((x 
     → (xs : List X) → AllByRecursion P xs → filter p xs ≡ filter q xs
 filter_same_on P p q same [] all = refl
 filter_same_on P p q same (x ∷ xs) all =
-    let here : p x ≡ q x = same x all.0 in
     let rest : filter p xs ≡ filter q xs = filter_same_on P p q same xs all.1 in
-    rw (here, rest) refl
+    rw ((same x all.0), rest) refl
 
 pub map_twice : {X Y Z : Type 0} (f : X → Y) (g : Y → Z) (xs : List X)
     → map g (map f xs) ≡ map (λ x. g (f x)) xs
@@ -93,13 +85,12 @@ map_twice f g (x ∷ xs) = ap (λ ys. g (f x) ∷ ys) (map_twice f g xs)
 pub filter_made : {X Y : Type 0} (f : X → Y) (p : Y → Bool) (xs : List X)
     → filter p (map f xs) ≡ map f (filter (λ x. p (f x)) xs)
 filter_made f p [] = refl
-filter_made f p (x ∷ xs) = by_test (p (f x)) (filter_made f p xs)
-  where
-    by_test : (b : Bool) → filter p (map f xs) ≡ map f (filter (λ x. p (f x)) xs)
-        → (if b then f x ∷ filter p (map f xs) else filter p (map f xs))
-        ≡ map f (if b then x ∷ filter (λ x. p (f x)) xs else filter (λ x. p (f x)) xs)
-    by_test true same = ap (λ ys. f x ∷ ys) same
-    by_test false same = same
+filter_made f p (x ∷ xs) = by_test (p (f x)) (filter_made f p xs) where
+  by_test : (b : Bool) → filter p (map f xs) ≡ map f (filter (λ x. p (f x)) xs)
+      → (if b then f x ∷ filter p (map f xs) else filter p (map f xs))
+      ≡ map f (if b then x ∷ filter (λ x. p (f x)) xs else filter (λ x. p (f x)) xs)
+  by_test true same = ap (λ ys. f x ∷ ys) same
+  by_test false same = same
 
 -- as many bytes as each has at most
 pub each_short : {A : Type 0} (spell : A → List ℕ) (most : ℕ) (xs : List A)
@@ -113,10 +104,9 @@ each_short spell most (x ∷ xs) short =
 pub count_by-map : {X Y : Type 0} (test : Y → Bool) (f : X → Y) (xs : List X)
     → count_by test (map f xs) ≡ count_by (λ x. test (f x)) xs
 count_by-map test f [] = refl
-count_by-map {X} {Y} test f (x ∷ xs) =
-    omega (
-      arith,
-      count_by-cons test (f x) (map f xs),
-      count_by-cons (λ z. test (f z)) x xs,
-      count_by-map test f xs,
-    )
+count_by-map {X} {Y} test f (x ∷ xs) = omega (
+  arith,
+  count_by-cons test (f x) (map f xs),
+  count_by-cons (λ z. test (f z)) x xs,
+  count_by-map test f xs,
+)

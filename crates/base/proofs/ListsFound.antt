@@ -1,5 +1,5 @@
 -- The first element that passes a test, and its place.
-use Rattle.std.proofs.Common.{[], ◌&&◌, ◌++◌, ◌+◌, ◌<◌, ◌||◌, ◌∙◌, ◌∷◌, ◌≡◌, ◌≤◌, All, Bool, Contains, IfSome, IsSome, List, MatchOption, None, Option, Some, ap, arith, cond, count_by, false, filter, find, get_or, inl, inr, is_some, le-ltb, length, lt-ltb, map, min, nat_lt, not, option_and_then, option_map, position, refl, slice_get, subst, suc, sym, true, zero, ℕ}
+use Rattle.std.proofs.Common.{[], ◌&&◌, ◌++◌, ◌+◌, ◌<◌, ◌||◌, ◌∙◌, ◌∷◌, ◌≡◌, ◌≤◌, All, Bool, Contains, IfSome, IsSome, List, MatchOption, None, Option, Some, ap, arith, cond, count_by, false, filter, find, get_or, inl, inr, is_some, le-ltb, length, lt-ltb, map, min, not, option_and_then, option_map, position, refl, slice_get, subst, suc, sym, true, zero, ℕ}
 use Rattle.std.specs.List.{list_any, position_from, position_or_len}
 use Rattle.std.proofs.lemmas.Bool.{both_ways, cases_lt}
 use Rattle.std.proofs.lemmas.Iterator.Adapters.{position_from-zero}
@@ -15,22 +15,20 @@ use Rattle.base.proofs.ListsOfAll.{contains_later}
 none_from_count : {X : Type 0} (test : X → Bool) (xs : List X) → count_by test xs ≡ 0
     → find test xs ≡ None
 none_from_count test [] none = refl
-none_from_count {X} test (x ∷ xs) none = by_case (test x) refl (none_from_count test xs)
-  where
-    by_case : (b : Bool) → test x ≡ b → (count_by test xs ≡ 0 → find test xs ≡ None)
-        → cond b (Some x) (find test xs) ≡ None
-    by_case true passes rest = absurd (grind (arith, count_by-cons test x xs))
-    by_case false fails rest = rest (grind (arith, count_by-cons test x xs))
+none_from_count {X} test (x ∷ xs) none = by_case (test x) refl (none_from_count test xs) where
+  by_case : (b : Bool) → test x ≡ b → (count_by test xs ≡ 0 → find test xs ≡ None)
+      → cond b (Some x) (find test xs) ≡ None
+  by_case true passes rest = absurd (grind (arith, count_by-cons test x xs))
+  by_case false fails rest = rest (grind (arith, count_by-cons test x xs))
 
 pub some_from_count : {X : Type 0} (test : X → Bool) (xs : List X) → count_by test xs ≡ 1 → (x : X)
     × (find test xs ≡ Some x)
 some_from_count test [] one = absurd (omega arith)
-some_from_count {X} test (x ∷ xs) one = by_case (test x) refl (some_from_count test xs)
-  where
-    by_case : (b : Bool) → test x ≡ b → (count_by test xs ≡ 1 → (y : X) × (find test xs ≡ Some y))
-        → (y : X) × (cond b (Some x) (find test xs) ≡ Some y)
-    by_case true passes rest = (x, refl)
-    by_case false fails rest = rest (grind (arith, count_by-cons test x xs))
+some_from_count {X} test (x ∷ xs) one = by_case (test x) refl (some_from_count test xs) where
+  by_case : (b : Bool) → test x ≡ b → (count_by test xs ≡ 1 → (y : X) × (find test xs ≡ Some y))
+      → (y : X) × (cond b (Some x) (find test xs) ≡ Some y)
+  by_case true passes rest = (x, refl)
+  by_case false fails rest = rest (grind (arith, count_by-cons test x xs))
 
 -- among the elements that are kept, the one that passes is there if it is kept
 pub find-filter : {X : Type 0} (test kept : X → Bool) (xs : List X) (x : X) → count_by test xs ≡ 1
@@ -56,35 +54,31 @@ find-filter {X} test kept (y ∷ ys) x one is = by_case (test y) refl is (find-f
         let none : count_by test ys ≡ 0 = grind (arith, count_by-cons test y ys) in
         subst (λ z. find test (filter kept (y ∷ ys)) ≡ cond (kept z) (Some z) None) same
         (here passes (kept y) (none_from_count test ys none)
-        (none_from_count test (filter kept ys)
-        (omega (arith, count-filter-le test kept ys, none))))
-    by_case false fails is rest = later fails (kept y)
-        ∙ rest (grind (arith, count_by-cons test y ys)) is
+        (none_from_count test (filter kept ys) (omega (arith, count-filter-le))))
+    by_case false fails is rest = later fails (kept y) ∙ rest (grind (arith, count_by-cons)) is
 
 pub find-map : {X Y : Type 0} (test : Y → Bool) (f : X → Y) (xs : List X)
     → find test (map f xs) ≡ option_map f (find (λ x. test (f x)) xs)
 find-map test f [] = refl
-find-map {X} {Y} test f (x ∷ xs) = by_case (test (f x)) (find-map test f xs)
-  where
-    by_case : (b : Bool) → find test (map f xs) ≡ option_map f (find (λ z. test (f z)) xs)
-        → cond b (Some (f x)) (find test (map f xs)) ≡ option_map f
-        (cond b (Some x) (find (λ z. test (f z)) xs))
-    by_case true rest = refl
-    by_case false rest = rest
+find-map {X} {Y} test f (x ∷ xs) = by_case (test (f x)) (find-map test f xs) where
+  by_case : (b : Bool) → find test (map f xs) ≡ option_map f (find (λ z. test (f z)) xs)
+      → cond b (Some (f x)) (find test (map f xs)) ≡ option_map f
+      (cond b (Some x) (find (λ z. test (f z)) xs))
+  by_case true rest = refl
+  by_case false rest = rest
 
 -- what is found passes and is there
 pub find-there : {X : Type 0} (test : X → Bool) (xs : List X) (x : X) → find test xs ≡ Some x
     → Contains xs x × (test x ≡ true)
 find-there test [] x is = absurd (cc)
-find-there {X} test (y ∷ ys) x is = by_case (test y) refl is (find-there test ys x)
-  where
-    by_case : (b : Bool) → test y ≡ b → cond b (Some y) (find test ys) ≡ Some x
-        → (find test ys ≡ Some x → Contains ys x × (test x ≡ true)) → Contains (y ∷ ys) x
-        × (test x ≡ true)
-    by_case true passes is rest = let same : y ≡ x =
-        cc in ((0, omega arith, same), ap test (sym same) ∙ passes)
-    by_case false fails is rest = let later =
-        rest is in ((suc later.0.0, omega (arith, later.0.1), later.0.2), later.1)
+find-there {X} test (y ∷ ys) x is = by_case (test y) refl is (find-there test ys x) where
+  by_case : (b : Bool) → test y ≡ b → cond b (Some y) (find test ys) ≡ Some x
+      → (find test ys ≡ Some x → Contains ys x × (test x ≡ true)) → Contains (y ∷ ys) x
+      × (test x ≡ true)
+  by_case true passes is rest = let same : y ≡ x =
+      cc in ((0, omega arith, same), ap test (sym same) ∙ passes)
+  by_case false fails is rest = let later =
+      rest is in ((suc later.0.0, omega (arith, later.0.1), later.0.2), later.1)
 
 pub find_ends : {X : Type 0} (test : X → Bool) (earlier : List X) (last : X) → test last ≡ true
     → IsSome (find test (earlier ++ last ∷ []))
@@ -99,26 +93,20 @@ find_ends {X} test (x ∷ earlier) last passes = by_case (test x) (find_ends tes
 position_or_len-map : {X Y : Type 0} (test : Y → Bool) (f : X → Y) (xs : List X) →
     position_or_len test (map f xs) ≡ position_or_len (λ x. test (f x)) xs
 position_or_len-map test f [] = refl
-position_or_len-map test f (x ∷ xs) =
-    ap (λ n. cond (not (test (f x))) (1 + n) 0) (position_or_len-map test f xs)
+position_or_len-map test f (x ∷ xs) = cc (position_or_len-map test f xs)
 
 pub position-map : {X Y : Type 0} (test : Y → Bool) (f : X → Y) (xs : List X) →
     position test (map f xs) ≡ position (λ x. test (f x)) xs
-position-map test f xs =
-    ap (λ n. cond (nat_lt n (length (map f xs))) (Some n) None) (position_or_len-map test f xs)
-    ∙ ap (λ len. cond (nat_lt (position_or_len (λ x. test (f x)) xs) len)
-    (Some (position_or_len (λ x. test (f x)) xs)) None) (length-map xs f)
+position-map test f xs = cc (position_or_len-map test f xs, length-map xs f)
 
 -- what holds of each holds of the one that is found
 pub found_is : {X : Type 0} (P : X → Type 0) (test : X → Bool) (xs : List X) → All P xs
     → IfSome (find test xs) P
 found_is P test [] all = tt
-found_is {X} P test (x ∷ xs) all =
-    by_case (test x) (found_is P test xs (All-tail P x xs all))
-  where
-    by_case : (b : Bool) → IfSome (find test xs) P → IfSome (cond b (Some x) (find test xs)) P
-    by_case true rest = All-head P x xs all
-    by_case false rest = rest
+found_is {X} P test (x ∷ xs) all = by_case (test x) (found_is P test xs (All-tail P x xs all)) where
+  by_case : (b : Bool) → IfSome (find test xs) P → IfSome (cond b (Some x) (find test xs)) P
+  by_case true rest = All-head P x xs all
+  by_case false rest = rest
 
 pub place_none : {X : Type 0} (xs : List X) → position_or_len (λ x. false) xs ≡ length xs
 place_none [] = refl
@@ -128,19 +116,18 @@ place_none (x ∷ xs) = omega (arith, place_none xs)
 pub place_either : {X : Type 0} (p q : X → Bool) (xs : List X) →
     position_or_len (λ x. p x || q x) xs ≡ min (position_or_len p xs) (position_or_len q xs)
 place_either p q [] = refl
-place_either {X} p q (x ∷ xs) = by_case (p x) (q x) (place_either p q xs)
-  where
-    step : Bool → ℕ → ℕ
-    step b n = cond (not b) (1 + n) 0
+place_either {X} p q (x ∷ xs) = by_case (p x) (q x) (place_either p q xs) where
+  step : Bool → ℕ → ℕ
+  step b n = cond (not b) (1 + n) 0
 
-    by_case : (a b : Bool) →
-        position_or_len (λ y. p y || q y) xs ≡ min (position_or_len p xs) (position_or_len q xs) →
-        step (a || b) (position_or_len (λ y. p y || q y) xs)
-        ≡ min (step a (position_or_len p xs)) (step b (position_or_len q xs))
-    by_case true true rest = refl
-    by_case true false rest = omega arith
-    by_case false true rest = omega arith
-    by_case false false rest = omega (arith, rest)
+  by_case : (a b : Bool) →
+      position_or_len (λ y. p y || q y) xs ≡ min (position_or_len p xs) (position_or_len q xs) →
+      step (a || b) (position_or_len (λ y. p y || q y) xs)
+      ≡ min (step a (position_or_len p xs)) (step b (position_or_len q xs))
+  by_case true true rest = refl
+  by_case true false rest = omega arith
+  by_case false true rest = omega arith
+  by_case false false rest = omega (arith, rest)
 
 -- the first one that passes a test passes another too
 pub place_both : {X : Type 0} (p q : X → Bool) (xs : List X) (x : X) →
@@ -158,39 +145,34 @@ place_both {X} p q (y ∷ ys) x there holds = by_case (p y) there (λ later. pla
     by_case : (a : Bool) → slice_get (y ∷ ys) (cond (not a) (1 + n) 0) ≡ Some x →
         (slice_get ys n ≡ Some x → both ≡ n) →
         cond (not (a && q y)) (1 + both) 0 ≡ cond (not a) (1 + n) 0
-    by_case true here rest =
-        ap (λ b. cond (not b) (1 + both) 0) (ap q (same_Some y x here) ∙ holds)
-    by_case false later rest =
-        let next : suc n ≡ 1 + n = omega arith in
+    by_case true here rest = ap (λ b. cond (not b) (1 + both) 0) (ap q (same_Some y x here) ∙ holds)
+    by_case false later rest = let next : suc n ≡ 1 + n = omega arith in
         ap (λ k. 1 + k) (rest (ap (slice_get (y ∷ ys)) next ∙ later))
 
 -- none passes a test, so none passes another too
 pub none_both : {X : Type 0} (p q : X → Bool) (xs : List X) → position_or_len p xs ≡ length xs →
     position_or_len (λ y. p y && q y) xs ≡ length xs
 none_both p q [] none = refl
-none_both {X} p q (y ∷ ys) none = by_case (p y) none (none_both p q ys)
-  where
-    n : ℕ
-    n = position_or_len p ys
+none_both {X} p q (y ∷ ys) none = by_case (p y) none (none_both p q ys) where
+  n : ℕ
+  n = position_or_len p ys
 
-    both : ℕ
-    both = position_or_len (λ z. p z && q z) ys
+  both : ℕ
+  both = position_or_len (λ z. p z && q z) ys
 
-    by_case : (a : Bool) → cond (not a) (1 + n) 0 ≡ length (y ∷ ys) →
-        (n ≡ length ys → both ≡ length ys) →
-        cond (not (a && q y)) (1 + both) 0 ≡ length (y ∷ ys)
-    by_case true end rest = absurd (omega (arith, end))
-    by_case false end rest = omega (arith, rest (omega (arith, end)))
+  by_case : (a : Bool) → cond (not a) (1 + n) 0 ≡ length (y ∷ ys)
+      → (n ≡ length ys → both ≡ length ys) → cond (not (a && q y)) (1 + both) 0 ≡ length (y ∷ ys)
+  by_case true end rest = absurd (omega (arith, end))
+  by_case false end rest = omega (arith, rest (omega (arith, end)))
 
 pub find_none : {X : Type 0} (p : X → Bool) (xs : List X) → find p xs ≡ None
     → All (λ x. p x ≡ false) xs
 find_none p [] none = All-nil (λ x. p x ≡ false)
-find_none {X} p (x ∷ xs) none = by (p x) refl none (find_none p xs)
-  where
-    by : (b : Bool) → p x ≡ b → cond b (Some x) (find p xs) ≡ None
-        → (find p xs ≡ None → All (λ y. p y ≡ false) xs) → All (λ y. p y ≡ false) (x ∷ xs)
-    by true is none rest = absurd cc
-    by false is none rest = All-cons (λ y. p y ≡ false) x xs is (rest none)
+find_none {X} p (x ∷ xs) none = by (p x) refl none (find_none p xs) where
+  by : (b : Bool) → p x ≡ b → cond b (Some x) (find p xs) ≡ None
+      → (find p xs ≡ None → All (λ y. p y ≡ false) xs) → All (λ y. p y ≡ false) (x ∷ xs)
+  by true is none rest = absurd cc
+  by false is none rest = All-cons (λ y. p y ≡ false) x xs is (rest none)
 
 -- what holds of each item holds of the one that is found
 pub found_all : {X : Type 0} (P : X → Type 0) (p : X → Bool) (xs : List X) (x : X) → All P xs
@@ -207,15 +189,14 @@ found_all P p (y ∷ ys) x all is =
 pub find_found : {X : Type 0} (p : X → Bool) (xs : List X)
     → MatchOption (find p xs) (All (λ x. p x ≡ false) xs) (λ x. Contains xs x × (p x ≡ true))
 find_found p [] = All-nil _
-find_found {X} p (x ∷ xs) = by_case (p x) refl (find p xs) (find_found p xs)
-  where
-    by_case : (b : Bool) → p x ≡ b → (found : Option X)
-        → MatchOption found (All (λ x. p x ≡ false) xs) (λ y. Contains xs y × (p y ≡ true))
-        → MatchOption (cond b (Some x) found) (All (λ x. p x ≡ false) (x ∷ xs))
-        (λ y. Contains (x ∷ xs) y × (p y ≡ true))
-    by_case true is found rest = ((0, omega arith, refl), is)
-    by_case false is None rest = All-cons (λ x. p x ≡ false) x xs is rest
-    by_case false is (Some y) rest = (contains_later x xs y rest.0, rest.1)
+find_found {X} p (x ∷ xs) = by_case (p x) refl (find p xs) (find_found p xs) where
+  by_case : (b : Bool) → p x ≡ b → (found : Option X)
+      → MatchOption found (All (λ x. p x ≡ false) xs) (λ y. Contains xs y × (p y ≡ true))
+      → MatchOption (cond b (Some x) found) (All (λ x. p x ≡ false) (x ∷ xs))
+      (λ y. Contains (x ∷ xs) y × (p y ≡ true))
+  by_case true is found rest = ((0, omega arith, refl), is)
+  by_case false is None rest = All-cons (λ x. p x ≡ false) x xs is rest
+  by_case false is (Some y) rest = (contains_later x xs y rest.0, rest.1)
 
 -- the element at the first place that passes is the first that passes
 pub find-position : {X : Type 0} (p : X → Bool) (xs : List X)
@@ -231,28 +212,23 @@ find-position {X} p xs =
 -- what is found passes the test
 pub found_passes : {X : Type 0} (test : X → Bool) (xs : List X) (x : X) → find test xs ≡ Some x → test x ≡ true
 found_passes test [] x is = cc is
-found_passes test (y ∷ ys) x is = first (test y) refl is (found_passes test ys x)
-  where
-    first : (b : Bool) → test y ≡ b → cond b (Some y) (find test ys) ≡ Some x
-        → (find test ys ≡ Some x → test x ≡ true) → test x ≡ true
-    first true passes is later =
-        let same : y ≡ x = cc is in
-        subst (λ z. test z ≡ true) same passes
-    first false fails is later = later is
+found_passes test (y ∷ ys) x is = first (test y) refl is (found_passes test ys x) where
+  first : (b : Bool) → test y ≡ b → cond b (Some y) (find test ys) ≡ Some x
+      → (find test ys ≡ Some x → test x ≡ true) → test x ≡ true
+  first true passes is later = subst (λ z. test z ≡ true) (cc is) passes
+  first false fails is later = later is
 
 none_pass : {X : Type 0} (test : X → Bool) (xs : List X) (k : ℕ) (x : X) → count_by test xs ≡ 0
     → slice_get xs k ≡ Some x → test x ≡ true → ⊥
 none_pass test [] k x none is passes = none-some x is
-none_pass test (y ∷ ys) zero x none is passes =
-    let same : y ≡ x = same_Some y x is in
+none_pass test (y ∷ ys) zero x none is passes = let same : y ≡ x = same_Some y x is in
     omega (arith, none, count_by-cons test y ys, ap {B = ℕ} (λ t. cond t 1 0) (ap test same ∙ passes))
 none_pass test (y ∷ ys) (suc k) x none is passes =
     none_pass test ys k x (omega (arith, none, count_by-cons test y ys)) is passes
 
 -- where one element alone passes, it has one place
-pub one_place : {X : Type 0} (test : X → Bool) (xs : List X) (j k : ℕ) (x y : X)
-    → count_by test xs ≡ 1 → slice_get xs j ≡ Some x → test x ≡ true → slice_get xs k ≡ Some y
-    → test y ≡ true → j ≡ k
+pub one_place : {X : Type 0} (test : X → Bool) (xs : List X) (j k : ℕ) (x y : X) → count_by test xs
+    ≡ 1 → slice_get xs j ≡ Some x → test x ≡ true → slice_get xs k ≡ Some y → test y ≡ true → j ≡ k
 one_place test [] j k x y one at_j p at_k q = absurd (none-some x at_j)
 one_place test (z ∷ zs) zero zero x y one at_j p at_k q = refl
 one_place test (z ∷ zs) zero (suc k) x y one at_j p at_k q =
@@ -276,9 +252,8 @@ pub find_agree : {X : Type 0} (p q : X → Bool) (xs : List X) → All (λ x. p 
     → find p xs ≡ find q xs
 find_agree p q [] agree = refl
 find_agree {X} p q (x ∷ xs) agree =
-    let rest = find_agree p q xs (All-tail (λ z. p z ≡ q z) x xs agree) in
     ap (λ t. cond t (Some x) (find p xs)) (All-head (λ z. p z ≡ q z) x xs agree)
-    ∙ ap (cond (q x) (Some x)) rest
+    ∙ ap (cond (q x) (Some x)) (find_agree p q xs (All-tail (λ z. p z ≡ q z) x xs agree))
 
 -- the first that passes is kept by a filter that keeps what passes
 pub find_kept : {X : Type 0} (test kept : X → Bool) (xs : List X)
@@ -298,13 +273,12 @@ find_kept {X} test kept (x ∷ xs) keeps =
 pub found_from_count : {X : Type 0} (test : X → Bool) (xs : List X) → 1 ≤ count_by test xs
     → IsSome (find test xs)
 found_from_count test [] one = absurd (omega arith)
-found_from_count {X} test (x ∷ xs) one = by_case (test x) refl (found_from_count test xs)
-  where
-    by_case : (b : Bool) → test x ≡ b → (1 ≤ count_by test xs → IsSome (find test xs))
-        → IsSome (cond b (Some x) (find test xs))
-    by_case true passes rest = refl
-    by_case false fails rest =
-        rest (omega (arith, one, count_by-cons test x xs, ap {B = ℕ} (λ t. cond t 1 0) fails))
+found_from_count {X} test (x ∷ xs) one = by_case (test x) refl (found_from_count test xs) where
+  by_case : (b : Bool) → test x ≡ b → (1 ≤ count_by test xs → IsSome (find test xs))
+      → IsSome (cond b (Some x) (find test xs))
+  by_case true passes rest = refl
+  by_case false fails rest =
+      rest (omega (arith, one, count_by-cons test x xs, ap {B = ℕ} (λ t. cond t 1 0) fails))
 
 some_position_from : {X : Type 0} (test : X → Bool) (i : ℕ) (xs : List X) → is_some (position_from test i xs)
     ≡ list_any test xs
@@ -326,13 +300,11 @@ pub position_at : {X : Type 0} (test : X → Bool) (xs : List X) (s : ℕ) (x : 
     → test x ≡ true → ((k : ℕ) → k < s → test (get_or xs k x) ≡ false) → position test xs ≡ Some s
 position_at test xs s x there passes before =
     let within = slice_get_within xs s x there in
-    let here : test (get_or xs s x) ≡ true = ap test (get_or_from_slice_get xs s x x there)
-    ∙ passes in
-    let first = position_or_len_is test xs s x (omega (arith, within)) before (λ _. here) in
+    let first = position_or_len_is test xs s x (omega (arith, within)) before
+    (λ _. (ap test (get_or_from_slice_get xs s x x there) ∙ passes)) in
     rw (first, lt-ltb s (length xs) within) refl
 
 pub position_row : {X : Type 0} (test : X → Bool) (xs : List X) (s : ℕ) (d : X)
     → position test xs ≡ Some s → (x : X) × (slice_get xs s ≡ Some x) × (test x ≡ true)
-position_row test xs s d e =
-    let found = position-Some test xs s d e in
+position_row test xs s d e = let found = position-Some test xs s d e in
     (get_or xs s d, slice_get-get_or xs s d found.0, found.1)

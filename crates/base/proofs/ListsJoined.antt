@@ -28,18 +28,15 @@ pub zip_pushed : {A B : Type 0} (xs : List A) (ys : List B) (x : A) (y : B) → 
 zip_pushed [] [] x y same = refl
 zip_pushed [] (b ∷ ys) x y same = absurd (omega (arith, same))
 zip_pushed (a ∷ xs) [] x y same = absurd (omega (arith, same))
-zip_pushed (a ∷ xs) (b ∷ ys) x y same =
-    ap (λ more. (a, b) ∷ more) (zip_pushed xs ys x y (omega (arith, same)))
+zip_pushed (a ∷ xs) (b ∷ ys) x y same = cc (zip_pushed xs ys x y (omega (arith, same)))
 
 pub enumerate_push : {X : Type 0} (n : ℕ) (xs : List X) (x : X)
     → enumerate_from n (xs ++ x ∷ []) ≡ enumerate_from n xs ++ (n + length xs, x) ∷ []
 enumerate_push {X} n [] x =
     let e : n ≡ n + 0 = omega arith in ap {B = List (ℕ × X)} (λ k. (k, x) ∷ []) e
 enumerate_push {X} n (y ∷ ys) x =
-    let e : n + 1 + length ys ≡ n + suc (length ys) = omega arith in
-    ap {B = List (ℕ × X)} (λ l. (n, y) ∷ l)
-    (enumerate_push (n + 1) ys x
-    ∙ ap {B = List (ℕ × X)} (λ k. enumerate_from (n + 1) ys ++ (k, x) ∷ []) e)
+    ap {B = List (ℕ × X)} (λ l. (n, y) ∷ l) (enumerate_push (n + 1) ys x
+    ∙ ap {B = List (ℕ × X)} (λ k. enumerate_from (n + 1) ys ++ (k, x) ∷ []) (omega arith))
 
 -- what stands in the midst of nothing is nothing
 pub middle_none : {X : Type 0} (xs ys zs : List X) → xs ++ (ys ++ zs) ≡ [] → ys ≡ []
@@ -54,9 +51,8 @@ both_written old begun new first rest first_is grown =
     grown ∙ ap (λ js. js ++ rest) first_is ∙ append_assoc old first rest
 
 -- one more item of a list
-pub taken_more : {X Y : Type 0} (f : X → List Y) (xs : List X) (i : ℕ) (x : X)
-    → i < length xs → x ≡ get_or xs i x
-    → flat_map f (take i xs) ++ f x ≡ flat_map f (take (i + 1) xs)
+pub taken_more : {X Y : Type 0} (f : X → List Y) (xs : List X) (i : ℕ) (x : X) → i < length xs
+    → x ≡ get_or xs i x → flat_map f (take i xs) ++ f x ≡ flat_map f (take (i + 1) xs)
 taken_more f xs i x within at = sym (
     ap (flat_map f) (take_more xs i x within ∙ ap (λ y. take i xs ++ y ∷ []) (sym at))
     ∙ flat_map-append f (take i xs) (x ∷ [])
@@ -82,31 +78,26 @@ found_more f h xs i x within at = sym (
 -- pieces are those before a place, the one there, and the rest
 pub flat_map-at : {X : Type 0} (f : X → List ℕ) (xs : List X) (i : ℕ) (d : X) → i < length xs
     → flat_map f (take i xs) ++ (f (get_or xs i d) ++ flat_map f (drop (suc i) xs)) ≡ flat_map f xs
-flat_map-at f xs i d within =
-    sym (flat_map-append f (take i xs) (get_or xs i d ∷ drop (suc i) xs))
-    ∙ ap (flat_map f) (ap (λ ys. take i xs ++ ys) (sym (drop-cons xs i d within))
-    ∙ take-append-drop i xs)
+flat_map-at f xs i d within = sym (flat_map-append f (take i xs) (get_or xs i d ∷ drop (suc i) xs))
+    ∙ ap (flat_map f)
+    (ap (λ ys. take i xs ++ ys) (sym (drop-cons xs i d within)) ∙ take-append-drop i xs)
 
 -- the pieces of a few more
 flat_map-more : {X : Type 0} (f : X → List ℕ) (xs block : List X) (at : ℕ)
     → block ≡ take (length block) (drop at xs) → flat_map f (take at xs) ++ flat_map f block
     ≡ flat_map f (take (at + length block) xs)
 flat_map-more f xs block at is =
-    sym (flat_map-append f (take at xs) block)
-    ∙ ap (flat_map f) (ap (λ ys. take at xs ++ ys) is ∙ sym (take-add at (length block) xs))
+    cc (flat_map-append f (take at xs) block, is, take-add at (length block) xs)
 
 -- the same of an item that is known to stand there
 pub flat_map-there : {X : Type 0} (f : X → List ℕ) (xs : List X) (i : ℕ) (x : X) → i < length xs
     → get_or xs i x ≡ x
     → flat_map f (take i xs) ++ (f x ++ flat_map f (drop (suc i) xs)) ≡ flat_map f xs
-flat_map-there f xs i x within own =
-    ap (λ y. flat_map f (take i xs) ++ (f y ++ flat_map f (drop (suc i) xs))) (sym own)
-    ∙ flat_map-at f xs i x within
+flat_map-there f xs i x within own = cc (own, flat_map-at f xs i x within)
 
 -- the pieces of one more
 pub flat_map-one : {X : Type 0} (f : X → List ℕ) (xs : List X) (i : ℕ) (x : X) → i < length xs
     → get_or xs i x ≡ x → flat_map f (take i xs) ++ f x ≡ flat_map f (take (i + 1) xs)
-flat_map-one f xs i x within own =
-    ap (λ y. flat_map f (take i xs) ++ f y) (sym own)
+flat_map-one f xs i x within own = ap (λ y. flat_map f (take i xs) ++ f y) (sym own)
     ∙ ap (λ bytes. flat_map f (take i xs) ++ bytes) (sym (append-nil (f (get_or xs i x))))
     ∙ flat_map-more f xs (get_or xs i x ∷ []) i (sym (ap (take 1) (drop-cons xs i x within)))

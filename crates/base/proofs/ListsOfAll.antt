@@ -11,11 +11,10 @@ use Rattle.base.proofs.ListLemmas.{in_cons_option}
 pub AllPairs-append : {X : Type 0} (R : X → X → Type 0) (xs ys : List X) → AllPairs R xs → AllPairs R ys
     → All (λ x. All (R x) ys) xs → AllPairs R (xs ++ ys)
 AllPairs-append R [] ys ones others cross = others
-AllPairs-append R (x ∷ xs) ys ones others cross = AllPairs-cons R x (xs ++ ys)
-    (All-append (R x) xs ys (λ k d within. ones 0 (suc k) d (omega arith) (omega arith))
-    (cross 0 x (omega arith)))
-    (AllPairs-append R xs ys (λ i j d less within. ones (suc i) (suc j) d (omega arith) (omega arith))
-    others (λ k d within. cross (suc k) d (omega arith)))
+AllPairs-append R (x ∷ xs) ys ones others cross = AllPairs-cons R x (xs ++ ys) (All-append (R x) xs
+    ys (λ k d within. ones 0 (suc k) d (omega arith) (omega arith)) (cross 0 x (omega arith)))
+    (AllPairs-append R xs ys (λ i j d less within. ones (suc i) (suc j) d (omega arith)
+    (omega arith)) others (λ k d within. cross (suc k) d (omega arith)))
 
 get_or-seam : {X : Type 0} (xs : List X) (y : X) (zs : List X) (d : X)
     → get_or (xs ++ y ∷ zs) (length xs) d ≡ y
@@ -26,10 +25,9 @@ get_or-seam (x ∷ xs) y zs d = get_or-seam xs y zs d
 pub pairs_before : {X : Type 0} (R : X → X → Type 0) (xs : List X) (y : X) (zs : List X)
     → AllPairs R (xs ++ y ∷ zs) → All (λ x. R x y) xs
 pairs_before R xs y zs pairs k d within =
-    let len : length (xs ++ y ∷ zs) ≡ length xs + length (y ∷ zs) = length-append xs (y ∷ zs) in
     subst (λ x. R x y) (get_or_append_left xs (y ∷ zs) d k within)
     (subst (R (get_or (xs ++ y ∷ zs) k d)) (get_or-seam xs y zs d)
-    (pairs k (length xs) d within (omega (arith, len))))
+    (pairs k (length xs) d within (omega (arith, length-append xs (y ∷ zs)))))
 
 pub contains_later : {X : Type 0} (y : X) (ys : List X) (x : X) → Contains ys x → Contains (y ∷ ys) x
 contains_later y ys x (k, within, is) = (suc k, omega arith, is)
@@ -37,12 +35,10 @@ contains_later y ys x (k, within, is) = (suc k, omega arith, is)
 pub All-flat_map_parts : {X Y : Type 0} (P : Y → Type 0) (f : X → List Y) (xs : List X) → All P (flat_map f xs)
     → All (λ x. All P (f x)) xs
 All-flat_map_parts P f [] all = All-nil (λ x. All P (f x))
-All-flat_map_parts P f (x ∷ xs) all =
-    let part = All-contains P (f x ++ flat_map f xs) in
+All-flat_map_parts P f (x ∷ xs) all = let part = All-contains P (f x ++ flat_map f xs) in
     All-cons (λ x. All P (f x)) x xs
-    (All-weaker (Contains (f x)) P
-    (λ y there. part y all (Contains-append_left (f x) (flat_map f xs) y there)) (f x)
-    (All-contains_itself (f x)))
+    (All-weaker (Contains (f x)) P (λ y there. part y all
+    (Contains-append_left (f x) (flat_map f xs) y there)) (f x) (All-contains_itself (f x)))
     (All-flat_map_parts P f xs (All-weaker (Contains (flat_map f xs)) P
     (λ y there. part y all (Contains-append_right (f x) (flat_map f xs) y there)) (flat_map f xs)
     (All-contains_itself (flat_map f xs))))
@@ -50,8 +46,7 @@ All-flat_map_parts P f (x ∷ xs) all =
 pub All-filter_map : {X Y : Type 0} (P : Y → Type 0) (f : X → Option Y) (xs : List X)
     → All (λ x. IfSome (f x) P) xs → All P (filter_map f xs)
 All-filter_map P f [] all = All-nil P
-All-filter_map {X} {Y} P f (x ∷ xs) all =
-    by_case (f x) (All-head (λ z. IfSome (f z) P) x xs all)
+All-filter_map {X} {Y} P f (x ∷ xs) all = by_case (f x) (All-head (λ z. IfSome (f z) P) x xs all)
     (All-filter_map P f xs (All-tail (λ z. IfSome (f z) P) x xs all))
   where
     by_case : (o : Option Y) → IfSome o P → All P (filter_map f xs)
@@ -63,24 +58,19 @@ pub Contains-filter_map : {X Y : Type 0} (f : X → Option Y) (xs : List X) (x :
     → f x ≡ Some y → Contains (filter_map f xs) y
 Contains-filter_map f [] x y (k, within, is) made = absurd (omega (arith, within))
 Contains-filter_map f (z ∷ zs) x y (zero, within, is) made =
-    subst (λ o. Contains (cons_option o (filter_map f zs)) y) (sym (ap f is ∙ made))
-    (0, omega arith, refl)
-Contains-filter_map f (z ∷ zs) x y (suc k, within, is) made =
-    in_cons_option (f z) (filter_map f zs) y
-    (Contains-filter_map f zs x y (k, omega (arith, within), is) made)
+    rw (ap f is ∙ made) (0, omega arith, refl)
+Contains-filter_map f (z ∷ zs) x y (suc k, within, is) made = in_cons_option (f z) (filter_map f zs)
+    y (Contains-filter_map f zs x y (k, omega arith, is) made)
 
 -- what is left of two elements of a list is related where they are
 pub AllPairs-filter_map : {X Y : Type 0} (R : X → X → Type 0) (S : Y → Y → Type 0)
-    (f : X → Option Y)
-    → ((a b : X) → R a b → IfSome (f a) (λ y. IfSome (f b) (λ z. S y z)))
+    (f : X → Option Y) → ((a b : X) → R a b → IfSome (f a) (λ y. IfSome (f b) (λ z. S y z)))
     → (xs : List X) → AllPairs R xs → AllPairs S (filter_map f xs)
 AllPairs-filter_map R S f each [] pairs = λ i j d less within. absurd (omega (arith, within))
-AllPairs-filter_map {X} {Y} R S f each (x ∷ xs) pairs =
-    by_case (f x) (λ k d within. each x (get_or xs k d) (pairs 0 (suc k) d (omega arith)
-    (omega (arith, within))))
+AllPairs-filter_map {X} {Y} R S f each (x ∷ xs) pairs = by_case (f x)
+    (λ k d within. each x (get_or xs k d) (pairs 0 (suc k) d (omega arith) (omega arith)))
     (AllPairs-filter_map R S f each xs
-    (λ i j d less within. pairs (suc i) (suc j) d (omega (arith, less))
-    (omega (arith, within))))
+    (λ i j d less within. pairs (suc i) (suc j) d (omega arith) (omega arith)))
   where
     by_case : (o : Option Y) → All (λ b. IfSome o (λ y. IfSome (f b) (λ z. S y z))) xs
         → AllPairs S (filter_map f xs) → AllPairs S (cons_option o (filter_map f xs))
@@ -90,8 +80,7 @@ AllPairs-filter_map {X} {Y} R S f each (x ∷ xs) pairs =
 
 pub Contains-map : {X Y : Type 0} (f : X → Y) (xs : List X) (x : X) → Contains xs x
     → Contains (map f xs) (f x)
-Contains-map f xs x (k, within, is) =
-    let len : length (map f xs) ≡ length xs = length-map _ _ in
+Contains-map f xs x (k, within, is) = let len : length (map f xs) ≡ length xs = length-map _ _ in
     (k, omega arith, get_or-map f xs k x (f x) within ∙ ap f is)
 
 pub AllPairs-map : {X Y : Type 0} (R : Y → Y → Type 0) (f : X → Y) (xs : List X)
@@ -110,8 +99,7 @@ All-remove P xs k all = All-append P (take k xs) (drop (suc k) xs) (All-take P k
 -- what holds of each holds of the one at a place
 pub got_is : {X : Type 0} (P : X → Type 0) (xs : List X) (place : ℕ) (x : X) → All P xs
     → Some x ≡ slice_get xs place → P x
-got_is P xs place x all is =
-    subst P (get_or_from_slice_get xs place x x (sym is))
+got_is P xs place x all is = rw (get_or_from_slice_get xs place x x (sym is)) at
     (all place x (slice_get_within xs place x (sym is)))
 
 -- the item at a place, if there is one
@@ -126,16 +114,14 @@ pub there_at : {X : Type 0} (P : X → Type 0) (xs : List X) (k : ℕ) (d : X)
     → IsSomeAnd (slice_get xs k) P
     → (k < length xs) × (slice_get xs k ≡ Some (get_or xs k d)) × P (get_or xs k d)
 there_at P xs k d is = elim (cases_lt k (length xs)) [
-  | inl within ↦
-      let at = slice_get-get_or xs k d within in
+  | inl within ↦ let at = slice_get-get_or xs k d within in
       (within, at, subst (λ o. IsSomeAnd o P) at is)
   | inr past ↦ absurd (subst (λ o. IsSomeAnd o P) (slice_get_past xs k past) is)
 ]
 
 pub All-one : {X : Type 0} (P : X → Type 0) (x : X) → P x → All P (x ∷ [])
 All-one P x is k d within =
-    let zero : k ≡ 0 = omega arith in
-    subst (λ (n : ℕ). P (get_or (x ∷ []) n d)) (sym zero) is
+    let zero : k ≡ 0 = omega arith in subst (λ (n : ℕ). P (get_or (x ∷ []) n d)) (sym zero) is
 
 AllZip-range_next : {A : Type 0} (R : ℕ → A → Type 0) (low count next : ℕ) (all : List A) (one : A)
     → low + count ≡ next → AllZip R (range_with_len low count) all → R next one
@@ -151,8 +137,7 @@ AllZip-range_next R low (suc count) next (first ∷ all) one is each last =
 pub AllZip-range_more : {A : Type 0} (R : ℕ → A → Type 0) (count : ℕ) (all : List A) (one : A)
     → AllZip R (range_with_len 0 count) all → R count one
     → AllZip R (range_with_len 0 (count + 1)) (all ++ one ∷ [])
-AllZip-range_more R count all one each last =
-    let on : suc count ≡ count + 1 = omega arith in
+AllZip-range_more R count all one each last = let on : suc count ≡ count + 1 = omega arith in
     subst (λ n. AllZip R (range_with_len 0 n) (all ++ one ∷ [])) on
     (AllZip-range_next R 0 count count all one (omega arith) each last)
 
@@ -163,19 +148,15 @@ seen_are seen value [] [] each = refl
 seen_are seen value [] (one ∷ all) each = absurd each
 seen_are seen value (port ∷ ports) [] each = absurd each
 seen_are seen value (port ∷ ports) (one ∷ all) each =
-    ap (λ v. v ∷ map seen all) each.0
-    ∙ ap (λ more. value port ∷ more) (seen_are seen value ports all each.1)
+    cc (each.0, seen_are seen value ports all each.1)
 
 -- what holds of all holds of the next one
 pub holds_next : {A : Type 0} (P : A → Type 0) (all first later : List A) (one : A)
     → first ++ one ∷ later ≡ all → All P all → P one
-holds_next P all first later one parts holds =
-    subst P
+holds_next P all first later one parts holds = subst P
     (ap (λ xs. get_or xs (length first + 0) one) (sym parts)
-    ∙ get_or-append-add first (one ∷ later) 0 one)
-    (holds (length first + 0) one
+    ∙ get_or-append-add first (one ∷ later) 0 one) (holds (length first + 0) one
     (omega (arith, ap length parts, length-append first (one ∷ later))))
 
 pub contains_at : {X : Type 0} (xs : List X) (k : ℕ) (x : X) → slice_get xs k ≡ Some x → Contains xs x
-contains_at xs k x there =
-    (k, slice_get_within xs k x there, get_or_from_slice_get xs k x x there)
+contains_at xs k x there = (k, slice_get_within xs k x there, get_or_from_slice_get xs k x x there)

@@ -45,9 +45,8 @@ pub any_within : {X : Type 0} (w : Bool → Bool) (none : w false ≡ false) (f 
     → All (λ x. f x ≡ w (y x)) xs → list_any f xs ≡ w (list_any y xs)
 any_within w none f y [] all = sym none
 any_within w none f y (x ∷ xs) all =
-    let here : f x ≡ w (y x) = all 0 x (omega arith) in
     let there = any_within w none f y xs (All-tail (λ x. f x ≡ w (y x)) x xs all) in
-    rw (here, there) (joined (y x) (list_any y xs))
+    rw ((all 0 x (omega arith)), there) (joined (y x) (list_any y xs))
   where
     idle : (b : Bool) → (b || b) ≡ b
     idle true = refl
@@ -67,8 +66,7 @@ pub any_filter_by : {X : Type 0} (test passes : X → Bool) (b : Bool)
     → ((x : X) → test x ≡ true → passes x ≡ b) → (xs : List X)
     → list_any test (filter passes xs) ≡ (list_any test xs && b)
 any_filter_by test passes b so [] = refl
-any_filter_by {X = X} test passes b so (x ∷ xs) =
-    picked (passes x) (filter passes xs)
+any_filter_by {X = X} test passes b so (x ∷ xs) = picked (passes x) (filter passes xs)
     ∙ by_test (test x) (passes x) b (list_any test (filter passes xs)) (list_any test xs) (so x)
     (any_filter_by test passes b so xs)
   where
@@ -99,10 +97,9 @@ any_filtered test passes [] = refl
 any_filtered {X = X} test passes (x ∷ xs) =
     by_tests (passes x) (test x) refl refl (any_filtered test passes xs)
   where
-    by_tests : (b c : Bool) → passes x ≡ b → test x ≡ c
-        → list_any test (filter passes xs) ≡ list_any (λ y. test y && passes y) xs
-        → list_any test (filter passes (x ∷ xs))
-        ≡ list_any (λ y. test y && passes y) (x ∷ xs)
+    by_tests : (b c : Bool) → passes x ≡ b → test x ≡ c → list_any test (filter passes xs)
+        ≡ list_any (λ y. test y && passes y) xs
+        → list_any test (filter passes (x ∷ xs)) ≡ list_any (λ y. test y && passes y) (x ∷ xs)
     by_tests true true e f rest = rw (e, f) refl
     by_tests true false e f rest = rw (e, f) rest
     by_tests false true e f rest = rw (e, f) rest
@@ -111,8 +108,7 @@ any_filtered {X = X} test passes (x ∷ xs) =
 pub any_weaker : {X : Type 0} (test passes : X → Bool) (xs : List X)
     → IsTrue (list_any (λ x. test x && passes x) xs) → IsTrue (list_any test xs)
 any_weaker test passes [] is = is
-any_weaker {X = X} test passes (x ∷ xs) is =
-    by_test (test x) refl (any_weaker test passes xs) is
+any_weaker {X = X} test passes (x ∷ xs) is = by_test (test x) refl (any_weaker test passes xs) is
   where
     by_test : (b : Bool) → test x ≡ b
         → (IsTrue (list_any (λ y. test y && passes y) xs) → IsTrue (list_any test xs))

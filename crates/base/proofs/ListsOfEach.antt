@@ -28,8 +28,7 @@ pub each_passing : {X : Type 0} (Q P : X → Type 0) (test : X → Bool)
     → ((x : X) → Q x → IsTrue (test x) → P x) → (xs : List X) → AllByRecursion Q xs
     → AllByRecursion P (filter test xs)
 each_passing Q P test so [] all = tt
-each_passing Q P test so (x ∷ xs) all =
-    by_test (test x) refl (each_passing Q P test so xs all.1)
+each_passing Q P test so (x ∷ xs) all = by_test (test x) refl (each_passing Q P test so xs all.1)
   where
     by_test : (b : Bool) → test x ≡ b → AllByRecursion P (filter test xs)
         → AllByRecursion P (if b then x ∷ filter test xs else filter test xs)
@@ -59,13 +58,12 @@ each_option P (Some x) all = (all x refl, tt)
 pub each_of_all : {X : Type 0} (test : X → Bool) (xs : List X) → IsTrue (list_all test xs)
     → AllByRecursion (λ x. IsTrue (test x)) xs
 each_of_all test [] all = tt
-each_of_all test (x ∷ xs) all = by_test (test x) refl all (each_of_all test xs)
-  where
-    by_test : (b : Bool) → test x ≡ b → IsTrue (b && list_all test xs)
-        → (IsTrue (list_all test xs) → AllByRecursion (λ y. IsTrue (test y)) xs)
-        → AllByRecursion (λ y. IsTrue (test y)) (x ∷ xs)
-    by_test true e all rest = (e, rest all)
-    by_test false e all rest = absurd cc
+each_of_all test (x ∷ xs) all = by_test (test x) refl all (each_of_all test xs) where
+  by_test : (b : Bool) → test x ≡ b → IsTrue (b && list_all test xs)
+      → (IsTrue (list_all test xs) → AllByRecursion (λ y. IsTrue (test y)) xs)
+      → AllByRecursion (λ y. IsTrue (test y)) (x ∷ xs)
+  by_test true e all rest = (e, rest all)
+  by_test false e all rest = absurd cc
 
 pub each_unmap : {X Y : Type 0} (P : Y → Type 0) (f : X → Y) (xs : List X)
     → AllByRecursion P (map f xs) → AllByRecursion (λ x. P (f x)) xs

@@ -19,8 +19,7 @@ some_passes_of false x is = cc is
 pub none_where_other : {X : Type 0} (s t end : ℕ) (told : X) → s ≡ t → end ≢ t
     → (if s == end then Some told else None) ≡ None
 none_where_other {X = X} s t end told is other =
-    let apart : (s == end) ≡ false = ne_eqb s end (λ same. other (sym same ∙ is)) in
-    ap (λ (b : Bool). if b then Some told else None) apart
+    ap (λ (b : Bool). if b then Some told else None) (ne_eqb s end (λ same. other (sym same ∙ is)))
 
 pub either_way_same : {X : Type 0} (b : Bool) (x : X) → x ≡ (if b then x else x)
 either_way_same true x = refl

@@ -34,8 +34,7 @@ pub MatchOption-same : {X Y : Type 0} (o : Option Y) (a b none : X) (some : Y �
 MatchOption-same None a b none some one other = one ∙ sym other
 MatchOption-same (Some y) a b none some one other = one ∙ sym other
 
-pub IfNone-weaker : {T P Q : Type 0} (found : Option T) → IfNone found P → (P → Q)
-    → IfNone found Q
+pub IfNone-weaker : {T P Q : Type 0} (found : Option T) → IfNone found P → (P → Q) → IfNone found Q
 IfNone-weaker None p so = so p
 IfNone-weaker (Some x) p so = tt
 

@@ -18,9 +18,7 @@ on_err_holds (Err error) Holds holds = holds
 pub same_error : {U E : Type 0} (result : Result U E) (e error : E)
     → IsErrAnd result (λ x. x ≡ e) → IsErrOf result error → e ≡ error
 same_error (Ok x) e error same is = absurd same
-same_error (Err x) e error same is =
-    let whole : x ≡ error = cc is in
-    sym same ∙ whole
+same_error (Err x) e error same is = sym same ∙ (cc is)
 
 pub ok_value : {X E : Type 0} (x y : X) → ◌≡◌ {A = Result X E} (Ok x) (Ok y) → x ≡ y
 ok_value x y e = ap (λ r. result_unwrap_or r x) e

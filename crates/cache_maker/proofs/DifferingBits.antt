@@ -20,10 +20,9 @@ pub still_fixed : ExactLaws → FreeLaws → (h : ℕ) (region : WordValue) (rul
 unfolding widening_of
 still_fixed exact free h region rules index zero j from below = exact.no_free_bit h j below
 still_fixed exact free h region rules index (suc n) j from below =
-    let other : j ≢ n = omega arith in
     let before = still_fixed exact free h region rules index n j (omega arith) below in
     by_test (is_independent region rules index (free_of (widening_of h region rules index n) n))
-    other
+    (omega arith)
     before
   where
     by_test : (b : Bool) → j ≢ n → IsTrue (is_fixed_of (widening_of h region rules index n) j)
@@ -65,15 +64,11 @@ agrees_as : (word rule : WordValue) (h j : ℕ) → IsTrue (is_fixed_of word j)
     → bit_at word.value j ≡ bit_at h j → agrees_at word rule j ≡ differ (bit_at h j)
     (bit_at rule.value j) (bit_at rule.mask j)
 unfolding agrees_at is_fixed_of
-agrees_as word rule h j fixed same =
-    ap (λ f. not (f && (bit_at rule.mask j == 1)) || (bit_at word.value j == bit_at rule.value j))
-    fixed
-    ∙ ap (λ v. not (bit_at rule.mask j == 1) || (v == bit_at rule.value j)) same
+agrees_as word rule h j fixed same = cc (fixed, same)
 
 pub differs_at : (word rule : WordValue) (h j : ℕ) → IsTrue (is_fixed_of word j)
-    → bit_at word.value j ≡ bit_at h j → agrees_at word rule j ≡ false
-    → bit_at (differing_bits h rule) j
-    ≡ 1
+    → bit_at word.value j ≡ bit_at h j
+    → agrees_at word rule j ≡ false → bit_at (differing_bits h rule) j ≡ 1
 differs_at word rule h j fixed same e =
     bit_at_differing h rule j ∙ digits_differ _ _ _ (bit_at-lt h j) (bit_at-lt rule.value j)
     (bit_at-lt rule.mask j) (sym (agrees_as word rule h j fixed same) ∙ e)
@@ -81,15 +76,13 @@ differs_at word rule h j fixed same e =
 pub same_at : (word rule : WordValue) (h j : ℕ) → IsTrue (is_fixed_of word j)
     → bit_at word.value j ≡ bit_at h j → IsTrue (agrees_at word rule j)
     → bit_at (differing_bits h rule) j ≡ 0
-same_at word rule h j fixed same e =
-    bit_at_differing h rule j ∙ digits_agree _ _ _ (bit_at-lt h j) (bit_at-lt rule.value j)
-    (bit_at-lt rule.mask j) (sym (agrees_as word rule h j fixed same) ∙ e)
+same_at word rule h j fixed same e = bit_at_differing h rule j ∙ digits_agree _ _ _ (bit_at-lt h j)
+    (bit_at-lt rule.value j) (bit_at-lt rule.mask j) (sym (agrees_as word rule h j fixed same) ∙ e)
 
 pub past_header : (h j : ℕ) (rule : WordValue) → IsWord rule → 104 ≤ j
     → bit_at (differing_bits h rule) j ≡ 0
 past_header h j rule is past =
-    bit_at_differing h rule j ∙ ap (λ m. min ((bit_at h j + bit_at rule.value j) % 2) m)
-    (bit_at_above rule.mask 104 j is.bounded past) ∙ none_of _
+    cc (bit_at_differing h rule j, bit_at_above rule.mask 104 j is.bounded past, none_of _)
 
 -- ---- the test
 
@@ -107,15 +100,13 @@ pub test_parts : FreeLaws → (region : WordValue) (rules : List Rule) (index bi
     && is_apart (free_of word bit) (take index rules)) ≡ is_independent region rules index
     (free_of word bit)
 test_parts free region rules index bit word d within is =
-    let in_rule = subst (λ o. IsSomeAnd o (λ (rule : Rule). IsTrue (covers_of rule.word word)))
-    (slice_get-get_or rules index d within) is.in_rule in
     sym (is_independent_at region rules index (free_of word bit) d within
     ∙ ap (λ b. (b && covers_of (get_or rules index d).word (free_of word bit))
     && is_apart (free_of word bit) (take index rules))
-    (freed_cover free region word bit is.in_region)
-    ∙ ap (λ b. (not (is_fixed_of region bit) && b)
-    && is_apart (free_of word bit) (take index rules))
-    (freed_cover free (get_or rules index d).word word bit in_rule))
+    (freed_cover free region word bit is.in_region) ∙ ap (λ b. (not (is_fixed_of region bit) && b)
+    && is_apart (free_of word bit) (take index rules)) (freed_cover free (get_or rules index d).word
+    word bit (subst (λ o. IsSomeAnd o (λ (rule : Rule). IsTrue (covers_of rule.word word)))
+    (slice_get-get_or rules index d within) is.in_rule)))
 
 -- ---- the upper halves
 
@@ -145,8 +136,7 @@ pub lower_tells : (h fixed : ℕ) (word : WordValue) → bit_and (bit_and (bit_x
     (word.value / 2 ^ 64)) (word.mask / 2 ^ 64)) (fixed / 2 ^ 64) ≡ 0
     → (bit_and (bit_and (bit_xor (h % 2 ^ 64) (word.value % 2 ^ 64)) (word.mask % 2 ^ 64))
     (fixed % 2 ^ 64) == 0) ≡ is_met h fixed word
-lower_tells h fixed word upper =
-    ap (λ x. x == 0) (sym (lower_is h word fixed))
+lower_tells h fixed word upper = ap (λ x. x == 0) (sym (lower_is h word fixed))
     ∙ same_test (bit_and (differing_bits h word) fixed) (upper_is h word fixed ∙ upper)
   where
     same_test : (n : ℕ) → n / 2 ^ 64 ≡ 0 → (n % 2 ^ 64 == 0) ≡ (n == 0)

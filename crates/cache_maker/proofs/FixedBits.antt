@@ -70,14 +70,12 @@ pub closes_both : (region rule : WordValue) (m n : ℕ) → m ≡ region.mask �
     → not (bit_at (bit_or m n) bit == 1)
     ≡ (not (is_fixed_of region bit) && not (is_fixed_of rule bit))
 unfolding is_fixed_of
-closes_both region rule m n same also bit =
-    ap (λ b. not (b == 1)) (bit_at_or m n bit)
+closes_both region rule m n same also bit = ap (λ b. not (b == 1)) (bit_at_or m n bit)
     ∙ digits (bit_at m bit) (bit_at n bit) (bit_at-lt m bit) (bit_at-lt n bit)
     ∙ ap (λ x. not (bit_at x bit == 1) && not (bit_at n bit == 1)) same
     ∙ ap (λ x. not (bit_at region.mask bit == 1) && not (bit_at x bit == 1)) also
   where
-    digits : (a b : ℕ) → a < 2 → b < 2
-        → not (max a b == 1) ≡ (not (a == 1) && not (b == 1))
+    digits : (a b : ℕ) → a < 2 → b < 2 → not (max a b == 1) ≡ (not (a == 1) && not (b == 1))
     digits a b p q = grind (arith, nat_tests)
 
 -- ---- a turn
@@ -89,21 +87,18 @@ kept_after : FreeLaws → (h : ℕ) (region : WordValue) (rules : List Rule) (in
 unfolding widening_of
 kept_after free h region rules index n zero below = absurd (omega arith)
 kept_after free h region rules index n (suc m) below = elim (cases_lt n m) [
-  | inl within ↦
-      let other : n ≢ m = omega arith in
+  | inl within ↦ let other : n ≢ m = omega arith in
       by_test (is_independent region rules index (free_of (widening_of h region rules index m) m))
       other
       ∙ kept_after free h region rules index n m within
-  | inr past ↦
-      let same : suc m ≡ suc n = omega arith in
+  | inr past ↦ let same : suc m ≡ suc n = omega arith in
       ap (λ k. is_fixed_of (widening_of h region rules index k) n) same
-]
-  where
-    by_test : (b : Bool) → n ≢ m
-        → is_fixed_of (cond b (free_of (widening_of h region rules index m) m)
-        (widening_of h region rules index m)) n ≡ is_fixed_of (widening_of h region rules index m) n
-    by_test true other = free.other_bit (widening_of h region rules index m) m n other
-    by_test false other = refl
+] where
+  by_test : (b : Bool) → n ≢ m
+      → is_fixed_of (cond b (free_of (widening_of h region rules index m) m)
+      (widening_of h region rules index m)) n ≡ is_fixed_of (widening_of h region rules index m) n
+  by_test true other = free.other_bit (widening_of h region rules index m) m n other
+  by_test false other = refl
 
 -- a bit stays fixed where it can't be freed in its turn
 turn : ExactLaws → FreeLaws → (h : ℕ) (region : WordValue) (rules : List Rule) (index n m : ℕ)
@@ -155,11 +150,9 @@ met_if {h} {region} {rules} {index} given n rule none = (given.free.meets_others
     agrees j other = elim (cases_Bool (agrees_at word rule j)) [
       | inl agree ↦ agree
       | inr apart_at ↦ elim (cases_Bool (is_fixed_of word j)) [
-        | inl fixed ↦
-            let one = differs_at word rule h j fixed
+        | inl fixed ↦ let one = differs_at word rule h j fixed
             (as_header given.covers given.free h region rules index n j fixed) apart_at in
-            let gone = none j other fixed in
-            absurd (omega (arith, one, gone))
+            absurd (omega (arith, one, none j other fixed))
         | inr unfixed ↦ absurd (both_ways _ apart_at (ap (λ f. not (f && (bit_at rule.mask j == 1))
             || (bit_at word.value j == bit_at rule.value j)) unfixed))
       ]
@@ -188,9 +181,8 @@ in_turn : {h : ℕ} {region : WordValue} {rules : List Rule} {index closed : ℕ
     → is_fixed_of (widening_of h region rules index n) j ≡ (bit_at fixed j == 1)
 unfolding is_fixed_of
 in_turn {h} {region} {rules} {index} given fixed n below same j before =
-    let within : j < 104 = omega arith in
     kept_after given.free h region rules index j n before
-    ∙ sym (kept_after given.free h region rules index j 104 within)
+    ∙ sym (kept_after given.free h region rules index j 104 (omega arith))
     ∙ ap (λ b. b == 1) (sym (same j before))
 
 -- a reason is the differing bits of a rule that the freed word meets
@@ -204,11 +196,9 @@ unfolding is_apart
 reason_meets {h} {region} {rules} {index} {closed} {fixed} {reasons} given are n below same one of =
     elim (cases_Bool (is_apart freed (take index rules))) [
       | inr apart ↦ apart
-      | inl apart ↦
-          let none = not-true _ (AllPass-from_list_all (λ rule. is_none (meet_of freed rule.word))
-          (take index rules) apart of.place of.d of.within) in
-          absurd (both_ways (meets freed rule.word)
-          (sym (given.meet.some freed rule.word) ∙ none) met)
+      | inl apart ↦ absurd (both_ways (meets freed rule.word) (sym (given.meet.some freed rule.word)
+          ∙ (not-true _ (AllPass-from_list_all (λ rule. is_none (meet_of freed rule.word))
+          (take index rules) apart of.place of.d of.within))) met)
     ]
   where
     freed : WordValue
@@ -222,10 +212,8 @@ reason_meets {h} {region} {rules} {index} {closed} {fixed} {reasons} given are n
       | inl before ↦
           let set = eqb-true _ _ (sym (in_turn given fixed n below same j before) ∙ fixed_there) in
           zero_of _ (bit_at-lt (differing_bits h rule.word) j) (λ differs.
-          let gone = are.lower n j one before (ap (λ x. bit_at x j) (sym of.is) ∙ differs) in
-          omega (arith, gone, set))
-      | inr past ↦
-          ap (λ x. bit_at x j) of.is
+          omega (arith, are.lower n j one before (ap (λ x. bit_at x j) (sym of.is) ∙ differs), set))
+      | inr past ↦ ap (λ x. bit_at x j) of.is
           ∙ bit_at_above (get_or reasons n 0) (suc n) j (are.highest n one) (omega arith)
     ])
 
@@ -254,31 +242,25 @@ unfixed_apart {h} {region} {rules} {index} {closed} given fixed n below told sam
       | inl met ↦ absurd (both_ways (rule_is_met h fixed rule) unmet
           (eq-eqb _ _ (same_from_bits _ 0 (λ j. bit_at_and (differing_bits h rule.word) fixed j
           ∙ none met j ∙ sym (bit_at-zero j)))))
-    ]
-      where
-        none : IsTrue (meets freed rule.word) → (j : ℕ)
-            → min (bit_at (differing_bits h rule.word) j) (bit_at fixed j) ≡ 0
-        none met j = elim (cases_eq (bit_at fixed j) 1) [
-          | inr other ↦
-              let gone = zero_of _ (bit_at-lt fixed j) other in
-              omega (arith, gone)
-          | inl set ↦
-              let other : j ≢ n = λ here. unset (ap (λ k. bit_at fixed k) (sym here) ∙ set) in
-              let gone = differs_not met j other set in
-              omega (arith, gone)
+    ] where
+      none : IsTrue (meets freed rule.word) → (j : ℕ)
+          → min (bit_at (differing_bits h rule.word) j) (bit_at fixed j) ≡ 0
+      none met j = elim (cases_eq (bit_at fixed j) 1) [
+        | inr other ↦ omega (arith, zero_of _ (bit_at-lt fixed j) other)
+        | inl set ↦ let other : j ≢ n = λ here. unset (ap (λ k. bit_at fixed k) (sym here) ∙ set) in
+            omega (arith, differs_not met j other set)
+      ] where
+        differs_not : IsTrue (meets freed rule.word) → (j : ℕ) → j ≢ n → bit_at fixed j ≡ 1
+            → bit_at (differing_bits h rule.word) j ≡ 0
+        differs_not met j other set = elim (cases_lt j n) [
+          | inl before ↦ met_only given n rule.word met j other
+              (in_turn given fixed n below same j before ∙ eq-eqb _ _ set)
+          | inr past ↦ elim (cases_lt j 104) [
+            | inl within ↦ met_only given n rule.word met j other
+                (still_fixed given.exact given.free h region rules index n j past within)
+            | inr beyond ↦ past_header h j rule.word is_word beyond
+          ]
         ]
-          where
-            differs_not : IsTrue (meets freed rule.word) → (j : ℕ) → j ≢ n → bit_at fixed j ≡ 1
-                → bit_at (differing_bits h rule.word) j ≡ 0
-            differs_not met j other set = elim (cases_lt j n) [
-              | inl before ↦ met_only given n rule.word met j other
-                  (in_turn given fixed n below same j before ∙ eq-eqb _ _ set)
-              | inr past ↦ elim (cases_lt j 104) [
-                | inl within ↦ met_only given n rule.word met j other
-                    (still_fixed given.exact given.free h region rules index n j past within)
-                | inr beyond ↦ past_header h j rule.word is_word beyond
-              ]
-            ]
 
 same_bit : {h : ℕ} {region : WordValue} {rules : List Rule} {index closed fixed : ℕ}
     {reasons : List ℕ} → IsGiven h region rules index closed
@@ -291,10 +273,8 @@ same_bit {h} {region} {rules} {index} {closed} {fixed} {reasons} given are told 
     digit_same _ _ (bit_at-lt fixed n) (bit_at-lt (widening_of h region rules index 104).mask n)
     (elim (cases_eq (bit_at fixed n) 1) [
       | inl one ↦ eq-eqb _ _ one ∙ sym (at_last given n below ∙ caused (are.cause n one) one)
-      | inr other ↦
-          ne_eqb _ _ other
-          ∙ sym (at_last given n below ∙ ap (λ b. not (b && apart)) (ap not (ne_eqb _ _ (λ set.
-          other (are.closed_stay n set))))
+      | inr other ↦ ne_eqb _ _ other ∙ sym (at_last given n below
+          ∙ ap (λ b. not (b && apart)) (ap not (ne_eqb _ _ (λ set. other (are.closed_stay n set))))
           ∙ ap not (unfixed_apart given fixed n below told same other))
     ])
   where
@@ -321,10 +301,9 @@ same_below {h} {region} {rules} {index} {closed} {fixed} given are told (suc n) 
     elim (cases_lt j n) [
       | inl earlier ↦ same_below given are told n (omega arith) j earlier
       | inr past ↦
-          let here : j ≡ n = omega arith in
           subst (λ k. bit_at fixed k ≡ bit_at (widening_of h region rules index 104).mask k)
-          (sym here) (same_bit given are told n (omega arith)
-          (same_below given are told n (omega arith)))
+          (sym (omega arith))
+          (same_bit given are told n (omega arith) (same_below given are told n (omega arith)))
     ]
 
 pub word_at_last : {h : ℕ} {region : WordValue} {rules : List Rule} {index closed fixed : ℕ}
@@ -360,9 +339,7 @@ word_at_last {h} {region} {rules} {index} {closed} {fixed} given are told =
         by_bit j = elim (cases_eq (bit_at word.mask j) 1) [
           | inl set ↦ ap (λ b. min b (bit_at word.mask j))
               (sym (as_header given.covers given.free h region rules index 104 j (eq-eqb _ _ set)))
-          | inr unset ↦
-              let none = zero_of _ (bit_at-lt word.mask j) unset in
-              omega (arith, none)
+          | inr unset ↦ omega (arith, zero_of _ (bit_at-lt word.mask j) unset)
         ]
 
 pub word_is_sound : {h : ℕ} {region : WordValue} {rules : List Rule} {index closed fixed : ℕ}
@@ -370,8 +347,7 @@ pub word_is_sound : {h : ℕ} {region : WordValue} {rules : List Rule} {index cl
     → AreFixed h closed (take index rules) fixed reasons
     → All (λ rule. IsFalse (rule_is_met h fixed rule)) (take index rules)
     → let word : WordValue = record { value = bit_and h fixed; mask = fixed } in IsWord word
-word_is_sound {h} {region} {rules} {index} given are told =
-    subst (λ (w : WordValue). IsWord w) (sym (word_at_last given are told))
+word_is_sound {h} {region} {rules} {index} given are told = rw (word_at_last given are told)
     (widened_word given.free h region rules index 104 (given.exact.word h given.bound))
 
 -- ---- at first, and with one reason more
@@ -388,18 +364,16 @@ fixed_at_first h closed earlier small = record {
   no_reason = λ n set. none n;
   highest = λ n set. subst (λ x. x < 2 ^ (suc n)) (sym (none n)) (pow_pos (suc n));
   lower = λ n j set before has.
-      let gone = ap (λ x. bit_at x j) (none n) ∙ bit_at-zero j in
-      absurd (omega (arith, gone, has));
+      absurd (omega (arith, ap (λ x. bit_at x j) (none n) ∙ bit_at-zero j, has));
   cause = λ n set. inl set;
-}
-  where
-    none : (n : ℕ) → get_or no_reasons n 0 ≡ 0
-    none n = elim (cases_lt n 104) [
-      | inl within ↦ get_or-replicate 104 n 0 0 within
-      | inr beyond ↦
-          let outside : length no_reasons ≤ n = omega (arith, length-replicate {A = ℕ} 104 0, beyond) in
-          get_or-eq_default no_reasons 0 outside
-    ]
+} where
+  none : (n : ℕ) → get_or no_reasons n 0 ≡ 0
+  none n = elim (cases_lt n 104) [
+    | inl within ↦ get_or-replicate 104 n 0 0 within
+    | inr beyond ↦
+        let outside : length no_reasons ≤ n = omega (arith, length-replicate {A = ℕ} 104 0, beyond) in
+        get_or-eq_default no_reasons 0 outside
+  ]
 
 -- an earlier rule, and its bits, of which b is the highest and none is fixed
 pub record IsNewReason (h fixed : ℕ) (earlier : List Rule) (reason b : ℕ) : Type 0 where
@@ -410,10 +384,8 @@ pub record IsNewReason (h fixed : ℕ) (earlier : List Rule) (reason b : ℕ) : 
   pub small : reason < 2 ^ (suc b)
 
 none_of_both : (a b j : ℕ) → bit_and a b ≡ 0 → bit_at a j ≡ 1 → bit_at b j ≡ 0
-none_of_both a b j none set =
-    let both = sym (bit_at_and a b j) ∙ ap (λ x. bit_at x j) none ∙ bit_at-zero j in
-    let small = bit_at-lt b j in
-    omega (arith, both, set, small)
+none_of_both a b j none set = let small = bit_at-lt b j in
+    omega (arith, sym (bit_at_and a b j) ∙ ap (λ x. bit_at x j) none ∙ bit_at-zero j, set, small)
 
 -- a bit of the new ones
 new_is : (fixed : ℕ) (reasons : List ℕ) (b stays : ℕ) → IsWithout fixed reasons b stays → (n : ℕ)
@@ -421,10 +393,8 @@ new_is : (fixed : ℕ) (reasons : List ℕ) (b stays : ℕ) → IsWithout fixed 
     → (n ≡ b) ⊎ ((n ≢ b) × (bit_at fixed n ≡ 1) × (bit_at (get_or reasons n 0) b ≡ 0))
 new_is fixed reasons b stays without n set = elim (cases_eq n b) [
   | inl here ↦ inl here
-  | inr other ↦
-      let one = sym (bit_at_or stays (2 ^ b) n) ∙ set in
-      let none = bit_at-pow_other b n other in
-      let was = without.gone n (omega (arith, one, none)) in
+  | inr other ↦ let none = bit_at-pow_other b n other in
+      let was = without.gone n (omega (arith, sym (bit_at_or stays (2 ^ b) n) ∙ set, none)) in
       inr (other, was.0, was.1)
 ]
 
@@ -437,32 +407,21 @@ without_open {h} {closed} {fixed} {earlier} {reasons} {b} {kept} are bound witho
   small = or_lt 104 closed kept bound without.small;
   gone = λ n one. elim (cases_eq (bit_at closed n) 1) [
     | inl is ↦ (are.closed_stay n is, ap (λ x. bit_at x b) (are.no_reason n is) ∙ bit_at-zero b)
-    | inr other ↦
-        let small = bit_at-lt kept n in
-        let was = without.gone n (omega (
-          arith,
-          sym (bit_at_or closed kept n) ∙ one,
-          zero_of _ (bit_at-lt closed n) other,
-          small,
-        )) in (
-          omega (
-            arith,
-            sym (bit_at_xor fixed closed n) ∙ was.0,
-            zero_of _ (bit_at-lt closed n) other,
-            bit_at-lt fixed n,
-          ),
-          was.1,
-        )
+    | inr other ↦ let was = without.gone n (omega (
+      arith,
+      sym (bit_at_or closed kept n) ∙ one,
+      zero_of _ (bit_at-lt closed n) other,
+      (bit_at-lt kept n),
+    )) in (omega (arith, sym (bit_at_xor fixed closed n) ∙ was.0, zero_of, bit_at-lt), was.1)
   ];
   stay = λ n one none. elim (cases_eq (bit_at closed n) 1) [
     | inl is ↦ or_left closed kept n is
     | inr other ↦ or_right closed kept n (without.stay n (bit_at_xor fixed closed n
         ∙ of_one _ _ one (zero_of _ (bit_at-lt closed n) other)) none)
   ];
-}
-  where
-    of_one : (a c : ℕ) → a ≡ 1 → c ≡ 0 → (a + c) % 2 ≡ 1
-    of_one a c one none = omega (arith, one, none)
+} where
+  of_one : (a c : ℕ) → a ≡ 1 → c ≡ 0 → (a + c) % 2 ≡ 1
+  of_one a c one none = omega (arith, one, none)
 
 pub fixed_next : (h closed fixed : ℕ) (earlier : List Rule) (reasons : List ℕ)
     (reason b stays : ℕ) → AreFixed h closed earlier fixed reasons
@@ -474,31 +433,25 @@ fixed_next h closed fixed earlier reasons reason b stays are new without = recor
   closed_stay = λ n closed_n.
       let none = ap (λ x. bit_at x b) (are.no_reason n closed_n) ∙ bit_at-zero b in
       or_left stays (2 ^ b) n (without.stay n (are.closed_stay n closed_n) none);
-  no_reason = λ n closed_n.
-      let other : n ≢ b = λ here.
-      absurd (omega (arith, unfixed, ap (λ k. bit_at fixed k) here, are.closed_stay n closed_n)) in
+  no_reason = λ n closed_n. let other : n ≢ b = λ here. absurd
+      (omega (arith, unfixed, ap (λ k. bit_at fixed k) here, are.closed_stay n closed_n)) in
       others n other ∙ are.no_reason n closed_n;
   highest = λ n one. elim (new_is fixed reasons b stays without n one) [
-    | inl here ↦ subst (λ k. get_or (set reasons b reason) k 0 < 2 ^ (suc k)) (sym here)
-        (subst (λ x. x < 2 ^ (suc b)) (sym same) new.small)
+    | inl here ↦ rw here (rw same new.small)
     | inr was ↦ subst (λ x. x < 2 ^ (suc n)) (sym (others n was.0)) (are.highest n was.1)
   ];
   lower = λ n j one before has. zero_of _ (bit_at-lt (bit_or stays (2 ^ b)) j) (λ also.
       elim (new_is fixed reasons b stays without n one) [
-        | inl here ↦
-            let in_reason = ap (λ x. bit_at x j) (sym same)
-            ∙ ap (λ k. bit_at (get_or (set reasons b reason) k 0) j) (sym here) ∙ has in
-            elim (new_is fixed reasons b stays without j also) [
-              | inl top ↦ absurd (omega (arith, top, here, before))
-              | inr was ↦ absurd (omega (
-                arith,
-                was.1,
-                none_of_both reason fixed j new.unfixed
-                    in_reason,
-              ))
-            ]
-        | inr was ↦
-            let in_reason = ap (λ x. bit_at x j) (sym (others n was.0)) ∙ has in
+        | inl here ↦ elim (new_is fixed reasons b stays without j also) [
+          | inl top ↦ absurd (omega (arith, top, here, before))
+          | inr was ↦ absurd (omega (
+            arith,
+            was.1,
+            none_of_both reason fixed j new.unfixed (ap (λ x. bit_at x j) (sym same)
+                ∙ ap (λ k. bit_at (get_or (set reasons b reason) k 0) j) (sym here) ∙ has),
+          ))
+        ]
+        | inr was ↦ let in_reason = ap (λ x. bit_at x j) (sym (others n was.0)) ∙ has in
             elim (new_is fixed reasons b stays without j also) [
               | inl top ↦ absurd (omega (
                 arith,
@@ -509,23 +462,21 @@ fixed_next h closed fixed earlier reasons reason b stays are new without = recor
             ]
       ]);
   cause = λ n one. elim (new_is fixed reasons b stays without n one) [
-    | inl here ↦ inr (subst (λ x. IsOfRule h earlier x)
-        (sym (ap (λ k. get_or (set reasons b reason) k 0) here ∙ same)) new.of)
+    | inl here ↦ inr (rw (ap (λ k. get_or (set reasons b reason) k 0) here ∙ same) new.of)
     | inr was ↦ elim (are.cause n was.1) [
       | inl closed_n ↦ inl closed_n
       | inr of ↦ inr (subst (λ x. IsOfRule h earlier x) (sym (others n was.0)) of)
     ]
   ];
-}
-  where
-    unfixed : bit_at fixed b ≡ 0
-    unfixed = none_of_both reason fixed b new.unfixed new.set
+} where
+  unfixed : bit_at fixed b ≡ 0
+  unfixed = none_of_both reason fixed b new.unfixed new.set
 
-    same : get_or (set reasons b reason) b 0 ≡ reason
-    same = get_or-set_same reasons b reason 0 (omega (arith, are.sized, new.within))
+  same : get_or (set reasons b reason) b 0 ≡ reason
+  same = get_or-set_same reasons b reason 0 (omega (arith, are.sized, new.within))
 
-    others : (n : ℕ) → n ≢ b → get_or (set reasons b reason) n 0 ≡ get_or reasons n 0
-    others n other = get_or-set_other reasons b n reason 0 other
+  others : (n : ℕ) → n ≢ b → get_or (set reasons b reason) n 0 ≡ get_or reasons n 0
+  others n other = get_or-set_other reasons b n reason 0 other
 
 -- ---- each reason brings the end nearer
 
@@ -537,61 +488,49 @@ rank fixed (suc n) = 2 * rank fixed n + bit_at fixed n
 rank_bound : (fixed n : ℕ) → rank fixed n < 2 ^ n
 unfolding rank
 rank_bound fixed zero = omega arith
-rank_bound fixed (suc n) =
-    let before = rank_bound fixed n in
-    let small = bit_at-lt fixed n in
-    omega (arith, before, small)
+rank_bound fixed (suc n) = let small = bit_at-lt fixed n in omega (arith, rank_bound fixed n, small)
 
 rank_same : (old new n : ℕ) → ((j : ℕ) → j < n → bit_at new j ≡ bit_at old j)
     → rank new n ≡ rank old n
 unfolding rank
 rank_same old new zero same = refl
-rank_same old new (suc n) same =
-    let before = rank_same old new n (λ j below. same j (omega (arith, below))) in
-    let here = same n (omega arith) in
-    omega (arith, before, here)
+rank_same old new (suc n) same = let here = same n (omega arith) in
+    omega (arith, rank_same old new n (λ j below. same j (omega (arith, below))), here)
 
 rank_more : (old new b n : ℕ) → b < n → ((j : ℕ) → j < b → bit_at new j ≡ bit_at old j)
     → bit_at old b ≡ 0 → bit_at new b ≡ 1 → rank old n < rank new n
 unfolding rank
 rank_more old new b zero below same unset set = absurd (omega (arith, below))
 rank_more old new b (suc n) below same unset set = elim (cases_eq n b) [
-  | inl here ↦
-      let before = rank_same old new b same in
-      let zero_here = ap (λ k. bit_at old k) here ∙ unset in
+  | inl here ↦ let zero_here = ap (λ k. bit_at old k) here ∙ unset in
       let one_here = ap (λ k. bit_at new k) here ∙ set in
       let old_rank = ap (λ k. rank old k) here in
       let new_rank = ap (λ k. rank new k) here in
-      omega (arith, before, zero_here, one_here, old_rank, new_rank)
-  | inr past ↦
-      let before = rank_more old new b n (omega (arith, past, below)) same unset set in
-      let small = bit_at-lt old n in
-      omega (arith, before, small)
+      omega (arith, rank_same old new b same, zero_here, one_here, old_rank, new_rank)
+  | inr past ↦ let small = bit_at-lt old n in
+      omega (arith, rank_more old new b n (omega (arith, past, below)) same unset set, small)
 ]
 
 -- what is left until all bits are fixed
 pub left_over : ℕ → ℕ
 left_over fixed = 2 ^ 104 - rank fixed 104
 
-pub left_less : (h closed fixed : ℕ) (earlier : List Rule) (reasons : List ℕ)
-    (reason b stays : ℕ) → AreFixed h closed earlier fixed reasons
-    → IsNewReason h fixed earlier reason b → IsWithout fixed reasons b stays
-    → left_over (bit_or stays (2 ^ b)) < left_over fixed
+pub left_less : (h closed fixed : ℕ) (earlier : List Rule) (reasons : List ℕ) (reason b stays : ℕ)
+    → AreFixed h closed earlier fixed reasons → IsNewReason h fixed earlier reason b
+    → IsWithout fixed reasons b stays → left_over (bit_or stays (2 ^ b)) < left_over fixed
 unfolding left_over
 left_less h closed fixed earlier reasons reason b stays are new without =
     let more = rank_more fixed (bit_or stays (2 ^ b)) b 104 new.within same
     (none_of_both reason fixed b new.unfixed new.set)
     (or_right stays (2 ^ b) b (bit_at-pow_same b)) in
-    let bound = rank_bound (bit_or stays (2 ^ b)) 104 in
-    omega (arith, more, bound)
+    omega (arith, more, rank_bound (bit_or stays (2 ^ b)) 104)
   where
     same : (j : ℕ) → j < b → bit_at (bit_or stays (2 ^ b)) j ≡ bit_at fixed j
     same j below = elim (cases_eq (bit_at fixed j) 1) [
       | inl set ↦ or_left stays (2 ^ b) j (without.stay j set
           (bit_at_above (get_or reasons j 0) (suc j) b (are.highest j set) (omega arith))) ∙ sym set
-      | inr other ↦
-          zero_of _ (bit_at-lt (bit_or stays (2 ^ b)) j) (λ one.
-          elim (new_is fixed reasons b stays without j one) [
+      | inr other ↦ zero_of _ (bit_at-lt (bit_or stays (2 ^ b)) j)
+          (λ one. elim (new_is fixed reasons b stays without j one) [
             | inl here ↦ absurd (omega (arith, here, below))
             | inr was ↦ other was.1
           ])
@@ -622,14 +561,11 @@ bit_within n k small one = elim (cases_lt k 104) [
 ]
 
 xor_same : (a n : ℕ) → bit_at a n ≡ 1 → bit_at (bit_xor a (2 ^ n)) n ≡ 0
-xor_same a n one =
-    bit_at_xor a (2 ^ n) n ∙ ap (λ x. (x + bit_at (2 ^ n) n) % 2) one
-    ∙ ap (λ x. (1 + x) % 2) (bit_at-pow_same n)
+xor_same a n one = cc (bit_at_xor a (2 ^ n) n, one, bit_at-pow_same n)
 
 xor_other : (a n j : ℕ) → j ≢ n → bit_at (bit_xor a (2 ^ n)) j ≡ bit_at a j
 xor_other a n j other =
-    bit_at_xor a (2 ^ n) j ∙ ap (λ x. (bit_at a j + x) % 2) (bit_at-pow_other n j other)
-    ∙ whole (bit_at a j) (bit_at-lt a j)
+    cc (bit_at_xor a (2 ^ n) j, bit_at-pow_other n j other, whole (bit_at a j) (bit_at-lt a j))
   where
     whole : (d : ℕ) → d < 2 → (d + 0) % 2 ≡ d
     whole d p = omega arith
@@ -644,8 +580,7 @@ xor_left a n j one also =
 
 pub fewer : (n k : ℕ) → bit_at n k ≡ 1 → bit_xor n (2 ^ k) < n
 fewer n k one =
-    let common : bit_and n (2 ^ k) ≡ 1 * 2 ^ k = and_pow n k ∙ ap (λ b. b * 2 ^ k) one in
-    omega (arith, xor_add_and n (2 ^ k), common, pow_pos k)
+    omega (arith, xor_add_and n (2 ^ k), and_pow n k ∙ ap (λ b. b * 2 ^ k) one, pow_pos k)
 
 pub part_at_first : (fixed : ℕ) (reasons : List ℕ) (b : ℕ) → fixed < 2 ^ 104
     → IsPartWithout fixed reasons b fixed fixed
@@ -661,14 +596,10 @@ pub part_at_last : {fixed : ℕ} {reasons : List ℕ} {b stays : ℕ}
     → IsPartWithout fixed reasons b stays 0 → IsWithout fixed reasons b stays
 part_at_last part = record {
   small = part.small;
-  gone = λ n one.
-      let was = part.gone n one in (
-        was.0,
-        elim was.1 [
-          | inl waits ↦ absurd (omega (arith, waits, bit_at-zero n))
-          | inr none ↦ none
-        ],
-      );
+  gone = λ n one. let was = part.gone n one in (
+    was.0,
+    elim was.1 [ inl waits ↦ absurd (omega (arith, waits, bit_at-zero n)) | inr none ↦ none ],
+  );
   stay = part.stay;
 }
 
@@ -680,17 +611,16 @@ part_stays {fixed} {reasons} {b} {stays} {left} part n one none = record {
   small = part.small;
   bound = xor_lt 104 left (2 ^ n) part.bound (pow-lt (bit_within left n part.bound one));
   waits = λ j also. part.waits j (xor_left left n j one also).1;
-  gone = λ j also.
-      let was = part.gone j also in (
-        was.0,
-        elim was.1 [
-          | inr gone ↦ inr gone
-          | inl waits ↦ elim (cases_eq j n) [
-            | inl here ↦ inr (ap (λ k. bit_at (get_or reasons k 0) b) here ∙ none)
-            | inr other ↦ inl (xor_other left n j other ∙ waits)
-          ]
-        ],
-      );
+  gone = λ j also. let was = part.gone j also in (
+    was.0,
+    elim was.1 [
+      | inr gone ↦ inr gone
+      | inl waits ↦ elim (cases_eq j n) [
+        | inl here ↦ inr (ap (λ k. bit_at (get_or reasons k 0) b) here ∙ none)
+        | inr other ↦ inl (xor_other left n j other ∙ waits)
+      ]
+    ],
+  );
   stay = part.stay;
 }
 
@@ -702,17 +632,12 @@ pub part_goes : {fixed : ℕ} {reasons : List ℕ} {b stays left : ℕ}
 part_goes {fixed} {reasons} {b} {stays} {left} part n one some = record {
   small = xor_lt 104 stays (2 ^ n) part.small (pow-lt (bit_within left n part.bound one));
   bound = xor_lt 104 left (2 ^ n) part.bound (pow-lt (bit_within left n part.bound one));
-  waits = λ j also.
-      let was = xor_left left n j one also in
+  waits = λ j also. let was = xor_left left n j one also in
       xor_other stays n j was.0 ∙ part.waits j was.1;
-  gone = λ j also.
-      let was = xor_left stays n j (part.waits n one) also in
+  gone = λ j also. let was = xor_left stays n j (part.waits n one) also in
       let before = part.gone j was.1 in (
         before.0,
-        elim before.1 [
-          | inr gone ↦ inr gone
-          | inl waits ↦ inl (xor_other left n j was.0 ∙ waits)
-        ],
+        elim before.1 [ inr gone ↦ inr gone | inl waits ↦ inl (xor_other left n j was.0 ∙ waits) ],
       );
   stay = λ j is none.
       let other : j ≢ n = λ here. some (ap (λ k. bit_at (get_or reasons k 0) b) (sym here) ∙ none) in
@@ -742,8 +667,7 @@ differs_somewhere {h} {region} {rules} {index} given place d within none =
     agrees : IsTrue (agrees_at (exact_word h) rule.word 0)
     agrees = elim (cases_Bool (agrees_at (exact_word h) rule.word 0)) [
       | inl is ↦ is
-      | inr not_so ↦
-          let fixed = given.exact.no_free_bit h 0 (omega arith) in
+      | inr not_so ↦ let fixed = given.exact.no_free_bit h 0 (omega arith) in
           let one = differs_at (exact_word h) rule.word h 0 fixed
           (as_header given.covers given.free h region rules index 0 0 fixed) not_so in
           absurd (omega (arith, one, zero_at 0))
@@ -771,7 +695,6 @@ is_new_reason {h} {region} {rules} {index} given fixed place d reason b met made
   ];
   set = top;
   small = omega (arith, high);
-}
-  where
-    top : bit_at reason b ≡ 1
-    top = top_set reason b low high
+} where
+  top : bit_at reason b ≡ 1
+  top = top_set reason b low high

@@ -20,30 +20,27 @@ true_not false e = refl
 some_and : (index : ℕ) (rules : List Rule) (word : WordValue)
     → option_map_or (λ rule. covers_of rule.word word) (slice_get rules index) false ≡ true
     → IsSomeAnd (slice_get rules index) (λ rule. IsTrue (covers_of rule.word word))
-some_and index rules word = by_rule (slice_get rules index)
-  where
-    by_rule : (o : Option Rule) → option_map_or (λ rule. covers_of rule.word word) o false ≡ true
-        → IsSomeAnd o (λ rule. IsTrue (covers_of rule.word word))
-    by_rule None e = cc
-    by_rule (Some rule) e = e
+some_and index rules word = by_rule (slice_get rules index) where
+  by_rule : (o : Option Rule) → option_map_or (λ rule. covers_of rule.word word) o false ≡ true
+      → IsSomeAnd o (λ rule. IsTrue (covers_of rule.word word))
+  by_rule None e = cc
+  by_rule (Some rule) e = e
 
 and_some : (index : ℕ) (rules : List Rule) (word : WordValue) → IsSomeAnd (slice_get rules index)
     (λ rule. IsTrue (covers_of rule.word word)) → option_map_or (λ rule. covers_of rule.word word)
     (slice_get rules index) false ≡ true
-and_some index rules word = by_rule (slice_get rules index)
-  where
-    by_rule : (o : Option Rule) → IsSomeAnd o (λ rule. IsTrue (covers_of rule.word word))
-        → option_map_or (λ rule. covers_of rule.word word) o false ≡ true
-    by_rule None e = absurd e
-    by_rule (Some rule) e = e
+and_some index rules word = by_rule (slice_get rules index) where
+  by_rule : (o : Option Rule) → IsSomeAnd o (λ rule. IsTrue (covers_of rule.word word))
+      → option_map_or (λ rule. covers_of rule.word word) o false ≡ true
+  by_rule None e = absurd e
+  by_rule (Some rule) e = e
 
 pub test_true : (region : WordValue) (rules : List Rule) (index : ℕ) (word : WordValue)
     → IsTrue (is_independent region rules index word) → IsIndependent region rules index word
 unfolding is_independent is_apart
 test_true region rules index word test =
     let both = and_parts _ _ test in
-    let parts = and_parts _ _ both.0 in
-    record {
+    let parts = and_parts _ _ both.0 in record {
       in_region = parts.0;
       in_rule = some_and index rules word parts.1;
       earlier = λ k d within. not-true _
@@ -72,12 +69,10 @@ first_hit covers meet region rules index word h is held = by_rule (slice_get rul
     by_rule None at no_rule = absurd no_rule
     by_rule (Some rule) at covered =
         let within = slice_get_within rules index rule at in
-        let here : is_held h (get_or rules index rule) ≡ true =
-        ap (is_held h) (get_or_from_slice_get rules index rule rule at)
+        let here = ap (is_held h) (get_or_from_slice_get rules index rule rule at)
         ∙ covers.held rule.word word h covered held in
-        let first = position_or_len_is (is_held h) rules index rule (omega arith)
-        (λ k below. not_held k below) (λ _. here) in
-        ap (λ n. cond (nat_lt n (length rules)) (Some n) None) first
+        ap (λ n. cond (nat_lt n (length rules)) (Some n) None) (position_or_len_is (is_held h) rules
+        index rule (omega arith) (λ k below. not_held k below) (λ _. here))
         ∙ ap (λ b. cond b (Some index) None) (lt-ltb index (length rules) within)
       where
         right_false : (b : Bool) → (true && b) ≡ false → b ≡ false
@@ -92,9 +87,8 @@ first_hit covers meet region rules index word h is held = by_rule (slice_get rul
         not_held k below =
             let past = slice_get_within rules index rule at in
             let there : k < length (take index rules) = omega (arith, length-take index rules) in
-            let none = subst (λ (r : Rule). IsNone (meet_of word r.word))
-            (get_or-take index rules k rule below) (is.earlier k rule there) in
-            apart (get_or rules k rule) none
+            apart (get_or rules k rule) (subst (λ (r : Rule). IsNone (meet_of word r.word))
+            (get_or-take index rules k rule below) (is.earlier k rule there))
 
 pub smaller : CoversLaws → MeetLaws → (region : WordValue) (rules : List Rule) (index : ℕ)
     (word part : WordValue) → IsTrue (covers_of word part) → IsIndependent region rules index word
@@ -103,15 +97,14 @@ smaller covers meet region rules index word part inside is = record {
   in_region = covers.transitive region word part is.in_region inside;
   in_rule = by_rule (slice_get rules index) is.in_rule;
   earlier = λ k d within. apart (get_or (take index rules) k d) (is.earlier k d within);
-}
-  where
-    by_rule : (o : Option Rule) → IsSomeAnd o (λ rule. IsTrue (covers_of rule.word word))
-        → IsSomeAnd o (λ rule. IsTrue (covers_of rule.word part))
-    by_rule None no_rule = no_rule
-    by_rule (Some rule) covered = covers.transitive rule.word word part covered inside
+} where
+  by_rule : (o : Option Rule) → IsSomeAnd o (λ rule. IsTrue (covers_of rule.word word))
+      → IsSomeAnd o (λ rule. IsTrue (covers_of rule.word part))
+  by_rule None no_rule = no_rule
+  by_rule (Some rule) covered = covers.transitive rule.word word part covered inside
 
-    apart : (rule : Rule) → IsNone (meet_of word rule.word) → IsNone (meet_of part rule.word)
-    apart rule none = ap is_some (meet.monotone word part rule.word inside (none_from_not_some _ none))
+  apart : (rule : Rule) → IsNone (meet_of word rule.word) → IsNone (meet_of part rule.word)
+  apart rule none = ap is_some (meet.monotone word part rule.word inside (none_from_not_some _ none))
 
 -- there is a rule at the first hit
 hit_within : (h : ℕ) (rules : List Rule) (index : ℕ) → position (is_held h) rules ≡ Some index
@@ -119,8 +112,7 @@ hit_within : (h : ℕ) (rules : List Rule) (index : ℕ) → position (is_held h
 hit_within h [] index hit at = cc
 hit_within h (first ∷ rules) index hit at =
     let found = position-Some (is_held h) (first ∷ rules) index first hit in
-    let some = slice_get-get_or (first ∷ rules) index first found.0 in
-    cc (some, at)
+    cc ((slice_get-get_or (first ∷ rules) index first found.0), at)
 
 -- the word of a header that this rule is the first to hold
 pub exact_independent : CoversLaws → MeetLaws → (region : WordValue) (rules : List Rule)
@@ -130,27 +122,23 @@ pub exact_independent : CoversLaws → MeetLaws → (region : WordValue) (rules 
 exact_independent covers meet region rules index h region_word words bound held hit = record {
   in_region = covers.exact region h region_word bound ∙ held;
   in_rule = by_rule (slice_get rules index) refl;
-  earlier = λ k d within.
-      let below : k < index = omega (arith, length-take index rules) in
-      let there : k < length rules = omega (arith, length-take index rules) in
+  earlier = λ k d within. let below : k < index = omega (arith, length-take index rules) in
       let rule = get_or rules k d in
-      let word : IsWord rule.word = words k d there in
+      let word : IsWord rule.word = words k d (omega (arith, length-take index rules)) in
       let apart = meet.some (exact_word h) rule.word ∙ meet.symmetric (exact_word h) rule.word
       ∙ meet.exact rule.word h word bound ∙ (position-Some (is_held h) rules index d hit).2 k
       below in
       subst (λ (r : Rule). IsNone (meet_of (exact_word h) r.word))
       (sym (get_or-take index rules k d below)) apart;
-}
-  where
-    by_rule : (o : Option Rule) → slice_get rules index ≡ o
-        → IsSomeAnd o (λ rule. IsTrue (covers_of rule.word (exact_word h)))
-    by_rule None at = absurd (hit_within h rules index hit at)
-    by_rule (Some rule) at =
-        let found = position-Some (is_held h) rules index rule hit in
-        let here = get_or_from_slice_get rules index rule rule at in
-        let word : IsWord rule.word = subst (λ (r : Rule). IsWord r.word) here
-        (words index rule found.0) in
-        covers.exact rule.word h word bound ∙ ap (is_held h) (sym here) ∙ found.1
+} where
+  by_rule : (o : Option Rule) → slice_get rules index ≡ o
+      → IsSomeAnd o (λ rule. IsTrue (covers_of rule.word (exact_word h)))
+  by_rule None at = absurd (hit_within h rules index hit at)
+  by_rule (Some rule) at =
+      let found = position-Some (is_held h) rules index rule hit in
+      let here = get_or_from_slice_get rules index rule rule at in
+      let word = subst (λ (r : Rule). IsWord r.word) here (words index rule found.0) in
+      covers.exact rule.word h word bound ∙ ap (is_held h) (sym here) ∙ found.1
 
 -- the test, a part at a time
 pub is_independent_at : (region : WordValue) (rules : List Rule) (index : ℕ) (word : WordValue)
@@ -158,6 +146,4 @@ pub is_independent_at : (region : WordValue) (rules : List Rule) (index : ℕ) (
     ≡ ((covers_of region word && covers_of (get_or rules index d).word word)
     && is_apart word (take index rules))
 unfolding is_independent
-is_independent_at region rules index word d within =
-    ap (λ o. (covers_of region word && option_map_or (λ rule. covers_of rule.word word) o false)
-    && is_apart word (take index rules)) (slice_get-get_or rules index d within)
+is_independent_at region rules index word d within = cc (slice_get-get_or rules index d within)

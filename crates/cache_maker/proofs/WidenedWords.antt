@@ -22,13 +22,11 @@ pub widened_wider : CoversLaws → FreeLaws → (h : ℕ) (region : WordValue) (
     (index n m : ℕ) → n ≤ m → IsTrue
     (covers_of (widening_of h region rules index m) (widening_of h region rules index n))
 unfolding widening_of
-widened_wider covers free h region rules index n zero upto =
-    let none : 0 ≡ n = omega arith in
+widened_wider covers free h region rules index n zero upto = let none : 0 ≡ n = omega arith in
     subst (λ k. IsTrue (covers_of (exact_word h) (widening_of h region rules index k))) none
     (covers.reflexive (exact_word h))
 widened_wider covers free h region rules index n (suc m) upto = elim (cases_lt m n) [
-  | inl past ↦
-      let same : suc m ≡ n = omega arith in
+  | inl past ↦ let same : suc m ≡ n = omega arith in
       subst (λ k. IsTrue (covers_of (widening_of h region rules index (suc m))
       (widening_of h region rules index k))) same
       (covers.reflexive (widening_of h region rules index (suc m)))
@@ -43,9 +41,8 @@ unfreed : CoversLaws → FreeLaws → (h : ℕ) (region : WordValue) (rules : Li
     → is_independent region rules index (free_of (widening_of h region rules index bit) bit) ≡ false
 unfolding widening_of is_fixed_of
 unfreed covers free h region rules index bit m within fixed =
-    let set : bit_at (widening_of h region rules index m).mask bit ≡ 1 = eqb-true _ _ fixed in
     let wider = widened_wider covers free h region rules index (suc bit) m (omega arith) in
-    let still = ((covers.bitwise _ _).0 wider bit set).0 in
+    let still = ((covers.bitwise _ _).0 wider bit (eqb-true _ _ fixed)).0 in
     by_test (is_independent region rules index (free_of (widening_of h region rules index bit) bit))
     refl still
   where
@@ -65,16 +62,14 @@ widest covers meet free h region rules index bit within fixed is =
     let wider = free.monotone _ _ bit
     (widened_wider covers free h region rules index bit 104 (omega arith)) in
     let then = test_of region rules index _ (smaller covers meet region rules index _ _ wider is) in
-    let not_then = unfreed covers free h region rules index bit 104 within fixed in
-    cc
+    let not_then = unfreed covers free h region rules index bit 104 within fixed in cc
 
 -- the header is held all along
 pub widened_holds : CoversLaws → ExactLaws → FreeLaws
     → (h : ℕ) (region : WordValue) (rules : List Rule) (index n : ℕ) → h < 2 ^ 104
     → IsTrue (holds (widening_of h region rules index n) h)
 unfolding widening_of
-widened_holds covers exact free h region rules index n bound =
-    covers.held _ (exact_word h) h
+widened_holds covers exact free h region rules index n bound = covers.held _ (exact_word h) h
     (widened_wider covers free h region rules index 0 n (omega arith))
     ((exact.holds h h bound bound).1 refl)
 
@@ -84,16 +79,13 @@ pub turn_independent : (region : WordValue) (rules : List Rule) (index bit : ℕ
     (word after : WordValue) → IsIndependent region rules index word
     → test ≡ is_independent region rules index (free_of word bit)
     → after ≡ cond test (free_of word bit) word → IsIndependent region rules index after
-turn_independent region rules index bit true word after is tested made =
-    subst (λ (w : WordValue). IsIndependent region rules index w) (sym made)
+turn_independent region rules index bit true word after is tested made = rw made
     (test_true region rules index (free_of word bit) (sym tested))
-turn_independent region rules index bit false word after is tested made =
-    subst (λ (w : WordValue). IsIndependent region rules index w) (sym made) is
+turn_independent region rules index bit false word after is tested made = rw made is
 
 pub turn_word : FreeLaws → (bit : ℕ) (test : Bool) (word after : WordValue) → IsWord word
     → after ≡ cond test (free_of word bit) word → IsWord after
-turn_word free bit true word after is made = subst (λ (w : WordValue). IsWord w) (sym made)
-    (free.word word bit is)
+turn_word free bit true word after is made = rw made (free.word word bit is)
 turn_word free bit false word after is made = subst (λ (w : WordValue). IsWord w) (sym made) is
 
 -- ---- all turns so far
@@ -103,8 +95,7 @@ pub widened_independent : (h : ℕ) (region : WordValue) (rules : List Rule) (in
     (widening_of h region rules index n)
 unfolding widening_of
 widened_independent h region rules index zero start = start
-widened_independent h region rules index (suc n) start =
-    turn_independent region rules index n
+widened_independent h region rules index (suc n) start = turn_independent region rules index n
     (is_independent region rules index (free_of (widening_of h region rules index n) n))
     (widening_of h region rules index n) (widening_of h region rules index (suc n))
     (widened_independent h region rules index n start) refl refl

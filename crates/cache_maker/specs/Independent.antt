@@ -28,8 +28,7 @@ is_independent region rules index word =
 -- the word with this bit freed, if that is independent
 abbrev pub with_bit_freed : WordValue → List Rule → ℕ → ℕ → WordValue → WordValue
 with_bit_freed region rules index bit word = if is_independent region rules index (free_of word bit)
-    then
-    free_of word bit else word
+    then free_of word bit else word
 
 -- the word of the header h, its bits below n freed one after another
 unfoldable pub widening_of : ℕ → WordValue → List Rule → ℕ → ℕ → WordValue

@@ -13,8 +13,7 @@ pub record IndependentLaws : Type 0 where
       → IsIndependent region rules index word → IsTrue (holds word h) →
       position (is_held h) rules ≡ Some index
   pub within : (region : WordValue) (rules : List Rule) (index : ℕ) (word : WordValue) (h : ℕ)
-      → IsIndependent region rules index word → IsTrue (holds word h) →
-      IsTrue (holds region h)
+      → IsIndependent region rules index word → IsTrue (holds word h) → IsTrue (holds region h)
   -- a smaller word is independent too
   pub smaller : (region : WordValue) (rules : List Rule) (index : ℕ) (word part : WordValue)
       → IsTrue (covers_of word part) → IsIndependent region rules index word →

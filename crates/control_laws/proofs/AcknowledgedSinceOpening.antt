@@ -10,9 +10,8 @@ use Rattle.control_laws.proofs.ToldToController.{tells, told_by, told_by_more, e
 use Rattle.control_laws.proofs.MemberFacts.{LeavesMember, MemberFact, member_was, open_was}
 
 -- what is acknowledged in a known boot that stays: what was, and what the item tells
-pub acked_more : (before : List Item) (next : Item) (s v : ℕ)
-    → known_boot (before ++ next ∷ []) s ≡ known_boot before s
-    → has_acked (before ++ next ∷ []) s v ≡ (has_acked before s v
+pub acked_more : (before : List Item) (next : Item) (s v : ℕ) → known_boot (before ++ next ∷ []) s
+    ≡ known_boot before s → has_acked (before ++ next ∷ []) s v ≡ (has_acked before s v
     || list_any (nat_eq v) (tells (installed_in s (known_boot before s)) before next))
 unfolding has_acked
 acked_more before next s v known =
@@ -42,12 +41,10 @@ pub record IsAcked (setting : Setting) (journal : List Item) (s : ℕ) : Type 0 
       → IsTrue (has_acked journal s version)
 
 same_acked : (setting : Setting) (before : List Item) (next : Item) (s : ℕ)
-    → LeavesMember before next s
-    → current_mark (before ++ next ∷ []) ≡ current_mark before
+    → LeavesMember before next s → current_mark (before ++ next ∷ []) ≡ current_mark before
     → IsAcked setting before s → IsAcked setting (before ++ next ∷ []) s
 same_acked setting before next s leaves current is = record {
-  acked = λ there member version above below.
-      acked_grows before next s version leaves.known
+  acked = λ there member version above below. acked_grows before next s version leaves.known
       (is.acked there (member_was before next s leaves member) version
       (omega (arith, open_was before next s leaves, above)) (omega (arith, current, below)));
 }
@@ -59,13 +56,9 @@ new_acked : (setting : Setting) (before : List Item) (n s version : ℕ) (messag
     → IsAcked setting (before ++ item.Sent n message ∷ []) s
 new_acked setting before n s version message first now =
     let next : Item = item.Sent n message in
-    let opening : open_version (before ++ next ∷ []) s ≡ version = ap (λ o. unwrap_or o 0) now in
-    let mark : current_mark (before ++ next ∷ []) ≡ current_mark before =
-    current_more before next in
-    let current : version ≡ current_mark before = first.current in
-    record {
-      acked = λ there member v above below.
-          let own : version ≡ v = omega (arith, opening, mark, current, above, below) in
+    let current : version ≡ current_mark before = first.current in record {
+      acked = λ there member v above below. let own : version ≡ v = omega
+          (arith, ap (λ o. unwrap_or o 0) now, current_more before next, current, above, below) in
           acked_grows before next s v (known_more before next s)
           (subst (λ w. IsTrue (has_acked before s w)) own first.acked);
     }
@@ -73,23 +66,18 @@ new_acked setting before n s version message first now =
 raised_acked : (setting : Setting) (before : List Item) (mark s : ℕ)
     → MayRise setting before mark → LeavesMember before (item.Current mark) s
     → IsAcked setting before s → IsAcked setting (before ++ item.Current mark ∷ []) s
-raised_acked setting before mark s may leaves is =
-    let next : Item = item.Current mark in
-    let now : current_mark (before ++ next ∷ []) ≡ mark = current_more before next in
-    record {
-      acked = λ there member version above below.
-          let was : IsTrue (is_member before s) = member_was before next s leaves member in
-          acked_grows before next s version leaves.known
-          (elim (cases_lt (current_mark before) version) [
-            | inl new ↦ each_in_range (λ t. IsTrue (has_acked before t version))
-                (is_member before) 0 (length setting.net.switches) s
-                (each_of_all (λ t. has_acked before t version) (members setting before)
-                (may.acknowledged version new (omega (arith, now, below)))) (omega arith)
-                (omega (arith, there)) was
-            | inr old ↦ is.acked there was version
-                (omega (arith, open_was before next s leaves, above)) old
-          ]);
-    }
+raised_acked setting before mark s may leaves is = let next : Item = item.Current mark in record {
+  acked = λ there member version above below.
+      let was : IsTrue (is_member before s) = member_was before next s leaves member in
+      acked_grows before next s version leaves.known
+      (elim (cases_lt (current_mark before) version) [
+        | inl new ↦ each_in_range (λ t. IsTrue (has_acked before t version)) (is_member before) 0
+            (length setting.net.switches) s (each_of_all (λ t. has_acked before t version)
+            (members setting before) (may.acknowledged version new (omega (arith, current_more))))
+            (omega arith) (omega arith) was
+        | inr old ↦ is.acked there was version (omega (arith, open_was)) old
+      ]);
+}
 
 pub acked_fact : (setting : Setting) → MemberFact setting (IsAcked setting)
 acked_fact setting = record {
@@ -101,9 +89,8 @@ acked_fact setting = record {
       new_acked setting before n s version message first now;
   raised = λ before version s are may leaves is.
       raised_acked setting before version s may leaves is;
-  retires = λ before version s are right leaves is.
-      same_acked setting before (item.Retired version) s leaves
-      (current_more before (item.Retired version)) is;
+  retires = λ before version s are right leaves is. same_acked setting before (item.Retired version)
+      s leaves (current_more before (item.Retired version)) is;
 }
 
 pub first_open : (s : ℕ) → open_version [] s ≡ 1

@@ -19,8 +19,7 @@ pub record AckKind : Type 1 where
   pub is : (s boot : ℕ) (body : Body) (version : ℕ) → reads s boot body ≡ Some version
       → body ≡ writes s boot version
   pub speaks : (s boot version : ℕ) → speaker (writes s boot version) ≡ Some (s, boot)
-  pub right : (before : List Item) (s boot version : ℕ)
-      → IsRightFrom before (writes s boot version)
+  pub right : (before : List Item) (s boot version : ℕ) → IsRightFrom before (writes s boot version)
       → IsPresentIn before s boot × Holds before s version
   pub kept : (before : List Item) (next : Item) (s version : ℕ) → IsFalse (turns s next)
       → Holds before s version → Holds (before ++ next ∷ []) s version
@@ -38,8 +37,7 @@ pub record AreTrue (kind : AckKind) (journal : List Item) : Type 0 where
 past_sent : (kind : AckKind) (before : List Item) (s boot version n : ℕ) → BootsAreKnown before
     → message_of before n ≡ Some (to_controller (kind.writes s boot version))
     → boot ≤ boot_of before s
-past_sent kind before s boot version n boots sent =
-    subst (λ o. IfSome o (λ of. of.1 ≤ boot_of before of.0)) (kind.speaks s boot version)
+past_sent kind before s boot version n boots sent = rw (kind.speaks s boot version) at
     (boots.sent n (to_controller (kind.writes s boot version)) sent)
 
 sent_on : (kind : AckKind) (setting : Setting) (before : List Item) (next : Item)
@@ -50,12 +48,9 @@ sent_on : (kind : AckKind) (setting : Setting) (before : List Item) (next : Item
     → kind.Holds (before ++ next ∷ []) s version
 sent_on kind setting before next s boot version n cause boots true is up own =
     elim (by_number before next n (to_controller (kind.writes s boot version)) is) [
-      | inl new ↦
-          let right = kind.right before s boot version
-          (subst (HasItemCause setting before) new cause) in
-          kind.kept before next s version (ap (turns s) new) right.1
-      | inr old ↦
-          let on = goes_on setting before next s boot cause
+      | inl new ↦ kind.kept before next s version (ap (turns s) new)
+          (kind.right before s boot version (subst (HasItemCause setting before) new cause)).1
+      | inr old ↦ let on = goes_on setting before next s boot cause
           (past_sent kind before s boot version n boots old) up own in
           kind.kept before next s version on.same (true.sent s boot version n old on.up on.own)
     ]
@@ -73,9 +68,8 @@ tells_true : (kind : AckKind) (before : List Item) (next : Item) (s boot : ℕ)
     → AllByRecursion (kind.Holds before s) (tells (kind.reads s boot) before next)
 tells_true kind before (item.Delivered number) s boot true up own =
     each_option (kind.Holds before s)
-    (option_and_then (kind.reads s boot) (body_to_controller before number))
-    (λ version told. true.sent s boot version number
-    (ack_sent kind before s boot number version told) up own)
+    (option_and_then (kind.reads s boot) (body_to_controller before number)) (λ version told.
+    true.sent s boot version number (ack_sent kind before s boot number version told) up own)
 tells_true kind before _ s boot true up own = tt
 
 -- and of a boot to come it tells nothing
@@ -89,8 +83,7 @@ tells_past kind before (item.Delivered number) s boot boots past =
         → option_to_list o ≡ []
     by_told None e = refl
     by_told (Some version) e =
-        let earlier : boot ≤ boot_of before s =
-        past_sent kind before s boot version number boots
+        let earlier = past_sent kind before s boot version number boots
         (ack_sent kind before s boot number version e) in
         absurd (omega (arith, past, earlier))
 tells_past kind before _ s boot boots past = refl
@@ -108,14 +101,12 @@ past_on kind setting before next s boot cause boots true past =
 
 told_on : (kind : AckKind) (setting : Setting) (before : List Item) (next : Item) (s : ℕ)
     → HasItemCause setting before next → BootsAreKnown before → AreTrue kind before
-    → IsTrue (is_up (before ++ next ∷ []) s)
-    → AllByRecursion (kind.Holds (before ++ next ∷ []) s)
+    → IsTrue (is_up (before ++ next ∷ []) s) → AllByRecursion (kind.Holds (before ++ next ∷ []) s)
     (told_by (kind.reads s (boot_of (before ++ next ∷ []) s)) (before ++ next ∷ []))
 told_on kind setting before next s cause boots true up =
     elim (cases_lt (boot_of before s) (boot_of (before ++ next ∷ []) s)) [
       | inl new ↦ subst (AllByRecursion Holds) (sym (none new)) tt
-      | inr old ↦ subst (AllByRecursion Holds) (sym more)
-          (by_going (goes_on setting before next s boot cause old up refl))
+      | inr old ↦ rw more (by_going (goes_on setting before next s boot cause old up refl))
     ]
   where
     boot : ℕ
@@ -129,21 +120,15 @@ told_on kind setting before next s cause boots true up =
     more = told_by_more (kind.reads s boot) before next
 
     none : boot_of before s < boot → told_by (kind.reads s boot) (before ++ next ∷ []) ≡ []
-    none new = more
-        ∙ ap (λ xs. xs ++ tells (kind.reads s boot) before next) (true.past s boot new)
-        ∙ tells_past kind before next s boot boots new
+    none new = cc (more, true.past s boot new, tells_past kind before next s boot boots new)
 
     by_going : GoesOn before next s boot → AllByRecursion Holds
         (told_by (kind.reads s boot) before ++ tells (kind.reads s boot) before next)
     by_going on = each_append Holds (told_by (kind.reads s boot) before)
-        (tells (kind.reads s boot) before next)
-        (each_weaker (kind.Holds before s) Holds
+        (tells (kind.reads s boot) before next) (each_weaker (kind.Holds before s) Holds
         (λ version. kind.kept before next s version on.same) (told_by (kind.reads s boot) before)
-        (subst (λ b. AllByRecursion (kind.Holds before s) (told_by (kind.reads s b) before))
-        (sym on.own) (true.told s on.up)))
-        (each_weaker (kind.Holds before s) Holds
-        (λ version. kind.kept before next s version on.same)
-        (tells (kind.reads s boot) before next)
+        (rw on.own (true.told s on.up))) (each_weaker (kind.Holds before s) Holds
+        (λ version. kind.kept before next s version on.same) (tells (kind.reads s boot) before next)
         (tells_true kind before next s boot true on.up on.own))
 
 pub true_on : (kind : AckKind) (setting : Setting) (before : List Item) (next : Item)
@@ -201,6 +186,5 @@ of_stamps = record {
   is = stamped_is;
   speaks = λ s boot version. refl;
   right = λ before s boot version right. (right.present, right.stamps);
-  kept = λ before next s version same here.
-      omega (arith, here, stamp_kept before next s same);
+  kept = λ before next s version same here. omega (arith, here, stamp_kept before next s same);
 }

@@ -36,27 +36,21 @@ acked_is : (journal : List Item) (s version : ℕ) → AreTrue of_tables journal
     → IsTrue (is_up journal s) → known_boot journal s ≡ boot_of journal s
     → IsTrue (has_acked journal s version) → HasTables journal s version
 unfolding has_acked
-acked_is journal s version tables up known acked =
-    by_first (known_boot journal s == 1) refl acked
+acked_is journal s version tables up known acked = by_first (known_boot journal s == 1) refl acked
   where
     later : IsTrue (list_any (nat_eq version)
-        (told_by (installed_in s (known_boot journal s)) journal))
-        → HasTables journal s version
+        (told_by (installed_in s (known_boot journal s)) journal)) → HasTables journal s version
     later any = inr (each_at (λ v. IsTrue (list_any (installs_version v) (heard journal s))) version
-        (told_by (installed_in s (boot_of journal s)) journal) (tables.told s up)
-        (subst (λ b. IsTrue (list_any (nat_eq version) (told_by (installed_in s b) journal))) known
-        any))
+        (told_by (installed_in s (boot_of journal s)) journal) (tables.told s up) (rw known at any))
 
-    by_version : (b : Bool) → nat_eq version 1 ≡ b → boot_of journal s ≡ 1
-        → IsTrue (b || list_any (nat_eq version)
-        (told_by (installed_in s (known_boot journal s)) journal))
+    by_version : (b : Bool) → nat_eq version 1 ≡ b → boot_of journal s ≡ 1 → IsTrue
+        (b || list_any (nat_eq version) (told_by (installed_in s (known_boot journal s)) journal))
         → HasTables journal s version
     by_version true e first any = inl (eqb-true version 1 e, first)
     by_version false e first any = later any
 
-    by_first : (b : Bool) → (known_boot journal s == 1) ≡ b
-        → IsTrue (list_any (nat_eq version) ((if b then 1 ∷ [] else [])
-        ++ told_by (installed_in s (known_boot journal s)) journal))
+    by_first : (b : Bool) → (known_boot journal s == 1) ≡ b → IsTrue (list_any (nat_eq version)
+        ((if b then 1 ∷ [] else []) ++ told_by (installed_in s (known_boot journal s)) journal))
         → HasTables journal s version
     by_first true e any = by_version (nat_eq version 1) refl
         (sym known ∙ eqb-true (known_boot journal s) 1 e) any

@@ -1,5 +1,5 @@
 -- Each advert that is told is of a switch of the network: those that tell have neighbours.
-use Rattle.std.proofs.Common.{[], ◌∙◌, ◌≡◌, IsTrue, List, subst, sym, ℕ}
+use Rattle.std.proofs.Common.{[], ◌∙◌, ◌≡◌, IsTrue, List, subst, ℕ}
 use Rattle.base.specs.Exports.{has}
 use Rattle.update_machine.specs.Exports.{Advert, HaveCauses, Item, Setting, advert_to, near, own_advert}
 use Rattle.net_file.specs.Exports.{IsNet}
@@ -16,15 +16,12 @@ IsOfSwitch setting journal advert = HasSwitch setting.net advert.origin
 -- a switch that has a neighbour is of the network
 has_neighbour : (setting : Setting) (journal : List Item) (s neighbour : ℕ) → IsNet setting.net
     → IsTrue (has (near setting journal s) neighbour) → HasSwitch setting.net s
-has_neighbour setting journal s neighbour net is =
-    links.below setting.net neighbour s net
-    (links.both_ways setting.net.links neighbour s
-    ∙ near_linked setting journal s neighbour is)
+has_neighbour setting journal s neighbour net is = links.below setting.net neighbour s net
+    (links.both_ways setting.net.links neighbour s ∙ near_linked setting journal s neighbour is)
 
 own_of : (setting : Setting) (journal : List Item) (s : ℕ) → HasSwitch setting.net s
     → IsOfSwitch setting journal (own_advert setting journal s)
-own_of setting journal s there =
-    subst (HasSwitch setting.net) (sym (own_origin setting journal s)) there
+own_of setting journal s there = rw (own_origin setting journal s) there
 
 of_fact : (setting : Setting) → IsNet setting.net → IsAdvertFact setting (IsOfSwitch setting)
 of_fact setting net = record {
@@ -38,17 +35,13 @@ pub of_switches : (setting : Setting) (journal : List Item)
     → HaveCauses (HasBothCauses setting) [] journal → IsNet setting.net
     → AdvertsAreOfSwitches setting journal
 of_switches setting journal have net =
-    let such : AreSuch setting (IsOfSwitch setting) journal =
-    such_on setting (IsOfSwitch setting) (of_fact setting net) journal have in
-    record {
+    let such = such_on setting (IsOfSwitch setting) (of_fact setting net) journal have in record {
       sent = λ n s advert is. such.sent n (advert_to s advert) is;
       heard = such.heard;
-      held = λ s origin advert there small known.
-          let at : advert.origin ≡ origin =
+      held = λ s origin advert there small known. let at : advert.origin ≡ origin =
           known_origin setting journal s origin advert small known in (
-            subst (HasSwitch setting.net) at
-                (known_such setting (IsOfSwitch setting) journal such s origin advert small
-                (own_of setting journal s there) known),
+            subst (HasSwitch setting.net) at (known_such setting (IsOfSwitch setting) journal such s
+                origin advert small (own_of setting journal s there) known),
             at,
           );
     }

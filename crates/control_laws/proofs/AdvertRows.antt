@@ -56,8 +56,7 @@ apart : (m n : ℕ) → (m == n) ≡ false → m ≡ n → ⊥
 apart m n other same = let is : (m == n) ≡ true = eq-eqb m n same in absurd cc
 
 other_links : told 1 2 2 ≡ told 1 2 0 → ⊥
-other_links same =
-    apart 2 0 refl (ap (λ (advert : Advert). advert.up) same)
+other_links same = apart 2 0 refl (ap (λ (advert : Advert). advert.up) same)
 
 other_seq : told 1 3 0 ≡ told 1 2 0 → ⊥
 other_seq same = apart 3 2 refl (ap (λ (advert : Advert). advert.seq) same)
@@ -83,8 +82,7 @@ boot_to_come is = let limit : 2 ≤ 1 = is.boot in omega arith
 -- ---- an advert of an old boot is none that counts, however great its number
 
 abbrev again : List Item
-again =
-    item.Row 1 (step.Crash 0) ∷ item.Down 0 ∷ item.Row 2 (step.Restart 0) ∷ item.Booted 0 2 ∷ []
+again = item.Row 1 (step.Crash 0) ∷ item.Down 0 ∷ item.Row 2 (step.Restart 0) ∷ item.Booted 0 2 ∷ []
 
 old_is_older : IsNoNewer open_net again (told 1 7 2)
 unfolding own_advert own_seq near is_link_up serves is_up boot_of steps_in mask_of mask_where switches
@@ -93,8 +91,7 @@ old_is_older = record { boot = omega arith; own = λ up. inr refl }
 -- ---- behind a link that failed and came back nothing is wrong
 
 abbrev back : List Item
-back =
-    item.Row 1 (step.LinkDown 0 1) ∷ item.LinkIs 0 1 false ∷ item.Row 2 (step.LinkUp 0 1)
+back = item.Row 1 (step.LinkDown 0 1) ∷ item.LinkIs 0 1 false ∷ item.Row 2 (step.LinkUp 0 1)
     ∷ item.LinkIs 0 1 true ∷ item.Sent 1 (to 1 (advert 0 1 3 2))
     ∷ item.Sent 2 (to 1 (advert 1 1 1 1)) ∷ item.Sent 3 (to 0 (advert 0 1 1 2))
     ∷ item.Sent 4 (to 0 (advert 1 1 3 1)) ∷ []
@@ -124,8 +121,7 @@ unlinked there = names_none (there.adverts.sent 1 1 (told 1 1 4) refl)
 
 newer_sent : OwnAreNewest open_net (item.Sent 1 (to 1 (advert 0 2 1 2)) ∷ []) → ⊥
 unfolding message_of boot_of
-newer_sent newest =
-    let limit : 2 ≤ 1 = (newest.sent 1 1 (told 2 1 2) refl).boot in omega arith
+newer_sent newest = let limit : 2 ≤ 1 = (newest.sent 1 1 (told 2 1 2) refl).boot in omega arith
 
 -- ---- adverts of the network's switches, of which there is no third one
 
@@ -171,8 +167,7 @@ abbrev pub restart : List StepOfRow
 restart = at 1 (step.Crash 0) ∷ at 2 (step.Restart 0) ∷ []
 
 abbrev pub restarted : List Item
-restarted =
-    item.Row 1 (step.Crash 0) ∷ item.Down 0 ∷ item.Row 2 (step.Restart 0) ∷ item.Booted 0 2
+restarted = item.Row 1 (step.Crash 0) ∷ item.Down 0 ∷ item.Row 2 (step.Restart 0) ∷ item.Booted 0 2
     ∷ item.Sent 1 (to_controller (Hello 0 2)) ∷ []
 
 of_the_switch : AdvertsAreOfSwitches solo restarted

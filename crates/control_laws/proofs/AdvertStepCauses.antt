@@ -54,25 +54,20 @@ row_first before row step = record {
 pub delivered_first : (before : List Item) (number : ℕ) → ChangedNoLinks before
     → ChangedNoLinks (before ++ item.Delivered number ∷ [])
 unfolding steps_in
-delivered_first before number is =
-    let next : List Item = item.Delivered number ∷ [] in
-    record {
-      newest = record { before = is.newest.before; items = is.newest.items ++ next };
-      earlier = is.earlier;
-      steps = folded_append changes_steps [] before next
-          ∙ ap (λ steps. changes_steps before steps (item.Delivered number)) is.steps;
-      ends = sym (append_assoc is.newest.before is.newest.items next)
-          ∙ ap (λ items. items ++ next) is.ends;
-      none = have_append (λ journal other. IsFalse (concerns_links journal other))
-          is.newest.before is.newest.items next is.none (refl, tt);
-    }
+delivered_first before number is = let next : List Item = item.Delivered number ∷ [] in record {
+  newest = record { before = is.newest.before; items = is.newest.items ++ next };
+  earlier = is.earlier;
+  steps = cc (folded_append changes_steps [] before next, is.steps);
+  ends = cc (append_assoc is.newest.before is.newest.items next, is.ends);
+  none = have_append (λ journal other. IsFalse (concerns_links journal other))
+      is.newest.before is.newest.items next is.none (refl, tt);
+}
 
 -- ---- a delivery
 
 -- what is said to a switch it has heard last, once it is delivered
 heard_now : (before : List Item) (row s number : ℕ) (step : Step) (body : Body)
-    → body_to_switch before s number ≡ Some body
-    → let here = before ++ item.Row row step ∷ [] in
+    → body_to_switch before s number ≡ Some body → let here = before ++ item.Row row step ∷ [] in
     heard (here ++ item.Delivered number ∷ []) s ≡ heard here s ++ body ∷ []
 heard_now before row s number step body said =
     let here : List Item = before ++ item.Row row step ∷ [] in
@@ -82,11 +77,10 @@ heard_now before row s number step body said =
 
 news_of_other : (origin s : ℕ) (news : Bool) → (not (origin == s) && news) ≡ true
     → (origin == s) ≡ false
-news_of_other origin s news is = by_test (origin == s) is
-  where
-    by_test : (b : Bool) → (not b && news) ≡ true → b ≡ false
-    by_test true is = absurd cc
-    by_test false is = refl
+news_of_other origin s news is = by_test (origin == s) is where
+  by_test : (b : Bool) → (not b && news) ≡ true → b ≡ false
+  by_test true is = absurd cc
+  by_test false is = refl
 
 switch_caused : (setting : Setting) (before now : List Item) (s : ℕ) (bodies : List Body)
     (body : Body) → ChangedNoLinks now → heard now s ≡ bodies ++ body ∷ []
@@ -97,19 +91,16 @@ switch_caused setting before now s bodies body first heard =
     (λ boot version. sends_told setting now _ (tt, tt))
     (λ boot version is. have_first (HasLinkCause setting) (item.Opened s (stamp_of now s))
     (link_changes setting before) now first (changes_controller_heard setting before _))
-    (λ advert is news. passed_told setting now s advert
-    (last_heard before now s bodies advert (heard ∙ ap (λ b. bodies ++ b ∷ []) is)
-    (news_of_other advert.origin s _ news))) tt
+    (λ advert is news. passed_told setting now s advert (last_heard before now s bodies advert
+    (heard ∙ ap (λ b. bodies ++ b ∷ []) is) (news_of_other advert.origin s _ news))) tt
 
 deliver_caused : (setting : Setting) (before : List Item) (row number : ℕ) (step : Step)
     → let here = before ++ item.Row row step ∷ [] in
     HaveLinkCauses setting here (deliver_items setting before number here)
-deliver_caused setting before row number step =
-    deliver_has (HasLinkCause setting) setting before number _ tt tt
-    (λ body sent. are_caused setting _ _
-    (control_plain _ _ (controller_control setting before body _)))
-    (λ s body said. switch_caused setting before _ s _ body
-    (delivered_first _ number (row_first before row step))
+deliver_caused setting before row number step = deliver_has (HasLinkCause setting) setting before
+    number _ tt tt (λ body sent. are_caused setting _ _
+    (control_plain _ _ (controller_control setting before body _))) (λ s body said. switch_caused
+    setting before _ s _ body (delivered_first _ number (row_first before row step))
     (heard_now before row s number step body said))
 
 -- ---- links, switches
@@ -131,8 +122,7 @@ down_caused setting before s packets journal first =
     (changes_controller_heard setting before (journal ++ down))
 
 crash_caused : (setting : Setting) (before : List Item) (s : ℕ) (journal : List Item)
-    → ChangedNoLinks journal
-    → HaveLinkCauses setting journal (crash_items setting before s journal)
+    → ChangedNoLinks journal → HaveLinkCauses setting journal (crash_items setting before s journal)
 unfolding crash_items
 crash_caused setting before s journal first = grind (arith, down_caused)
 

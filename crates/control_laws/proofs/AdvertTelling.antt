@@ -11,36 +11,27 @@ use Rattle.control_laws.proofs.LinkCauses.{HasLinkCause, HaveLinkCauses, IsHeard
 
 -- ---- what is told stays so while other messages are sent
 
-held_sent : (setting : Setting) (before : List Item) (n s : ℕ) (message : Message)
-    (advert : Advert) → IsHeld setting before s advert
-    → IsHeld setting (before ++ item.Sent n message ∷ []) s advert
-held_sent setting before n s message advert is =
-    let same : KnownKeeps setting s before (before ++ item.Sent n message ∷ []) =
-    known_keeps setting s before (item.Sent n message ∷ []) (refl, tt) in
-    record {
-      origin = is.origin;
-      small = is.small;
-      held = ap (λ adverts. held_advert adverts is.origin) same.known ∙ is.held;
-    }
+held_sent : (setting : Setting) (before : List Item) (n s : ℕ) (message : Message) (advert : Advert)
+    → IsHeld setting before s advert → IsHeld setting (before ++ item.Sent n message ∷ []) s advert
+held_sent setting before n s message advert is = record {
+  origin = is.origin;
+  small = is.small;
+  held = cc ((known_keeps setting s before (item.Sent n message ∷ []) (refl, tt)).known, is.held);
+}
 
 heard_sent : (setting : Setting) (before : List Item) (n s : ℕ) (message : Message)
     (advert : Advert) → IsHeard before s advert
     → IsHeard (before ++ item.Sent n message ∷ []) s advert
-heard_sent setting before n s message advert is =
-    let same : SwitchKeeps setting s before (before ++ item.Sent n message ∷ []) =
-    switch_keeps setting s before (item.Sent n message ∷ []) (refl, tt) in
-    record {
-      earlier = is.earlier;
-      heard = ap (filter_map (other_advert s)) same.heard ∙ is.heard;
-    }
+heard_sent setting before n s message advert is = record {
+  earlier = is.earlier;
+  heard = ap (filter_map (other_advert s))
+      (switch_keeps setting s before (item.Sent n message ∷ []) (refl, tt)).heard ∙ is.heard;
+}
 
-told_sent : (setting : Setting) (before : List Item) (n : ℕ) (message : Message)
-    (advert : Advert) → IsTold setting before advert
-    → IsTold setting (before ++ item.Sent n message ∷ []) advert
+told_sent : (setting : Setting) (before : List Item) (n : ℕ) (message : Message) (advert : Advert)
+    → IsTold setting before advert → IsTold setting (before ++ item.Sent n message ∷ []) advert
 told_sent setting before n message advert is =
-    let same : LinksKeep setting before (before ++ item.Sent n message ∷ []) =
-    links_keep setting before (item.Sent n message ∷ []) (refl, tt) in
-    record {
+    let same = links_keep setting before (item.Sent n message ∷ []) (refl, tt) in record {
       switch = is.switch;
       neighbour = is.neighbour;
       near = rw (same.near is.switch) is.near;
@@ -53,9 +44,8 @@ told_sent setting before n message advert is =
       ];
     }
 
-told_in_sent : (setting : Setting) (before : List Item) (n : ℕ) (message : Message)
-    (body : Body) → IsToldIn setting before body
-    → IsToldIn setting (before ++ item.Sent n message ∷ []) body
+told_in_sent : (setting : Setting) (before : List Item) (n : ℕ) (message : Message) (body : Body)
+    → IsToldIn setting before body → IsToldIn setting (before ++ item.Sent n message ∷ []) body
 told_in_sent setting before n message (Advertise advert) is =
     told_sent setting before n message advert is
 told_in_sent setting before n message _ is = tt
@@ -89,8 +79,7 @@ each_held setting journal s neighbour linked =
     })
 
 pub held_told : (setting : Setting) (journal : List Item) (s neighbour : ℕ)
-    → IsTrue (has (near setting journal s) neighbour)
-    → AllByRecursion (Tells setting journal)
+    → IsTrue (has (near setting journal s) neighbour) → AllByRecursion (Tells setting journal)
     (map (advert_to neighbour) (held_adverts setting journal s))
 held_told setting journal s neighbour linked =
     each_map (Tells setting journal) (advert_to neighbour) (held_adverts setting journal s)
@@ -131,11 +120,9 @@ over_told setting before journal s neighbour linked =
 pub changes_controller_heard : (setting : Setting) (before journal : List Item)
     → HaveLinkCauses setting journal (link_changes setting before journal)
 unfolding link_changes
-changes_controller_heard setting before journal =
-    sends_told setting journal _
-    (each_flat_map (Tells setting journal) (messages_of setting before journal)
-    (λ s. each_neighbour setting journal s (messages_over setting before journal s)
-    (over_told setting before journal s))
+changes_controller_heard setting before journal = sends_told setting journal _
+    (each_flat_map (Tells setting journal) (messages_of setting before journal) (λ s. each_neighbour
+    setting journal s (messages_over setting before journal s) (over_told setting before journal s))
     (filter (has_changed setting before journal) (switches_of setting)))
 
 -- ---- adverts that are passed on
@@ -143,14 +130,12 @@ changes_controller_heard setting before journal =
 pub passed_told : (setting : Setting) (journal : List Item) (s : ℕ) (advert : Advert)
     → IsHeard journal s advert
     → HaveLinkCauses setting journal (send_items journal (passed_on setting journal s advert))
-passed_told setting journal s advert last =
-    sends_told setting journal (passed_on setting journal s advert)
-    (each_map (Tells setting journal) (λ neighbour. advert_to neighbour advert)
-    (switches_in setting (near setting journal s))
+passed_told setting journal s advert last = sends_told setting journal
+    (passed_on setting journal s advert) (each_map (Tells setting journal)
+    (λ neighbour. advert_to neighbour advert) (switches_in setting (near setting journal s))
     (each_filter (λ neighbour. Tells setting journal (advert_to neighbour advert))
-    (has (near setting journal s))
-    (λ neighbour linked.
-    record { switch = s; neighbour = neighbour; near = linked; which = inr (inr last) })
+    (has (near setting journal s)) (λ neighbour linked. record
+    { switch = s; neighbour = neighbour; near = linked; which = inr (inr last) })
     (switches_of setting)))
 
 -- an advert of another switch is the last that is heard once it is delivered
@@ -159,10 +144,7 @@ pub last_heard : (before now : List Item) (s : ℕ) (bodies : List Body) (advert
     → IsHeard now s advert
 last_heard before now s bodies advert heard other = record {
   earlier = filter_map (other_advert s) bodies;
-  heard = ap (filter_map (other_advert s)) heard
-      ∙ filter_map-append (other_advert s) bodies (Advertise advert ∷ [])
-      ∙ ap (λ xs. filter_map (other_advert s) bodies ++ xs) told;
-}
-  where
-    told : filter_map (other_advert s) (Advertise advert ∷ []) ≡ advert ∷ []
-    told = rw other refl
+  heard = cc (heard, filter_map-append (other_advert s) bodies (Advertise advert ∷ []), told);
+} where
+  told : filter_map (other_advert s) (Advertise advert ∷ []) ≡ advert ∷ []
+  told = rw other refl

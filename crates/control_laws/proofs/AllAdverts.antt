@@ -52,26 +52,21 @@ middle P (x ∷ earlier) advert later all = middle P earlier advert later all.1
 
 first_such : (setting : Setting) (P : Advert → Type 0)
     → ((origin : ℕ) → HasSwitch setting.net origin → P (begun_with setting origin))
-    → (origin : ℕ) → origin < 64
-    → AllByRecursion P (option_to_list (held_advert
-    (first_adverts (map (links_of setting.net.links) (switches_of setting))
-    (length setting.net.switches)) origin))
+    → (origin : ℕ) → origin < 64 → AllByRecursion P (option_to_list (held_advert (first_adverts
+    (map (links_of setting.net.links) (switches_of setting)) (length setting.net.switches)) origin))
 first_such setting P such origin small =
-    subst (λ o. AllByRecursion P (option_to_list o))
-    (sym (held-first near (length setting.net.switches) origin small))
+    rw (held-first near (length setting.net.switches) origin small)
     (by_test (nat_lt origin (length setting.net.switches)) refl)
   where
     near : List ℕ
     near = map (links_of setting.net.links) (switches_of setting)
 
-    by_test : (b : Bool) → nat_lt origin (length setting.net.switches) ≡ b
-        → AllByRecursion P (option_to_list (if b
-        then Some (first_advert origin (slice_index near origin)) else None))
+    by_test : (b : Bool) → nat_lt origin (length setting.net.switches) ≡ b → AllByRecursion P
+        (option_to_list (if b then Some (first_advert origin (slice_index near origin)) else None))
     by_test true e =
         let there : origin < length setting.net.switches = grind (arith, nat_tests) in
-        let links : slice_index near origin ≡ links_of setting.net.links origin =
-        get_or-map-range_with_len (links_of setting.net.links) 0 (length setting.net.switches)
-        origin origin 0 there (omega arith) in
+        let links = get_or-map-range_with_len (links_of setting.net.links) 0
+        (length setting.net.switches) origin origin 0 there (omega arith) in
         (subst (λ up. P (first_advert origin up)) (sym links) (such origin there), tt)
     by_test false e = tt
 
@@ -81,31 +76,25 @@ none_held origin small = get_or-replicate 64 origin None None small
 begun_such : (setting : Setting) (P : Advert → Type 0) (journal : List Item) (s origin : ℕ)
     → ((from : ℕ) → HasSwitch setting.net from → P (begun_with setting from)) → origin < 64
     → AllByRecursion P (option_to_list (held_advert (adverts_begun setting journal s) origin))
-begun_such setting P journal s origin such small = by_test (is_in_first_boot journal s)
-  where
-    by_test : (b : Bool) → AllByRecursion P (option_to_list (held_advert (if b
-        then first_adverts (map (links_of setting.net.links) (switches_of setting))
-        (length setting.net.switches)
-        else no_adverts) origin))
-    by_test true = first_such setting P such origin small
-    by_test false =
-        subst (λ o. AllByRecursion P (option_to_list o)) (sym (none_held origin small)) tt
+begun_such setting P journal s origin such small = by_test (is_in_first_boot journal s) where
+  by_test : (b : Bool) → AllByRecursion P
+      (option_to_list (held_advert (if b then first_adverts (map (links_of setting.net.links)
+      (switches_of setting)) (length setting.net.switches) else no_adverts) origin))
+  by_test true = first_such setting P such origin small
+  by_test false = rw (none_held origin small) tt
 
 pub own_told : (own advert : Advert) → own_if_sent own ≡ Some advert → own ≡ advert
-own_told own advert told = by_test (own.seq == 0) told
-  where
-    by_test : (b : Bool) → (if b then None else Some own) ≡ Some advert → own ≡ advert
-    by_test true told = absurd cc
-    by_test false told = cc
+own_told own advert told = by_test (own.seq == 0) told where
+  by_test : (b : Bool) → (if b then None else Some own) ≡ Some advert → own ≡ advert
+  by_test true told = absurd cc
+  by_test false told = cc
 
 -- an advert of another switch that it knows is the newest that it heard or began with
 pub is_newest : (setting : Setting) (journal : List Item) (s origin : ℕ) (advert : Advert)
     → origin ≢ s → origin < 64 → advert_known setting journal s origin ≡ Some advert
     → IsNewest origin (option_to_list (held_advert (adverts_begun setting journal s) origin)
     ++ adverts_heard journal s) (Some advert)
-is_newest setting journal s origin advert apart small known =
-    subst (IsNewest origin (option_to_list (held_advert (adverts_begun setting journal s) origin)
-    ++ adverts_heard journal s)) known
+is_newest setting journal s origin advert apart small known = rw known at
     (known_link_laws.newest setting journal s origin apart small)
 
 -- an advert that a switch knows is its own, or it heard it or began with it
@@ -113,23 +102,18 @@ pub known_such : (setting : Setting) (P : List Item → Advert → Type 0) (jour
     → AreSuch setting P journal → (s origin : ℕ) (advert : Advert) → origin < 64
     → P journal (own_advert setting journal s)
     → advert_known setting journal s origin ≡ Some advert → P journal advert
-known_such setting P journal such s origin advert small told known =
-    elim (cases_eq origin s) [
-      | inl same ↦
-          let own : own_if_sent (own_advert setting journal s) ≡ Some advert =
-          sym (known_link_laws.own setting journal s (subst (λ x. x < 64) same small))
-          ∙ ap (advert_known setting journal s) (sym same) ∙ known in
-          subst (P journal) (own_told (own_advert setting journal s) advert own) told
-      | inr apart ↦
-          let newest = is_newest setting journal s origin advert apart small known in
-          middle (P journal) newest.0 advert newest.1
-          (subst (AllByRecursion (P journal)) newest.2
-          (each_append (P journal)
-          (option_to_list (held_advert (adverts_begun setting journal s) origin))
-          (adverts_heard journal s)
-          (begun_such setting (P journal) journal s origin such.first small)
-          (recursion_from_All (P journal) (adverts_heard journal s) (such.heard s))))
-    ]
+known_such setting P journal such s origin advert small told known = elim (cases_eq origin s) [
+  | inl same ↦
+      let own = sym (known_link_laws.own setting journal s (subst (λ x. x < 64) same small))
+      ∙ ap (advert_known setting journal s) (sym same) ∙ known in
+      subst (P journal) (own_told (own_advert setting journal s) advert own) told
+  | inr apart ↦ let newest = is_newest setting journal s origin advert apart small known in
+      middle (P journal) newest.0 advert newest.1
+      (subst (AllByRecursion (P journal)) newest.2 (each_append (P journal)
+      (option_to_list (held_advert (adverts_begun setting journal s) origin))
+      (adverts_heard journal s) (begun_such setting (P journal) journal s origin such.first
+      small) (recursion_from_All (P journal) (adverts_heard journal s) (such.heard s))))
+]
 
 -- ---- adverts that are sent
 
@@ -142,14 +126,12 @@ told_such setting P fact journal such advert told = elim told.which [
     | inl held ↦ known_such setting P journal such told.switch held.origin advert held.small tells
         held.held
     | inr last ↦ middle (P journal) last.earlier advert []
-        (subst (AllByRecursion (P journal)) last.heard
-        (recursion_from_All (P journal) (adverts_heard journal told.switch)
-        (such.heard told.switch)))
+        (subst (AllByRecursion (P journal)) last.heard (recursion_from_All (P journal)
+        (adverts_heard journal told.switch) (such.heard told.switch)))
   ]
-]
-  where
-    tells : P journal (own_advert setting journal told.switch)
-    tells = fact.own journal told.switch told.neighbour told.near
+] where
+  tells : P journal (own_advert setting journal told.switch)
+  tells = fact.own journal told.switch told.neighbour told.near
 
 told_body : (setting : Setting) (P : List Item → Advert → Type 0) → IsAdvertFact setting P
     → (journal : List Item) → AreSuch setting P journal
@@ -171,10 +153,7 @@ sent_on : (setting : Setting) (P : List Item → Advert → Type 0) → IsAdvert
 sent_on setting P fact before next both such n message is =
     weaker_body (P before) (P (before ++ next ∷ [])) (fact.kept before next both) message.body
     (elim (by_number before next n message is) [
-      | inl new ↦
-          let of : HasBothCauses setting before (item.Sent n message) =
-          subst (HasBothCauses setting before) new both in
-          told_body setting P fact before such message.body of.second
+      | inl new ↦ told_body setting P fact before such message.body (rw new at both).second
       | inr old ↦ such.sent n message old
     ])
 
@@ -182,54 +161,42 @@ sent_on setting P fact before next both such n message is =
 
 one_heard : (Q : Advert → Type 0) (s : ℕ) (body : Body) → IfAdvert Q body
     → All Q (filter_map (other_advert s) (body ∷ []))
-one_heard Q s (Advertise advert) such = by_test (advert.origin == s) refl
-  where
-    by_test : (b : Bool) → (advert.origin == s) ≡ b
-        → All Q (filter_map (other_advert s) (Advertise advert ∷ []))
-    by_test true e = rw e (All-nil Q)
-    by_test false e = rw e (All-cons Q advert [] such (All-nil Q))
+one_heard Q s (Advertise advert) such = by_test (advert.origin == s) refl where
+  by_test : (b : Bool) → (advert.origin == s) ≡ b
+      → All Q (filter_map (other_advert s) (Advertise advert ∷ []))
+  by_test true e = rw e (All-nil Q)
+  by_test false e = rw e (All-cons Q advert [] such (All-nil Q))
 one_heard Q s _ such = All-nil Q
 
-heard_such : (Q : Advert → Type 0) (before : List Item) (next : Item) (s : ℕ)
-    → All Q (adverts_heard before s)
-    → ((n : ℕ) (message : Message) → message_of before n ≡ Some message
-    → IfAdvert Q message.body)
+heard_such : (Q : Advert → Type 0) (before : List Item) (next : Item) (s : ℕ) → All Q
+    (adverts_heard before s)
+    → ((n : ℕ) (message : Message) → message_of before n ≡ Some message → IfAdvert Q message.body)
     → All Q (adverts_heard (before ++ next ∷ []) s)
-heard_such Q before (item.Down t) s old sent =
-    subst (λ bodies. All Q (filter_map (other_advert s) bodies))
-    (sym (heard_more before (item.Down t) s)) (by_test (t == s))
+heard_such Q before (item.Down t) s old sent = rw (heard_more before (item.Down t) s)
+    (by_test (t == s))
   where
-    by_test : (b : Bool)
-        → All Q (filter_map (other_advert s) (if b then [] else heard before s))
+    by_test : (b : Bool) → All Q (filter_map (other_advert s) (if b then [] else heard before s))
     by_test true = All-nil Q
     by_test false = old
-heard_such Q before (item.Booted t boot) s old sent =
-    subst (λ bodies. All Q (filter_map (other_advert s) bodies))
-    (sym (heard_more before (item.Booted t boot) s)) (by_test (t == s))
+heard_such Q before (item.Booted t boot) s old sent = rw (heard_more before (item.Booted t boot) s)
+    (by_test (t == s))
   where
-    by_test : (b : Bool)
-        → All Q (filter_map (other_advert s) (if b then [] else heard before s))
+    by_test : (b : Bool) → All Q (filter_map (other_advert s) (if b then [] else heard before s))
     by_test true = All-nil Q
     by_test false = old
 heard_such Q before (item.Delivered number) s old sent =
-    subst (λ bodies. All Q (filter_map (other_advert s) bodies))
-    (sym (heard_more before (item.Delivered number) s))
-    (by_said (body_to_switch before s number) refl)
+    rw (heard_more before (item.Delivered number) s) (by_said (body_to_switch before s number) refl)
   where
     by_said : (said : Option Body) → body_to_switch before s number ≡ said
         → All Q (filter_map (other_advert s)
         (option_map_or (λ body. heard before s ++ body ∷ []) said (heard before s)))
     by_said None e = old
-    by_said (Some body) e =
-        All-same Q (filter_map (other_advert s) (heard before s ++ body ∷ []))
+    by_said (Some body) e = All-same Q (filter_map (other_advert s) (heard before s ++ body ∷ []))
         (adverts_heard before s ++ filter_map (other_advert s) (body ∷ []))
-        (filter_map-append (other_advert s) (heard before s) (body ∷ []))
-        (All-append Q (adverts_heard before s) (filter_map (other_advert s) (body ∷ [])) old
-        (one_heard Q s body
+        (filter_map-append (other_advert s) (heard before s) (body ∷ [])) (All-append Q
+        (adverts_heard before s) (filter_map (other_advert s) (body ∷ [])) old (one_heard Q s body
         (sent number (to_switch s body) (said_parts before s number body e).sent)))
-heard_such Q before next s old sent =
-    subst (λ bodies. All Q (filter_map (other_advert s) bodies))
-    (sym (heard_more before next s)) old
+heard_such Q before next s old sent = rw (heard_more before next s) old
 
 -- ---- all of them
 
@@ -239,9 +206,8 @@ such_kept setting P fact before next both such = record {
   sent = λ n message is. sent_on setting P fact before next both such n message is;
   heard = λ s. heard_such (P (before ++ next ∷ [])) before next s
       (All-weaker (P before) (P (before ++ next ∷ [])) (fact.kept before next both)
-      (adverts_heard before s) (such.heard s))
-      (λ n message is. weaker_body (P before) (P (before ++ next ∷ []))
-      (fact.kept before next both) message.body (such.sent n message is));
+      (adverts_heard before s) (such.heard s)) (λ n message is. weaker_body (P before)
+      (P (before ++ next ∷ [])) (fact.kept before next both) message.body (such.sent n message is));
   first = λ origin there. fact.kept before next both (begun_with setting origin)
       (such.first origin there);
 }
@@ -251,26 +217,22 @@ pub such_at_first : (setting : Setting) (P : List Item → Advert → Type 0) �
 such_at_first setting P fact = record {
   sent = λ n message is.
       let none : None ≡ Some message = rw (start_laws.message n).message at is in absurd cc;
-  heard = λ s. subst (λ bodies. All (P []) (filter_map (other_advert s) bodies))
-      (sym (start_laws.heard s)) (All-nil (P []));
+  heard = λ s. rw (start_laws.heard s) (All-nil (P []));
   first = fact.first;
 }
 
 pub such_on : (setting : Setting) (P : List Item → Advert → Type 0) → IsAdvertFact setting P
     → (journal : List Item) → HaveCauses (HasBothCauses setting) [] journal
     → AreSuch setting P journal
-such_on setting P fact journal have =
-    fact_on (HasBothCauses setting) (AreSuch setting P) (such_kept setting P fact) [] journal have
-    (such_at_first setting P fact)
+such_on setting P fact journal have = fact_on (HasBothCauses setting) (AreSuch setting P)
+    (such_kept setting P fact) [] journal have (such_at_first setting P fact)
 
 -- where it is so of the own advert of each switch, told or not
 pub all_such : (setting : Setting) (P : List Item → Advert → Type 0) → IsAdvertFact setting P
     → (journal : List Item) → HaveCauses (HasBothCauses setting) [] journal
-    → ((s : ℕ) → P journal (own_advert setting journal s))
-    → AllAdverts setting journal (P journal)
+    → ((s : ℕ) → P journal (own_advert setting journal s)) → AllAdverts setting journal (P journal)
 all_such setting P fact journal have own =
-    let such : AreSuch setting P journal = such_on setting P fact journal have in
-    record {
+    let such : AreSuch setting P journal = such_on setting P fact journal have in record {
       sent = λ n s advert is. such.sent n (advert_to s advert) is;
       heard = such.heard;
       held = λ s origin advert small known.

@@ -30,9 +30,8 @@ no_link_change before _ plain = refl
 
 pub plain_keeps_links : (before items : List Item) → ArePlain before items
     → NoneConcern concerns_links before items
-plain_keeps_links before items plain =
-    have_weaker IsPlain (λ journal next. IsFalse (concerns_links journal next)) no_link_change
-    before items plain
+plain_keeps_links before items plain = have_weaker IsPlain
+    (λ journal next. IsFalse (concerns_links journal next)) no_link_change before items plain
 
 -- ---- messages
 

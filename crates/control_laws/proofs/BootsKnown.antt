@@ -12,9 +12,8 @@ use Rattle.control_laws.proofs.FactsGrown.{boot_more, hello_told, known_more, me
 -- ---- what is told was sent
 
 -- what is said to the controller was sent to it
-pub said_sent : (before : List Item) (number : ℕ) (body : Body)
-    → body_to_controller before number ≡ Some body
-    → message_of before number ≡ Some (to_controller body)
+pub said_sent : (before : List Item) (number : ℕ) (body : Body) → body_to_controller before number
+    ≡ Some body → message_of before number ≡ Some (to_controller body)
 said_sent before number body said = grind arith
 
 -- a hello that was told was sent
@@ -48,10 +47,7 @@ hello_above before s number raises = rw (known_more before (item.Delivered numbe
 
 pub boot_rises : (setting : Setting) (before : List Item) (item : Item) (s : ℕ)
     → HasItemCause setting before item → boot_of before s ≤ boot_of (before ++ item ∷ []) s
-boot_rises setting before (item.Booted t boot) s cause =
-    let moves : t ≡ s → boot_of before t ≡ boot_of before s = ap (boot_of before) in
-    let next = cause.next in
-    rw (boot_more before (item.Booted t boot) s) (grind (arith, nat_tests))
+boot_rises setting before (item.Booted t boot) s cause = rw boot_more (grind (arith, nat_tests))
 boot_rises setting before item s cause = rw (boot_more before item s) (omega arith)
 
 -- ---- what items keep
@@ -59,11 +55,9 @@ boot_rises setting before item s cause = rw (boot_more before item s) (omega ari
 past_on : (setting : Setting) (before : List Item) (item : Item) (to : Place) (body : Body)
     → HasItemCause setting before item → HasPastBoot before to body
     → HasPastBoot (before ++ item ∷ []) to body
-past_on setting before item (receiver.Switch s) body cause past =
-    IfSome_then (body_boot body) past
+past_on setting before item (receiver.Switch s) body cause past = IfSome_then (body_boot body) past
     (λ boot below. omega (arith, below, known_rises before item s))
-past_on setting before item receiver.Controller body cause past =
-    IfSome_then (speaker body) past
+past_on setting before item receiver.Controller body cause past = IfSome_then (speaker body) past
     (λ of below. omega (arith, below, boot_rises setting before item of.0 cause))
 
 sent_past : (setting : Setting) (before : List Item) (to : Place) (body : Body)
@@ -87,15 +81,12 @@ sent_past setting before receiver.Controller _ right = absurd right
 pub by_number : (before : List Item) (next : Item) (n : ℕ) (message : Message)
     → message_of (before ++ next ∷ []) n ≡ Some message
     → (next ≡ item.Sent n message) ⊎ (message_of before n ≡ Some message)
-by_number before (item.Sent number sent) n message is = by_test (number == n) refl
-  where
-    by_test : (b : Bool) → (number == n) ≡ b →
-        (item.Sent number sent ≡ item.Sent n message) ⊎ (message_of before n ≡ Some message)
-    by_test true e =
-        let own : Some sent ≡ Some message =
-        rw (message_more before (item.Sent number sent) n, e) at is in
-        inl (ap (λ k. item.Sent k sent) (eqb-true number n e) ∙ ap (item.Sent n) cc)
-    by_test false e = inr (rw (message_more before (item.Sent number sent) n, e) at is)
+by_number before (item.Sent number sent) n message is = by_test (number == n) refl where
+  by_test : (b : Bool) → (number == n) ≡ b →
+      (item.Sent number sent ≡ item.Sent n message) ⊎ (message_of before n ≡ Some message)
+  by_test true e = let own = rw (message_more before (item.Sent number sent) n, e) at is in
+      inl (ap (λ k. item.Sent k sent) (eqb-true number n e) ∙ ap (item.Sent n) cc)
+  by_test false e = inr (rw (message_more before (item.Sent number sent) n, e) at is)
 by_number before next n message is = inr (rw (message_more before next n) at is)
 
 -- what is said of the one, and of those that were sent before, is said of each
@@ -127,18 +118,15 @@ known_on setting before (item.Delivered number) s cause boots =
     rw (known_more before (item.Delivered number) s, boot_more before (item.Delivered number) s)
     (by_told (option_and_then (hello_boot s) (body_to_controller before number)) refl)
   where
-    by_told : (o : Option ℕ)
-        → option_and_then (hello_boot s) (body_to_controller before number) ≡ o
+    by_told : (o : Option ℕ) → option_and_then (hello_boot s) (body_to_controller before number) ≡ o
         → raised (known_boot before s) o ≤ boot_of before s
     by_told None e = boots.known s
     by_told (Some boot) e = omega (arith, boots.known s, told_past before s number boot boots e)
 known_on setting before item s cause boots =
-    let same = known_more before item s in
-    omega (arith, same, boots.known s, boot_rises setting before item s cause)
+    omega (arith, known_more before item s, boots.known s, boot_rises setting before item s cause)
 
-pub boots_on : (setting : Setting) (before : List Item) (item : Item)
-    → HasItemCause setting before item → BootsAreKnown before
-    → BootsAreKnown (before ++ item ∷ [])
+pub boots_on : (setting : Setting) (before : List Item) (item : Item) → HasItemCause setting before
+    item → BootsAreKnown before → BootsAreKnown (before ++ item ∷ [])
 boots_on setting before item cause boots = record {
   known = λ s. known_on setting before item s cause boots;
   sent = λ n message is. past_on setting before item message.to message.body cause

@@ -13,14 +13,12 @@ abbrev pub HasBothCauses : Setting → List Item → Item → Type 0
 HasBothCauses setting = Both (HasItemCause setting) (HasLinkCause setting)
 
 pieces_have_both : (setting : Setting) → PiecesHave (HasBothCauses setting) setting
-pieces_have_both setting journal row step =
-    have_both (HasItemCause setting) (HasLinkCause setting) journal
-    (piece setting journal row step) (pieces_have setting journal row step)
+pieces_have_both setting journal row step = have_both (HasItemCause setting) (HasLinkCause setting)
+    journal (piece setting journal row step) (pieces_have setting journal row step)
     (pieces_caused setting journal row step)
 
 -- so a fact that holds where items have both causes holds behind each item
 pub behind_both : (Holds : Setting → List Item → Type 0)
     → ((setting : Setting) (journal : List Item) → HaveCauses (HasBothCauses setting) [] journal
-    → Holds setting journal)
-    → HoldsBehindItems Holds
+    → Holds setting journal) → HoldsBehindItems Holds
 behind_both Holds caused = behind_items Holds HasBothCauses pieces_have_both caused

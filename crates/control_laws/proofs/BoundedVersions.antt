@@ -1,8 +1,7 @@
 -- How far the marks and what is sent of versions may go: at most to the current version, and tables
 -- only as they are planned.
-use Rattle.std.proofs.Common.{[], ◌++◌, ◌∙◌, ◌∷◌, ◌≡◌, ◌≤◌, List, None, Some, ap, arith, inl, inr, subst, sym, ℕ}
+use Rattle.std.proofs.Common.{[], ◌++◌, ◌∷◌, ◌≡◌, ◌≤◌, List, None, Some, arith, inl, inr, subst, ℕ}
 use Rattle.update_machine.specs.Exports.{Install, Item, Setting, Tables, VersionsAreNumbered, current_mark, to_switch, version_count}
-use Rattle.switch_table.specs.Exports.{tables_of}
 use Rattle.journal.specs.declared.item.Item.TheVariants as item
 use Rattle.update_machine.proofs.Exports.{numbered_at_first, plan_stays, start_laws}
 use Rattle.control_laws.specs.Exports.{ArePlanned, HasItemCause, InstallsArePlanned, IsRightInstall}
@@ -33,10 +32,7 @@ pub record IsThere (journal : List Item) : Type 0 where
 
 pub there_kept : (setting : Setting) → AreKept (HasItemCause setting) IsThere
 there_kept setting before (item.Current version) cause is =
-    let next : Item = item.Current version in
-    let rises = cause.rises in
-    let last = cause.there in
-    record {
+    let next : Item = item.Current version in record {
       first = rw (current_more before next) (omega (arith, is.first));
       there = rw (current_more before next, count_more before next) (omega arith);
     }
@@ -56,14 +52,12 @@ there_at_first = record {
 planned_on : (setting : Setting) (before : List Item) (next : Item) (s : ℕ) (installed : Tables)
     → VersionsAreNumbered before → ArePlanned setting before s installed
     → ArePlanned setting (before ++ next ∷ []) s installed
-planned_on setting before next s installed numbered are =
-    record {
-      version = are.version;
-      first = are.first;
-      last = omega (arith, are.last, count_rises before next);
-      planned = are.planned ∙ sym (ap (λ plan. tables_of plan are.version s)
-          (plan_stays setting before (next ∷ []) are.version numbered are.last));
-    }
+planned_on setting before next s installed numbered are = record {
+  version = are.version;
+  first = are.first;
+  last = omega (arith, are.last, count_rises before next);
+  planned = cc (are.planned, plan_stays setting before (next ∷ []) are.version numbered are.last);
+}
 
 pub right_planned : (setting : Setting) (before : List Item) (s boot : ℕ) (installed : Tables)
     → IsThere before → IsRightInstall setting before s boot installed
@@ -90,9 +84,8 @@ planned_kept setting before next cause are = record {
   versions = numbered_kept setting before next cause are.versions;
   installs = λ s boot n installed is. elim
       (by_number before next n (to_switch s (Install boot installed)) is) [
-        | inl new ↦ planned_on setting before next s installed are.versions
-            (right_planned setting before s boot installed are.marks
-            (subst (HasItemCause setting before) new cause))
+        | inl new ↦ planned_on setting before next s installed are.versions (right_planned setting
+            before s boot installed are.marks (subst (HasItemCause setting before) new cause))
         | inr old ↦ planned_on setting before next s installed are.versions
             (are.installs s boot n installed old)
       ];

@@ -41,13 +41,11 @@ not_behind_64 submits = submits.few refl
 
 pub not_all_are_empty : HoldsReached (λ setting journal. journal ≡ []) → ⊥
 unfolding piece
-not_all_are_empty holds =
-    let one = at 1 (step.Lose 1) ∷ [] in
+not_all_are_empty holds = let one = at 1 (step.Lose 1) ∷ [] in
     cc (holds.reached open_net _ (record {
       steps = one;
-      own = All-from_recursion
-          (λ (next : StepOfRow). IsStep open_net.net (length open_net.files) next.step) one
-          (omega arith, tt);
+      own = All-from_recursion (λ (next : StepOfRow). IsStep open_net.net (length open_net.files)
+          next.step) one (omega arith, tt);
       written = refl;
     }))
 

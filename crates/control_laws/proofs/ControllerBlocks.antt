@@ -26,13 +26,11 @@ passing_few test low (suc n) = rw (take_while-cons test low (range_with_len (low
 passing : (test : ℕ → Bool) (low n v : ℕ) → low ≤ v
     → v < low + length (take_while test (range_with_len low n)) → IsTrue (test v)
 passing test low zero v above below = absurd (omega arith)
-passing test low (suc n) v above below =
-    by_test (test low) refl (passing test (low + 1) n v)
+passing test low (suc n) v above below = by_test (test low) refl (passing test (low + 1) n v)
     (rw (take_while-cons test low (range_with_len (low + 1) n)) at below)
   where
-    by_test : (b : Bool) → test low ≡ b
-        → (low + 1 ≤ v → v < low + 1 + length (take_while test (range_with_len (low + 1) n))
-        → IsTrue (test v))
+    by_test : (b : Bool) → test low ≡ b → (low + 1 ≤ v
+        → v < low + 1 + length (take_while test (range_with_len (low + 1) n)) → IsTrue (test v))
         → v < low + length (cond b (low ∷ take_while test (range_with_len (low + 1) n)) [])
         → IsTrue (test v)
     by_test true e rest within = elim (cases_eq v low) [
@@ -47,14 +45,12 @@ may_rise : (setting : Setting) (journal : List Item)
 unfolding next_current
 may_rise setting journal rises =
     let few = passing_few (all_acked setting journal) (current_mark journal + 1)
-    (version_count journal - current_mark journal) in
-    record {
+    (version_count journal - current_mark journal) in record {
       rises = rises;
       there = omega (arith, few, rises);
-      acknowledged = λ v above below.
-          passing (all_acked setting journal) (current_mark journal + 1)
-          (version_count journal - current_mark journal) v (omega (arith, above))
-          (omega (arith, below));
+      acknowledged = λ v above below. passing (all_acked setting journal)
+          (current_mark journal + 1) (version_count journal - current_mark journal) v
+          (omega (arith, above)) (omega (arith, below));
     }
 
 -- ---- settling
@@ -65,31 +61,26 @@ joining_parts : (journal : List Item) (s : ℕ) (more : Bool) → IsTrue (is_joi
 unfolding is_member
 joining_parts journal s more joining = grind arith
 
-settling_right : (setting : Setting)
-    → SettlingHas (HasItemCause setting) (IsRight setting) setting
+settling_right : (setting : Setting) → SettlingHas (HasItemCause setting) (IsRight setting) setting
 settling_right setting = record {
   sends = sends_have setting;
-  rises = λ journal rises.
-      let next : Item = item.Current (next_current setting journal) in
-      record {
-        may = may_rise setting journal (grind (arith, nat_tests));
-        told = λ s there to member.
-            record {
-              to = to;
-              member = member;
-              current = sym (current_more journal next);
-              says = sym ((policies_keep journal (next ∷ []) (refl, tt)).touched setting
-                  (next_current setting journal));
-            };
-      };
+  rises = λ journal rises. let next : Item = item.Current (next_current setting journal) in record {
+    may = may_rise setting journal (grind (arith, nat_tests));
+    told = λ s there to member. record {
+      to = to;
+      member = member;
+      current = sym (current_more journal next);
+      says = sym ((policies_keep journal (next ∷ []) (refl, tt)).touched setting
+          (next_current setting journal));
+    };
+  };
   opens = λ journal s there joins.
       let parts = joining_parts journal s (has_acked journal s (current_mark journal)) joins in
       record {
         to = record { known = refl; not_over = parts.0 };
         opens = inl (record { closed = parts.1; current = refl; acked = parts.2 });
       };
-  retires = λ journal rises.
-      let next : Item = item.Retired (next_retired setting journal) in
+  retires = λ journal rises. let next : Item = item.Retired (next_retired setting journal) in
       record {
         may = record { rises = grind (arith, nat_tests); least = refl };
         told = λ s there to member.
@@ -99,8 +90,7 @@ settling_right setting = record {
 
 pub settling_have : (setting : Setting) (journal : List Item)
     → Has setting journal (settling setting journal)
-settling_have setting =
-    settling_has (HasItemCause setting) setting
+settling_have setting = settling_has (HasItemCause setting) setting
     (parts_have (HasItemCause setting) (IsRight setting) setting (settling_right setting))
 
 -- ---- tables
@@ -108,13 +98,11 @@ settling_have setting =
 pub installs_have : (setting : Setting) (s : ℕ) (journal : List Item)
     → IsFalse (is_over journal s) → Has setting journal (installs_to setting s journal)
 unfolding installs_to
-installs_have setting s journal not_over =
-    sends_have setting journal _
+installs_have setting s journal not_over = sends_have setting journal _
     (each_map (IsRight setting journal) (λ version. install_for setting journal version s)
-    (versions_from_current journal)
-    (each_range (λ version. IsRight setting journal (install_for setting journal version s))
-    (current_mark journal) (version_count journal + 1 - current_mark journal)
-    (λ version above below. record {
+    (versions_from_current journal) (each_range (λ version. IsRight setting journal
+    (install_for setting journal version s)) (current_mark journal)
+    (version_count journal + 1 - current_mark journal) (λ version above below. record {
       to = record { known = refl; not_over = not_over };
       version = version;
       which = inr above;
@@ -125,13 +113,10 @@ installs_have setting s journal not_over =
 all_installs_have : (setting : Setting) (journal : List Item)
     → Has setting journal (installs_to_all setting journal)
 unfolding installs_to_all
-all_installs_have setting journal =
-    sends_have setting journal _
+all_installs_have setting journal = sends_have setting journal _
     (each_map (IsRight setting journal) (install_for setting journal (version_count journal)) _
-    (each_filter
-    (λ s. IsRight setting journal (install_for setting journal (version_count journal) s))
-    (λ s. not (is_over journal s))
-    (λ s is. record {
+    (each_filter (λ s. IsRight setting journal (install_for setting journal (version_count journal)
+    s)) (λ s. not (is_over journal s)) (λ s is. record {
       to = record { known = refl; not_over = not_true (is_over journal s) is };
       version = version_count journal;
       which = inl refl;
@@ -145,6 +130,5 @@ all_installs_have setting journal =
 
 pub submitted_have : (setting : Setting) (journal : List Item)
     → Has setting journal (submitted_items setting journal)
-submitted_have setting journal =
-    have_in_turn (HasItemCause setting) (installs_to_all setting ∷ settling setting ∷ [])
-    (all_installs_have setting, (settling_have setting, tt)) journal
+submitted_have setting journal = have_in_turn (HasItemCause setting) (installs_to_all setting
+    ∷ settling setting ∷ []) (all_installs_have setting, (settling_have setting, tt)) journal

@@ -25,8 +25,7 @@ AreCommands messages = AllByRecursion (λ message. IsCommand message.body) messa
 -- one to each
 pub each_command : {X : Type 0} (to : X → Message) → ((x : X) → IsCommand (to x).body)
     → (xs : List X) → AreCommands (map to xs)
-each_command to commands xs =
-    each_map (λ message. IsCommand message.body) to xs
+each_command to commands xs = each_map (λ message. IsCommand message.body) to xs
     (each_always (λ x. IsCommand (to x).body) commands xs)
 
 -- ---- settling
@@ -80,16 +79,13 @@ grows_by before next count heard known over = record {
 
 grows_one : (before : List Item) (next : Item) → IsOfSettling before next
     → Grows before (before ++ next ∷ [])
-grows_one before (item.Current version) of =
-    let next : Item = item.Current version in
+grows_one before (item.Current version) of = let next : Item = item.Current version in
     grows_by before next (count_more before next) (told_more before next) (known_more before next)
     (over_more before next)
-grows_one before (item.Retired version) of =
-    let next : Item = item.Retired version in
+grows_one before (item.Retired version) of = let next : Item = item.Retired version in
     grows_by before next (count_more before next) (told_more before next) (known_more before next)
     (over_more before next)
-grows_one before (item.Sent n message) of =
-    let next : Item = item.Sent n message in
+grows_one before (item.Sent n message) of = let next : Item = item.Sent n message in
     grows_by before next (count_more before next) (told_more before next) (known_more before next)
     (over_more before next)
 grows_one before _ of = absurd of
@@ -131,8 +127,7 @@ IsControl before next = IsOfSettling before next
 abbrev pub Control : List Item → List Item → Type 0
 Control journal items = HaveCauses IsControl journal items
 
-settling_is : (before : List Item) (next : Item) → IsOfSettling before next
-    → IsControl before next
+settling_is : (before : List Item) (next : Item) → IsOfSettling before next → IsControl before next
 settling_is before (item.Current version) of = tt
 settling_is before (item.Retired version) of = tt
 settling_is before (item.Sent number message) of = of
@@ -151,8 +146,7 @@ commands_control =
 pub installs_control : (setting : Setting) (s : ℕ) (journal : List Item)
     → Control journal (installs_to setting s journal)
 unfolding installs_to
-installs_control setting s journal =
-    commands_control journal _
+installs_control setting s journal = commands_control journal _
     (each_command (λ version. install_for setting journal version s) (λ version. tt) _)
 
 pub all_installs_control : (setting : Setting) (journal : List Item)
@@ -162,9 +156,8 @@ all_installs_control setting journal = commands_control journal _ (each_command 
 
 submitted_control : (setting : Setting) (journal : List Item)
     → Control journal (submitted_items setting journal)
-submitted_control setting journal =
-    have_in_turn IsControl (installs_to_all setting ∷ settling setting ∷ [])
-    (all_installs_control setting, (settling_control setting, tt)) journal
+submitted_control setting journal = have_in_turn IsControl (installs_to_all setting
+    ∷ settling setting ∷ []) (all_installs_control setting, (settling_control setting, tt)) journal
 
 -- an update has causes that what the controller writes has, and the version that is submitted
 pub update_has : (cause : List Item → Item → Type 0)
@@ -177,9 +170,8 @@ update_has cause weaker setting file journal submits = by_code (update_code sett
   where
     by_code : (o : Option ℕ) → HaveCauses cause journal (elim o [
       | Some code ↦ item.Refused file code ∷ []
-      | None ↦ items_then (item.Submitted file (version_count journal + 1) ∷ [])
-          (submitted_items setting)
-          journal
+      | None ↦ items_then
+          (item.Submitted file (version_count journal + 1) ∷ []) (submitted_items setting) journal
     ])
     by_code (Some code) = (weaker journal (item.Refused file code) tt, tt)
     by_code None =

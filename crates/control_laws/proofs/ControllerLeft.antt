@@ -31,10 +31,9 @@ pub member_same : (before after : List Item) (s : ℕ) → is_over after s ≡ i
 unfolding is_member
 member_same before after s over opened = rw (over, opened) refl
 
-pub stamp_same : (before after : List Item) (s : ℕ)
-    → controller_heard after ≡ controller_heard before
-    → known_boot after s ≡ known_boot before s → opened_at after s ≡ opened_at before s
-    → acked_stamp after s ≡ acked_stamp before s
+pub stamp_same : (before after : List Item) (s : ℕ) → controller_heard after
+    ≡ controller_heard before → known_boot after s ≡ known_boot before s
+    → opened_at after s ≡ opened_at before s → acked_stamp after s ≡ acked_stamp before s
 unfolding acked_stamp
 stamp_same before after s heard known opened = rw (heard, known, opened) refl
 
@@ -48,18 +47,15 @@ reopened before n s boot version opened t =
     next : Item
     next = item.Sent n (to_switch s (OpenAt boot version))
 
-    by_switch : (b : Bool) → (s == t) ≡ b → opened_at before t ≡ None
-        → first_number (if b then (if boot == known_boot before t then version ∷ [] else []) else [])
-        ≡ None
+    by_switch : (b : Bool) → (s == t) ≡ b → opened_at before t ≡ None → first_number (if b
+        then (if boot == known_boot before t then version ∷ [] else []) else []) ≡ None
     by_switch true e closed =
         let same : opened_at before s ≡ None = ap (opened_at before) (eqb-true s t e) ∙ closed in
-        let none : false ≡ true = sym (ap (λ o. is_some o) same) ∙ opened in
-        absurd cc
+        absurd (cc (sym (ap (λ o. is_some o) same) ∙ opened))
     by_switch false e closed = refl
 
-    by_opened : (o : Option ℕ) → opened_at before t ≡ o
-        → option_or (opened_at before t) (first_number (open_sent t (known_boot before t) next))
-        ≡ opened_at before t
+    by_opened : (o : Option ℕ) → opened_at before t ≡ o → option_or (opened_at before t)
+        (first_number (open_sent t (known_boot before t) next)) ≡ opened_at before t
     by_opened (Some w) e = rw e refl
     by_opened None e = rw e (by_switch (s == t) refl e)
 
@@ -68,14 +64,12 @@ reopening_keeps : (before : List Item) (n s boot version : ℕ)
     (before ++ item.Sent n (to_switch s (OpenAt boot version)) ∷ [])
 reopening_keeps before n s boot version opened =
     let next : Item = item.Sent n (to_switch s (OpenAt boot version)) in
-    let same = reopened before n s boot version opened in
-    record {
+    let same = reopened before n s boot version opened in record {
       heard = told_more before next;
       known = λ t. known_more before next t;
       over = λ t. over_more before next t;
       opened = same;
-      member = λ t.
-          member_same before (before ++ next ∷ []) t (over_more before next t) (same t);
+      member = λ t. member_same before (before ++ next ∷ []) t (over_more before next t) (same t);
       acked = λ t v. acked_same (before ++ next ∷ []) before t v (told_more before next);
       stamp = λ t. stamp_same before (before ++ next ∷ []) t (told_more before next)
           (known_more before next t) (same t);
@@ -86,9 +80,8 @@ reopening_keeps before n s boot version opened =
 
 -- ---- any items
 
-sent_keeps : (before : List Item) (n : ℕ) (to : Place) (body : Body)
-    → OpensNone before to body → ControllerKeeps before
-    (before ++ item.Sent n (record { to = to; body = body }) ∷ [])
+sent_keeps : (before : List Item) (n : ℕ) (to : Place) (body : Body) → OpensNone before to body
+    → ControllerKeeps before (before ++ item.Sent n (record { to = to; body = body }) ∷ [])
 sent_keeps before n (receiver.Switch s) (OpenAt boot version) none =
     reopening_keeps before n s boot version none
 sent_keeps before n receiver.Controller (OpenAt boot version) none = absurd none
@@ -97,8 +90,7 @@ sent_keeps before n to body none =
 
 keeps_one : (before : List Item) (next : Item) → LeavesController before next
     → ControllerKeeps before (before ++ next ∷ [])
-keeps_one before (item.Sent n message) leaves =
-    sent_keeps before n message.to message.body leaves
+keeps_one before (item.Sent n message) leaves = sent_keeps before n message.to message.body leaves
 keeps_one before (item.Delivered number) leaves =
     controller_keeps before (item.Delivered number ∷ []) (leaves, tt)
 keeps_one before (item.OverNow s) leaves = absurd leaves
@@ -139,7 +131,6 @@ keeps_on one two three first later = record {
 -- so many items leave it too
 pub leaves_keep : (before items : List Item) → HaveCauses LeavesController before items
     → ControllerKeeps before (before ++ items)
-leaves_keep before items have =
-    fact_on LeavesController (ControllerKeeps before)
-    (λ now next leaves keeps. keeps_on before now (now ++ next ∷ []) keeps
-    (keeps_one now next leaves)) before items have (keeps_itself before)
+leaves_keep before items have = fact_on LeavesController (ControllerKeeps before) (λ now next leaves
+    keeps. keeps_on before now (now ++ next ∷ []) keeps (keeps_one now next leaves)) before items
+    have (keeps_itself before)

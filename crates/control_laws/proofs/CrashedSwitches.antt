@@ -34,30 +34,27 @@ pub crash_changes : (setting : Setting) (cause : List Item → Item → Type 0) 
     → (is_up before s ≡ true → cause journal (item.Down s))
     → HaveCauses cause journal (crash_items setting before s journal)
 unfolding crash_items
-crash_changes setting cause weaker before s journal downs = by_up (is_up before s) refl
-  where
-    lost : List Item
-    lost = map item.Lost (packets_at before s)
+crash_changes setting cause weaker before s journal downs = by_up (is_up before s) refl where
+  lost : List Item
+  lost = map item.Lost (packets_at before s)
 
-    by_up : (b : Bool) → is_up before s ≡ b → HaveCauses cause journal (elim b [
-      | false ↦ nothing
-      | true ↦ items_then (item.Down s ∷ lost) (link_changes setting before) journal
-    ])
-    by_up false e = (weaker journal item.Nothing tt, tt)
-    by_up true e =
-        have_put cause (item.Down s ∷ lost) (link_changes setting before) journal (
-          downs e,
-          losts_have cause (λ now i. weaker now (item.Lost i) tt) (packets_at before s)
-              (journal ++ item.Down s ∷ []),
-        )
-        (have_weaker (IsChange setting) cause weaker (journal ++ (item.Down s ∷ lost)) _
-        (links_change setting before (journal ++ (item.Down s ∷ lost))))
+  by_up : (b : Bool) → is_up before s ≡ b → HaveCauses cause journal (elim b [
+    | false ↦ nothing
+    | true ↦ items_then (item.Down s ∷ lost) (link_changes setting before) journal
+  ])
+  by_up false e = (weaker journal item.Nothing tt, tt)
+  by_up true e = have_put cause (item.Down s ∷ lost) (link_changes setting before) journal (
+    downs e,
+    losts_have cause (λ now i. weaker now (item.Lost i) tt) (packets_at before s)
+        (journal ++ item.Down s ∷ []),
+  )
+      (have_weaker (IsChange setting) cause weaker (journal ++ (item.Down s ∷ lost)) _
+      (links_change setting before (journal ++ (item.Down s ∷ lost))))
 
 pub crash_has : (setting : Setting) (cause : List Item → Item → Type 0) →
     ((before : List Item) (next : Item) → IsTraffic setting before next → cause before next) →
     (before : List Item) (s : ℕ) (journal : List Item)
     → (is_up before s ≡ true → cause journal (item.Down s))
     → HaveCauses cause journal (crash_items setting before s journal)
-crash_has setting cause weaker =
-    crash_changes setting cause
+crash_has setting cause weaker = crash_changes setting cause
     (λ before next is. weaker before next (change_traffic setting before next is))

@@ -41,15 +41,13 @@ pub right_current : (before : List Item) (s boot version : ℕ) → StampsAreCur
     → IsRightOpening before s boot version → version ≤ current_mark before
 right_current before s boot version are right = elim right.opens [
   | inl first ↦ omega (arith, first.current)
-  | inr same ↦
-      (are.opened s (known_boot before s) version (sym (opened_is before s) ∙ same)).0
+  | inr same ↦ (are.opened s (known_boot before s) version (sym (opened_is before s) ∙ same)).0
 ]
 
 opened_on : (setting : Setting) (before : List Item) (next : Item) (s boot version : ℕ)
     → HasItemCause setting before next → StampsAreCurrent before
     → opened_in (before ++ next ∷ []) s boot ≡ Some version
-    → (version ≤ current_mark (before ++ next ∷ []))
-    × (boot ≤ known_boot (before ++ next ∷ []) s)
+    → (version ≤ current_mark (before ++ next ∷ [])) × (boot ≤ known_boot (before ++ next ∷ []) s)
 opened_on setting before next s boot version cause are opened =
     by_opened (opened_in before s boot) refl (sym (opened_more before next s boot) ∙ opened)
   where
@@ -60,8 +58,7 @@ opened_on setting before next s boot version cause are opened =
         let below = here.0 in
         let past = here.1 in
         let rises = current_rises setting before next cause in
-        let knows = known_rises before next s in
-        (omega arith, omega arith)
+        let knows = known_rises before next s in (omega arith, omega arith)
 
     by_opened : (o : Option ℕ) → opened_in before s boot ≡ o
         → option_or o (first_number (open_sent s boot next)) ≡ Some version
@@ -69,17 +66,14 @@ opened_on setting before next s boot version cause are opened =
         × (boot ≤ known_boot (before ++ next ∷ []) s)
     by_opened (Some w) e opens = later (are.opened s boot version (e ∙ opens))
     by_opened None e opens =
-        let new = opens_by next s boot version opens in
-        let right : IsRightOpening before s boot version =
-        subst (HasItemCause setting before) new.1 cause in
-        let known = right.to.known in
+        let right : IsRightOpening before s boot version = subst (HasItemCause setting before)
+        (opens_by next s boot version opens).1 cause in
         later (right_current before s boot version are right, omega arith)
 
 -- ---- messages
 
 sent_current : (setting : Setting) (before : List Item) (to : Place) (body : Body)
-    → StampsAreCurrent before → IsRightMessage setting before to body
-    → IsOfCurrent before to body
+    → StampsAreCurrent before → IsRightMessage setting before to body → IsOfCurrent before to body
 sent_current setting before (receiver.Switch s) (OpenAt boot version) are right =
     right_current before s boot version are right
 sent_current setting before (receiver.Switch s) (Stamp boot version touched) are right =
@@ -92,8 +86,7 @@ sent_current setting before receiver.Controller _ are right = tt
 current_on : (setting : Setting) (before : List Item) (next : Item) (to : Place) (body : Body)
     → HasItemCause setting before next → IsOfCurrent before to body
     → IsOfCurrent (before ++ next ∷ []) to body
-current_on setting before next (receiver.Switch s) body cause is =
-    IfSome_then (stamp_in body) is
+current_on setting before next (receiver.Switch s) body cause is = IfSome_then (stamp_in body) is
     (λ version below. omega (arith, below, current_rises setting before next cause))
 current_on setting before next receiver.Controller (Stamped s boot version) cause is =
     omega (arith, is, current_rises setting before next cause)
@@ -104,37 +97,25 @@ current_on setting before next receiver.Controller _ cause is = tt
 delivered_current : (before : List Item) (s number : ℕ) → StampsAreCurrent before
     → raised (stamp_of before s) (option_and_then stamp_in (body_to_switch before s number))
     ≤ current_mark before
-delivered_current before s number are = by_said (body_to_switch before s number) refl
-  where
-    by_stamp : (stamp : Option ℕ) → IfSome stamp (λ version. version ≤ current_mark before)
-        → raised (stamp_of before s) stamp ≤ current_mark before
-    by_stamp None current = are.stamps s
-    by_stamp (Some version) current = omega (arith, are.stamps s, current)
+delivered_current before s number are = by_said (body_to_switch before s number) refl where
+  by_stamp : (stamp : Option ℕ) → IfSome stamp (λ version. version ≤ current_mark before)
+      → raised (stamp_of before s) stamp ≤ current_mark before
+  by_stamp None current = are.stamps s
+  by_stamp (Some version) current = omega (arith, are.stamps s, current)
 
-    by_said : (said : Option Body) → body_to_switch before s number ≡ said
-        → raised (stamp_of before s) (option_and_then stamp_in said) ≤ current_mark before
-    by_said None e = are.stamps s
-    by_said (Some body) e = by_stamp (stamp_in body)
-        (are.sent number (to_switch s body) (said_parts before s number body e).sent)
+  by_said : (said : Option Body) → body_to_switch before s number ≡ said
+      → raised (stamp_of before s) (option_and_then stamp_in said) ≤ current_mark before
+  by_said None e = are.stamps s
+  by_said (Some body) e = by_stamp (stamp_in body)
+      (are.sent number (to_switch s body) (said_parts before s number body e).sent)
 
 stamps_on : (setting : Setting) (before : List Item) (next : Item) (s : ℕ)
     → HasItemCause setting before next → StampsAreCurrent before
     → stamp_of (before ++ next ∷ []) s ≤ current_mark (before ++ next ∷ [])
 stamps_on setting before (item.Delivered number) s cause are =
-    omega (
-      arith,
-      stamp_told before number s,
-      delivered_current before s number are,
-      current_rises setting before (item.Delivered number) cause,
-    )
+    omega (arith, stamp_told before number s, delivered_current before s number are, current_rises)
 stamps_on setting before next s cause are =
-    omega (
-      arith,
-      stamp_less before next s refl,
-      are.stamps s,
-      are.marks.first,
-      current_rises setting before next cause,
-    )
+    omega (arith, stamp_less before next s refl, are.stamps s, are.marks.first, current_rises)
 
 -- ---- what is told of stamps
 
@@ -148,16 +129,14 @@ gives_current before (item.Delivered number) s boot are =
     (told_sent (stamped_in s boot) (Stamped s boot) (stamped_is s boot) before number version told))
 gives_current before _ s boot are = tt
 
-told_on : (setting : Setting) (before : List Item) (next : Item) (s boot : ℕ)
-    → HasItemCause setting before next → StampsAreCurrent before
-    → AllByRecursion (λ version. version ≤ current_mark (before ++ next ∷ []))
-    (told_by (stamped_in s boot) (before ++ next ∷ []))
+told_on : (setting : Setting) (before : List Item) (next : Item) (s boot : ℕ) → HasItemCause setting
+    before next → StampsAreCurrent before → AllByRecursion (λ version. version
+    ≤ current_mark (before ++ next ∷ [])) (told_by (stamped_in s boot) (before ++ next ∷ []))
 told_on setting before next s boot cause are =
     subst (AllByRecursion (λ version. version ≤ current_mark (before ++ next ∷ [])))
     (sym (told_by_more (stamped_in s boot) before next))
-    (each_weaker (λ version. version ≤ current_mark before)
-    (λ version. version ≤ current_mark (before ++ next ∷ []))
-    (λ version below. omega (arith, below, current_rises setting before next cause))
+    (each_weaker (λ version. version ≤ current_mark before) (λ version. version
+    ≤ current_mark (before ++ next ∷ [])) (λ version below. omega (arith, current_rises))
     (told_by (stamped_in s boot) before ++ tells (stamped_in s boot) before next)
     (each_append (λ version. version ≤ current_mark before) (told_by (stamped_in s boot) before)
     (tells (stamped_in s boot) before next) (are.told s boot)
@@ -168,11 +147,9 @@ told_on setting before next s boot cause are =
 -- so is what a switch is known to stamp with
 pub acked_current : (journal : List Item) (s : ℕ) → StampsAreCurrent journal
     → acked_stamp journal s ≤ current_mark journal
-acked_current journal s are =
-    acked_stamp_within journal s (current_mark journal)
-    (open_within journal s (current_mark journal)
-    (λ version opened. (are.opened s (known_boot journal s) version
-    (sym (opened_is journal s) ∙ opened)).0))
+acked_current journal s are = acked_stamp_within journal s (current_mark journal)
+    (open_within journal s (current_mark journal) (λ version opened.
+    (are.opened s (known_boot journal s) version (sym (opened_is journal s) ∙ opened)).0))
     (are.told s (known_boot journal s))
 
 pub next_below : (setting : Setting) (journal : List Item) → StampsAreCurrent journal
@@ -180,22 +157,17 @@ pub next_below : (setting : Setting) (journal : List Item) → StampsAreCurrent 
 unfolding next_retired
 next_below setting journal are =
     let within = least_within (map (acked_stamp journal) (members setting journal))
-    (current_mark journal)
-    (each_map (λ x. x ≤ current_mark journal) (acked_stamp journal) (members setting journal)
-    (each_always (λ s. acked_stamp journal s ≤ current_mark journal)
+    (current_mark journal) (each_map (λ x. x ≤ current_mark journal) (acked_stamp journal)
+    (members setting journal) (each_always (λ s. acked_stamp journal s ≤ current_mark journal)
     (λ s. acked_current journal s are) (members setting journal))) in
     omega (arith, within, are.marks.first)
 
 retired_on : (setting : Setting) (before : List Item) (next : Item)
     → HasItemCause setting before next → StampsAreCurrent before
     → retired_mark (before ++ next ∷ []) < current_mark (before ++ next ∷ [])
-retired_on setting before (item.Retired version) cause are =
-    let least = cause.least in
-    rw (retired_more before (item.Retired version), current_more before (item.Retired version))
-    (omega (arith, next_below setting before are))
-retired_on setting before (item.Current version) cause are =
-    let rises = cause.rises in
-    rw (retired_more before (item.Current version), current_more before (item.Current version))
+retired_on setting before (item.Retired version) cause are = rw (retired_more, current_more)
+    (omega (arith, next_below))
+retired_on setting before (item.Current version) cause are = rw (retired_more, current_more)
     (omega (arith, are.retired))
 retired_on setting before next cause are =
     rw (retired_more before next, current_more before next) are.retired
@@ -228,13 +200,9 @@ current_at_first = record {
   marks = there_at_first;
   sent = λ n message is.
       let none : None ≡ Some message = rw (start_laws.message n).message at is in absurd cc;
-  opened = λ s boot version is.
-      let first = first_opened s boot version is in
-      let one = first.0 in
-      let own = first.1 in
+  opened = λ s boot version is. let first = first_opened s boot version is in
       (omega (arith, start_laws.current), omega (arith, start_laws.known s));
   stamps = λ s. omega (arith, start_laws.stamp s, start_laws.current);
-  told = λ s boot. subst (AllByRecursion (λ version. version ≤ current_mark []))
-      (sym (none_told s boot)) tt;
+  told = λ s boot. rw (none_told s boot) tt;
   retired = omega (arith, start_laws.retired, start_laws.current);
 }

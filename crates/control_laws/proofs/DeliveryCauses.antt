@@ -40,9 +40,8 @@ delivery_has Have setting before number now none at_controller at_switch =
 
 -- the message may be none that can be delivered
 pub deliver_has : (cause : List Item → Item → Type 0) (setting : Setting) (before : List Item)
-    (number : ℕ) (here : List Item) → cause here item.Nothing
-    → cause here (item.Delivered number) →
-    let now = here ++ item.Delivered number ∷ [] in
+    (number : ℕ) (here : List Item) → cause here item.Nothing → cause here (item.Delivered number)
+    → let now = here ++ item.Delivered number ∷ [] in
     ((body : Body) → message_of before number ≡ Some (to_controller body)
     → HaveCauses cause now (controller_items setting before body now))
     → ((s : ℕ) (body : Body) → body_to_switch before s number ≡ Some body
@@ -57,20 +56,15 @@ deliver_has cause setting before number here nothing delivered at_controller at_
     grind arith
 
 hello_has : (cause : List Item → Item → Type 0) (setting : Setting) (before settled : List Item)
-    (body : Body)
-    → ((s boot : ℕ) → body ≡ Hello s boot → IsTrue (is_new_boot before s boot)
+    (body : Body) → ((s boot : ℕ) → body ≡ Hello s boot → IsTrue (is_new_boot before s boot)
     → HaveCauses cause settled (installs_to setting s settled))
     → HaveCauses cause settled (after_hello setting before body settled)
-hello_has cause setting before settled (Hello s boot) begun =
-    let new : IsTrue (is_new_boot before s boot)
-    → HaveCauses cause settled (installs_to setting s settled) = begun s boot refl in
-    grind arith
+hello_has cause setting before settled (Hello s boot) begun = grind (arith, begun s boot refl)
 hello_has cause setting before settled _ begun = tt
 
 -- the controller settles first, and then sends tables to a switch that says hello of a new boot
-controller_has : (cause : List Item → Item → Type 0) (setting : Setting)
-    (before now : List Item) (body : Body)
-    → HaveCauses cause now (settling setting now)
+controller_has : (cause : List Item → Item → Type 0) (setting : Setting) (before now : List Item)
+    (body : Body) → HaveCauses cause now (settling setting now)
     → (let settled = now ++ settling setting now in
     (s boot : ℕ) → body ≡ Hello s boot → IsTrue (is_new_boot before s boot)
     → HaveCauses cause settled (installs_to setting s settled))
@@ -89,13 +83,10 @@ hello_raises : (before : List Item) (row number s boot : ℕ) (step : Step) (bod
     → IsTrue (is_new_boot before s boot)
     → IsTrue (raises_known (before ++ item.Row row step ∷ []) s number)
 hello_raises before row number s boot step body sent hello new =
-    let own : (s == s) ≡ true = eq-eqb s s refl in
-    let known = known_more before (item.Row row step) s in
     let still : message_of (before ++ item.Row row step ∷ []) number
-    ≡ Some (to_controller (Hello s boot)) =
-    message_more before (item.Row row step) number ∙ sent
-    ∙ ap (λ of. Some (to_controller of)) hello in
-    rw (known, still, body_to_controller, own) new
+    ≡ Some (to_controller (Hello s boot)) = message_more before (item.Row row step) number
+    ∙ sent ∙ ap (λ of. Some (to_controller of)) hello in
+    rw ((known_more before (item.Row row step) s), still, body_to_controller, eq-eqb s s refl) new
 
 -- so behind its row a delivery has what settling has, tables to a switch whose known boot is
 -- raised, and what a switch writes to which something is said

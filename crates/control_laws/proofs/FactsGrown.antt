@@ -9,9 +9,8 @@ use Rattle.update_machine.proofs.Exports.{all_given_append, count_of_append, fol
 pub last_more : {X : Type 0} (tells : Item → Option X) (before : List Item) (item : Item)
     (other : X) → unwrap_or (last_given tells (before ++ item ∷ [])) other
     ≡ unwrap_or (tells item) (unwrap_or (last_given tells before) other)
-last_more {X = X} tells before item other =
-    ap (λ o. unwrap_or o other) (last_given_append tells before (item ∷ []))
-    ∙ by_told (tells item) (last_given tells before)
+last_more {X = X} tells before item other = ap (λ o. unwrap_or o other)
+    (last_given_append tells before (item ∷ [])) ∙ by_told (tells item) (last_given tells before)
   where
     by_told : (now earlier : Option X) → unwrap_or (option_or now earlier) other
         ≡ unwrap_or now (unwrap_or earlier other)
@@ -47,29 +46,21 @@ retired_more before item = last_more gives_retired before item 0
 pub counted_more : (test : Item → Bool) (before : List Item) (item : Item)
     → count_of test (before ++ item ∷ []) + 1
     ≡ (if test item then count_of test before + 1 + 1 else count_of test before + 1)
-counted_more test before item = by_test (test item) refl
-  where
-    by_test : (b : Bool) → test item ≡ b → count_of test (before ++ item ∷ []) + 1
-        ≡ (if b then count_of test before + 1 + 1 else count_of test before + 1)
-    by_test true e =
-        let one : count_of test (item ∷ []) ≡ 1 = rw e refl in
-        omega (arith, one, count_of_append test before (item ∷ []))
-    by_test false e =
-        let none : count_of test (item ∷ []) ≡ 0 = rw e refl in
-        omega (arith, none, count_of_append test before (item ∷ []))
+counted_more test before item = by_test (test item) refl where
+  by_test : (b : Bool) → test item ≡ b → count_of test (before ++ item ∷ []) + 1
+      ≡ (if b then count_of test before + 1 + 1 else count_of test before + 1)
+  by_test true e = let one : count_of test (item ∷ []) ≡ 1 = rw e refl in
+      omega (arith, one, count_of_append test before (item ∷ []))
+  by_test false e = let none : count_of test (item ∷ []) ≡ 0 = rw e refl in
+      omega (arith, none, count_of_append test before (item ∷ []))
 
 -- whether some item passes a test, with one more item
-pub some_more : (test : Item → Bool) (before : List Item) (item : Item)
-    → nat_lt 0 (count_of test (before ++ item ∷ []))
-    ≡ (test item || nat_lt 0 (count_of test before))
-some_more test before item = by_test (test item) refl
-  where
-    by_test : (b : Bool) → test item ≡ b → nat_lt 0 (count_of test (before ++ item ∷ []))
-        ≡ (b || nat_lt 0 (count_of test before))
-    by_test b is =
-        let one : count_of test (item ∷ []) ≡ (if b then 1 else 0) = rw is (zero-add _) in
-        let more = count_of_append test before (item ∷ []) in
-        grind (arith, nat_tests)
+pub some_more : (test : Item → Bool) (before : List Item) (item : Item) → nat_lt 0
+    (count_of test (before ++ item ∷ [])) ≡ (test item || nat_lt 0 (count_of test before))
+some_more test before item = by_test (test item) refl where
+  by_test : (b : Bool) → test item ≡ b → nat_lt 0 (count_of test (before ++ item ∷ []))
+      ≡ (b || nat_lt 0 (count_of test before))
+  by_test b is = grind (arith, nat_tests, count_of_append test before (item ∷ []))
 
 pub count_more : (before : List Item) (item : Item) → version_count (before ++ item ∷ [])
     ≡ (if is_submission item then version_count before + 1 else version_count before)
@@ -86,9 +77,8 @@ pub heard_more : (before : List Item) (item : Item) (s : ℕ)
 unfolding heard
 heard_more before item s = folded_append (changes_heard s) [] before (item ∷ [])
 
-pub told_more : (before : List Item) (item : Item)
-    → controller_heard (before ++ item ∷ []) ≡ changes_controller_heard before
-    (controller_heard before) item
+pub told_more : (before : List Item) (item : Item) → controller_heard (before ++ item ∷ [])
+    ≡ changes_controller_heard before (controller_heard before) item
 unfolding controller_heard
 told_more before item = folded_append changes_controller_heard [] before (item ∷ [])
 
@@ -97,9 +87,8 @@ pub over_more : (before : List Item) (item : Item) (s : ℕ)
 unfolding is_over
 over_more before item s = folded_append (changes_over s) false before (item ∷ [])
 
-pub sent_more : (before : List Item) (item : Item) (s boot : ℕ)
-    → all_given (open_sent s boot) (before ++ item ∷ [])
-    ≡ all_given (open_sent s boot) before ++ open_sent s boot item
+pub sent_more : (before : List Item) (item : Item) (s boot : ℕ) → all_given (open_sent s boot)
+    (before ++ item ∷ []) ≡ all_given (open_sent s boot) before ++ open_sent s boot item
 sent_more before item s boot = all_given_append (open_sent s boot) before (item ∷ [])
     ∙ ap (λ xs. all_given (open_sent s boot) before ++ xs) (append-nil (open_sent s boot item))
 
@@ -119,21 +108,17 @@ pub known_more : (before : List Item) (item : Item) (s : ℕ)
     → known_boot (before ++ item ∷ []) s ≡ raised (known_boot before s) (hello_told s before item)
 unfolding known_boot
 known_more before (item.Delivered number) s =
-    ap (λ bodies. fold max 1 (filter_map (hello_boot s) bodies))
-    (told_more before (item.Delivered number))
-    ∙ by_said (body_to_controller before number)
+    cc (told_more before (item.Delivered number), by_said (body_to_controller before number))
   where
     by_said : (said : Option Body)
         → fold max 1 (filter_map (hello_boot s) (controller_heard before ++ option_to_list said))
         ≡ raised (fold max 1 (filter_map (hello_boot s) (controller_heard before)))
         (option_and_then (hello_boot s) said)
-    by_said None = ap (λ bodies. fold max 1 (filter_map (hello_boot s) bodies))
-        (append-nil (controller_heard before))
-    by_said (Some body) = ap (fold max 1)
-        (filter_map-append (hello_boot s) (controller_heard before) (body ∷ []))
+    by_said None = cc (append-nil (controller_heard before))
+    by_said (Some body) =
+        ap (fold max 1) (filter_map-append (hello_boot s) (controller_heard before) (body ∷ []))
         ∙ fold-append max 1 (filter_map (hello_boot s) (controller_heard before))
-        (filter_map (hello_boot s) (body ∷ []))
-        ∙ by_hello (hello_boot s body) refl
+        (filter_map (hello_boot s) (body ∷ [])) ∙ by_hello (hello_boot s body) refl
       where
         by_hello : (hello : Option ℕ) → hello_boot s body ≡ hello →
             fold max (fold max 1 (filter_map (hello_boot s) (controller_heard before)))
@@ -141,8 +126,7 @@ known_more before (item.Delivered number) s =
             ≡ raised (fold max 1 (filter_map (hello_boot s) (controller_heard before))) hello
         by_hello None e = rw e refl
         by_hello (Some boot) e = rw e refl
-known_more before item s = ap (λ bodies. fold max 1 (filter_map (hello_boot s) bodies))
-    (told_more before item)
+known_more before item s = cc (told_more before item)
 
 -- ---- the stamp
 
@@ -151,36 +135,28 @@ pub stamp_told : (before : List Item) (n s : ℕ) → stamp_of (before ++ item.D
     ≡ raised (stamp_of before s) (option_and_then stamp_in (body_to_switch before s n))
 unfolding stamp_of
 stamp_told before n s =
-    let boot : boot_of (before ++ item.Delivered n ∷ []) s ≡ boot_of before s =
-    boot_more before (item.Delivered n) s in
-    let up : is_up (before ++ item.Delivered n ∷ []) s ≡ is_up before s =
-    up_more before (item.Delivered n) s in
     let bodies : heard (before ++ item.Delivered n ∷ []) s
     ≡ option_map_or (λ body. heard before s ++ body ∷ []) (body_to_switch before s n)
-    (heard before s) =
-    heard_more before (item.Delivered n) s in
-    rw (boot, up, bodies) (by_said (body_to_switch before s n))
+    (heard before s) = heard_more before (item.Delivered n) s in
+    rw ((boot_more before (item.Delivered n) s), up_more before (item.Delivered n) s, bodies)
+    (by_said (body_to_switch before s n))
   where
-    by_said : (said : Option Body)
-        → greatest_number (first_stamp before s ++ filter_map stamp_in
+    by_said : (said : Option Body) → greatest_number (first_stamp before s ++ filter_map stamp_in
         (option_map_or (λ body. heard before s ++ body ∷ []) said (heard before s)))
         ≡ raised (greatest_number (first_stamp before s ++ filter_map stamp_in (heard before s)))
         (option_and_then stamp_in said)
     by_said None = refl
-    by_said (Some body) = ap (λ xs. greatest_number (first_stamp before s ++ xs))
-        (filter_map-append stamp_in (heard before s) (body ∷ []))
-        ∙ ap greatest_number (sym (append_assoc (first_stamp before s)
-        (filter_map stamp_in (heard before s)) (filter_map stamp_in (body ∷ []))))
-        ∙ fold-append max 0 (first_stamp before s ++ filter_map stamp_in (heard before s))
-        (filter_map stamp_in (body ∷ []))
-        ∙ by_stamp (stamp_in body) refl
+    by_said (Some body) =
+        ap (λ xs. greatest_number (first_stamp before s ++ xs)) (filter_map-append stamp_in
+        (heard before s) (body ∷ [])) ∙ ap greatest_number (sym (append_assoc (first_stamp before s)
+        (filter_map stamp_in (heard before s)) (filter_map stamp_in (body ∷ [])))) ∙ fold-append max
+        0 (first_stamp before s ++ filter_map stamp_in (heard before s))
+        (filter_map stamp_in (body ∷ [])) ∙ by_stamp (stamp_in body) refl
       where
-        by_stamp : (stamp : Option ℕ) → stamp_in body ≡ stamp →
-            fold max (greatest_number (first_stamp before s
-            ++ filter_map stamp_in (heard before s)))
-            (filter_map stamp_in (body ∷ []))
-            ≡ raised (greatest_number (first_stamp before s
-            ++ filter_map stamp_in (heard before s))) stamp
+        by_stamp : (stamp : Option ℕ) → stamp_in body ≡ stamp → fold max
+            (greatest_number (first_stamp before s ++ filter_map stamp_in (heard before s)))
+            (filter_map stamp_in (body ∷ [])) ≡ raised
+            (greatest_number (first_stamp before s ++ filter_map stamp_in (heard before s))) stamp
         by_stamp None e = rw e refl
         by_stamp (Some version) e = rw e refl
 
@@ -200,36 +176,30 @@ pub opened_more : (before : List Item) (item : Item) (s boot : ℕ)
     → opened_in (before ++ item ∷ []) s boot
     ≡ option_or (opened_in before s boot) (first_number (open_sent s boot item))
 unfolding opened_in
-opened_more before item s boot = by_test (boot == 1)
-  where
-    first_append : (xs ys : List ℕ) → first_number (xs ++ ys) ≡ option_or (first_number xs) (first_number ys)
-    first_append [] ys = refl
-    first_append (x ∷ xs) ys = refl
+opened_more before item s boot = by_test (boot == 1) where
+  first_append : (xs ys : List ℕ) → first_number (xs ++ ys) ≡ option_or (first_number xs) (first_number ys)
+  first_append [] ys = refl
+  first_append (x ∷ xs) ys = refl
 
-    by_test : (b : Bool)
-        → (if b then Some 1 else first_number (all_given (open_sent s boot) (before ++ item ∷ [])))
-        ≡ option_or (if b then Some 1 else first_number (all_given (open_sent s boot) before))
-        (first_number (open_sent s boot item))
-    by_test true = refl
-    by_test false = ap first_number (sent_more before item s boot)
-        ∙ first_append (all_given (open_sent s boot) before) (open_sent s boot item)
+  by_test : (b : Bool)
+      → (if b then Some 1 else first_number (all_given (open_sent s boot) (before ++ item ∷ [])))
+      ≡ option_or (if b then Some 1 else first_number (all_given (open_sent s boot) before))
+      (first_number (open_sent s boot item))
+  by_test true = refl
+  by_test false = ap first_number (sent_more before item s boot)
+      ∙ first_append (all_given (open_sent s boot) before) (open_sent s boot item)
 
 -- in the known boot, where that stays
-pub opened_at_more : (before : List Item) (next : Item) (s : ℕ)
-    → known_boot (before ++ next ∷ []) s ≡ known_boot before s
-    → opened_at (before ++ next ∷ []) s
+pub opened_at_more : (before : List Item) (next : Item) (s : ℕ) → known_boot (before ++ next ∷ []) s
+    ≡ known_boot before s → opened_at (before ++ next ∷ []) s
     ≡ option_or (opened_at before s) (first_number (open_sent s (known_boot before s) next))
-opened_at_more before next s known =
-    opened_is (before ++ next ∷ []) s ∙ ap (opened_in (before ++ next ∷ []) s) known
-    ∙ opened_more before next s (known_boot before s)
+opened_at_more before next s known = opened_is (before ++ next ∷ []) s
+    ∙ ap (opened_in (before ++ next ∷ []) s) known ∙ opened_more before next s (known_boot before s)
     ∙ ap (λ o. option_or o (first_number (open_sent s (known_boot before s) next)))
     (sym (opened_is before s))
 
 -- an item opens a switch in a boot only by its message
 pub opens_by : (next : Item) (s boot version : ℕ) → first_number (open_sent s boot next) ≡ Some version
     → (n : ℕ) × (next ≡ item.Sent n (to_switch s (OpenAt boot version)))
-opens_by (item.Sent n message) s boot version opens =
-    let is : item.Sent n message ≡ item.Sent n (to_switch s (OpenAt boot version)) =
-    grind (arith, nat_tests) in
-    (n, is)
+opens_by (item.Sent n message) s boot version opens = (n, grind (arith, nat_tests))
 opens_by next s boot version opens = let none : None ≡ Some version = opens in absurd cc

@@ -16,19 +16,17 @@ pub acked_stamp_within : (journal : List Item) (s bound : ℕ) → open_version 
     → AllByRecursion (λ x. x ≤ bound) (told_by (stamped_in s (known_boot journal s)) journal)
     → acked_stamp journal s ≤ bound
 unfolding acked_stamp
-acked_stamp_within journal s bound opening told =
-    fold_within bound (open_version journal s)
+acked_stamp_within journal s bound opening told = fold_within bound (open_version journal s)
     (told_by (stamped_in s (known_boot journal s)) journal) opening told
 
 -- an opening within a bound
 pub open_within : (journal : List Item) (s bound : ℕ)
     → ((version : ℕ) → opened_at journal s ≡ Some version → version ≤ bound)
     → open_version journal s ≤ bound
-open_within journal s bound within = by_opened (opened_at journal s) refl
-  where
-    by_opened : (o : Option ℕ) → opened_at journal s ≡ o → unwrap_or o 0 ≤ bound
-    by_opened None e = omega arith
-    by_opened (Some version) e = within version e
+open_within journal s bound within = by_opened (opened_at journal s) refl where
+  by_opened : (o : Option ℕ) → opened_at journal s ≡ o → unwrap_or o 0 ≤ bound
+  by_opened None e = omega arith
+  by_opened (Some version) e = within version e
 
 pub fold_up : (first : ℕ) (xs : List ℕ) → first ≤ fold max first xs
 fold_up first [] = omega arith
@@ -55,12 +53,7 @@ unfolding acked_stamp
 acked_stamp_rises before next s known opening =
     let told : List ℕ = told_by (stamped_in s (known_boot before s)) before in
     let new : List ℕ = tells (stamped_in s (known_boot before s)) before next in
-    rw (
-      known,
-      opening,
-      told_by_more (stamped_in s (known_boot before s)) before next,
-      fold-append max (open_version before s) told new,
-    )
+    rw (known, opening, told_by_more, fold-append)
     (fold_up (fold max (open_version before s) told) new)
 
 -- ---- the least
@@ -69,9 +62,7 @@ fold_min : (first : ℕ) (xs : List ℕ)
     → (fold min first xs ≤ first) × AllByRecursion (λ x. fold min first xs ≤ x) xs
 fold_min first [] = (omega arith, tt)
 fold_min first (x ∷ xs) =
-    let rest = fold_min (min first x) xs in
-    let below = rest.0 in
-    (omega arith, (omega arith, rest.1))
+    let rest = fold_min (min first x) xs in (omega arith, (omega arith, rest.1))
 
 -- the least of numbers is at most each of them
 pub least_below : (xs : List ℕ) (other : ℕ)
@@ -85,5 +76,4 @@ pub least_within : (xs : List ℕ) (bound : ℕ) → AllByRecursion (λ x. x ≤
 least_within [] bound all = omega arith
 least_within (x ∷ xs) bound all =
     let below = (fold_min x xs).0 in
-    let first = all.0 in
-    omega arith
+    let first = all.0 in omega arith

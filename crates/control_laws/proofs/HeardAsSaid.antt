@@ -25,8 +25,7 @@ heard_on P Q before (item.Booted t boot) s on sent all =
     by_test true = tt
     by_test false = each_weaker P Q on (heard before s) all
 heard_on P Q before (item.Delivered number) s on sent all =
-    subst (AllByRecursion Q) (sym (heard_more before (item.Delivered number) s))
-    (by_said (body_to_switch before s number) refl)
+    rw (heard_more before (item.Delivered number) s) (by_said (body_to_switch before s number) refl)
   where
     by_said : (said : Option Body) → body_to_switch before s number ≡ said → AllByRecursion Q
         (option_map_or (λ body. heard before s ++ body ∷ []) said (heard before s))
@@ -34,6 +33,5 @@ heard_on P Q before (item.Delivered number) s on sent all =
     by_said (Some body) e =
         each_append Q (heard before s) (body ∷ []) (each_weaker P Q on (heard before s) all)
         (on body (sent number body (said_parts before s number body e).sent), tt)
-heard_on P Q before next s on sent all =
-    subst (AllByRecursion Q) (sym (heard_more before next s))
+heard_on P Q before next s on sent all = subst (AllByRecursion Q) (sym (heard_more before next s))
     (each_weaker P Q on (heard before s) all)

@@ -19,23 +19,19 @@ heard_now : (before : List Item) (s number v : ℕ) (body : Body) → BootsAreKn
     → boot_of before s ≤ known_boot before s
 heard_now before s number v (Install boot tables) boots said is =
     let parts = said_parts before s number (Install boot tables) said in
-    let own : boot ≡ boot_of before s = eqb-true boot (boot_of before s) parts.own in
-    let past : boot ≤ known_boot before s =
-    boots.sent number (to_switch s (Install boot tables)) parts.sent in
-    omega (arith, own, past)
+    let past = boots.sent number (to_switch s (Install boot tables)) parts.sent in
+    omega (arith, eqb-true boot (boot_of before s) parts.own, past)
 heard_now before s number v body boots said is = absurd cc
 
 pub heard_known : (before : List Item) (next : Item) → BootsAreKnown before
     → HeardAreKnown before → HeardAreKnown (before ++ next ∷ [])
-heard_known before (item.Down t) boots known s v is =
-    rw (boot_more before (item.Down t) s)
+heard_known before (item.Down t) boots known s v is = rw (boot_more before (item.Down t) s)
     (by_test (t == s) (rw (heard_more before (item.Down t) s) at is))
   where
     by_test : (b : Bool) → IsTrue (list_any (installs_version v) (if b then [] else heard before s))
         → boot_of before s ≤ known_boot (before ++ item.Down t ∷ []) s
     by_test true none = absurd cc
-    by_test false is =
-        omega (arith, known s v is, known_rises before (item.Down t) s)
+    by_test false is = omega (arith, known s v is, known_rises before (item.Down t) s)
 heard_known before (item.Booted t boot) boots known s v is =
     rw (boot_more before (item.Booted t boot) s)
     (by_test (t == s) (rw (heard_more before (item.Booted t boot) s) at is))
@@ -44,11 +40,9 @@ heard_known before (item.Booted t boot) boots known s v is =
         → unwrap_or (if b then Some boot else None) (boot_of before s)
         ≤ known_boot (before ++ item.Booted t boot ∷ []) s
     by_test true none = absurd cc
-    by_test false is =
-        omega (arith, known s v is, known_rises before (item.Booted t boot) s)
+    by_test false is = omega (arith, known s v is, known_rises before (item.Booted t boot) s)
 heard_known before (item.Delivered number) boots known s v is =
-    rw (boot_more before (item.Delivered number) s)
-    (by_said (body_to_switch before s number) refl
+    rw (boot_more before (item.Delivered number) s) (by_said (body_to_switch before s number) refl
     (rw (heard_more before (item.Delivered number) s) at is))
   where
     rises : known_boot before s ≤ known_boot (before ++ item.Delivered number ∷ []) s
@@ -73,8 +67,5 @@ heard_known before (item.Delivered number) boots known s v is =
         (rw (list_any-append (installs_version v) (heard before s) (body ∷ [])) at is)
         (known s v) (heard_now before s number v body boots e) in
         omega (arith, here, rises)
-heard_known before next boots known s v is =
-    let same : IsTrue (list_any (installs_version v) (heard before s)) =
-    rw (heard_more before next s) at is in
-    rw (boot_more before next s)
-    (omega (arith, known s v same, known_rises before next s))
+heard_known before next boots known s v is = rw (boot_more before next s)
+    (omega (arith, known s v (rw (heard_more before next s) at is), known_rises before next s))

@@ -56,10 +56,8 @@ have_front cause before (x ∷ xs) ys have =
 -- and the others theirs
 pub have_rest : (cause : List Item → Item → Type 0) (before xs ys : List Item)
     → HaveCauses cause before (xs ++ ys) → HaveCauses cause (before ++ xs) ys
-have_rest cause before [] ys have =
-    subst (λ j. HaveCauses cause j ys) (sym (append-nil before)) have
-have_rest cause before (x ∷ xs) ys have =
-    subst (λ j. HaveCauses cause j ys) (append_assoc before (x ∷ []) xs)
+have_rest cause before [] ys have = rw (append-nil before) have
+have_rest cause before (x ∷ xs) ys have = rw (append_assoc before (x ∷ []) xs) at
     (have_rest cause (before ++ x ∷ []) xs ys have.1)
 
 -- items with this cause keep the fact

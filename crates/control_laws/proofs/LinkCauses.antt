@@ -8,8 +8,7 @@ use Rattle.journal.specs.declared.item.Item.TheVariants as item
 -- ---- adverts
 
 -- the switch holds the advert
-pub record IsHeld (setting : Setting) (before : List Item) (s : ℕ) (advert : Advert)
-    : Type 0 where
+pub record IsHeld (setting : Setting) (before : List Item) (s : ℕ) (advert : Advert) : Type 0 where
   pub origin : ℕ
   pub small : origin < 64
   pub held : advert_known setting before s origin ≡ Some advert

@@ -59,9 +59,8 @@ newer_none None = refl
 newer_none (Some claim) = refl
 
 -- the advert is news where it is the newer claim
-newer_same : (advert old : Advert) (claim : Claim) → IsClaimOf old claim
-    → is_newer advert old ≡ (nat_lt claim.boot advert.boot
-    || (claim.boot == advert.boot && nat_lt claim.seq advert.seq))
+newer_same : (advert old : Advert) (claim : Claim) → IsClaimOf old claim → is_newer advert old
+    ≡ (nat_lt claim.boot advert.boot || (claim.boot == advert.boot && nat_lt claim.seq advert.seq))
 newer_same advert old claim same =
     let boot = same.boot in let seq = same.seq in grind (arith, nat_tests)
 
@@ -69,10 +68,7 @@ news_if : (adverts : List (Option Advert)) (advert : Advert) (found : Option Adv
     → advert.origin < 64 → held_advert adverts advert.origin ≡ found
     → option_map_or (is_newer advert) found true ≡ b → is_news adverts advert ≡ b
 unfolding is_news
-news_if adverts advert found b small e f =
-    ap (λ o. nat_lt advert.origin 64 && option_map_or (is_newer advert) o true) e
-    ∙ ap (λ c. nat_lt advert.origin 64 && c) f
-    ∙ ap (λ c. c && b) (lt-ltb advert.origin 64 small)
+news_if adverts advert found b small e f = cc (e, f, lt-ltb advert.origin 64 small)
 
 own_heard : (adverts : List (Option Advert)) (advert : Advert) (claim : Option Claim)
     → AreByOrigin adverts → advert.origin < 64 → AreSame (held_advert adverts advert.origin) claim
@@ -81,11 +77,9 @@ own_heard : (adverts : List (Option Advert)) (advert : Advert) (claim : Option C
 own_heard adverts advert claim by small same =
     by_held (held_advert adverts advert.origin) claim refl same
   where
-    is_heard : is_news adverts advert ≡ true
-        → AreSame (held_advert (after_hearing adverts advert) advert.origin)
-        (Some (claim_from advert))
-    is_heard news = subst (λ o. AreSame o (Some (claim_from advert)))
-        (sym (held_heard adverts advert by news)) (from_advert advert)
+    is_heard : is_news adverts advert ≡ true → AreSame (held_advert (after_hearing adverts advert)
+        advert.origin) (Some (claim_from advert))
+    is_heard news = rw (held_heard adverts advert by news) (from_advert advert)
 
     by_held : (found : Option Advert) (old : Option Claim)
         → held_advert adverts advert.origin ≡ found → AreSame found old
@@ -94,38 +88,29 @@ own_heard adverts advert claim by small same =
     by_held None None e so = is_heard (news_if adverts advert None true small e refl)
     by_held None (Some old) e so = absurd so
     by_held (Some found) None e so = absurd so
-    by_held (Some found) (Some old) e so = by_test (is_newer advert found) refl
-      where
-        test : Bool
-        test = nat_lt old.boot advert.boot
-            || (old.boot == advert.boot && nat_lt old.seq advert.seq)
+    by_held (Some found) (Some old) e so = by_test (is_newer advert found) refl where
+      test : Bool
+      test = nat_lt old.boot advert.boot || (old.boot == advert.boot && nat_lt old.seq advert.seq)
 
-        by_test : (b : Bool) → is_newer advert found ≡ b
-            → AreSame (held_advert (after_hearing adverts advert) advert.origin)
-            (if test then Some (claim_from advert) else Some old)
-        by_test true f =
-            let newer : test ≡ true = sym (newer_same advert found old so) ∙ f in
-            rw newer (is_heard (news_if adverts advert (Some found) true small e f))
-        by_test false f =
-            let newer : test ≡ false = sym (newer_same advert found old so) ∙ f in
-            let stays : after_hearing adverts advert ≡ adverts =
-            after_no_news adverts advert (news_if adverts advert (Some found) false small e f) in
-            rw newer (subst (λ o. AreSame o (Some old))
-            (sym (ap (λ (all : List (Option Advert)). held_advert all advert.origin) stays ∙ e)) so)
+      by_test : (b : Bool) → is_newer advert found ≡ b
+          → AreSame (held_advert (after_hearing adverts advert) advert.origin)
+          (if test then Some (claim_from advert) else Some old)
+      by_test true f = let newer : test ≡ true = sym (newer_same advert found old so) ∙ f in
+          rw newer (is_heard (news_if adverts advert (Some found) true small e f))
+      by_test false f =
+          rw (sym (newer_same advert found old so) ∙ f) (subst (λ o. AreSame o (Some old))
+          (sym (ap (λ (all : List (Option Advert)). held_advert all advert.origin) (after_no_news
+          adverts advert (news_if adverts advert (Some found) false small e f)) ∙ e)) so)
 
-advert_heard : (adverts : List (Option Advert)) (advert : Advert) (one : ℕ)
-    (claim : Option Claim) → AreByOrigin adverts → one < 64
-    → AreSame (held_advert adverts one) claim
+advert_heard : (adverts : List (Option Advert)) (advert : Advert) (one : ℕ) (claim : Option Claim)
+    → AreByOrigin adverts → one < 64 → AreSame (held_advert adverts one) claim
     → AreSame (held_advert (after_hearing adverts advert) one)
     (newer_of claim (if advert.origin == one then Some (claim_from advert) else None))
 advert_heard adverts advert one claim by small same = elim (cases_eq advert.origin one) [
-  | inl here ↦ rw (eq-eqb advert.origin one here)
-      (subst (λ n. AreSame (held_advert (after_hearing adverts advert) n)
-      (newer_of claim (Some (claim_from advert)))) here
-      (own_heard adverts advert claim by (omega (arith, here, small))
-      (subst (λ n. AreSame (held_advert adverts n) claim) (sym here) same)))
-  | inr apart ↦ rw (ne_eqb advert.origin one apart, newer_none claim)
-      (subst (λ o. AreSame o claim)
+  | inl here ↦ rw eq-eqb (subst (λ n. AreSame (held_advert (after_hearing adverts advert) n)
+      (newer_of claim (Some (claim_from advert)))) here (own_heard adverts advert claim by
+      (omega arith) (subst (λ n. AreSame (held_advert adverts n) claim) (sym here) same)))
+  | inr apart ↦ rw (ne_eqb advert.origin one apart, newer_none claim) (subst (λ o. AreSame o claim)
       (sym (held_others adverts advert one (λ e. apart (sym e)))) same)
 ]
 
@@ -135,36 +120,32 @@ others_more : (adverts : List (Option Advert)) (s : ℕ) (bodies : List Body) (b
     → after_hearing_all adverts (filter_map (other_advert s) (bodies ++ body ∷ []))
     ≡ after_hearing_all (after_hearing_all adverts (filter_map (other_advert s) bodies))
     (filter_map (other_advert s) (body ∷ []))
-others_more adverts s bodies body =
-    ap (after_hearing_all adverts) (filter_map-append (other_advert s) bodies (body ∷ []))
-    ∙ fold-append after_hearing adverts (filter_map (other_advert s) bodies)
-    (filter_map (other_advert s) (body ∷ []))
+others_more adverts s bodies body = ap (after_hearing_all adverts)
+    (filter_map-append (other_advert s) bodies (body ∷ [])) ∙ fold-append after_hearing adverts
+    (filter_map (other_advert s) bodies) (filter_map (other_advert s) (body ∷ []))
 
 -- a body that a switch heard, or that wasn't for it
-body_heard : (adverts : List (Option Advert)) (bodies : List Body) (s one t boot : ℕ)
-    (up : Bool) (body : Body) (claim : Option Claim) → IsTrue up
+body_heard : (adverts : List (Option Advert)) (bodies : List Body)
+    (s one t boot : ℕ) (up : Bool) (body : Body) (claim : Option Claim) → IsTrue up
     → AreByOrigin (after_hearing_all adverts (filter_map (other_advert s) bodies))
-    → one ≢ s → one < 64
-    → AreSame (held_advert (after_hearing_all adverts (filter_map (other_advert s) bodies)) one)
-    claim
-    → AreSame (held_advert (after_hearing_all adverts (filter_map (other_advert s)
-    (option_map_or (λ b. bodies ++ b ∷ [])
-    (if (t == s) && up && is_for_boot boot body then Some body else None) bodies))) one)
+    → one ≢ s → one < 64 → AreSame
+    (held_advert (after_hearing_all adverts (filter_map (other_advert s) bodies)) one) claim
+    → AreSame
+    (held_advert (after_hearing_all adverts (filter_map (other_advert s) (option_map_or (λ b. bodies
+    ++ b ∷ []) (if (t == s) && up && is_for_boot boot body then Some body else None) bodies))) one)
     (newer_of claim (claim_by s one (receiver.Switch t) body))
 body_heard adverts bodies s one t boot up (Advertise advert) claim is by apart small same =
     by_tests (t == s) (advert.origin == s) refl refl
   where
-    by_tests : (b c : Bool) → (t == s) ≡ b → (advert.origin == s) ≡ c
-        → AreSame (held_advert (after_hearing_all adverts (filter_map (other_advert s)
-        (option_map_or (λ b. bodies ++ b ∷ [])
-        (if (t == s) && up && true then Some (Advertise advert) else None) bodies))) one)
+    by_tests : (b c : Bool) → (t == s) ≡ b → (advert.origin == s) ≡ c → AreSame (held_advert
+        (after_hearing_all adverts (filter_map (other_advert s) (option_map_or (λ b. bodies
+        ++ b ∷ []) (if (t == s) && up && true then Some (Advertise advert) else None) bodies))) one)
         (newer_of claim (claim_by s one (receiver.Switch t) (Advertise advert)))
     by_tests false c e f = rw (e, newer_none claim) same
     by_tests true true e f =
         let other : (advert.origin == one) ≡ false = grind (arith, nat_tests) in
         rw (e, is, others_more adverts s bodies (Advertise advert), f, other, newer_none claim) same
-    by_tests true false e f =
-        rw (e, is, others_more adverts s bodies (Advertise advert), f)
+    by_tests true false e f = rw (e, is, others_more adverts s bodies (Advertise advert), f)
         (advert_heard (after_hearing_all adverts (filter_map (other_advert s) bodies)) advert one
         claim by small same)
 body_heard adverts bodies s one t boot up body claim is by apart small same =
@@ -172,8 +153,7 @@ body_heard adverts bodies s one t boot up body claim is by apart small same =
   where
     by_test : (b : Bool)
         → AreSame (held_advert (after_hearing_all adverts (filter_map (other_advert s)
-        (option_map_or (λ b. bodies ++ b ∷ []) (if b then Some body else None) bodies))) one)
-        claim
+        (option_map_or (λ b. bodies ++ b ∷ []) (if b then Some body else None) bodies))) one) claim
     by_test true = rw (others_more adverts s bodies body) same
     by_test false = same
 
@@ -188,16 +168,14 @@ pub record AreHeld (setting : Setting) (one : ℕ) (journal : List Item) : Type 
 abbrev held_by : Setting → ℕ → ℕ → Bool → List Body → Option Advert
 held_by setting s one first bodies = held_advert (after_hearing_all (if first
     then first_adverts (map (links_of setting.net.links) (switches_of setting))
-    (length setting.net.switches)
-    else no_adverts) (filter_map (other_advert s) bodies)) one
+    (length setting.net.switches) else no_adverts) (filter_map (other_advert s) bodies)) one
 
 -- what a message says to a switch, if it is for it
 abbrev said_by : List Item → ℕ → Option Message → Option Body
 said_by before s message = elim message [
   | None ↦ None
-  | Some told ↦
-      if is_to_switch s told.to && is_up before s && is_for_boot (boot_of before s) told.body
-      then Some told.body else None
+  | Some told ↦ if is_to_switch s told.to && is_up before s
+      && is_for_boot (boot_of before s) told.body then Some told.body else None
 ]
 
 -- facts that an item leaves as they are
@@ -206,11 +184,9 @@ unchanged : (setting : Setting) (before now : List Item) (s one : ℕ)
     → claim_of setting now s one ≡ claim_of setting before s one
     → AreSame (held_advert (adverts_of_others setting before s) one) (claim_of setting before s one)
     → AreSame (held_advert (adverts_of_others setting now s) one) (claim_of setting now s one)
-unchanged setting before now s one first bodies claim same =
-    subst (AreSame (held_advert (adverts_of_others setting now s) one)) (sym claim)
-    (subst (λ o. AreSame o (claim_of setting before s one))
-    (ap (λ b. held_by setting s one b (heard before s)) (sym first)
-    ∙ ap (held_by setting s one (is_in_first_boot now s)) (sym bodies)) same)
+unchanged setting before now s one first bodies claim same = rw claim
+    (rw (ap (λ b. held_by setting s one b (heard before s)) (sym first)
+    ∙ ap (held_by setting s one (is_in_first_boot now s)) (sym bodies)) at same)
 
 same_on : (setting : Setting) (one : ℕ) (before : List Item) (next : Item) → one < 64
     → HasItemCause setting before next → AreHeld setting one before
@@ -219,21 +195,18 @@ same_on : (setting : Setting) (one : ℕ) (before : List Item) (next : Item) →
     (claim_of setting (before ++ next ∷ []) s one)
 same_on setting one before (item.Down t) small cause kept s apart up =
     let other : (t == s) ≡ false = down_apart (t == s) refl in
-    let was : IsTrue (is_up before s) =
-    rw (up_more before (item.Down t) s, other) at up in
     unchanged setting before (before ++ item.Down t ∷ []) s one
     (rw (up_more before (item.Down t) s, boot_more before (item.Down t) s, other) refl)
     (rw (heard_more before (item.Down t) s, other) refl)
     (rw (claim_more setting before (item.Down t) s one, other) refl)
-    (kept.same s apart was)
+    (kept.same s apart (rw (up_more before (item.Down t) s, other) at up))
   where
     down_apart : (b : Bool) → (t == s) ≡ b → (t == s) ≡ false
     down_apart false e = e
     down_apart true e =
         let down : is_up (before ++ item.Down t ∷ []) s ≡ false =
         rw (up_more before (item.Down t) s, e) refl in absurd cc
-same_on setting one before (item.Booted t boot) small cause kept s apart up =
-    by_test (t == s) refl
+same_on setting one before (item.Booted t boot) small cause kept s apart up = by_test (t == s) refl
   where
     now : List Item
     now = before ++ item.Booted t boot ∷ []
@@ -244,21 +217,18 @@ same_on setting one before (item.Booted t boot) small cause kept s apart up =
         let here : t ≡ s = grind (arith, nat_tests) in
         let counted = kept.boots t in
         let next = cause.next in
-        let later : (boot_of now s == 1) ≡ false =
-        rw (boot_more before (item.Booted t boot) s, e) (grind (arith, nat_tests)) in
-        let first : is_in_first_boot now s ≡ false =
-        ap (λ b. is_up now s && b) later ∙ and_right (is_up now s) false refl in
+        let later : (boot_of now s == 1) ≡ false = rw (boot_more, e) (grind (arith, nat_tests)) in
         let none : heard now s ≡ [] = rw (heard_more before (item.Booted t boot) s, e) refl in
         let claim : claim_of setting now s one ≡ None =
         rw (claim_more setting before (item.Booted t boot) s one, e) refl in
         let empty : held_advert (adverts_of_others setting now s) one ≡ None =
-        ap (λ b. held_by setting s one b (heard now s)) first
+        ap (λ b. held_by setting s one b (heard now s))
+        (ap (λ b. is_up now s && b) later ∙ and_right (is_up now s) false refl)
         ∙ ap (held_by setting s one false) none ∙ none_held one small in
         subst (AreSame (held_advert (adverts_of_others setting now s) one)) (sym claim)
         (subst (λ o. AreSame o None) (sym empty) tt)
     by_test false e =
-        let was : IsTrue (is_up before s) =
-        rw (up_more before (item.Booted t boot) s, e) at up in
+        let was : IsTrue (is_up before s) = rw (up_more before (item.Booted t boot) s, e) at up in
         unchanged setting before now s one
         (rw (up_more before (item.Booted t boot) s, boot_more before (item.Booted t boot) s, e)
         refl)
@@ -266,15 +236,10 @@ same_on setting one before (item.Booted t boot) small cause kept s apart up =
         (rw (claim_more setting before (item.Booted t boot) s one, e) refl)
         (kept.same s apart was)
 same_on setting one before (item.Delivered number) small cause kept s apart up =
-    subst (AreSame (held_advert (adverts_of_others setting now s) one))
-    (sym (claim_more setting before (item.Delivered number) s one))
-    (subst (λ o. AreSame o (changes_claim s one before (claim_of setting before s one)
-    (item.Delivered number)))
-    (ap (λ b. held_by setting s one b (changes_heard s before (heard before s)
-    (item.Delivered number))) (sym first)
-    ∙ ap (held_by setting s one (is_in_first_boot now s))
-    (sym (heard_more before (item.Delivered number) s)))
-    (by_message (message_of before number)))
+    rw (claim_more setting before (item.Delivered number) s one)
+    (rw (ap (λ b. held_by setting s one b (changes_heard s before (heard before s)
+    (item.Delivered number))) (sym first) ∙ ap (held_by setting s one (is_in_first_boot now s))
+    (sym (heard_more before (item.Delivered number) s))) at (by_message (message_of before number)))
   where
     now : List Item
     now = before ++ item.Delivered number ∷ []
@@ -283,38 +248,31 @@ same_on setting one before (item.Delivered number) small cause kept s apart up =
     was = sym (up_more before (item.Delivered number) s) ∙ up
 
     first : is_in_first_boot now s ≡ is_in_first_boot before s
-    first = rw (
-      up_more before (item.Delivered number) s,
-      boot_more before (item.Delivered number) s,
-    ) refl
+    first = rw (up_more, boot_more) refl
 
     same : AreSame (held_advert (adverts_of_others setting before s) one)
         (claim_of setting before s one)
     same = kept.same s apart was
 
     by_receiver : (to : Place) (body : Body)
-        → AreSame (held_by setting s one (is_in_first_boot before s)
-        (option_map_or (λ heard_body. heard before s ++ heard_body ∷ [])
-        (if is_to_switch s to && is_up before s && is_for_boot (boot_of before s) body
-        then Some body else None) (heard before s)))
+        → AreSame (held_by setting s one (is_in_first_boot before s) (option_map_or
+        (λ heard_body. heard before s ++ heard_body ∷ []) (if is_to_switch s to && is_up before s
+        && is_for_boot (boot_of before s) body then Some body else None) (heard before s)))
         (newer_of (claim_of setting before s one) (claim_by s one to body))
-    by_receiver (receiver.Switch t) body =
-        body_heard (adverts_begun setting before s) (heard before s) s one t (boot_of before s)
-        (is_up before s) body (claim_of setting before s one) was
-        (heard_by_origin setting before s) apart small same
+    by_receiver (receiver.Switch t) body = body_heard (adverts_begun setting before s)
+        (heard before s) s one t (boot_of before s) (is_up before s) body
+        (claim_of setting before s one) was (heard_by_origin setting before s) apart small same
     by_receiver receiver.Controller body = rw (newer_none (claim_of setting before s one)) same
 
     by_message : (message : Option Message)
-        → AreSame (held_by setting s one (is_in_first_boot before s)
-        (option_map_or (λ body. heard before s ++ body ∷ []) (said_by before s message)
-        (heard before s)))
+        → AreSame (held_by setting s one (is_in_first_boot before s) (option_map_or
+        (λ body. heard before s ++ body ∷ []) (said_by before s message) (heard before s)))
         (newer_of (claim_of setting before s one) (option_and_then (claim_in s one) message))
     by_message None = rw (newer_none (claim_of setting before s one)) same
     by_message (Some message) = by_receiver message.to message.body
-same_on setting one before next small cause kept s apart up =
-    unchanged setting before (before ++ next ∷ []) s one
-    (rw (up_more before next s, boot_more before next s) refl) (heard_more before next s)
-    (claim_more setting before next s one)
+same_on setting one before next small cause kept s apart up = unchanged setting before
+    (before ++ next ∷ []) s one (rw (up_more before next s, boot_more before next s) refl)
+    (heard_more before next s) (claim_more setting before next s one)
     (kept.same s apart (sym (up_more before next s) ∙ up))
 
 held_kept : (setting : Setting) (one : ℕ) → one < 64
@@ -332,28 +290,24 @@ unfolding claim_of
 held_at_first setting one small there = record {
   boots = λ s. omega (arith, start_laws.boot s);
   same = λ s apart up.
-      let up_at_first : is_up [] s ≡ true = start_laws.up s in
-      let first : is_in_first_boot [] s ≡ true = rw (up_at_first, start_laws.boot s) refl in
+      let first : is_in_first_boot [] s ≡ true = rw ((start_laws.up s), start_laws.boot s) refl in
       subst (λ o. AreSame o (Some (first_claim setting one)))
-      (sym (ap (λ b. held_by setting s one b (heard [] s)) first
-      ∙ ap (held_by setting s one true) (start_laws.heard s)
-      ∙ held-first near_all (length setting.net.switches) one small
-      ∙ ap (λ b. if b then Some (first_advert one (slice_index near_all one)) else None)
-      (lt-ltb one (length setting.net.switches) there)
-      ∙ ap (λ up. Some (first_advert one up)) near_one))
+      (sym (ap (λ b. held_by setting s one b (heard [] s)) first ∙ ap (held_by setting s one true)
+      (start_laws.heard s) ∙ held-first near_all (length setting.net.switches) one small
+      ∙ ap (λ b. if b then Some (first_advert one (slice_index near_all one)) else None) (lt-ltb one
+      (length setting.net.switches) there) ∙ ap (λ up. Some (first_advert one up)) near_one))
       (record {
         boot = refl;
         seq = refl;
         links = λ k below. has_mask (are_linked setting.net.links one) k below;
       });
-}
-  where
-    near_all : List ℕ
-    near_all = map (links_of setting.net.links) (switches_of setting)
+} where
+  near_all : List ℕ
+  near_all = map (links_of setting.net.links) (switches_of setting)
 
-    near_one : slice_index near_all one ≡ links_of setting.net.links one
-    near_one = get_or-map-range_with_len (links_of setting.net.links) 0
-        (length setting.net.switches) one one 0 there (omega arith)
+  near_one : slice_index near_all one ≡ links_of setting.net.links one
+  near_one = get_or-map-range_with_len (links_of setting.net.links) 0
+      (length setting.net.switches) one one 0 there (omega arith)
 
 -- of another switch of the network, what a switch that is up holds is what it heard claimed
 pub claims_held : (setting : Setting) (journal : List Item)
@@ -393,9 +347,7 @@ claimed_links net s one (receiver.Switch t) (Advertise advert) such =
     by_tests : (b : Bool) → ((t == s) && (advert.origin == one)) ≡ b
         → ClaimsLinks net one (if b then Some (claim_from advert) else None)
     by_tests false e = tt
-    by_tests true e =
-        let of : advert.origin ≡ one = grind (arith, nat_tests) in
-        λ k is. subst (λ n. HasLink net n k) of (such k is)
+    by_tests true e = λ k is. subst (λ n. HasLink net n k) (grind (arith, nat_tests)) (such k is)
 claimed_links net s one to body such = tt
 
 -- what is kept of it, item by item
@@ -403,26 +355,22 @@ record ClaimLinks (setting : Setting) (journal : List Item) : Type 0 where
   such : AreSuch setting (λ js. NamesLinks setting.net) journal
   claims : (s one : ℕ) → ClaimsLinks setting.net one (claim_of setting journal s one)
 
-claims_on : (setting : Setting) (before : List Item) (next : Item) (s one : ℕ)
-    → ClaimLinks setting before
-    → ClaimsLinks setting.net one
-    (changes_claim s one before (claim_of setting before s one) next)
-claims_on setting before (item.Down t) s one kept = by_test (t == s)
-  where
-    by_test : (b : Bool)
-        → ClaimsLinks setting.net one (if b then None else claim_of setting before s one)
-    by_test true = tt
-    by_test false = kept.claims s one
-claims_on setting before (item.Booted t boot) s one kept = by_test (t == s)
-  where
-    by_test : (b : Bool)
-        → ClaimsLinks setting.net one (if b then None else claim_of setting before s one)
-    by_test true = tt
-    by_test false = kept.claims s one
-claims_on setting before (item.Delivered number) s one kept =
-    newer_links setting.net one (claim_of setting before s one)
-    (option_and_then (claim_in s one) (message_of before number)) (kept.claims s one)
-    (by_message (message_of before number) refl)
+claims_on : (setting : Setting) (before : List Item) (next : Item) (s one : ℕ) → ClaimLinks setting
+    before
+    → ClaimsLinks setting.net one (changes_claim s one before (claim_of setting before s one) next)
+claims_on setting before (item.Down t) s one kept = by_test (t == s) where
+  by_test : (b : Bool)
+      → ClaimsLinks setting.net one (if b then None else claim_of setting before s one)
+  by_test true = tt
+  by_test false = kept.claims s one
+claims_on setting before (item.Booted t boot) s one kept = by_test (t == s) where
+  by_test : (b : Bool)
+      → ClaimsLinks setting.net one (if b then None else claim_of setting before s one)
+  by_test true = tt
+  by_test false = kept.claims s one
+claims_on setting before (item.Delivered number) s one kept = newer_links setting.net one
+    (claim_of setting before s one) (option_and_then (claim_in s one) (message_of before number))
+    (kept.claims s one) (by_message (message_of before number) refl)
   where
     by_message : (message : Option Message) → message_of before number ≡ message
         → ClaimsLinks setting.net one (option_and_then (claim_in s one) message)
@@ -450,9 +398,8 @@ links_at_first setting = record {
 pub claims_linked : (setting : Setting) (journal : List Item)
     → HaveCauses (HasBothCauses setting) [] journal → (s one : ℕ)
     → ClaimsLinks setting.net one (claim_of setting journal s one)
-claims_linked setting journal have s one =
-    (fact_on (HasBothCauses setting) (ClaimLinks setting) (links_kept setting) [] journal have
-    (links_at_first setting)).claims s one
+claims_linked setting journal have s one = (fact_on (HasBothCauses setting) (ClaimLinks setting)
+    (links_kept setting) [] journal have (links_at_first setting)).claims s one
 
 -- ---- ends
 
@@ -477,8 +424,7 @@ pub names_end : (setting : Setting) (journal : List Item)
     → IsNamed one two (IsTrue (names_neighbour (adverts_of_others setting journal s) one two))
 unfolding names_neighbour
 names_end setting journal have net s one two apart serving is =
-    by_claim (claim_of setting journal s one) refl
-    (rw (ne_eqb one s apart) at is)
+    by_claim (claim_of setting journal s one) refl (rw (ne_eqb one s apart) at is)
   where
     caused : HaveCauses (HasItemCause setting) [] journal
     caused = have_weaker (HasBothCauses setting) (HasItemCause setting)
@@ -492,29 +438,23 @@ names_end setting journal have net s one two apart serving is =
         → two < 64 → IsTrue (claim.links two) → AreSame found (Some claim)
         → IsTrue (names_neighbour (adverts_of_others setting journal s) one two)
     by_held claim None e small linked same = absurd same
-    by_held claim (Some advert) e small linked same =
-        ap (λ o. has (neighbours_named o) two) e ∙ same.links two small ∙ linked
+    by_held claim (Some advert) e small linked same = cc (e, same.links two small, linked)
 
     by_claim : (claim : Option Claim) → claim_of setting journal s one ≡ claim
         → IsTrue (option_map_or (λ c. c.links two) claim false)
         → IsNamed one two (IsTrue (names_neighbour (adverts_of_others setting journal s) one two))
     by_claim None e linked = absurd cc
     by_claim (Some claim) e linked =
-        let link : HasLink setting.net one two =
-        subst (ClaimsLinks setting.net one) e (claims_linked setting journal have s one) two
-        linked in
-        let there = linked_small setting.net one two net link in
+        let there = linked_small setting.net one two net (subst (ClaimsLinks setting.net one) e
+        (claims_linked setting journal have s one) two linked) in
         let few = net.few_switches in
         let one_small : one < 64 = omega (arith, there.0, few) in
-        let two_small : two < 64 = omega (arith, there.1, few) in
-        record {
+        let two_small : two < 64 = omega (arith, there.1, few) in record {
           one_small = one_small;
           two_small = two_small;
           named = by_held claim (held_advert (adverts_of_others setting journal s) one) refl
-              two_small
-              linked
-              (subst (AreSame (held_advert (adverts_of_others setting journal s) one)) e
-              (claims_held setting journal caused s one apart one_small there.0 up));
+              two_small linked
+              (rw e at (claims_held setting journal caused s one apart one_small there.0 up));
         }
 
 -- a switch's own ends are those of the links that it can use
@@ -525,8 +465,7 @@ own_end setting journal net s two is =
     let usable : IsTrue (can_use setting journal s two) = rw (eq-eqb s s refl) at is in
     let there = linked_small setting.net s two net (usable_linked setting journal s two usable) in
     let few = net.few_switches in
-    let two_small : two < 64 = omega (arith, there.1, few) in
-    record {
+    let two_small : two < 64 = omega (arith, there.1, few) in record {
       one_small = omega (arith, there.0, few);
       two_small = two_small;
       named = near_usable setting journal s two two_small ∙ usable;

@@ -1,8 +1,7 @@
 -- How many adverts are sent where the links of one switch change.
 use Rattle.std.proofs.Common.{[], ◌&&◌, ◌*◌, ◌+◌, ◌==◌, ◌||◌, ◌∙◌, ◌∷◌, ◌≡◌, ◌≢◌, ◌≤◌, ◌⊎◌, Bool, IsTrue, List, ap, arith, cond, eq-eqb, eqb-true, false, filter, flat_map, inl, inr, length, map, mul-le-mul_right, not, refl, sum_by, sym, true, ℕ}
-use Rattle.base.proofs.Exports.{and_parts, cases_eq, cases_lt, length-filter_map, length-flat_map, length-map, length-range_with_len, length_filter_less, list_any, mask_of_lt, range_with_len, sum_by-le-sum_by, sum_each, sum_filter, sum_some}
-use Rattle.update_machine.specs.Exports.{Item, LinkRow, Message, Setting, advert_to, adverts_known, has_changed, held_adverts, is_usable, messages_of, messages_over, near, own_advert, switches_of, usable_links}
-use Rattle.failover.specs.Exports.{held_advert}
+use Rattle.base.proofs.Exports.{and_parts, cases_eq, cases_lt, length-filter_map, length-flat_map, length-map, length-range_with_len, length_filter_less, list_any, mask_of_lt, sum_by-le-sum_by, sum_each, sum_filter, sum_some}
+use Rattle.update_machine.specs.Exports.{Item, LinkRow, Message, Setting, advert_to, has_changed, held_adverts, is_usable, messages_of, messages_over, near, own_advert, switches_of, usable_links}
 use Rattle.base.specs.Exports.{has, switches}
 use Rattle.net_file.specs.Exports.{IsNet, are_linked, joins, links_of}
 use Rattle.net_file.proofs.MaskBits.{in_mask_of, in_mask_past}
@@ -19,26 +18,22 @@ pub record ChangesAt (before now : List Item) (t : ℕ) : Type 0 where
 -- each end of a link that joins two switches is one of them
 joined_ends : (x y : ℕ) (link : LinkRow) → joins x y link ≡ true
     → ((link.one ≡ x) ⊎ (link.one ≡ y)) × ((link.two ≡ x) ⊎ (link.two ≡ y))
-joined_ends x y link joined = by_order (link.one == x && link.two == y) refl joined
-  where
-    by_order : (b : Bool) → (link.one == x && link.two == y) ≡ b
-        → (b || (link.one == y && link.two == x)) ≡ true
-        → ((link.one ≡ x) ⊎ (link.one ≡ y)) × ((link.two ≡ x) ⊎ (link.two ≡ y))
-    by_order true e is =
-        let parts = and_parts (link.one == x) (link.two == y) e in
-        (inl (eqb-true link.one x parts.0), inr (eqb-true link.two y parts.1))
-    by_order false e is =
-        let parts = and_parts (link.one == y) (link.two == x) is in
-        (inr (eqb-true link.one y parts.0), inl (eqb-true link.two x parts.1))
+joined_ends x y link joined = by_order (link.one == x && link.two == y) refl joined where
+  by_order : (b : Bool) → (link.one == x && link.two == y) ≡ b
+      → (b || (link.one == y && link.two == x)) ≡ true
+      → ((link.one ≡ x) ⊎ (link.one ≡ y)) × ((link.two ≡ x) ⊎ (link.two ≡ y))
+  by_order true e is = let parts = and_parts (link.one == x) (link.two == y) e in
+      (inl (eqb-true link.one x parts.0), inr (eqb-true link.two y parts.1))
+  by_order false e is = let parts = and_parts (link.one == y) (link.two == x) is in
+      (inr (eqb-true link.one y parts.0), inl (eqb-true link.two x parts.1))
 
 away : (x y z end : ℕ) → x ≢ z → y ≢ z → (end ≡ x) ⊎ (end ≡ y) → end ≢ z
 away x y z end one two (inl e) = λ same. one (sym e ∙ same)
 away x y z end one two (inr e) = λ same. two (sym e ∙ same)
 
 -- links of other switches join as before
-linked_same : (before now : List Item) (t s k : ℕ) → ChangesAt before now t → s ≢ t → k ≢ t
-    → (links : List LinkRow)
-    → are_linked (filter (is_usable now) links) s k
+linked_same : (before now : List Item) (t s k : ℕ) → ChangesAt before now t
+    → s ≢ t → k ≢ t → (links : List LinkRow) → are_linked (filter (is_usable now) links) s k
     ≡ are_linked (filter (is_usable before) links) s k
 linked_same before now t s k changes other far [] = refl
 linked_same before now t s k changes other far (link ∷ links) =
@@ -49,30 +44,20 @@ linked_same before now t s k changes other far (link ∷ links) =
     skipped true rest e = rw e refl
     skipped false rest e = refl
 
-    by_joins : (joined : Bool) → joins s k link ≡ joined
-        → list_any (joins s k) (filter (is_usable now) links)
-        ≡ list_any (joins s k) (filter (is_usable before) links)
-        → list_any (joins s k)
-        (cond (is_usable now link) (link ∷ filter (is_usable now) links)
-        (filter (is_usable now) links))
-        ≡ list_any (joins s k)
-        (cond (is_usable before link) (link ∷ filter (is_usable before) links)
-        (filter (is_usable before) links))
-    by_joins false e rest =
-        skipped (is_usable now link) (filter (is_usable now) links) e ∙ rest
-        ∙ sym (skipped (is_usable before link) (filter (is_usable before) links) e)
-    by_joins true e rest =
-        let ends = joined_ends s k link e in
-        let same : is_usable now link ≡ is_usable before link =
-        changes.others link (away s k t link.one other far ends.0)
-        (away s k t link.two other far ends.1) in
-        rw same (by_usable (is_usable before link))
+    by_joins : (joined : Bool) → joins s k link ≡ joined → list_any (joins s k)
+        (filter (is_usable now) links) ≡ list_any (joins s k) (filter (is_usable before) links)
+        → list_any (joins s k) (cond (is_usable now link) (link ∷ filter (is_usable now) links)
+        (filter (is_usable now) links)) ≡ list_any (joins s k) (cond (is_usable before link)
+        (link ∷ filter (is_usable before) links) (filter (is_usable before) links))
+    by_joins false e rest = skipped (is_usable now link) (filter (is_usable now) links) e
+        ∙ rest ∙ sym (skipped (is_usable before link) (filter (is_usable before) links) e)
+    by_joins true e rest = let ends = joined_ends s k link e in
+        rw (changes.others link (away s k t link.one other far ends.0)
+        (away s k t link.two other far ends.1)) (by_usable (is_usable before link))
       where
-        by_usable : (b : Bool)
-            → list_any (joins s k) (cond b (link ∷ filter (is_usable now) links)
-            (filter (is_usable now) links))
-            ≡ list_any (joins s k) (cond b (link ∷ filter (is_usable before) links)
-            (filter (is_usable before) links))
+        by_usable : (b : Bool) → list_any (joins s k) (cond b (link ∷ filter (is_usable now) links)
+            (filter (is_usable now) links)) ≡ list_any (joins s k)
+            (cond b (link ∷ filter (is_usable before) links) (filter (is_usable before) links))
         by_usable true = ap (λ c. joins s k link || c) rest
         by_usable false = rest
 
@@ -87,9 +72,8 @@ same_bits one other s k same = elim (cases_lt k 64) [
       ∙ sym (in_mask_past (links_of other s) k (mask_of_lt (are_linked other s)) past)
 ]
 
-same_neighbour : (setting : Setting) (before now : List Item) (t s k : ℕ)
-    → ChangesAt before now t → s ≢ t → k ≢ t
-    → has (near setting now s) k ≡ has (near setting before s) k
+same_neighbour : (setting : Setting) (before now : List Item) (t s k : ℕ) → ChangesAt before now t
+    → s ≢ t → k ≢ t → has (near setting now s) k ≡ has (near setting before s) k
 unfolding near
 same_neighbour setting before now t s k changes other far =
     same_bits (usable_links setting now) (usable_links setting before) s k
@@ -97,48 +81,38 @@ same_neighbour setting before now t s k changes other far =
 
 -- a link became usable
 abbrev is_new : Setting → List Item → List Item → ℕ → ℕ → Bool
-is_new setting before now s k =
-    has (near setting now s) k && not (has (near setting before s) k)
+is_new setting before now s k = has (near setting now s) k && not (has (near setting before s) k)
 
 new_at : (setting : Setting) (before now : List Item) (t s k : ℕ) → ChangesAt before now t
     → once (is_new setting before now s k) ≤ once (t == s) + once (t == k)
 new_at setting before now t s k changes = elim (cases_eq s t) [
   | inl same ↦
-      let here : once (t == s) ≡ 1 = ap once (eq-eqb t s (sym same)) in
-      omega (arith, here, at_most_one (is_new setting before now s k))
+      omega (arith, ap once (eq-eqb t s (sym same)), at_most_one (is_new setting before now s k))
   | inr other ↦ elim (cases_eq k t) [
     | inl same ↦
-        let here : once (t == k) ≡ 1 = ap once (eq-eqb t k (sym same)) in
-        omega (arith, here, at_most_one (is_new setting before now s k))
-    | inr far ↦
-        omega (
-          arith,
-          none_new (has (near setting now s) k) (has (near setting before s) k)
-              (same_neighbour setting before now t s k changes other far),
-        )
+        omega (arith, ap once (eq-eqb t k (sym same)), at_most_one (is_new setting before now s k))
+    | inr far ↦ omega (
+      arith,
+      none_new (has (near setting now s) k) (has (near setting before s) k)
+          (same_neighbour setting before now t s k changes other far),
+    )
   ]
-]
-  where
-    at_most_one : (b : Bool) → once b ≤ 1
-    at_most_one true = omega arith
-    at_most_one false = omega arith
+] where
+  at_most_one : (b : Bool) → once b ≤ 1
+  at_most_one true = omega arith
+  at_most_one false = omega arith
 
-    none_new : (b c : Bool) → b ≡ c → once (b && not c) ≡ 0
-    none_new true true e = refl
-    none_new true false e = absurd cc
-    none_new false c e = refl
+  none_new : (b c : Bool) → b ≡ c → once (b && not c) ≡ 0
+  none_new true true e = refl
+  none_new true false e = absurd cc
+  none_new false c e = refl
 
 -- ---- what a switch tells a neighbour
 
 pub held_few : (setting : Setting) (journal : List Item) (s : ℕ)
     → length (held_adverts setting journal s) ≤ 64
 unfolding held_adverts switches
-held_few setting journal s =
-    omega (
-      arith,
-      length-filter_map (held_advert (adverts_known setting journal s)) (range_with_len 0 64),
-      length-range_with_len 0 64,
-    )
+held_few setting journal s = omega (arith, length-filter_map, length-range_with_len)
 
 over_few : (setting : Setting) (before now : List Item) (s k : ℕ)
     → cond (has (near setting now s) k) (length (messages_over setting before now s k)) 0
@@ -146,18 +120,16 @@ over_few : (setting : Setting) (before now : List Item) (s k : ℕ)
 over_few setting before now s k =
     by_links (has (near setting now s) k) (has (near setting before s) k)
   where
-    by_links : (b c : Bool)
-        → cond b (length {A = Message} (elim c [
-          | true ↦ advert_to k (own_advert setting now s) ∷ []
-          | false ↦ map (advert_to k) (held_adverts setting now s)
-        ])) 0 ≤ once b + 63 * once (b && not c)
+    by_links : (b c : Bool) → cond b (length {A = Message} (elim c [
+      | true ↦ advert_to k (own_advert setting now s) ∷ []
+      | false ↦ map (advert_to k) (held_adverts setting now s)
+    ])) 0 ≤ once b + 63 * once (b && not c)
     by_links true true = omega arith
-    by_links true false =
-        omega (
-          arith,
-          held_few setting now s,
-          length-map (held_adverts setting now s) (advert_to k),
-        )
+    by_links true false = omega (
+      arith,
+      held_few setting now s,
+      length-map (held_adverts setting now s) (advert_to k),
+    )
     by_links false c = omega arith
 
 constant_few : (setting : Setting) → IsNet setting.net → (b : ℕ)
@@ -173,8 +145,7 @@ constant_few setting net b =
 
 -- what a switch tells: one advert over each link that can be used, and 63 more over each new one
 by_few : (setting : Setting) (before now : List Item) (t s : ℕ) → IsNet setting.net
-    → ChangesAt before now t
-    → length (messages_of setting before now s)
+    → ChangesAt before now t → length (messages_of setting before now s)
     ≤ sum_by (λ k. once (has (near setting now s) k)) (switches_of setting)
     + 63 * (64 * once (t == s) + 1)
 by_few setting before now t s net changes =
@@ -182,8 +153,7 @@ by_few setting before now t s net changes =
     let fresh : ℕ → ℕ = λ k. once (is_new setting before now s k) in
     omega (
       arith,
-      length-flat_map (messages_over setting before now s)
-          (filter (has (near setting now s)) all),
+      length-flat_map (messages_over setting before now s) (filter (has (near setting now s)) all),
       sum_filter (λ k. length (messages_over setting before now s k)) (has (near setting now s)) all,
       sum_by-le-sum_by
           (λ k. cond (has (near setting now s) k) (length (messages_over setting before now s k)) 0)
@@ -202,8 +172,7 @@ by_few setting before now t s net changes =
 
 -- what the switches tell whose links changed
 abbrev pub all_adverts_sent : Setting → List Item → List Item → List Message
-all_adverts_sent setting before now =
-    flat_map (messages_of setting before now)
+all_adverts_sent setting before now = flat_map (messages_of setting before now)
     (filter (has_changed setting before now) (switches_of setting))
 
 pairs_near : (setting : Setting) (now : List Item) → IsNet setting.net
@@ -216,11 +185,9 @@ pairs_near setting now net =
     omega (
       arith,
       sum_by-le-sum_by (λ s. sum_by (λ k. once (has (links_of links s) k)) all)
-          (λ s. sum_by (λ k. once (are_linked links s k)) all) all
-          (λ s. sum_by-le-sum_by (λ k. once (has (links_of links s) k))
-          (λ k. once (are_linked links s k)) all
-          (λ k. implied (has (links_of links s) k) (are_linked links s k)
-          (linked_by_mask links s k))),
+          (λ s. sum_by (λ k. once (are_linked links s k)) all) all (λ s. sum_by-le-sum_by
+          (λ k. once (has (links_of links s) k)) (λ k. once (are_linked links s k)) all (λ k.
+          implied (has (links_of links s) k) (are_linked links s k) (linked_by_mask links s k))),
       pairs_few links (length setting.net.switches) (length setting.net.switches),
       length_filter_less (is_usable now) setting.net.links,
       net.few_links,
@@ -231,8 +198,7 @@ pairs_near setting now net =
     implied false c is = omega arith
 
 pub changes_few : (setting : Setting) (before now : List Item) (t : ℕ) → IsNet setting.net
-    → ChangesAt before now t
-    → length (all_adverts_sent setting before now) ≤ 8576
+    → ChangesAt before now t → length (all_adverts_sent setting before now) ≤ 8576
 changes_few setting before now t net changes =
     let all : List ℕ = switches_of setting in
     let row : ℕ → ℕ = λ s. sum_by (λ k. once (has (near setting now s) k)) all in

@@ -51,42 +51,36 @@ caused_marked = from_causes AreMarked marked_kept marked_at_first
 -- ---- members
 
 pub acknowledged : FromCauses MembersAcknowledged
-acknowledged setting journal have =
-    let are = caused_marked setting journal have in
-    record {
-      acked = λ s version there member above below.
-          (are.acked s).acked there member version above below;
-      stamps = λ s serving.
-          serving_stamps journal s are.told.known are.told.stamps (are.stamps s) serving;
-    }
+acknowledged setting journal have = let are = caused_marked setting journal have in record {
+  acked = λ s version there member above below.
+      (are.acked s).acked there member version above below;
+  stamps = λ s serving.
+      serving_stamps journal s are.told.known are.told.stamps (are.stamps s) serving;
+}
 
 -- ---- marks
 
 pub bounded : FromCauses MarksAreBounded
-bounded setting journal have =
-    let are = caused_marked setting journal have in
-    record {
-      first = are.current.marks.first;
-      there = are.current.marks.there;
-      retired = are.current.retired;
-      stamped = λ s there member. (are.above s).above there member;
-      collected = λ s boot version n there sent member.
-          omega (arith, are.collects s boot version n sent, (are.above s).above there member);
-      stamps = are.current.stamps;
-      known = λ s. acked_current journal s are.current;
-    }
+bounded setting journal have = let are = caused_marked setting journal have in record {
+  first = are.current.marks.first;
+  there = are.current.marks.there;
+  retired = are.current.retired;
+  stamped = λ s there member. (are.above s).above there member;
+  collected = λ s boot version n there sent member.
+      omega (arith, are.collects s boot version n sent, (are.above s).above there member);
+  stamps = are.current.stamps;
+  known = λ s. acked_current journal s are.current;
+}
 
 -- ---- what lets switches stamp
 
-opening_let : (setting : Setting) (before : List Item) (s boot version : ℕ)
-    → AreMarked setting before → IsRightOpening before s boot version
-    → IsLetStamp setting before s boot version
+opening_let : (setting : Setting) (before : List Item) (s boot version : ℕ) → AreMarked setting
+    before → IsRightOpening before s boot version → IsLetStamp setting before s boot version
 opening_let setting before s boot version are right = record {
   known = right.to.known;
   acked = λ there. elim right.opens [
     | inl first ↦ first.acked
-    | inr same ↦
-        let opening : open_version before s ≡ version = ap (λ o. unwrap_or o 0) same in
+    | inr same ↦ let opening : open_version before s ≡ version = ap (λ o. unwrap_or o 0) same in
         (are.acked s).acked there
         (member_of before s right.to.not_over (ap (λ o. is_some o) same)) version
         (omega (arith, opening)) (right_current before s boot version are.current right)
@@ -94,23 +88,15 @@ opening_let setting before s boot version are right = record {
   current = right_current before s boot version are.current right;
 }
 
-stamp_let : (setting : Setting) (before : List Item) (s boot version : ℕ)
-    (touched : List WordValue) → AreMarked setting before
-    → IsRightStamp setting before s boot version touched
+stamp_let : (setting : Setting) (before : List Item) (s boot version : ℕ) (touched : List WordValue)
+    → AreMarked setting before → IsRightStamp setting before s boot version touched
     → IsLetStamp setting before s boot version
-stamp_let setting before s boot version touched are right =
-    let now = right.current in
-    record {
-      known = right.to.known;
-      acked = λ there. (are.acked s).acked there right.member version
-          (omega (
-            arith,
-            now,
-            acked_stamp_opened before s,
-            acked_current before s are.current,
-          )) (omega arith);
-      current = omega arith;
-    }
+stamp_let setting before s boot version touched are right = record {
+  known = right.to.known;
+  acked = λ there. (are.acked s).acked there right.member version
+      (omega (arith, right.current, acked_stamp_opened, acked_current)) (omega arith);
+  current = omega arith;
+}
 
 message_let : (setting : Setting) (before : List Item) (to : Place) (body : Body)
     → AreMarked setting before → IsRightMessage setting before to body
@@ -121,9 +107,8 @@ message_let setting before (receiver.Switch s) (Stamp boot version touched) are 
     stamp_let setting before s boot version touched are right
 message_let setting before to body are right = tt
 
-item_let : (setting : Setting) (before : List Item) (next : Item)
-    → Behind (HasItemCause setting) (AreMarked setting) before next
-    → IsAckedFirst setting before next
+item_let : (setting : Setting) (before : List Item) (next : Item) → Behind (HasItemCause setting)
+    (AreMarked setting) before next → IsAckedFirst setting before next
 item_let setting before (item.Sent n message) behind =
     message_let setting before message.to message.body behind.known behind.caused
 item_let setting before _ behind = tt
@@ -136,7 +121,5 @@ items_let setting before (next ∷ items) have =
     (item_let setting before next have.0, items_let setting (before ++ next ∷ []) items have.1)
 
 pub acked_first : FromCauses (λ setting. HaveCauses (IsAckedFirst setting) [])
-acked_first setting journal have =
-    items_let setting [] journal
-    (with_fact (HasItemCause setting) (AreMarked setting) (marked_kept setting) [] journal have
-    (marked_at_first setting))
+acked_first setting journal have = items_let setting [] journal (with_fact (HasItemCause setting)
+    (AreMarked setting) (marked_kept setting) [] journal have (marked_at_first setting))

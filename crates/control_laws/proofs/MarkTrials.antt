@@ -9,8 +9,7 @@ use Rattle.control_laws.specs.Exports.{RisesRightly, asks_controller}
 use Rattle.control_laws.proofs.VersionTrials.{second}
 
 abbrev answered : List Item
-answered =
-    item.Submitted 2 2 ∷ item.Sent 1 (to_switch 0 (Install 1 second)) ∷ item.Delivered 1
+answered = item.Submitted 2 2 ∷ item.Sent 1 (to_switch 0 (Install 1 second)) ∷ item.Delivered 1
     ∷ item.Sent 2 (to_controller (Installed 0 1 2)) ∷ []
 
 -- the acknowledgement is for the controller, the tables are not, nor is a message that wasn't sent
@@ -38,8 +37,7 @@ only_two : (v : ℕ) → 1 < v → v ≤ 2 → 2 ≡ v
 only_two v above below = omega (arith, above, below)
 
 abbrev both_answered : List Item
-both_answered =
-    answered ++ item.Sent 3 (to_controller (Installed 1 1 2)) ∷ item.Delivered 2
+both_answered = answered ++ item.Sent 3 (to_controller (Installed 1 1 2)) ∷ item.Delivered 2
     ∷ item.Delivered 3 ∷ []
 
 rises : RisesRightly open_net both_answered (item.Current 2)

@@ -64,29 +64,26 @@ heard_settled setting before body now =
 -- a message to the controller is there
 pub told_is : (before : List Item) (number : ℕ) → IsTrue (is_message_to_controller before number)
     → (body : Body) × (message_of before number ≡ Some (to_controller body))
-told_is before number is = by_message (message_of before number) refl is
-  where
-    by_receiver : (to : Place) (body : Body)
-        → message_of before number ≡ Some (record { to = to; body = body })
-        → IsTrue (is_message_to_controller before number)
-        → (body : Body) × (message_of before number ≡ Some (to_controller body))
-    by_receiver receiver.Controller body e is = (body, e)
-    by_receiver (receiver.Switch s) body e is =
-        let no : false ≡ true = rw e at is in absurd cc
+told_is before number is = by_message (message_of before number) refl is where
+  by_receiver : (to : Place) (body : Body)
+      → message_of before number ≡ Some (record { to = to; body = body })
+      → IsTrue (is_message_to_controller before number)
+      → (body : Body) × (message_of before number ≡ Some (to_controller body))
+  by_receiver receiver.Controller body e is = (body, e)
+  by_receiver (receiver.Switch s) body e is = let no : false ≡ true = rw e at is in absurd cc
 
-    by_message : (o : Option Message) → message_of before number ≡ o
-        → IsTrue (is_message_to_controller before number)
-        → (body : Body) × (message_of before number ≡ Some (to_controller body))
-    by_message None e is = let no : false ≡ true = rw e at is in absurd cc
-    by_message (Some message) e is = by_receiver message.to message.body e is
+  by_message : (o : Option Message) → message_of before number ≡ o
+      → IsTrue (is_message_to_controller before number)
+      → (body : Body) × (message_of before number ≡ Some (to_controller body))
+  by_message None e is = let no : false ≡ true = rw e at is in absurd cc
+  by_message (Some message) e is = by_receiver message.to message.body e is
 
 delivered_settled : (setting : Setting) (before : List Item) (number : ℕ) (now : List Item)
     → IsTrue (is_message_to_controller before number)
     → AreCaused setting (now ++ delivery_items setting before number now)
     → AreSettled setting (now ++ delivery_items setting before number now)
 unfolding delivery_items
-delivered_settled setting before number now is =
-    let told = told_is before number is in
+delivered_settled setting before number now is = let told = told_is before number is in
     subst (λ o. AreCaused setting (now ++ elim o [
       | None ↦ []
       | Some message ↦ received_items setting before number message now
@@ -102,9 +99,8 @@ Settles setting journal = AreCaused setting journal → AreSettled setting journ
 deliver_settled : (setting : Setting) (before : List Item) (number : ℕ) (here : List Item)
     → IsTrue (is_message_to_controller before number) → AreSettled setting here
     → Settles setting (here ++ deliver_items setting before number here)
-deliver_settled setting before number here is settled =
-    deliver_cases (Settles setting) setting before number here
-    (λ have. left_settled setting here nothing (tt, tt) settled)
+deliver_settled setting before number here is settled = deliver_cases (Settles setting) setting
+    before number here (λ have. left_settled setting here nothing (tt, tt) settled)
     (delivered_settled setting before number (here ++ item.Delivered number ∷ []) is)
 
 -- ---- an update, and a confirmation
@@ -119,8 +115,7 @@ update_settled setting file here settled =
 
 confirm_settled : (setting : Setting) (s : ℕ) (here : List Item) → AreSettled setting here
     → Settles setting (here ++ confirm_items setting s here)
-confirm_settled setting s here settled =
-    confirm_cases (Settles setting) setting s here
+confirm_settled setting s here settled = confirm_cases (Settles setting) setting s here
     (λ have. left_settled setting here nothing (tt, tt) settled)
     (settled_in setting (here ++ item.OverNow s ∷ []))
 
@@ -131,24 +126,19 @@ told_settled : (setting : Setting) (before here : List Item) (step : Step)
     → Settles setting (here ++ step_items setting before step here)
 told_settled setting before here (Deliver number) is settled =
     deliver_settled setting before number here is settled
-told_settled setting before here (Update file) is settled =
-    update_settled setting file here settled
+told_settled setting before here (Update file) is settled = update_settled setting file here settled
 told_settled setting before here (Confirm s) is settled = confirm_settled setting s here settled
 told_settled setting before here step is settled = absurd cc
 
 step_settled : (setting : Setting) (before : List Item) (row : ℕ) (step : Step)
     → AreSettled setting before → Settles setting (before ++ piece setting before row step)
-step_settled setting before row step settled =
-    by_kind (asks_controller before step) refl
-  where
-    by_kind : (b : Bool) → asks_controller before step ≡ b
-        → Settles setting (before ++ piece setting before row step)
-    by_kind false e = λ have.
-        settled_on setting before _ (others_keep setting before row step e) settled
-    by_kind true e =
-        behind_piece setting before row step (Settles setting)
-        (told_settled setting before _ step e
-        (left_settled setting before (item.Row row step ∷ []) (tt, tt) settled))
+step_settled setting before row step settled = by_kind (asks_controller before step) refl where
+  by_kind : (b : Bool) → asks_controller before step ≡ b
+      → Settles setting (before ++ piece setting before row step)
+  by_kind false e = λ have.
+      settled_on setting before _ (others_keep setting before row step e) settled
+  by_kind true e = behind_piece setting before row step (Settles setting) (told_settled setting
+      before _ step e (left_settled setting before (item.Row row step ∷ []) (tt, tt) settled))
 
 steps_settled : (setting : Setting) (before : List Item) (steps : List StepOfRow)
     → AreCaused setting before → AreSettled setting before
@@ -166,20 +156,16 @@ steps_settled setting before (next ∷ steps) have settled =
 
 none_joins_first : (s : ℕ) → NoneJoins [] s
 none_joins_first s joins =
-    let over : is_over [] s ≡ false = start_laws.over s in
     let member : is_member [] s ≡ true = start_laws.member s in
-    let no : false ≡ true = rw (over, member) at joins in
-    absurd cc
+    let no : false ≡ true = rw ((start_laws.over s), member) at joins in absurd cc
 
 first_settled : (setting : Setting) → AreSettled setting []
 first_settled setting = record {
   current = inl (start_laws.current ∙ sym start_laws.count);
   joining = All-from_recursion (NoneJoins []) (switches_of setting)
       (each_always (NoneJoins []) none_joins_first (switches_of setting));
-  retired =
-      let first = start_laws.retired in
-      let current = start_laws.current in
-      omega (arith, first, current, next_below setting [] current_at_first);
+  retired = let current = start_laws.current in
+      omega (arith, start_laws.retired, current, next_below setting [] current_at_first);
 }
 
 pub settled_at_ends : HoldsAtEnds (λ setting journal. AreSettled setting journal)

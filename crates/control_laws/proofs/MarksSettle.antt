@@ -28,9 +28,8 @@ keeps_grow before after keeps = record {
 
 -- ---- a version that some member lacks, it lacks among more members
 
-fewer_pass : (p q m n : ℕ → Bool) → ((x : ℕ) → q x ≡ p x)
-    → ((x : ℕ) → IsTrue (m x) → IsTrue (n x)) → (xs : List ℕ)
-    → IsFalse (list_all p (filter m xs)) → IsFalse (list_all q (filter n xs))
+fewer_pass : (p q m n : ℕ → Bool) → ((x : ℕ) → q x ≡ p x) → ((x : ℕ) → IsTrue (m x) → IsTrue (n x))
+    → (xs : List ℕ) → IsFalse (list_all p (filter m xs)) → IsFalse (list_all q (filter n xs))
 fewer_pass p q m n same more [] none = none
 fewer_pass p q m n same more (x ∷ xs) none =
     by_member (m x) (n x) refl (more x) none (fewer_pass p q m n same more xs)
@@ -43,11 +42,10 @@ fewer_pass p q m n same more (x ∷ xs) none =
 
     or_less : (b : Bool) → IsFalse (list_all q (filter n xs))
         → IsFalse (list_all q (if b then x ∷ filter n xs else filter n xs))
-    or_less true none = and_none (q x)
-      where
-        and_none : (c : Bool) → IsFalse (c && list_all q (filter n xs))
-        and_none true = none
-        and_none false = refl
+    or_less true none = and_none (q x) where
+      and_none : (c : Bool) → IsFalse (c && list_all q (filter n xs))
+      and_none true = none
+      and_none false = refl
     or_less false none = none
 
     by_member : (b c : Bool) → m x ≡ b → (IsTrue b → IsTrue c)
@@ -67,9 +65,8 @@ waits_on : (setting : Setting) (before after : List Item) → Grows before after
     → current_mark after ≡ current_mark before → Waits setting before → Waits setting after
 waits_on setting before after more current waits = elim waits [
   | inl last ↦ inl (current ∙ last ∙ sym more.count)
-  | inr none ↦ inr (subst (λ v. IsFalse (all_acked setting after (v + 1))) (sym current)
-      (fewer_pass (λ s. has_acked before s (current_mark before + 1))
-      (λ s. has_acked after s (current_mark before + 1)) (is_member before) (is_member after)
+  | inr none ↦ inr (rw current (fewer_pass (λ s. has_acked before s (current_mark before + 1)) (λ s.
+      has_acked after s (current_mark before + 1)) (is_member before) (is_member after)
       (λ s. more.acked s (current_mark before + 1)) more.member (switches_of setting) none))
 ]
 
@@ -81,24 +78,20 @@ NoneJoins journal s = IsTrue (is_joining journal s)
 
 joining_was : (before after : List Item) (s : ℕ) → Grows before after
     → IsTrue (is_joining after s) → IsTrue (is_joining before s)
-joining_was before after s more joins =
-    by_member (is_member before s) refl
-    (subst (λ o. IsTrue (not o && not (is_member after s))) (more.over s) joins)
+joining_was before after s more joins = by_member (is_member before s) refl
+    (rw (more.over s) at joins)
   where
     by_member : (b : Bool) → is_member before s ≡ b
         → IsTrue (not (is_over before s) && not (is_member after s))
         → IsTrue (not (is_over before s) && not (is_member before s))
-    by_member true e joins =
-        let member : is_member after s ≡ true = more.member s e in grind arith
+    by_member true e joins = let member : is_member after s ≡ true = more.member s e in grind arith
     by_member false e joins = grind arith
 
 joins_on : (setting : Setting) (before after : List Item) → Grows before after
     → current_mark after ≡ current_mark before → All (NoneJoins before) (switches_of setting)
     → All (NoneJoins after) (switches_of setting)
-joins_on setting before after more current all =
-    All-weaker (NoneJoins before) (NoneJoins after)
-    (λ s none joins.
-    ap (has_acked after s) current ∙ more.acked s (current_mark before)
+joins_on setting before after more current all = All-weaker (NoneJoins before) (NoneJoins after)
+    (λ s none joins. ap (has_acked after s) current ∙ more.acked s (current_mark before)
     ∙ none (joining_was before after s more joins)) (switches_of setting) all
 
 -- ---- the retired mark
@@ -107,8 +100,7 @@ stamps_same : (f g : ℕ → ℕ) (m n : ℕ → Bool) → ((x : ℕ) → g x �
     → (xs : List ℕ) → map g (filter n xs) ≡ map f (filter m xs)
 stamps_same f g m n same tests [] = refl
 stamps_same f g m n same tests (x ∷ xs) =
-    ap (λ b. map g (if b then x ∷ filter n xs else filter n xs)) (tests x)
-    ∙ by_test (m x) (stamps_same f g m n same tests xs)
+    cc (tests x, by_test (m x) (stamps_same f g m n same tests xs))
   where
     by_test : (b : Bool) → map g (filter n xs) ≡ map f (filter m xs)
         → map g (if b then x ∷ filter n xs else filter n xs)
@@ -118,29 +110,25 @@ stamps_same f g m n same tests (x ∷ xs) =
 
 next_same : (setting : Setting) (before after : List Item)
     → ((s : ℕ) → acked_stamp after s ≡ acked_stamp before s)
-    → ((s : ℕ) → is_member after s ≡ is_member before s)
-    → current_mark after ≡ current_mark before
+    → ((s : ℕ) → is_member after s ≡ is_member before s) → current_mark after ≡ current_mark before
     → next_retired setting after ≡ next_retired setting before
 unfolding next_retired
 next_same setting before after stamps members current =
     ap (λ xs. unwrap_or (least_number xs) (current_mark after) - 1)
     (stamps_same (acked_stamp before) (acked_stamp after) (is_member before) (is_member after)
-    stamps members (switches_of setting))
-    ∙ ap (λ mark. unwrap_or (least_number (map (acked_stamp before)
-    (filter (is_member before) (switches_of setting)))) mark - 1) current
+    stamps members (switches_of setting)) ∙ ap (λ mark. unwrap_or (least_number
+    (map (acked_stamp before) (filter (is_member before) (switches_of setting)))) mark - 1) current
 
 -- ---- where nothing changes
 
 pub settled_on : (setting : Setting) (before after : List Item) → ControllerKeeps before after
     → AreSettled setting before → AreSettled setting after
-settled_on setting before after keeps settled =
-    let more = keeps_grow before after keeps in
-    record {
-      current = waits_on setting before after more keeps.current settled.current;
-      joining = joins_on setting before after more keeps.current settled.joining;
-      retired = keeps.retired ∙ settled.retired
-          ∙ sym (next_same setting before after keeps.stamp keeps.member keeps.current);
-    }
+settled_on setting before after keeps settled = let more = keeps_grow before after keeps in record {
+  current = waits_on setting before after more keeps.current settled.current;
+  joining = joins_on setting before after more keeps.current settled.joining;
+  retired = keeps.retired ∙ settled.retired
+      ∙ sym (next_same setting before after keeps.stamp keeps.member keeps.current);
+}
 
 -- ---- sendings
 
@@ -159,14 +147,9 @@ marks_sent [] journal n = record {
 marks_sent (message ∷ messages) journal n =
     let first : List Item = item.Sent n message ∷ [] in
     let rest = marks_sent messages (journal ++ first) (n + 1) in
-    let whole : (journal ++ first) ++ sent_from (n + 1) messages
-    ≡ journal ++ item.Sent n message ∷ sent_from (n + 1) messages =
-    append_assoc journal first (sent_from (n + 1) messages) in
-    record {
-      current = ap current_mark (sym whole) ∙ rest.current
-          ∙ current_more journal (item.Sent n message);
-      retired = ap retired_mark (sym whole) ∙ rest.retired
-          ∙ retired_more journal (item.Sent n message);
+    let whole = append_assoc journal first (sent_from (n + 1) messages) in record {
+      current = cc (whole, rest.current, current_more journal (item.Sent n message));
+      retired = cc (whole, rest.retired, retired_more journal (item.Sent n message));
     }
 
 -- all that are told to open are opened
@@ -196,10 +179,9 @@ all_opened (t ∷ switches) base journal n version same =
     subst
     (λ now. AllByRecursion (λ s. IsTrue (is_some (opened_at now s))) (t ∷ switches))
     (append_assoc journal (next ∷ []) rest) (
-      (grows (journal ++ next ∷ []) rest
-          (sent_kept IsOfSettling (λ before message. IsCommand message.body)
-          (λ before m message is. is) (λ before m message other new is. is) messages
-          (journal ++ next ∷ []) (n + 1)
+      (grows (journal ++ next ∷ []) rest (sent_kept IsOfSettling
+          (λ before message. IsCommand message.body) (λ before m message is. is)
+          (λ before m message other new is. is) messages (journal ++ next ∷ []) (n + 1)
           (each_command (open_for base version) (λ s. tt) switches))).opened t
           (opens_now base journal t n version (same t)),
       all_opened switches base (journal ++ next ∷ []) (n + 1) version
@@ -208,19 +190,16 @@ all_opened (t ∷ switches) base journal n version same =
 
 -- ---- current rises
 
-next_stops : (test : ℕ → Bool) (low n : ℕ)
-    → (length (take_while test (range_with_len low n)) ≡ n)
+next_stops : (test : ℕ → Bool) (low n : ℕ) → (length (take_while test (range_with_len low n)) ≡ n)
     ⊎ IsFalse (test (low + length (take_while test (range_with_len low n))))
 next_stops test low zero = inl refl
-next_stops test low (suc n) =
-    rw (take_while-cons test low (range_with_len (low + 1) n))
+next_stops test low (suc n) = rw (take_while-cons test low (range_with_len (low + 1) n))
     (by_test (test low) refl (next_stops test (low + 1) n))
   where
     rest : List ℕ
     rest = take_while test (range_with_len (low + 1) n)
 
-    by_test : (b : Bool) → test low ≡ b
-        → (length rest ≡ n) ⊎ IsFalse (test (low + 1 + length rest))
+    by_test : (b : Bool) → test low ≡ b → (length rest ≡ n) ⊎ IsFalse (test (low + 1 + length rest))
         → (length (cond b (low ∷ rest) []) ≡ suc n)
         ⊎ IsFalse (test (low + length (cond b (low ∷ rest) [])))
     by_test true e later = elim later [
@@ -234,9 +213,8 @@ next_waits : (setting : Setting) (journal : List Item)
     → (next_current setting journal ≡ version_count journal)
     ⊎ IsFalse (all_acked setting journal (next_current setting journal + 1))
 unfolding next_current
-next_waits setting journal there = elim
-    (next_stops (all_acked setting journal) (current_mark journal + 1)
-    (version_count journal - current_mark journal)) [
+next_waits setting journal there = elim (next_stops (all_acked setting journal)
+    (current_mark journal + 1) (version_count journal - current_mark journal)) [
       | inl all ↦ inl (omega (arith, all, there))
       | inr none ↦ inr (subst (λ k. IsFalse (all_acked setting journal k)) (omega arith) none)
     ]
@@ -268,11 +246,10 @@ current_waits setting journal there =
     let now : current_mark after ≡ next_current setting journal = current_is setting journal in
     elim (next_waits setting journal there) [
       | inl last ↦ inl (now ∙ last ∙ sym more.count)
-      | inr none ↦ inr (subst (λ v. IsFalse (all_acked setting after (v + 1))) (sym now)
-          (fewer_pass (λ s. has_acked journal s (next_current setting journal + 1))
-          (λ s. has_acked after s (next_current setting journal + 1)) (is_member journal)
-          (is_member after) (λ s. more.acked s (next_current setting journal + 1)) more.member
-          (switches_of setting) none))
+      | inr none ↦ inr (rw now
+          (fewer_pass (λ s. has_acked journal s (next_current setting journal + 1)) (λ s. has_acked
+          after s (next_current setting journal + 1)) (is_member journal) (is_member after) (λ s.
+          more.acked s (next_current setting journal + 1)) more.member (switches_of setting) none))
     ]
 
 -- ---- joining switches are opened
@@ -286,9 +263,8 @@ opened_all : (setting : Setting) (journal : List Item) → AllByRecursion
     (λ s. IsTrue (is_some (opened_at (journal ++ open_items setting journal) s)))
     (opening_switches setting journal)
 unfolding open_items
-opened_all setting journal =
-    all_opened (opening_switches setting journal) journal journal (next_message journal)
-    (current_mark journal) (λ s. refl)
+opened_all setting journal = all_opened (opening_switches setting journal) journal journal
+    (next_message journal) (current_mark journal) (λ s. refl)
 
 none_joins : (setting : Setting) (journal : List Item) (s : ℕ)
     → s < length setting.net.switches → NoneJoins (journal ++ open_items setting journal) s
@@ -305,8 +281,7 @@ none_joins setting journal s there joins =
     joined = joining_was journal after s more joins
 
     same : has_acked after s (current_mark after) ≡ has_acked journal s (current_mark journal)
-    same = ap (has_acked after s) (open_keeps setting journal).current
-        ∙ more.acked s (current_mark journal)
+    same = cc ((open_keeps setting journal).current, more.acked s (current_mark journal))
 
     both : (b c : Bool) → IsTrue b → c ≡ true → IsTrue (b && c)
     both true true is e = refl
@@ -314,11 +289,8 @@ none_joins setting journal s there joins =
     both false c is e = is
 
     not_member : IsTrue (is_member after s) → IsTrue (is_joining after s) → ⊥
-    not_member member joins =
-        let is : is_member after s ≡ true = member in
-        let clash : IsTrue (not (is_over after s) && false) =
-        subst (λ m. IsTrue (not (is_over after s) && not m)) is joins in
-        none_and (not (is_over after s)) clash
+    not_member member joins = none_and (not (is_over after s))
+        (subst (λ m. IsTrue (not (is_over after s) && not m)) member joins)
       where
         none_and : (b : Bool) → IsTrue (b && false) → ⊥
         none_and true e = absurd cc
@@ -332,11 +304,9 @@ none_joins setting journal s there joins =
         → IsFalse (has_acked after s (current_mark after))
     by_acked false e = same ∙ e
     by_acked true e =
-        let opened : IsTrue (is_some (opened_at after s)) =
-        each_in_range (λ t. IsTrue (is_some (opened_at after t)))
+        let opened = each_in_range (λ t. IsTrue (is_some (opened_at after t)))
         (λ t. is_joining journal t && has_acked journal t (current_mark journal)) 0
-        (length setting.net.switches) s (opened_all setting journal) (omega arith)
-        (omega (arith, there))
+        (length setting.net.switches) s (opened_all setting journal) (omega arith) (omega arith)
         (both (is_joining journal s) (has_acked journal s (current_mark journal)) joined e) in
         absurd (not_member (member_of after s
         (not_over (is_over after s) (not (is_member after s)) joins) opened) joins)
@@ -350,8 +320,7 @@ collects_reopen journal base version (s ∷ switches) =
     (tt, collects_reopen journal base version switches)
 
 retires : (setting : Setting) (journal : List Item) (version : ℕ)
-    → version ≡ next_retired setting journal
-    → let retired = journal ++ item.Retired version ∷ [] in
+    → version ≡ next_retired setting journal → let retired = journal ++ item.Retired version ∷ [] in
     let after = retired ++ send_items retired
     (map (collect_for journal version) (members setting journal)) in
     (current_mark after ≡ current_mark journal)
@@ -360,12 +329,10 @@ retires setting journal version is =
     let next : Item = item.Retired version in
     let retired : List Item = journal ++ next ∷ [] in
     let collects : List Message = map (collect_for journal version) (members setting journal) in
-    let keeps = leaves_keep retired (send_items retired collects)
-    (sends_leave retired collects
+    let keeps = leaves_keep retired (send_items retired collects) (sends_leave retired collects
     (collects_reopen retired journal version (members setting journal))) in
     let opened = λ (s : ℕ). opened_same journal next s (known_more journal next s) refl in
-    let member = λ (s : ℕ).
-    member_same journal retired s (over_more journal next s) (opened s) in
+    let member = λ (s : ℕ). member_same journal retired s (over_more journal next s) (opened s) in
     let stamp = λ (s : ℕ).
     stamp_same journal retired s (told_more journal next) (known_more journal next s) (opened s) in
     let current : current_mark retired ≡ current_mark journal = current_more journal next in (
@@ -382,8 +349,7 @@ retired_is : (setting : Setting) (journal : List Item)
     → (current_mark after ≡ current_mark journal)
     × (retired_mark after ≡ next_retired setting after)
 unfolding retired_items
-retired_is setting journal =
-    let version : ℕ = next_retired setting journal in
+retired_is setting journal = let version : ℕ = next_retired setting journal in
     rise_cases (λ now. retired_mark now ≤ next_retired setting now
     → (current_mark now ≡ current_mark journal) × (retired_mark now ≡ next_retired setting now))
     setting journal (item.Retired version) (collect_for journal version)
@@ -396,8 +362,7 @@ retired_is setting journal =
 pub in_three : (a b c : List Item → List Item) (journal : List Item)
     → let one = journal ++ a journal in let two = one ++ b one in
     journal ++ in_turn (a ∷ b ∷ c ∷ []) journal ≡ two ++ c two
-in_three a b c journal =
-    let one : List Item = journal ++ a journal in
+in_three a b c journal = let one : List Item = journal ++ a journal in
     sym (append_assoc journal (a journal) (in_turn (b ∷ c ∷ []) one)) ∙ in_two b c one
 
 pub settles : (setting : Setting) (journal : List Item)
@@ -406,8 +371,7 @@ pub settles : (setting : Setting) (journal : List Item)
     retired_mark after ≤ next_retired setting after → AreSettled setting after
 unfolding settling
 settles setting journal there =
-    subst (λ now. retired_mark now ≤ next_retired setting now → AreSettled setting now)
-    (sym (in_three (current_items setting) (open_items setting) (retired_items setting) journal))
+    rw (in_three (current_items setting) (open_items setting) (retired_items setting) journal)
     settled
   where
     one : List Item
@@ -426,15 +390,11 @@ settles setting journal there =
     ends = grows two (retired_items setting two) ((parts_settle setting).retires two)
 
     settled : retired_mark three ≤ next_retired setting three → AreSettled setting three
-    settled behind =
-        let is = retired_is setting two behind in
-        record {
-          current = waits_on setting two three ends is.0
-              (waits_on setting one two opens (open_keeps setting one).current
-              (current_waits setting journal there));
-          joining = joins_on setting two three ends is.0
-              (All-from_recursion (NoneJoins two) (switches_of setting)
-              (each_range (NoneJoins two) 0 (length setting.net.switches)
-              (λ s above below. none_joins setting one s (omega (arith, below)))));
-          retired = is.1;
-        }
+    settled behind = let is = retired_is setting two behind in record {
+      current = waits_on setting two three ends is.0 (waits_on setting one two opens
+          (open_keeps setting one).current (current_waits setting journal there));
+      joining = joins_on setting two three ends is.0 (All-from_recursion (NoneJoins two)
+          (switches_of setting) (each_range (NoneJoins two) 0 (length setting.net.switches)
+          (λ s above below. none_joins setting one s (omega (arith, below)))));
+      retired = is.1;
+    }

@@ -4,7 +4,7 @@ use Rattle.std.proofs.Common.{[], if◌then◌else◌, ◌++◌, ◌<◌, ◌==�
 use Rattle.base.proofs.Exports.{nat_tests, option_map_or, option_or}
 use Rattle.update_machine.specs.Exports.{Item, MayRise, Message, Setting, body_to_controller, current_mark, first_number, hello_boot, is_member, is_over, known_boot, open_sent, open_version, opened_at, raises_known, retired_mark}
 use Rattle.journal.specs.declared.item.Item.TheVariants as item
-use Rattle.control_laws.specs.Exports.{HasItemCause, IsFirstOpening, IsRightOpening, RetiresRightly}
+use Rattle.control_laws.specs.Exports.{HasItemCause, IsFirstOpening, RetiresRightly}
 use Rattle.control_laws.proofs.FactsGrown.{opened_at_more, opens_by, current_more, known_more, opened_in, opened_is, opened_more, over_more, raised, retired_more}
 use Rattle.control_laws.proofs.SwitchOpenings.{member_of, member_parts}
 use Rattle.control_laws.proofs.CurrentVersions.{StampsAreCurrent}
@@ -12,13 +12,11 @@ use Rattle.control_laws.proofs.CurrentVersions.{StampsAreCurrent}
 -- ---- what a member keeps
 
 -- an item that opens no switch leaves the opening of the known boot
-pub opened_same : (before : List Item) (next : Item) (s : ℕ)
-    → known_boot (before ++ next ∷ []) s ≡ known_boot before s
-    → open_sent s (known_boot before s) next ≡ []
+pub opened_same : (before : List Item) (next : Item) (s : ℕ) → known_boot (before ++ next ∷ []) s
+    ≡ known_boot before s → open_sent s (known_boot before s) next ≡ []
     → opened_at (before ++ next ∷ []) s ≡ opened_at before s
 opened_same before next s known none =
-    opened_at_more before next s known
-    ∙ ap (λ xs. option_or (opened_at before s) (first_number xs)) none ∙ or_none (opened_at before s)
+    cc (opened_at_more before next s known, none, or_none (opened_at before s))
   where
     or_none : (o : Option ℕ) → option_or o None ≡ o
     or_none None = refl
@@ -27,8 +25,7 @@ opened_same before next s known none =
 -- a delivery that raises the known boot makes it a greater one
 pub raised_above : (before : List Item) (number s : ℕ) → raises_known before s number ≡ true
     → known_boot before s < known_boot (before ++ item.Delivered number ∷ []) s
-raised_above before number s raises =
-    rw (known_more before (item.Delivered number) s)
+raised_above before number s raises = rw (known_more before (item.Delivered number) s)
     (rises (option_and_then (hello_boot s) (body_to_controller before number)) raises)
   where
     rises : (hello : Option ℕ)
@@ -41,8 +38,7 @@ raised_above before number s raises =
 pub raised_none : (before : List Item) (number s : ℕ) → StampsAreCurrent before
     → raises_known before s number ≡ true
     → opened_at (before ++ item.Delivered number ∷ []) s ≡ None
-raised_none before number s are raises =
-    opened_is after s
+raised_none before number s are raises = opened_is after s
     ∙ opened_more before (item.Delivered number) s (known_boot after s)
     ∙ ap (λ o. option_or o None) (by_opened (opened_in before s (known_boot after s)) refl)
   where
@@ -55,15 +51,13 @@ raised_none before number s are raises =
     by_opened : (o : Option ℕ) → opened_in before s (known_boot after s) ≡ o
         → opened_in before s (known_boot after s) ≡ None
     by_opened None e = e
-    by_opened (Some version) e =
-        let past = (are.opened s (known_boot after s) version e).1 in
+    by_opened (Some version) e = let past = (are.opened s (known_boot after s) version e).1 in
         absurd (omega (arith, past, more))
 
 -- one that doesn't leaves it
 pub unraised_same : (before : List Item) (number s : ℕ) → raises_known before s number ≡ false
     → known_boot (before ++ item.Delivered number ∷ []) s ≡ known_boot before s
-unraised_same before number s none =
-    known_more before (item.Delivered number) s
+unraised_same before number s none = known_more before (item.Delivered number) s
     ∙ same (option_and_then (hello_boot s) (body_to_controller before number)) none
   where
     same : (hello : Option ℕ)
@@ -83,8 +77,7 @@ pub record LeavesMember (before : List Item) (next : Item) (s : ℕ) : Type 0 wh
 -- so a member was one
 pub member_was : (before : List Item) (next : Item) (s : ℕ) → LeavesMember before next s
     → IsTrue (is_member (before ++ next ∷ []) s) → IsTrue (is_member before s)
-member_was before next s leaves member =
-    let parts = member_parts (before ++ next ∷ []) s member in
+member_was before next s leaves member = let parts = member_parts (before ++ next ∷ []) s member in
     member_of before s (sym leaves.over ∙ parts.0)
     (sym (ap (λ o. is_some o) leaves.opened) ∙ parts.1)
 
@@ -101,8 +94,7 @@ pub record MemberFact (setting : Setting) (Holds : List Item → ℕ → Type 0)
       → retired_mark (before ++ next ∷ []) ≡ retired_mark before
       → Holds before s → Holds (before ++ next ∷ []) s
   -- it asks nothing of others
-  pub none : (journal : List Item) (s : ℕ) → (IsTrue (is_member journal s) → ⊥)
-      → Holds journal s
+  pub none : (journal : List Item) (s : ℕ) → (IsTrue (is_member journal s) → ⊥) → Holds journal s
   -- a switch that is opened now has it
   pub new : (before : List Item) (n s version : ℕ) (message : Message)
       → StampsAreCurrent before → IsFirstOpening before s version
@@ -119,17 +111,14 @@ pub record MemberFact (setting : Setting) (Holds : List Item → ℕ → Type 0)
 -- one that wasn't opened is no member
 closed_no_member : (journal : List Item) (s : ℕ) → opened_at journal s ≡ None
     → IsTrue (is_member journal s) → ⊥
-closed_no_member journal s closed member =
-    let parts = member_parts journal s member in
-    let none : false ≡ true = sym (ap (λ o. is_some o) closed) ∙ parts.1 in
-    absurd cc
+closed_no_member journal s closed member = let parts = member_parts journal s member in
+    absurd (cc (sym (ap (λ o. is_some o) closed) ∙ parts.1))
 
 -- ---- items
 
 -- an item that is no delivery, no message and no end of one that is over
-pub quiet_leaves : (before : List Item) (next : Item) (s : ℕ)
-    → known_boot (before ++ next ∷ []) s ≡ known_boot before s
-    → is_over (before ++ next ∷ []) s ≡ is_over before s
+pub quiet_leaves : (before : List Item) (next : Item) (s : ℕ) → known_boot (before ++ next ∷ []) s
+    ≡ known_boot before s → is_over (before ++ next ∷ []) s ≡ is_over before s
     → open_sent s (known_boot before s) next ≡ [] → LeavesMember before next s
 quiet_leaves before next s known over none = record {
   known = known;
@@ -164,10 +153,7 @@ sent_cases setting before n s message cause Goal leaves none new =
         → first_number (open_sent s boot next) ≡ o → opened_at (before ++ next ∷ []) s ≡ o → Goal
     by_new None closed opens now = none (closed_no_member (before ++ next ∷ []) s now)
     by_new (Some w) closed opens now =
-        let opening = opens_by next s boot w opens in
-        let right : IsRightOpening before s boot w =
-        subst (HasItemCause setting before) opening.1 cause in
-        elim right.opens [
+        elim (subst (HasItemCause setting before) (opens_by next s boot w opens).1 cause).opens [
           | inl first ↦ new w first now
           | inr same ↦ let clash : None ≡ Some w = sym closed ∙ same in absurd cc
         ]
@@ -193,29 +179,24 @@ delivered_cases before number s are Goal leaves none = by_raise (raises_known be
     by_raise : (b : Bool) → raises_known before s number ≡ b → Goal
     by_raise true e = none
         (closed_no_member (before ++ next ∷ []) s (raised_none before number s are e))
-    by_raise false e = leaves
-        (quiet_leaves before next s (unraised_same before number s e)
+    by_raise false e = leaves (quiet_leaves before next s (unraised_same before number s e)
         (over_more before next s ∙ ap (λ b. if b then false else is_over before s) e) refl)
 
 -- a switch that is over now is no member
 pub over_cases : (before : List Item) (t s : ℕ) (Goal : Type 0)
     → (LeavesMember before (item.OverNow t) s → Goal)
     → ((IsTrue (is_member (before ++ item.OverNow t ∷ []) s) → ⊥) → Goal) → Goal
-over_cases before t s Goal leaves none = by_test (t == s) refl
-  where
-    next : Item
-    next = item.OverNow t
+over_cases before t s Goal leaves none = by_test (t == s) refl where
+  next : Item
+  next = item.OverNow t
 
-    by_test : (b : Bool) → (t == s) ≡ b → Goal
-    by_test true e = none (λ member.
-        let parts = member_parts (before ++ next ∷ []) s member in
-        let over : is_over (before ++ next ∷ []) s ≡ true =
-        over_more before next s ∙ ap (λ b. if b then true else is_over before s) e in
-        let none : true ≡ false = sym over ∙ parts.0 in
-        absurd cc)
-    by_test false e = leaves
-        (quiet_leaves before next s (known_more before next s)
-        (over_more before next s ∙ ap (λ b. if b then true else is_over before s) e) refl)
+  by_test : (b : Bool) → (t == s) ≡ b → Goal
+  by_test true e = none (λ member. let over : is_over (before ++ next ∷ []) s ≡ true =
+      over_more before next s ∙ ap (λ b. if b then true else is_over before s) e in
+      let none : true ≡ false = sym over ∙ (member_parts (before ++ next ∷ []) s member).0 in
+      absurd cc)
+  by_test false e = leaves (quiet_leaves before next s (known_more before next s)
+      (over_more before next s ∙ ap (λ b. if b then true else is_over before s) e) refl)
 
 pub member_on : (setting : Setting) (Holds : List Item → ℕ → Type 0) → MemberFact setting Holds
     → (before : List Item) (next : Item) (s : ℕ) → HasItemCause setting before next
@@ -247,7 +228,6 @@ member_on setting Holds fact before (item.Retired version) s cause are is =
     fact.retires before version s are cause
     (quiet_leaves before (item.Retired version) s (known_more before (item.Retired version) s)
     (over_more before (item.Retired version) s) refl) is
-member_on setting Holds fact before next s cause are is =
-    fact.same before next s
+member_on setting Holds fact before next s cause are is = fact.same before next s
     (quiet_leaves before next s (known_more before next s) (over_more before next s) refl)
     (current_more before next) (retired_more before next) is

@@ -24,12 +24,7 @@ sent_more next items = sum_by-cons (λ x. cond (is_sending x) 1 0) next items
 sent_all : (messages : List Message) (n : ℕ) → sent (sent_from n messages) ≡ length messages
 unfolding sent_from
 sent_all [] n = refl
-sent_all (message ∷ messages) n =
-    omega (
-      arith,
-      sent_more (item.Sent n message) (sent_from (n + 1) messages),
-      sent_all messages (n + 1),
-    )
+sent_all (message ∷ messages) n = omega (arith, sent_more, sent_all messages (n + 1))
 
 pub sends_count : (journal : List Item) (messages : List Message)
     → sent (send_items journal messages) ≡ length messages
@@ -66,8 +61,7 @@ authority_few setting i s (Some rule) journal =
 
 found_few : (setting : Setting) (i s : ℕ) (what : Found) (journal : List Item)
     → sent (found_items setting i s what journal) ≤ 1
-found_few setting i s what journal =
-    grind (arith, sent_more, end_few, authority_few, leg_few)
+found_few setting i s what journal = grind (arith, sent_more, end_few, authority_few, leg_few)
 
 lookup_few : (setting : Setting) (i s : ℕ) (journal : List Item)
     → sent (lookup_items setting i s journal) ≤ 1
@@ -99,9 +93,8 @@ packet_few setting i s header journal = grind (arith, sent_more, lookup_few)
 pub step_few : (setting : Setting) (before : List Item) (step : Step) (here : List Item)
     → IsWorkStep step → sent (step_items setting before step here) ≤ 1
 unfolding hop_items lose_items forget_items expire_items
-step_few setting before step here =
-    work_cases (λ step. sent (step_items setting before step here) ≤ 1)
-    (λ packet. grind (arith, move_few)) (λ packet. grind arith) (λ message. grind arith)
+step_few setting before step here = work_cases (λ step. sent (step_items setting before step here)
+    ≤ 1) (λ packet. grind (arith, move_few)) (λ packet. grind arith) (λ message. grind arith)
     (λ s place. grind arith) step
 
 -- ---- settling
@@ -109,23 +102,17 @@ step_few setting before step here =
 switches_few : (setting : Setting) → IsNet setting.net → (test : ℕ → Bool)
     → length (filter test (switches_of setting)) ≤ 64
 switches_few setting net test =
-    omega (
-      arith,
-      length_filter_less test (switches_of setting),
-      length-range_with_len 0 (length setting.net.switches),
-      net.few_switches,
-    )
+    omega (arith, length_filter_less, length-range_with_len, net.few_switches)
 
 -- the same message to each of these switches
 each_few : (setting : Setting) → IsNet setting.net → (journal : List Item) (to : ℕ → Message)
     (test : ℕ → Bool) → sent (send_items journal (map to (filter test (switches_of setting)))) ≤ 64
-each_few setting net journal to test =
-    omega (
-      arith,
-      sends_count journal (map to (filter test (switches_of setting))),
-      length-map (filter test (switches_of setting)) to,
-      switches_few setting net test,
-    )
+each_few setting net journal to test = omega (
+  arith,
+  sends_count journal (map to (filter test (switches_of setting))),
+  length-map (filter test (switches_of setting)) to,
+  switches_few setting net test,
+)
 
 -- a mark that rises is told to the members
 mark_few : (setting : Setting) → IsNet setting.net → (journal : List Item) (next : Item)
@@ -135,14 +122,8 @@ mark_few : (setting : Setting) → IsNet setting.net → (journal : List Item) (
           (map to (members setting journal))) journal
     ]) ≤ 64
 mark_few setting net journal next none to false = omega arith
-mark_few setting net journal next none to true =
-    let alone : sent (next ∷ []) ≡ 0 = rw none refl in
-    omega (
-      arith,
-      put_few (next ∷ []) (λ raised. send_items raised (map to (members setting journal))) journal,
-      alone,
-      each_few setting net (journal ++ next ∷ []) to (is_member journal),
-    )
+mark_few setting net journal next none to true = let alone : sent (next ∷ []) ≡ 0 = rw none refl in
+    omega (arith, put_few, each_few setting net (journal ++ next ∷ []) to (is_member journal))
 
 current_few : (setting : Setting) → IsNet setting.net → (journal : List Item)
     → sent (current_items setting journal) ≤ 64
@@ -181,23 +162,17 @@ settling_few setting net journal =
 -- there are few versions
 range_few : (journal : List Item) (to : ℕ → Message) (low n : ℕ)
     → sent (send_items journal (map to (range_with_len low n))) ≤ n
-range_few journal to low n =
-    omega (
-      arith,
-      sends_count journal (map to (range_with_len low n)),
-      length-map (range_with_len low n) to,
-      length-range_with_len low n,
-    )
+range_few journal to low n = omega (
+  arith,
+  sends_count journal (map to (range_with_len low n)),
+  length-map (range_with_len low n) to,
+  length-range_with_len low n,
+)
 
 pub installs_few : (setting : Setting) (s : ℕ) (journal : List Item)
     → sent (installs_to setting s journal) ≤ version_count journal + 1
 unfolding installs_to
-installs_few setting s journal =
-    omega (
-      arith,
-      range_few journal (λ version. install_for setting journal version s)
-          (current_mark journal) (version_count journal + 1 - current_mark journal),
-    )
+installs_few setting s journal = omega (arith, range_few)
 
 all_installs_few : (setting : Setting) → IsNet setting.net → (journal : List Item)
     → sent (installs_to_all setting journal) ≤ 64
@@ -208,7 +183,6 @@ pub submitted_few : (setting : Setting) → IsNet setting.net → (journal : Lis
     → sent (submitted_items setting journal) ≤ 256
 submitted_few setting net journal =
     let installed : List Item = journal ++ installs_to_all setting journal in
-    let settled : List Item = installed ++ settling setting installed in
     omega (
       arith,
       put_few (installs_to_all setting journal) (in_turn (settling setting ∷ [])) journal,
@@ -247,11 +221,10 @@ member_few setting journal s =
     unacked_installs setting journal s (range_with_len (current_mark journal + 1) later) in
     let stamp : List Message = if nat_lt (acked_stamp journal s) (current_mark journal)
     then stamp_for setting journal (current_mark journal) s ∷ [] else [] in
-    let mark : List Message = if retired_mark journal == 0
-    then [] else collect_for journal (retired_mark journal) s ∷ [] in
     omega (
       arith,
-      length-append (tables ++ stamp) mark,
+      length-append (tables ++ stamp) (if retired_mark journal == 0
+          then [] else collect_for journal (retired_mark journal) s ∷ []),
       length-append tables stamp,
       unacked_few setting journal s (current_mark journal + 1) later,
       one_if (nat_lt (acked_stamp journal s) (current_mark journal))
@@ -262,58 +235,47 @@ member_few setting journal s =
 controller_resent_few : (setting : Setting) (journal : List Item) (s : ℕ)
     → length (resent_by_controller setting journal s) ≤ version_count journal + 3
 unfolding resent_by_controller
-controller_resent_few setting journal s = by_over (is_over journal s)
-  where
-    by_member : (member : Bool) → length {A = Message} (elim member [
+controller_resent_few setting journal s = by_over (is_over journal s) where
+  by_member : (member : Bool) → length {A = Message} (elim member [
+    | true ↦ resent_to_member setting journal s
+    | false ↦ unacked_installs setting journal s (versions_from_current journal)
+  ]) ≤ version_count journal + 3
+  by_member true = member_few setting journal s
+  by_member false = omega (arith, unacked_few)
+
+  by_over : (over : Bool) → length {A = Message} (elim over [
+    | true ↦ []
+    | false ↦ elim (is_member journal s) [
       | true ↦ resent_to_member setting journal s
       | false ↦ unacked_installs setting journal s (versions_from_current journal)
-    ]) ≤ version_count journal + 3
-    by_member true = member_few setting journal s
-    by_member false =
-        omega (
-          arith,
-          unacked_few setting journal s (current_mark journal)
-              (version_count journal + 1 - current_mark journal),
-        )
-
-    by_over : (over : Bool) → length {A = Message} (elim over [
-      | true ↦ []
-      | false ↦ elim (is_member journal s) [
-        | true ↦ resent_to_member setting journal s
-        | false ↦ unacked_installs setting journal s (versions_from_current journal)
-      ]
-    ]) ≤ version_count journal + 3
-    by_over true = omega arith
-    by_over false = by_member (is_member journal s)
+    ]
+  ]) ≤ version_count journal + 3
+  by_over true = omega arith
+  by_over false = by_member (is_member journal s)
 
 -- all adverts that are held, to each neighbour
 switch_resent_few : (setting : Setting) → IsNet setting.net → (journal : List Item) (s : ℕ)
     → length (resent_by_switch setting journal s) ≤ 4097
-switch_resent_few setting net journal s = by_up (is_up journal s)
-  where
-    by_up : (up : Bool) → length {A = Message} (elim up [
-      | false ↦ []
-      | true ↦ hello_of journal s
-          ∷ flat_map (λ neighbour. map (advert_to neighbour) (held_adverts setting journal s))
-          (switches_in setting (near setting journal s))
-    ]) ≤ 4097
-    by_up false = omega arith
-    by_up true =
-        omega (
+switch_resent_few setting net journal s = by_up (is_up journal s) where
+  by_up : (up : Bool) → length {A = Message} (elim up [
+    | false ↦ []
+    | true ↦ hello_of journal s
+        ∷ flat_map (λ neighbour. map (advert_to neighbour) (held_adverts setting journal s))
+        (switches_in setting (near setting journal s))
+  ]) ≤ 4097
+  by_up false = omega arith
+  by_up true = omega (
+    arith,
+    length-flat_map (λ neighbour. map (advert_to neighbour) (held_adverts setting journal s))
+        (switches_in setting (near setting journal s)),
+    sum_each (λ neighbour. length (map (advert_to neighbour) (held_adverts setting journal s))) 64
+        (switches_in setting (near setting journal s)) (λ neighbour. omega (
           arith,
-          length-flat_map
-              (λ neighbour. map (advert_to neighbour) (held_adverts setting journal s))
-              (switches_in setting (near setting journal s)),
-          sum_each
-              (λ neighbour. length (map (advert_to neighbour) (held_adverts setting journal s)))
-              64 (switches_in setting (near setting journal s))
-              (λ neighbour. omega (
-                arith,
-                held_few setting journal s,
-                length-map (held_adverts setting journal s) (advert_to neighbour),
-              )),
-          switches_few setting net (has (near setting journal s)),
-        )
+          held_few setting journal s,
+          length-map (held_adverts setting journal s) (advert_to neighbour),
+        )),
+    switches_few setting net (has (near setting journal s)),
+  )
 
 pub resend_few : (setting : Setting) → IsNet setting.net → (s : ℕ) (journal : List Item)
     → sent (resend_items setting s journal) ≤ 4100 + version_count journal
@@ -322,8 +284,7 @@ resend_few setting net s journal =
     by_messages (resent_by_switch setting journal s ++ resent_by_controller setting journal s)
     (omega (
       arith,
-      length-append (resent_by_switch setting journal s)
-          (resent_by_controller setting journal s),
+      length-append (resent_by_switch setting journal s) (resent_by_controller setting journal s),
       switch_resent_few setting net journal s,
       controller_resent_few setting journal s,
     ))
@@ -331,58 +292,52 @@ resend_few setting net s journal =
     by_messages : (messages : List Message) → length messages ≤ 4100 + version_count journal
         → sent (sends_or_nothing journal messages) ≤ 4100 + version_count journal
     by_messages [] few = omega arith
-    by_messages (message ∷ messages) few =
-        omega (arith, few, sends_count journal (message ∷ messages))
+    by_messages (message ∷ messages) few = omega (arith, sends_count)
 
 -- ---- steps without links
 
 pub update_few : (setting : Setting) → IsNet setting.net → (file : ℕ) (journal : List Item)
     → sent (update_items setting file journal) ≤ 256
 unfolding update_items
-update_few setting net file journal = by_code (update_code setting journal file)
-  where
-    next : Item
-    next = item.Submitted file (version_count journal + 1)
+update_few setting net file journal = by_code (update_code setting journal file) where
+  next : Item
+  next = item.Submitted file (version_count journal + 1)
 
-    by_code : (code : Option ℕ) → sent (elim code [
-      | Some refused ↦ item.Refused file refused ∷ []
-      | None ↦ items_then (item.Submitted file (version_count journal + 1) ∷ [])
-          (submitted_items setting) journal
-    ]) ≤ 256
-    by_code (Some refused) = omega arith
-    by_code None =
-        omega (
-          arith,
-          sent_more next (submitted_items setting (journal ++ next ∷ [])),
-          submitted_few setting net (journal ++ next ∷ []),
-        )
+  by_code : (code : Option ℕ) → sent (elim code [
+    | Some refused ↦ item.Refused file refused ∷ []
+    | None ↦ items_then (item.Submitted file (version_count journal + 1) ∷ [])
+        (submitted_items setting) journal
+  ]) ≤ 256
+  by_code (Some refused) = omega arith
+  by_code None = omega (
+    arith,
+    sent_more next (submitted_items setting (journal ++ next ∷ [])),
+    submitted_few setting net (journal ++ next ∷ []),
+  )
 
 pub confirm_few : (setting : Setting) → IsNet setting.net → (s : ℕ) (journal : List Item)
     → sent (confirm_items setting s journal) ≤ 192
 unfolding confirm_items
-confirm_few setting net s journal = by_up (is_up journal s)
-  where
-    by_up : (up : Bool) → sent (elim up [
-      | true ↦ nothing
-      | false ↦ items_then (item.OverNow s ∷ []) (settling setting) journal
-    ]) ≤ 192
-    by_up true = omega arith
-    by_up false =
-        omega (
-          arith,
-          sent_more (item.OverNow s) (settling setting (journal ++ item.OverNow s ∷ [])),
-          settling_few setting net (journal ++ item.OverNow s ∷ []),
-        )
+confirm_few setting net s journal = by_up (is_up journal s) where
+  by_up : (up : Bool) → sent (elim up [
+    | true ↦ nothing
+    | false ↦ items_then (item.OverNow s ∷ []) (settling setting) journal
+  ]) ≤ 192
+  by_up true = omega arith
+  by_up false = omega (
+    arith,
+    sent_more (item.OverNow s) (settling setting (journal ++ item.OverNow s ∷ [])),
+    settling_few setting net (journal ++ item.OverNow s ∷ []),
+  )
 
 pub passed_few : (setting : Setting) → IsNet setting.net → (journal : List Item) (s : ℕ)
     (advert : Advert) → length (passed_on setting journal s advert) ≤ 64
-passed_few setting net journal s advert =
-    omega (
-      arith,
-      length-map (switches_in setting (near setting journal s))
-          (λ neighbour. advert_to neighbour advert),
-      switches_few setting net (has (near setting journal s)),
-    )
+passed_few setting net journal s advert = omega (
+  arith,
+  length-map (switches_in setting (near setting journal s))
+      (λ neighbour. advert_to neighbour advert),
+  switches_few setting net (has (near setting journal s)),
+)
 
 -- ---- what the controller does: settling submits nothing
 
@@ -399,14 +354,13 @@ settling_submitless setting journal =
 
 hello_few : (setting : Setting) (before : List Item) (body : Body) (journal : List Item)
     → sent (after_hello setting before body journal) ≤ version_count journal + 1
-hello_few setting before (Hello s boot) journal = by_new (is_new_boot before s boot)
-  where
-    by_new : (new : Bool) → sent (elim new [
-      | true ↦ installs_to setting s journal
-      | false ↦ []
-    ]) ≤ version_count journal + 1
-    by_new true = installs_few setting s journal
-    by_new false = omega arith
+hello_few setting before (Hello s boot) journal = by_new (is_new_boot before s boot) where
+  by_new : (new : Bool) → sent (elim new [
+    | true ↦ installs_to setting s journal
+    | false ↦ []
+  ]) ≤ version_count journal + 1
+  by_new true = installs_few setting s journal
+  by_new false = omega arith
 hello_few setting before _ journal = omega arith
 
 pub controller_few : (setting : Setting) → IsNet setting.net → (before : List Item) (body : Body)
@@ -415,10 +369,8 @@ pub controller_few : (setting : Setting) → IsNet setting.net → (before : Lis
 unfolding controller_items
 controller_few setting net before body journal =
     let settled : List Item = journal ++ settling setting journal in
-    let after : List Item = settled ++ after_hello setting before body settled in
-    let same : version_count settled ≡ version_count journal =
-    (policies_keep journal (settling setting journal) (settling_submitless setting journal)).count
-    in
+    let same : version_count settled ≡ version_count journal = (policies_keep journal
+    (settling setting journal) (settling_submitless setting journal)).count in
     omega (
       arith,
       put_few (settling setting journal) (in_turn (after_hello setting before body ∷ [])) journal,

@@ -25,16 +25,14 @@ each_range P low (suc n) all = (
 -- the switches of the network, and those that pass a test
 pub switches_there : (setting : Setting)
     → AllByRecursion (λ s. s < length setting.net.switches) (switches_of setting)
-switches_there setting =
-    each_range (λ s. s < length setting.net.switches) 0 (length setting.net.switches)
-    (λ s above below. omega (arith, below))
+switches_there setting = each_range (λ s. s < length setting.net.switches) 0
+    (length setting.net.switches) (λ s above below. omega (arith, below))
 
 pub each_of_network : (P : ℕ → Type 0) (setting : Setting) (test : ℕ → Bool)
     → ((s : ℕ) → s < length setting.net.switches → IsTrue (test s) → P s)
     → AllByRecursion P (filter test (switches_of setting))
-each_of_network P setting test so =
-    each_passing (λ s. s < length setting.net.switches) P test so (switches_of setting)
-    (switches_there setting)
+each_of_network P setting test so = each_passing (λ s. s < length setting.net.switches) P test so
+    (switches_of setting) (switches_there setting)
 
 -- ---- messages that are told as the first of them is sent, each of which stays so behind others
 
@@ -67,9 +65,8 @@ sends_kept cause Tells causes stays journal messages all =
 -- ---- what a message that is sent leaves as it was
 
 -- what was acknowledged is as what was told
-pub acked_same : (after before : List Item) (s v : ℕ)
-    → controller_heard after ≡ controller_heard before
-    → has_acked after s v ≡ has_acked before s v
+pub acked_same : (after before : List Item) (s v : ℕ) → controller_heard after
+    ≡ controller_heard before → has_acked after s v ≡ has_acked before s v
 unfolding has_acked known_boot
 acked_same after before s v same = rw same refl
 
@@ -100,18 +97,14 @@ from_sent : (setting : Setting) (before : List Item) (n : ℕ) (message : Messag
     → IsRightFrom before body → IsRightFrom (before ++ item.Sent n message ∷ []) body
 from_sent setting before n message (Hello s boot) right =
     present_sent setting before s boot n message right
-from_sent setting before n message (Installed s boot version) right =
-    let same = keeps setting before n s message in
-    record {
-      present = present_sent setting before s boot n message right.present;
-      heard = rw same.heard right.heard;
-    }
-from_sent setting before n message (Stamped s boot version) right =
-    let same = keeps setting before n s message in
-    record {
-      present = present_sent setting before s boot n message right.present;
-      stamps = rw same.stamp right.stamps;
-    }
+from_sent setting before n message (Installed s boot version) right = record {
+  present = present_sent setting before s boot n message right.present;
+  heard = rw (keeps setting before n s message).heard right.heard;
+}
+from_sent setting before n message (Stamped s boot version) right = record {
+  present = present_sent setting before s boot n message right.present;
+  stamps = rw (keeps setting before n s message).stamp right.stamps;
+}
 from_sent setting before n message _ right = absurd right
 
 -- ---- openings that are sent one after another
@@ -126,50 +119,43 @@ opening_sent setting before s boot version n message new right = record {
     | inr same ↦ inr (after
         ∙ ap (λ o. option_or o (first_number (open_sent s (known_boot before s) next))) same)
   ];
-}
-  where
-    next : Item
-    next = item.Sent n message
+} where
+  next : Item
+  next = item.Sent n message
 
-    after : opened_at (before ++ next ∷ []) s
-        ≡ option_or (opened_at before s) (first_number (open_sent s (known_boot before s) next))
-    after = opened_at_more before next s (known_more before next s)
+  after : opened_at (before ++ next ∷ []) s
+      ≡ option_or (opened_at before s) (first_number (open_sent s (known_boot before s) next))
+  after = opened_at_more before next s (known_more before next s)
 
-    -- another one opens it at the current version too
-    at_current : (w : ℕ) → IsFirstOpening before s version
-        → IsRightOpening before s (known_boot before s) w → w ≡ version
-    at_current w first other = elim other.opens [
-      | inl also ↦ also.current ∙ sym first.current
-      | inr same ↦ let clash : None ≡ Some w = sym first.closed ∙ same in absurd cc
-    ]
+  -- another one opens it at the current version too
+  at_current : (w : ℕ) → IsFirstOpening before s version
+      → IsRightOpening before s (known_boot before s) w → w ≡ version
+  at_current w first other = elim other.opens [
+    | inl also ↦ also.current ∙ sym first.current
+    | inr same ↦ let clash : None ≡ Some w = sym first.closed ∙ same in absurd cc
+  ]
 
-    by_opens : IsFirstOpening before s version → (o : Option ℕ)
-        → first_number (open_sent s (known_boot before s) next) ≡ o
-        → IsFirstOpening (before ++ next ∷ []) s version
-        ⊎ (opened_at (before ++ next ∷ []) s ≡ Some version)
-    by_opens first None e = inl (record {
-      closed = after
-          ∙ ap (λ o. option_or o (first_number (open_sent s (known_boot before s) next))) first.closed
-          ∙ e;
-      current = rw (current_more before next) first.current;
-      acked = rw (acked_same (before ++ next ∷ []) before s version (told_more before next))
-          first.acked;
-    })
-    by_opens first (Some w) e =
-        let opens = opens_by next s (known_boot before s) w e in
-        let same : w ≡ version =
-        at_current w first (subst (HasItemCause setting before) opens.1 new) in
-        inr (
-        after
-        ∙ ap (λ o. option_or o (first_number (open_sent s (known_boot before s) next))) first.closed
-        ∙ e ∙ ap Some same)
+  by_opens : IsFirstOpening before s version → (o : Option ℕ)
+      → first_number (open_sent s (known_boot before s) next) ≡ o
+      → IsFirstOpening (before ++ next ∷ []) s version
+      ⊎ (opened_at (before ++ next ∷ []) s ≡ Some version)
+  by_opens first None e = inl (record {
+    closed = cc (after, first.closed, e);
+    current = rw (current_more before next) first.current;
+    acked = rw (acked_same (before ++ next ∷ []) before s version (told_more before next))
+        first.acked;
+  })
+  by_opens first (Some w) e = inr (
+      after
+      ∙ ap (λ o. option_or o (first_number (open_sent s (known_boot before s) next))) first.closed
+      ∙ e ∙ ap Some (at_current w first (subst (HasItemCause setting before) (opens_by next s
+      (known_boot before s) w e).1 new)))
 
 -- ---- each message stays right behind others
 
 tables_sent : (setting : Setting) (before : List Item) (n v s : ℕ) (message : Message)
     → tables_at setting (before ++ item.Sent n message ∷ []) v s ≡ tables_at setting before v s
-tables_sent setting before n v s message =
-    ap (λ plan. tables_of plan v s)
+tables_sent setting before n v s message = ap (λ plan. tables_of plan v s)
     ((policies_keep before (item.Sent n message ∷ []) (refl, tt)).plan setting v)
 
 touched_sent : (setting : Setting) (before : List Item) (n v : ℕ) (message : Message)
@@ -222,7 +208,6 @@ right_sent setting before n message receiver.Controller body new right =
 pub sends_have : (setting : Setting) (journal : List Item) (messages : List Message)
     → AllByRecursion (IsRight setting journal) messages
     → HaveCauses (HasItemCause setting) journal (send_items journal messages)
-sends_have setting =
-    sends_kept (HasItemCause setting) (IsRight setting) (λ before n message right. right)
-    (λ before n message other new right.
-    right_sent setting before n message other.to other.body new right)
+sends_have setting = sends_kept (HasItemCause setting) (IsRight setting)
+    (λ before n message right. right) (λ before n message other new right. right_sent setting before
+    n message other.to other.body new right)

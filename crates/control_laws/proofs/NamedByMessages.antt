@@ -56,9 +56,8 @@ known_there setting before s are known = elim known [
   | inr above ↦ are.known s above
 ]
 
-ingress_there : (setting : Setting) (before : List Item) (s : ℕ)
-    → 1 ≤ length setting.net.switches → AreNamed setting before → IsIngress before s
-    → s < length setting.net.switches
+ingress_there : (setting : Setting) (before : List Item) (s : ℕ) → 1 ≤ length setting.net.switches
+    → AreNamed setting before → IsIngress before s → s < length setting.net.switches
 ingress_there setting before s some are is =
     by_ingress (ingress_of before is.packet) refl is.ingress
   where
@@ -73,8 +72,7 @@ opening_above : (setting : Setting) (before : List Item) (s boot version : ℕ)
     → AreNamed setting before → IsRightOpening before s boot version → 1 ≤ version
 opening_above setting before s boot version are right = elim right.opens [
   | inl first ↦ omega (arith, first.current, are.current.marks.first)
-  | inr same ↦
-      are.opened s (known_boot before s) version (sym (opened_is before s) ∙ same)
+  | inr same ↦ are.opened s (known_boot before s) version (sym (opened_is before s) ∙ same)
 ]
 
 names_there : (setting : Setting) (before : List Item) (to : Place) (body : Body)
@@ -83,8 +81,7 @@ names_there : (setting : Setting) (before : List Item) (to : Place) (body : Body
     → NamesOnlyThere setting before (record { to = to; body = body })
 names_there setting before (receiver.Switch s) (Install boot tables) some are right says =
     let own = own_tables setting before s tables are.planned.so_far.versions
-    (right_planned setting before s boot tables are.planned.so_far.marks right) in
-    record {
+    (right_planned setting before s boot tables are.planned.so_far.marks right) in record {
       addressed = (known_there setting before s are says.1, refl);
       version = (own.first, own.last);
     }
@@ -92,23 +89,17 @@ names_there setting before (receiver.Switch s) (OpenAt boot version) some are ri
   addressed = (known_there setting before s are says.1, refl);
   version = (
     opening_above setting before s boot version are right,
-    omega (
-      arith,
-      right_current before s boot version are.current right,
-      are.current.marks.there,
-    ),
+    omega (arith, right_current before s boot version are.current right, are.current.marks.there),
   );
 }
 names_there setting before (receiver.Switch s) (Stamp boot version touched) some are right says =
     let current = right.current in
-    let marks = are.current.marks in
-    record {
+    let marks = are.current.marks in record {
       addressed = (known_there setting before s are says.1, refl);
       version = (omega (arith, current, marks.first), omega (arith, current, marks.there));
     }
 names_there setting before (receiver.Switch s) (Collect boot version) some are right says =
-    let retired = right.retired in
-    record {
+    let retired = right.retired in record {
       addressed = (known_there setting before s are says.1, refl);
       version = (says.0, omega (arith, retired, are.current.retired, are.current.marks.there));
     }
@@ -146,9 +137,7 @@ sent_named : (setting : Setting) (before : List Item) (next : Item) (n : ℕ) (m
     → NamesOnlyThere setting (before ++ next ∷ []) message
 sent_named setting before next n message some cause are is = elim
     (by_number before next n message is) [
-      | inl new ↦
-          let own : Named setting before (item.Sent n message) =
-          subst (Named setting before) new cause in
+      | inl new ↦ let own = subst (Named setting before) new cause in
           names_on setting before next message
           (names_there setting before message.to message.body some are own.first own.second)
       | inr old ↦ names_on setting before next message (are.sent n message old)
@@ -163,11 +152,8 @@ opened_named setting before next s boot version cause are opened =
     by_opened : (o : Option ℕ) → opened_in before s boot ≡ o
         → option_or o (first_number (open_sent s boot next)) ≡ Some version → 1 ≤ version
     by_opened (Some w) e opens = are.opened s boot version (e ∙ opens)
-    by_opened None e opens =
-        let new = opens_by next s boot version opens in
-        let right : IsRightOpening before s boot version =
-        subst (HasItemCause setting before) new.1 cause in
-        opening_above setting before s boot version are right
+    by_opened None e opens = opening_above setting before s boot version are
+        (subst (HasItemCause setting before) (opens_by next s boot version opens).1 cause)
 
 ingress_more : (before : List Item) (next : Item) (i : ℕ) → ingress_of (before ++ next ∷ []) i
     ≡ option_or (gives_ingress i next) (ingress_of before i)
@@ -194,15 +180,12 @@ known_named setting before (item.Delivered number) s are above =
     by_hello (option_and_then (hello_boot s) (body_to_controller before number)) refl
     (subst (λ boot. 1 < boot) (known_more before (item.Delivered number) s) above)
   where
-    by_hello : (o : Option ℕ)
-        → option_and_then (hello_boot s) (body_to_controller before number) ≡ o
-        → 1 < raised (known_boot before s) o → s < length setting.net.switches
+    by_hello : (o : Option ℕ) → option_and_then (hello_boot s) (body_to_controller before number)
+        ≡ o → 1 < raised (known_boot before s) o → s < length setting.net.switches
     by_hello None e above = are.known s above
-    by_hello (Some boot) e above =
-        (are.sent number (to_controller (Hello s boot))
+    by_hello (Some boot) e above = (are.sent number (to_controller (Hello s boot))
         (hello_sent before s number boot e)).addressed
-known_named setting before next s are above =
-    are.known s (subst (λ boot. 1 < boot) (known_more before next s) above)
+known_named setting before next s are above = are.known s (rw (known_more before next s) at above)
 
 told_on : (setting : Setting) (before : List Item) (next : Item) (bodies : List Body)
     → AllByRecursion (IsTold setting before) bodies
@@ -213,17 +196,14 @@ told_on setting before next bodies told =
 
 told_named : (setting : Setting) (before : List Item) (next : Item) → AreNamed setting before
     → AllByRecursion (IsTold setting (before ++ next ∷ [])) (controller_heard (before ++ next ∷ []))
-told_named setting before (item.Delivered number) are =
-    let next : Item = item.Delivered number in
+told_named setting before (item.Delivered number) are = let next : Item = item.Delivered number in
     subst (AllByRecursion (IsTold setting (before ++ next ∷ []))) (sym (told_more before next))
-    (told_on setting before next
-    (controller_heard before ++ option_to_list (body_to_controller before number))
-    (each_append (IsTold setting before) (controller_heard before)
-    (option_to_list (body_to_controller before number)) are.told
+    (told_on setting before next (controller_heard before
+    ++ option_to_list (body_to_controller before number)) (each_append (IsTold setting before)
+    (controller_heard before) (option_to_list (body_to_controller before number)) are.told
     (each_option (IsTold setting before) (body_to_controller before number)
     (λ body said. are.sent number (to_controller body) (said_sent before number body said)))))
-told_named setting before next are =
-    subst (AllByRecursion (IsTold setting (before ++ next ∷ []))) (sym (told_more before next))
+told_named setting before next are = rw (told_more before next)
     (told_on setting before next (controller_heard before) are.told)
 
 -- ---- together
@@ -253,15 +233,13 @@ named_at_first : (setting : Setting) → AreNamed setting []
 named_at_first setting = record {
   planned = all_at_first setting;
   current = current_at_first;
-  opened = λ s boot version is.
-      let one = (first_opened s boot version is).0 in omega (arith, one);
+  opened = λ s boot version is. let one = (first_opened s boot version is).0 in omega (arith, one);
   ingress = λ i s is.
       let none : None ≡ Some s = sym (start_laws.packet i).ingress ∙ is in absurd cc;
   known = λ s above. absurd (omega (arith, above, start_laws.known s));
   sent = λ n message is.
       let none : None ≡ Some message = sym (start_laws.message n).message ∙ is in absurd cc;
-  heard = λ s. subst (AllByRecursion (λ body. NamesOnlyThere setting [] (to_switch s body)))
-      (sym (start_laws.heard s)) tt;
+  heard = λ s. rw (start_laws.heard s) tt;
   told = subst (AllByRecursion (IsTold setting [])) (sym none_told) tt;
 }
 
@@ -269,8 +247,7 @@ named : (setting : Setting) (journal : List Item) → HaveCauses (Named setting)
     → IsNet setting.net → BodiesNameThere setting journal
 named setting journal have net =
     let are = fact_on (Named setting) (AreNamed setting) (named_kept setting net.some_switch) []
-    journal have (named_at_first setting) in
-    record {
+    journal have (named_at_first setting) in record {
       sent = are.sent;
       heard = λ s. All-from_recursion (λ body. NamesOnlyThere setting journal (to_switch s body))
           (heard journal s) (are.heard s);
@@ -281,6 +258,5 @@ pub bodies_named : HoldsReached (λ setting journal. IsNet setting.net
     → BodiesNameThere setting journal)
 bodies_named = reached (λ setting journal. IsNet setting.net → BodiesNameThere setting journal)
     Named named
-    (λ setting journal row step own.
-    have_both (HasItemCause setting) (NamesRightly setting) journal _
-    (pieces_have setting journal row step) (pieces_name setting journal row step own))
+    (λ setting journal row step own. have_both (HasItemCause setting) (NamesRightly setting) journal
+    _ (pieces_have setting journal row step) (pieces_name setting journal row step own))

@@ -25,8 +25,7 @@ use Rattle.ternary.specs.Exports.{WordValue}
 
 -- the switch is of the network, or the controller heard of another boot than its first
 abbrev pub IsKnownSwitch : Setting → List Item → ℕ → Type 0
-IsKnownSwitch setting before s =
-    (s < length setting.net.switches) ⊎ (1 < known_boot before s)
+IsKnownSwitch setting before s = (s < length setting.net.switches) ⊎ (1 < known_boot before s)
 
 -- what the controller says to switches, what these say of themselves, and adverts
 abbrev pub SaysOwn : Setting → List Item → Place → Body → Type 0
@@ -73,10 +72,9 @@ Name setting journal items = HaveCauses (NamesRightly setting) journal items
 
 traffic_names : (setting : Setting) (before : List Item) (next : Item)
     → IsTraffic setting before next → NamesRightly setting before next
-traffic_names setting before (item.Sent number message) is =
-    between_cases setting before (SaysThere setting before)
-    (λ s version word rule action there ingress. (there, ingress)) (λ s advert there. there)
-    message.to message.body is
+traffic_names setting before (item.Sent number message) is = between_cases setting before
+    (SaysThere setting before) (λ s version word rule action there ingress. (there, ingress))
+    (λ s advert there. there) message.to message.body is
 traffic_names setting before (item.Entered packet s header) is = absurd is
 traffic_names setting before next is = tt
 
@@ -91,8 +89,7 @@ abbrev IsOwn : Setting → List Item → Message → Type 0
 IsOwn setting before message = SaysOwn setting before message.to message.body
 
 known_sent : (setting : Setting) (before : List Item) (n s : ℕ) (message : Message)
-    → IsKnownSwitch setting before s
-    → IsKnownSwitch setting (before ++ item.Sent n message ∷ []) s
+    → IsKnownSwitch setting before s → IsKnownSwitch setting (before ++ item.Sent n message ∷ []) s
 known_sent setting before n s message known = elim known [
   | inl there ↦ inl there
   | inr heard ↦ inr (omega (arith, heard, known_more before (item.Sent n message) s))
@@ -117,8 +114,7 @@ own_names setting before to body own = own
 sends_name : (setting : Setting) (journal : List Item) (messages : List Message)
     → AllByRecursion (IsOwn setting journal) messages
     → Name setting journal (send_items journal messages)
-sends_name setting =
-    sends_kept (NamesRightly setting) (IsOwn setting)
+sends_name setting = sends_kept (NamesRightly setting) (IsOwn setting)
     (λ before n message own. own_names setting before message.to message.body own)
     (λ before n message other new own. own_sent setting before n message other.to other.body own)
 
@@ -144,8 +140,7 @@ settling_own setting = record {
 
 settling_name : (setting : Setting) (journal : List Item)
     → Name setting journal (settling setting journal)
-settling_name setting =
-    settling_has (NamesRightly setting) setting
+settling_name setting = settling_has (NamesRightly setting) setting
     (parts_have (NamesRightly setting) (IsOwn setting) setting (settling_own setting))
 
 -- ---- tables
@@ -153,15 +148,13 @@ settling_name setting =
 installs_name : (setting : Setting) (s : ℕ) (journal : List Item)
     → IsKnownSwitch setting journal s → Name setting journal (installs_to setting s journal)
 unfolding installs_to
-installs_name setting s journal known =
-    sends_name setting journal _
+installs_name setting s journal known = sends_name setting journal _
     (installs_own setting journal s (versions_from_current journal) known)
 
 all_installs_name : (setting : Setting) (journal : List Item)
     → Name setting journal (installs_to_all setting journal)
 unfolding installs_to_all
-all_installs_name setting journal =
-    sends_name setting journal _
+all_installs_name setting journal = sends_name setting journal _
     (each_map (IsOwn setting journal) (install_for setting journal (version_count journal))
     (filter (λ s. not (is_over journal s)) (switches_of setting))
     (each_of_network (λ s. ⊤ × IsKnownSwitch setting journal s) setting
@@ -169,9 +162,8 @@ all_installs_name setting journal =
 
 submitted_name : (setting : Setting) (journal : List Item)
     → Name setting journal (submitted_items setting journal)
-submitted_name setting journal =
-    have_in_turn (NamesRightly setting) (installs_to_all setting ∷ settling setting ∷ [])
-    (all_installs_name setting, (settling_name setting, tt)) journal
+submitted_name setting journal = have_in_turn (NamesRightly setting) (installs_to_all setting
+    ∷ settling setting ∷ []) (all_installs_name setting, (settling_name setting, tt)) journal
 
 -- ---- at a switch
 
@@ -240,65 +232,54 @@ advert_own : (setting : Setting) (before : List Item) (to : Place) (body : Body)
 advert_own setting before (receiver.Switch s) (Advertise advert) is = is
 advert_own setting before to body is = absurd is
 
-switch_own : (setting : Setting) (journal : List Item) (s : ℕ)
-    → s < length setting.net.switches
+switch_own : (setting : Setting) (journal : List Item) (s : ℕ) → s < length setting.net.switches
     → AllByRecursion (IsOwn setting journal) (resent_by_switch setting journal s)
-switch_own setting journal s there = by_up (is_up journal s)
-  where
-    adverts : List Message
-    adverts = flat_map (λ neighbour. map (advert_to neighbour) (held_adverts setting journal s))
+switch_own setting journal s there = by_up (is_up journal s) where
+  adverts : List Message
+  adverts = flat_map (λ neighbour. map (advert_to neighbour) (held_adverts setting journal s))
+      (switches_in setting (near setting journal s))
+
+  by_up : (up : Bool) → AllByRecursion (IsOwn setting journal) (elim up [
+    | false ↦ []
+    | true ↦ hello_of journal s ∷ adverts
+  ])
+  by_up false = tt
+  by_up true = (
+    there,
+    each_weaker (IsAdvert setting) (IsOwn setting journal)
+        (λ message is. advert_own setting journal message.to message.body is) adverts
+        (each_told setting (λ neighbour. map (advert_to neighbour) (held_adverts setting journal s))
+        (λ neighbour within. adverts_to setting neighbour within (held_adverts setting journal s))
         (switches_in setting (near setting journal s))
+        (masked_there setting (near setting journal s))),
+  )
 
-    by_up : (up : Bool) → AllByRecursion (IsOwn setting journal) (elim up [
-      | false ↦ []
-      | true ↦ hello_of journal s ∷ adverts
-    ])
-    by_up false = tt
-    by_up true = (
-      there,
-      each_weaker (IsAdvert setting) (IsOwn setting journal)
-          (λ message is. advert_own setting journal message.to message.body is) adverts
-          (each_told setting
-          (λ neighbour. map (advert_to neighbour) (held_adverts setting journal s))
-          (λ neighbour within. adverts_to setting neighbour within (held_adverts setting journal s))
-          (switches_in setting (near setting journal s))
-          (masked_there setting (near setting journal s))),
-    )
-
-member_own : (setting : Setting) (journal : List Item) (s : ℕ)
-    → IsKnownSwitch setting journal s
+member_own : (setting : Setting) (journal : List Item) (s : ℕ) → IsKnownSwitch setting journal s
     → AllByRecursion (IsOwn setting journal) (resent_to_member setting journal s)
-member_own setting journal s known =
-    each_to_member (IsOwn setting journal) setting journal s (tt, known)
-    (installs_own setting journal s
+member_own setting journal s known = each_to_member (IsOwn setting journal) setting journal s
+    (tt, known) (installs_own setting journal s
     (filter (λ version. not (has_acked journal s version)) (later_versions journal)) known)
     (tt, known) (λ some. (grind (arith, nat_tests), known))
 
-controller_own : (setting : Setting) (journal : List Item) (s : ℕ)
-    → IsKnownSwitch setting journal s
+controller_own : (setting : Setting) (journal : List Item) (s : ℕ) → IsKnownSwitch setting journal s
     → AllByRecursion (IsOwn setting journal) (resent_by_controller setting journal s)
-controller_own setting journal s known =
-    each_by_controller (IsOwn setting journal) setting journal s
-    (λ none member. member_own setting journal s known)
-    (λ none. installs_own setting journal s
+controller_own setting journal s known = each_by_controller (IsOwn setting journal) setting journal
+    s (λ none member. member_own setting journal s known) (λ none. installs_own setting journal s
     (filter (λ version. not (has_acked journal s version)) (versions_from_current journal)) known)
 
 resend_name : (setting : Setting) (s : ℕ) (journal : List Item)
     → s < length setting.net.switches → Name setting journal (resend_items setting s journal)
-resend_name setting s journal there =
-    resent_has (NamesRightly setting) (IsOwn setting journal) setting s journal tt
-    (sends_name setting journal) (switch_own setting journal s there)
+resend_name setting s journal there = resent_has (NamesRightly setting) (IsOwn setting journal)
+    setting s journal tt (sends_name setting journal) (switch_own setting journal s there)
     (controller_own setting journal s (inl there))
 
 -- ---- steps of the network
 
-step_name : (setting : Setting) (before : List Item) (row : ℕ) (step : Step)
-    → NamesOwn setting step
+step_name : (setting : Setting) (before : List Item) (row : ℕ) (step : Step) → NamesOwn setting step
     → let here = before ++ item.Row row step ∷ [] in
     Name setting here (step_items setting before step here)
-step_name setting before row (Packet s header) own =
-    packet_has setting (NamesRightly setting) (traffic_names setting) (next_packet before) s header
-    _ own.0
+step_name setting before row (Packet s header) own = packet_has setting (NamesRightly setting)
+    (traffic_names setting) (next_packet before) s header _ own.0
 step_name setting before row (Deliver message) own =
     deliver_name setting before row message (Deliver message)
 step_name setting before row (Update file) own = update_name setting file _

@@ -60,35 +60,29 @@ name_there = record {
   sent = λ n message is. by_number (1 == n) message is;
   heard = λ s. All-from_recursion (Names s) (heard stamped s) (by_switch s (1 == s) refl);
   told = λ k body inside. absurd (omega (arith, inside));
-}
-  where
-    Names : ℕ → Body → Type 0
-    Names s body = NamesOnlyThere open_net stamped (to_switch s body)
+} where
+  Names : ℕ → Body → Type 0
+  Names s body = NamesOnlyThere open_net stamped (to_switch s body)
 
-    by_number : (b : Bool) (message : Message)
-        → (if b then Some (to_switch 1 (Stamp 1 1 [])) else None) ≡ Some message
-        → NamesOnlyThere open_net stamped message
-    by_number true message is =
-        let own : to_switch 1 (Stamp 1 1 []) ≡ message = cc in
-        subst (NamesOnlyThere open_net stamped) own its_names
-    by_number false message is = absurd cc
+  by_number : (b : Bool) (message : Message)
+      → (if b then Some (to_switch 1 (Stamp 1 1 [])) else None) ≡ Some message
+      → NamesOnlyThere open_net stamped message
+  by_number true message is = let own : to_switch 1 (Stamp 1 1 []) ≡ message = cc in
+      subst (NamesOnlyThere open_net stamped) own its_names
+  by_number false message is = absurd cc
 
-    by_switch : (s : ℕ) (b : Bool) → (1 == s) ≡ b
-        → AllByRecursion (Names s) (option_map_or (λ body. [] ++ body ∷ [])
-        (if b && true && true then Some (Stamp 1 1 []) else None) [])
-    by_switch s true e = (subst (λ t. Names t (Stamp 1 1 [])) (eqb-true 1 s e) its_names, tt)
-    by_switch s false e = tt
+  by_switch : (s : ℕ) (b : Bool) → (1 == s) ≡ b → AllByRecursion (Names s) (option_map_or
+      (λ body. [] ++ body ∷ []) (if b && true && true then Some (Stamp 1 1 []) else None) [])
+  by_switch s true e = (subst (λ t. Names t (Stamp 1 1 [])) (eqb-true 1 s e) its_names, tt)
+  by_switch s false e = tt
 
 -- a message to a third switch names none, as it is sent
-not_sent_to_third :
-    BodiesNameThere open_net (item.Sent 1 (to_switch 2 (Stamp 1 1 [])) ∷ []) → ⊥
+not_sent_to_third : BodiesNameThere open_net (item.Sent 1 (to_switch 2 (Stamp 1 1 [])) ∷ []) → ⊥
 unfolding message_of
-not_sent_to_third name = not_to_fresh_third (name.sent 1 (to_switch 2 (Stamp 1 1 [])) refl)
-  where
-    not_to_fresh_third :
-        NamesOnlyThere open_net (item.Sent 1 (to_switch 2 (Stamp 1 1 [])) ∷ [])
-        (to_switch 2 (Stamp 1 1 [])) → ⊥
-    not_to_fresh_third names = absurd (omega (arith, names.addressed.0))
+not_sent_to_third name = not_to_fresh_third (name.sent 1 (to_switch 2 (Stamp 1 1 [])) refl) where
+  not_to_fresh_third : NamesOnlyThere open_net
+      (item.Sent 1 (to_switch 2 (Stamp 1 1 [])) ∷ []) (to_switch 2 (Stamp 1 1 [])) → ⊥
+  not_to_fresh_third names = absurd (omega (arith, names.addressed.0))
 
 -- nor is it as a switch hears of a version that isn't there, or the controller of a third switch
 not_heard_of_version_2 :
@@ -97,9 +91,8 @@ unfolding message_of heard is_up boot_of version_count
 not_heard_of_version_2 name =
     let heard = name.heard 1 0 (Stamp 1 1 []) (omega arith) in absurd (omega (arith, heard.version.1))
 
-not_told_of_third :
-    BodiesNameThere open_net (item.Sent 1 (to_controller (Hello 2 1)) ∷ item.Delivered 1 ∷ [])
-    → ⊥
+not_told_of_third : BodiesNameThere open_net
+    (item.Sent 1 (to_controller (Hello 2 1)) ∷ item.Delivered 1 ∷ []) → ⊥
 unfolding message_of controller_heard
 not_told_of_third name =
     let told = name.told 0 (Hello 0 1) (omega arith) in absurd (omega (arith, told.addressed))

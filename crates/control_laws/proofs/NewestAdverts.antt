@@ -1,5 +1,5 @@
 -- No advert is newer than the own one of its origin.
-use Rattle.std.proofs.Common.{[], ◌&&◌, ◌++◌, ◌<◌, ◌==◌, ◌||◌, ◌∙◌, ◌∷◌, ◌≡◌, ◌≤◌, IsTrue, List, ap, arith, inl, inr, nat_lt, refl, subst, sym, true, ℕ}
+use Rattle.std.proofs.Common.{[], ◌&&◌, ◌++◌, ◌<◌, ◌==◌, ◌||◌, ◌∙◌, ◌∷◌, ◌≡◌, ◌≤◌, IsTrue, List, ap, arith, inl, inr, nat_lt, refl, sym, true, ℕ}
 use Rattle.base.proofs.Exports.{All-weaker, cases_lt, nat_tests}
 use Rattle.update_machine.specs.Exports.{Advert, HaveCauses, Item, Setting, adverts_heard, boot_of, is_up, own_advert, own_seq}
 use Rattle.journal.specs.declared.item.Item.TheVariants as item
@@ -29,11 +29,9 @@ up_back setting before (item.Booted t boot) s cause up same =
     let moves : t ≡ s → boot_of before t ≡ boot_of before s = ap (boot_of before) in
     let next = cause.next in
     let boots = boot_more before (item.Booted t boot) s in
-    let ups = up_more before (item.Booted t boot) s in
-    grind (arith, nat_tests)
+    let ups = up_more before (item.Booted t boot) s in grind (arith, nat_tests)
 up_back setting before (item.Down t) s cause up same =
-    let ups = up_more before (item.Down t) s in
-    grind (arith, nat_tests)
+    let ups = up_more before (item.Down t) s in grind (arith, nat_tests)
 up_back setting before next s cause up same = rw (up_more before next s) at up
 
 -- the own advert is as it was, or has the next number
@@ -41,8 +39,7 @@ pub own_on : (setting : Setting) (before : List Item) (next : Item) (s : ℕ)
     → HasBothCauses setting before next → IsTrue (is_up (before ++ next ∷ []) s)
     → boot_of (before ++ next ∷ []) s ≡ boot_of before s
     → AdvertGoesOn setting before (before ++ next ∷ []) s
-own_on setting before next s both up same =
-    advert_on setting before next s both.second
+own_on setting before next s both up same = advert_on setting before next s both.second
     (up_back setting before next s both.first up same) up same
 
 record IsPast (setting : Setting) (before : List Item) (next : Item) (advert : Advert)
@@ -55,15 +52,12 @@ record IsPast (setting : Setting) (before : List Item) (next : Item) (advert : A
 of_boot : (setting : Setting) (before : List Item) (next : Item) (advert : Advert)
     → HasBothCauses setting before next → IsPastOwn setting before advert
     → IsTrue (is_up (before ++ next ∷ []) advert.origin)
-    → advert.boot ≡ boot_of (before ++ next ∷ []) advert.origin
-    → IsPast setting before next advert
+    → advert.boot ≡ boot_of (before ++ next ∷ []) advert.origin → IsPast setting before next advert
 of_boot setting before next advert both past up now =
-    let rises : boot_of before advert.origin ≤ boot_of (before ++ next ∷ []) advert.origin =
-    boot_rises setting before next advert.origin both.first in
+    let rises = boot_rises setting before next advert.origin both.first in
     let below = past.boot in
     let same : boot_of (before ++ next ∷ []) advert.origin ≡ boot_of before advert.origin =
-    omega arith in
-    record {
+    omega arith in record {
       was_up = up_back setting before next advert.origin both.first up same;
       was = now ∙ same;
       goes_on = own_on setting before next advert.origin both up same;
@@ -74,20 +68,16 @@ past_on : (setting : Setting) (before : List Item) (next : Item)
     → IsPastOwn setting (before ++ next ∷ []) advert
 past_on setting before next both advert past = record {
   boot = omega (arith, past.boot, boot_rises setting before next advert.origin both.first);
-  seq = λ up now.
-      let is = of_boot setting before next advert both past up now in
+  seq = λ up now. let is = of_boot setting before next advert both past up now in
       elim is.goes_on [
-        | inl same ↦ subst (λ n. advert.seq ≤ n)
-            (sym (same_seq setting (before ++ next ∷ []) before advert.origin same))
+        | inl same ↦ rw (same_seq setting (before ++ next ∷ []) before advert.origin same)
             (past.seq is.was_up is.was)
         | inr more ↦ omega (arith, more.seq, past.seq is.was_up is.was)
       ];
-  own = λ up now equal.
-      let is = of_boot setting before next advert both past up now in
+  own = λ up now equal. let is = of_boot setting before next advert both past up now in
       elim is.goes_on [
         | inl same ↦ past.own is.was_up is.was
-            (equal ∙ same_seq setting (before ++ next ∷ []) before advert.origin same)
-            ∙ sym same
+            (equal ∙ same_seq setting (before ++ next ∷ []) before advert.origin same) ∙ sym same
         | inr more ↦ absurd (omega (arith, equal, more.seq, past.seq is.was_up is.was))
       ];
 }
@@ -102,8 +92,7 @@ own_past setting journal s = record {
 }
 
 first_past : (setting : Setting) (origin : ℕ) → IsPastOwn setting [] (begun_with setting origin)
-first_past setting origin =
-    subst (IsPastOwn setting []) (start_laws.advert setting origin) (own_past setting [] origin)
+first_past setting origin = rw (start_laws.advert setting origin) at (own_past setting [] origin)
 
 past_fact : (setting : Setting) → IsAdvertFact setting (IsPastOwn setting)
 past_fact setting = record {
@@ -128,27 +117,22 @@ no_newer setting journal advert past = record {
   own = λ up. elim (cases_lt advert.boot (boot_of journal origin)) [
     | inl below ↦ inr (newer_by_boot advert.boot (boot_of journal origin) advert.seq
         (own_seq setting journal origin) below)
-    | inr above ↦
-        let limit = past.boot in
-        let now : advert.boot ≡ boot_of journal origin = omega arith in
+    | inr above ↦ let now : advert.boot ≡ boot_of journal origin = omega arith in
         elim (cases_lt advert.seq (own_seq setting journal origin)) [
           | inl earlier ↦ inr (newer_by_seq advert.boot (boot_of journal origin) advert.seq
               (own_seq setting journal origin) now earlier)
           | inr later ↦ inl (past.own up now (omega (arith, later, past.seq up now)))
         ]
   ];
-}
-  where
-    origin : ℕ
-    origin = advert.origin
+} where
+  origin : ℕ
+  origin = advert.origin
 
 pub own_newest : (setting : Setting) (journal : List Item)
     → HaveCauses (HasBothCauses setting) [] journal → OwnAreNewest setting journal
 own_newest setting journal have =
-    let past : AllAdverts setting journal (IsPastOwn setting journal) =
-    all_such setting (IsPastOwn setting) (past_fact setting) journal have
-    (own_past setting journal) in
-    record {
+    let past = all_such setting (IsPastOwn setting) (past_fact setting) journal have
+    (own_past setting journal) in record {
       sent = λ n s advert is. no_newer setting journal advert (past.sent n s advert is);
       heard = λ s. All-weaker (IsPastOwn setting journal) (IsNoNewer setting journal)
           (no_newer setting journal) (adverts_heard journal s) (past.heard s);

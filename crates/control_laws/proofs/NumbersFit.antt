@@ -1,7 +1,7 @@
 -- Where steps begin with room, all numbers fit.
-use Rattle.std.proofs.Common.{[], if◌then◌else◌, ◌++◌, ◌+◌, ◌<◌, ◌==◌, ◌∷◌, ◌≡◌, ◌≤◌, Bool, List, arith, false, refl, true}
+use Rattle.std.proofs.Common.{[], if◌then◌else◌, ◌++◌, ◌+◌, ◌<◌, ◌∷◌, ◌≡◌, ◌≤◌, Bool, List, arith, false, refl, true}
 use Rattle.net_file.specs.Exports.{IsNet}
-use Rattle.update_machine.specs.Exports.{HasRoom, HaveCauses, HaveRoom, Item, Setting, StepOfRow, after_steps, near, next_message, piece, version_count}
+use Rattle.update_machine.specs.Exports.{HasRoom, HaveCauses, HaveRoom, Item, Setting, StepOfRow, after_steps, next_message, piece, version_count}
 use Rattle.journal.specs.declared.item.Item.TheVariants as item
 use Rattle.update_machine.proofs.Exports.{have_append, start_laws}
 use Rattle.control_laws.specs.Exports.{HasItemCause, NumbersAreFew, NumbersFit}
@@ -18,13 +18,11 @@ use Rattle.control_laws.proofs.PairSums.{once}
 versions_on : (setting : Setting)
     → AreKept (HasItemCause setting) (λ journal. version_count journal ≤ 64)
 versions_on setting before (item.Submitted file version) cause few =
-    let not_all = cause.few in
-    omega (arith, count_more before (item.Submitted file version))
+    omega (arith, count_more before (item.Submitted file version), cause.few)
 versions_on setting before next cause few = omega (arith, few, count_more before next)
 
 pub versions_few : FromCauses (λ setting journal. version_count journal ≤ 64)
-versions_few =
-    from_causes (λ setting journal. version_count journal ≤ 64) versions_on
+versions_few = from_causes (λ setting journal. version_count journal ≤ 64) versions_on
     (λ setting. omega (arith, start_laws.count))
 
 -- ---- numbers
@@ -36,15 +34,9 @@ extra false = refl
 pub numbers_few : (setting : Setting) (steps : List StepOfRow) → IsNet setting.net
     → NumbersAreFew setting (after_steps setting [] steps)
 numbers_few setting steps net =
-    let few : FewNumbers setting (after_steps setting [] steps) =
-    numbers_behind setting net [] steps tt (numbers_at_first setting) in
-    record {
+    let few = numbers_behind setting net [] steps tt (numbers_at_first setting) in record {
       boots = few.boots;
-      seqs = λ s there. omega (
-        arith,
-        few.seqs s there,
-        extra (near setting (after_steps setting [] steps) s == 0),
-      );
+      seqs = λ s there. omega (arith, few.seqs, extra);
     }
 
 -- ---- room
@@ -79,25 +71,17 @@ fit_while : (setting : Setting) (steps : List StepOfRow) → IsNet setting.net
     → NumbersFit setting (after_steps setting [] steps)
 fit_while setting steps net small =
     let journal : List Item = after_steps setting [] steps in
-    let few : NumbersAreFew setting journal = numbers_few setting steps net in
-    record {
+    let few : NumbersAreFew setting journal = numbers_few setting steps net in record {
       sent = small;
       message = omega (arith, small, next_is journal);
       boots = λ s. omega (arith, small, few.boots s);
-      seqs = λ s there. omega (
-        arith,
-        small,
-        few.seqs s there,
-        extra (near setting journal s == 0),
-        at_most_one (near setting journal s == 0),
-      );
+      seqs = λ s there. omega (arith, few.seqs, extra, at_most_one);
     }
 
 -- as a step begins
 pub fit_in_room : (setting : Setting) (steps : List StepOfRow) → IsNet setting.net
     → HasRoom (after_steps setting [] steps) → NumbersFit setting (after_steps setting [] steps)
-fit_in_room setting steps net room =
-    fit_while setting steps net (omega (arith, room_is (after_steps setting [] steps) room))
+fit_in_room setting steps net room = fit_while setting steps net (omega (arith, room_is))
 
 -- as a step that began with room has ended
 pub fit_behind_room : (setting : Setting) (steps : List StepOfRow) → IsNet setting.net

@@ -23,10 +23,9 @@ Leave journal items = HaveCauses LeavesController journal items
 
 traffic_leaves : (setting : Setting) (before : List Item) (next : Item)
     → IsTraffic setting before next → LeavesController before next
-traffic_leaves setting before (item.Sent number message) is =
-    between_cases setting before (OpensNone before)
-    (λ s version word rule action there ingress. tt) (λ s advert there. tt) message.to message.body
-    is
+traffic_leaves setting before (item.Sent number message) is = between_cases setting before
+    (OpensNone before) (λ s version word rule action there ingress. tt) (λ s advert there. tt)
+    message.to message.body is
 traffic_leaves setting before (item.Delivered number) is = absurd is
 traffic_leaves setting before (item.OverNow s) is = absurd is
 traffic_leaves setting before (item.Submitted file version) is = absurd is
@@ -88,8 +87,7 @@ sends_leave journal messages all = sent_leave messages journal (next_message jou
 
 switch_leaves : (setting : Setting) (before : List Item) (s : ℕ) (body : Body) (now : List Item)
     → Leave now (switch_items setting before s body now)
-switch_leaves setting before s body now =
-    switch_cases (Leave now) setting before s body now
+switch_leaves setting before s body now = switch_cases (Leave now) setting before s body now
     (λ boot version. sends_leave now _ (tt, tt)) (λ boot version. sends_leave now _ (tt, tt))
     (λ boot version is. grind (arith, links_leave))
     (λ advert is news. passed_leave setting now s advert) tt
@@ -98,9 +96,8 @@ deliver_leaves : (setting : Setting) (before : List Item) (row number : ℕ) (st
     → IsFalse (is_message_to_controller before number)
     → let here = before ++ item.Row row step ∷ [] in
     Leave here (deliver_items setting before number here)
-deliver_leaves setting before row number step none =
-    deliver_has LeavesController setting before number _ tt
-    (rw (message_more before (item.Row row step) number) none)
+deliver_leaves setting before row number step none = deliver_has LeavesController setting before
+    number _ tt (rw (message_more before (item.Row row step) number) none)
     (λ body sent. let clash : true ≡ false = rw sent at none in absurd cc)
     (λ s body said. switch_leaves setting before s body _)
 
@@ -122,33 +119,27 @@ installs_reopen setting journal s versions =
 
 unacked_reopen : (setting : Setting) (journal : List Item) (s : ℕ) (versions : List ℕ)
     → AllByRecursion (ReopensAlone journal) (unacked_installs setting journal s versions)
-unacked_reopen setting journal s versions =
-    installs_reopen setting journal s
+unacked_reopen setting journal s versions = installs_reopen setting journal s
     (filter (λ version. not (has_acked journal s version)) versions)
 
 resend_leaves : (setting : Setting) (s : ℕ) (journal : List Item)
     → Leave journal (resend_items setting s journal)
-resend_leaves setting s journal =
-    resent_has LeavesController (ReopensAlone journal) setting s journal tt (sends_leave journal)
-    (each_by_switch (ReopensAlone journal) setting journal s (λ up. tt)
-    (each_flat_map (ReopensAlone journal)
-    (λ neighbour. map (advert_to neighbour) (held_adverts setting journal s))
-    (λ neighbour. each_map (ReopensAlone journal) (advert_to neighbour)
-    (held_adverts setting journal s)
+resend_leaves setting s journal = resent_has LeavesController (ReopensAlone journal) setting s
+    journal tt (sends_leave journal) (each_by_switch (ReopensAlone journal) setting journal s
+    (λ up. tt) (each_flat_map (ReopensAlone journal)
+    (λ neighbour. map (advert_to neighbour) (held_adverts setting journal s)) (λ neighbour. each_map
+    (ReopensAlone journal) (advert_to neighbour) (held_adverts setting journal s)
     (each_always (λ advert. ReopensAlone journal (advert_to neighbour advert)) (λ advert. tt)
-    (held_adverts setting journal s)))
-    (switches_in setting (near setting journal s))))
-    (each_by_controller (ReopensAlone journal) setting journal s
-    (λ none member. each_to_member (ReopensAlone journal) setting journal s
-    (member_parts journal s member).1 (unacked_reopen setting journal s (later_versions journal)) tt
-    (λ some. tt))
+    (held_adverts setting journal s))) (switches_in setting (near setting journal s))))
+    (each_by_controller (ReopensAlone journal) setting journal s (λ none member. each_to_member
+    (ReopensAlone journal) setting journal s (member_parts journal s member).1
+    (unacked_reopen setting journal s (later_versions journal)) tt (λ some. tt))
     (λ none. unacked_reopen setting journal s (versions_from_current journal)))
 
 -- ---- steps
 
 step_leaves : (setting : Setting) (before : List Item) (row : ℕ) (step : Step)
-    → IsFalse (asks_controller before step)
-    → let here = before ++ item.Row row step ∷ [] in
+    → IsFalse (asks_controller before step) → let here = before ++ item.Row row step ∷ [] in
     Leave here (step_items setting before step here)
 step_leaves setting before row (Packet s header) none =
     packet_has setting LeavesController (traffic_leaves setting) (next_packet before) s header _ tt
@@ -166,7 +157,5 @@ step_leaves setting before row step none =
 pub others_keep : (setting : Setting) (journal : List Item) (row : ℕ) (step : Step)
     → IsFalse (asks_controller journal step)
     → ControllerKeeps journal (journal ++ piece setting journal row step)
-others_keep setting journal row step none =
-    leaves_keep journal _
-    (piece_has LeavesController setting journal row step tt
-    (step_leaves setting journal row step none))
+others_keep setting journal row step none = leaves_keep journal _ (piece_has LeavesController
+    setting journal row step tt (step_leaves setting journal row step none))

@@ -18,7 +18,6 @@ any_in_range s low n above below =
 -- a number of the range is among those that pass where it passes
 pub any_picked : (test : ℕ → Bool) (s low n : ℕ) → low ≤ s → s < low + n
     → list_any (λ x. x == s) (filter test (range_with_len low n)) ≡ test s
-any_picked test s low n above below =
-    any-filter_same (λ x. x == s) test (test s) (λ k same. ap test (eqb-true k s same))
-    (range_with_len low n)
+any_picked test s low n above below = any-filter_same (λ x. x == s) test (test s)
+    (λ k same. ap test (eqb-true k s same)) (range_with_len low n)
     ∙ ap (λ b. test s && b) (any_in_range s low n above below) ∙ and-true (test s)

@@ -16,13 +16,10 @@ use Rattle.control_laws.proofs.ResendCauses.{resend_have}
 use Rattle.control_laws.proofs.CrashedSwitches.{crash_has}
 
 -- a policy that isn't refused is there and has a plan, and neither limit is met
-may_submit : (setting : Setting) (file : ℕ) (journal : List Item)
-    → update_code setting journal file ≡ None
-    → SubmitsRightly setting journal file (version_count journal + 1)
+may_submit : (setting : Setting) (file : ℕ) (journal : List Item) → update_code setting journal file
+    ≡ None → SubmitsRightly setting journal file (version_count journal + 1)
 may_submit setting file journal allowed =
-    let next = allowed_next setting journal file allowed in
-    let free : marks_code journal ≡ None = next.marks in
-    record {
+    let next = allowed_next setting journal file allowed in record {
       next = refl;
       rows = next.rows;
       policy = next.policy;
@@ -59,15 +56,13 @@ confirm_have setting s journal = grind (arith, settling_have)
 step_have : (setting : Setting) (before : List Item) (row : ℕ) (step : Step)
     → let here = before ++ item.Row row step ∷ [] in
     Has setting here (step_items setting before step here)
-step_have setting before row (Packet s header) =
-    packet_has setting (HasItemCause setting) (traffic_right setting) (next_packet before) s
-    header _ tt
+step_have setting before row (Packet s header) = packet_has setting (HasItemCause setting)
+    (traffic_right setting) (next_packet before) s header _ tt
 step_have setting before row (Deliver message) =
     deliver_have setting before row message (Deliver message)
 step_have setting before row (Update file) = update_have setting file _
-step_have setting before row (Crash s) =
-    crash_has setting (HasItemCause setting) (traffic_right setting) before s _
-    (λ up. up_more before (item.Row row (Crash s)) s ∙ up)
+step_have setting before row (Crash s) = crash_has setting (HasItemCause setting)
+    (traffic_right setting) before s _ (λ up. up_more before (item.Row row (Crash s)) s ∙ up)
 step_have setting before row (Restart s) = restart_have setting s _
 step_have setting before row (Confirm s) = confirm_have setting s _
 step_have setting before row (Resend s) = resend_have setting s _

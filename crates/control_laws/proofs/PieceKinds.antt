@@ -42,22 +42,16 @@ pub record IsQuietPiece (setting : Setting) (before items : List Item) : Type 0 
 
 -- links stay, or change at one switch, or a switch begins a boot
 abbrev pub PieceKind : Setting → List Item → List Item → Type 0
-PieceKind setting before items =
-    IsQuietPiece setting before items
+PieceKind setting before items = IsQuietPiece setting before items
     ⊎ (IsLinkPiece setting before items ⊎ IsBootPiece before items)
 
 behind_row : (setting : Setting) (before : List Item) (row : ℕ) (step : Step) (items : List Item)
-    → NoneConcern concerns_links (before ++ item.Row row step ∷ []) items
-    → (IsNet setting.net → version_count (before ++ item.Row row step ∷ []) ≤ 64
-    → sent items ≤ 5000)
-    → PieceKind setting before (item.Row row step ∷ items)
+    → NoneConcern concerns_links (before ++ item.Row row step ∷ []) items → (IsNet setting.net
+    → version_count (before ++ item.Row row step ∷ []) ≤ 64 → sent items ≤ 5000) → PieceKind setting
+    before (item.Row row step ∷ items)
 behind_row setting before row step items none few = inl (record {
   none = (refl, none);
-  few = λ net versions. omega (
-    arith,
-    sent_more (item.Row row step) items,
-    few net (omega (arith, count_more before (item.Row row step), versions)),
-  );
+  few = λ net versions. omega (arith, sent_more, few net (omega (arith, count_more)));
 })
 
 behind_delivered : (setting : Setting) (before : List Item) (row number : ℕ) (step : Step)
@@ -93,24 +87,22 @@ link_kind : (setting : Setting) (before : List Item) (row : ℕ) (step : Step) (
     (up : Bool) → let here = before ++ item.Row row step ∷ [] in
     PieceKind setting before (item.Row row step ∷ link_items setting before one two up here)
 unfolding link_items
-link_kind setting before row step one two up = by_test (beq (is_link_up before one two) up)
-  where
-    here : List Item
-    here = before ++ item.Row row step ∷ []
+link_kind setting before row step one two up = by_test (beq (is_link_up before one two) up) where
+  here : List Item
+  here = before ++ item.Row row step ∷ []
 
-    by_test : (same : Bool) → PieceKind setting before (item.Row row step ∷ elim same [
-      | true ↦ nothing
-      | false ↦ items_then (item.LinkIs (min one two) (max one two) up ∷ [])
-          (link_changes setting before) (before ++ item.Row row step ∷ [])
-    ])
-    by_test true = nothing_happens setting before row step
-    by_test false = inr (inl (link_piece setting before (item.Row row step ∷ [])
-        (item.LinkIs (min one two) (max one two) up) [] (min one two) refl
-        (row_first before row step) (refl, tt) tt refl _
-        (ap (λ now. item.Row row step ∷ item.LinkIs (min one two) (max one two) up
-        ∷ link_changes setting before now)
-        (sym (append-nil ((before ++ item.Row row step ∷ [])
-        ++ item.LinkIs (min one two) (max one two) up ∷ []))))))
+  by_test : (same : Bool) → PieceKind setting before (item.Row row step ∷ elim same [
+    | true ↦ nothing
+    | false ↦ items_then (item.LinkIs (min one two) (max one two) up ∷ [])
+        (link_changes setting before) (before ++ item.Row row step ∷ [])
+  ])
+  by_test true = nothing_happens setting before row step
+  by_test false =
+      inr (inl (link_piece setting before (item.Row row step ∷ []) (item.LinkIs (min one two)
+      (max one two) up) [] (min one two) refl (row_first before row step) (refl, tt) tt refl _
+      (ap (λ now. item.Row row step ∷ item.LinkIs (min one two) (max one two) up
+      ∷ link_changes setting before now) (sym (append-nil
+      ((before ++ item.Row row step ∷ []) ++ item.LinkIs (min one two) (max one two) up ∷ []))))))
 
 lost_unsent : (packets : List ℕ) → sent (map item.Lost packets) ≡ 0
 lost_unsent [] = refl
@@ -121,57 +113,52 @@ crash_kind : (setting : Setting) (before : List Item) (row : ℕ) (step : Step) 
     → let here = before ++ item.Row row step ∷ [] in
     PieceKind setting before (item.Row row step ∷ crash_items setting before s here)
 unfolding crash_items
-crash_kind setting before row step s = by_up (is_up before s)
-  where
-    by_up : (up : Bool) → PieceKind setting before (item.Row row step ∷ elim up [
-      | false ↦ nothing
-      | true ↦ items_then (item.Down s ∷ map item.Lost (packets_at before s))
-          (link_changes setting before) (before ++ item.Row row step ∷ [])
-    ])
-    by_up false = nothing_happens setting before row step
-    by_up true = inr (inl (link_piece setting before (item.Row row step ∷ []) (item.Down s)
-        (map item.Lost (packets_at before s)) s refl (row_first before row step) (refl, tt)
-        (losts_have (λ now next. IsFalse (concerns_links now next)) (λ now i. refl)
-        (packets_at before s) ((before ++ item.Row row step ∷ []) ++ item.Down s ∷ []))
-        (sent_more (item.Row row step) (item.Down s ∷ map item.Lost (packets_at before s))
-        ∙ omega (
-          arith,
-          sent_more (item.Down s) (map item.Lost (packets_at before s)),
-          lost_unsent (packets_at before s),
-        )) _
-        (ap (λ now. item.Row row step ∷ item.Down s ∷ map item.Lost (packets_at before s)
-        ++ link_changes setting before now)
-        (sym (append_assoc (before ++ item.Row row step ∷ []) (item.Down s ∷ [])
-        (map item.Lost (packets_at before s)))))))
+crash_kind setting before row step s = by_up (is_up before s) where
+  by_up : (up : Bool) → PieceKind setting before (item.Row row step ∷ elim up [
+    | false ↦ nothing
+    | true ↦ items_then (item.Down s ∷ map item.Lost (packets_at before s))
+        (link_changes setting before) (before ++ item.Row row step ∷ [])
+  ])
+  by_up false = nothing_happens setting before row step
+  by_up true = inr (inl (link_piece setting before (item.Row row step ∷ []) (item.Down s)
+      (map item.Lost (packets_at before s)) s refl (row_first before row step) (refl, tt)
+      (losts_have (λ now next. IsFalse (concerns_links now next)) (λ now i. refl)
+      (packets_at before s) ((before ++ item.Row row step ∷ []) ++ item.Down s ∷ []))
+      (sent_more (item.Row row step) (item.Down s ∷ map item.Lost (packets_at before s)) ∙ omega (
+        arith,
+        sent_more (item.Down s) (map item.Lost (packets_at before s)),
+        lost_unsent (packets_at before s),
+      )) _
+      (ap (λ now. item.Row row step ∷ item.Down s ∷ map item.Lost (packets_at before s) ++
+      link_changes setting before now) (sym (append_assoc (before ++ item.Row row step ∷ [])
+      (item.Down s ∷ []) (map item.Lost (packets_at before s)))))))
 
 restart_kind : (setting : Setting) (before : List Item) (row : ℕ) (step : Step) (s : ℕ)
     → let here = before ++ item.Row row step ∷ [] in
     PieceKind setting before (item.Row row step ∷ restart_items s here)
 unfolding restart_items
-restart_kind setting before row step s = by_up (is_up (before ++ item.Row row step ∷ []) s)
-  where
-    by_up : (up : Bool) → PieceKind setting before (item.Row row step ∷ elim up [
-      | true ↦ nothing
-      | false ↦ items_then
-          (item.Booted s (boot_of (before ++ item.Row row step ∷ []) s + 1) ∷ [])
-          (λ booted. send_items booted (hello_of booted s ∷ [])) (before ++ item.Row row step ∷ [])
-    ])
-    by_up true = nothing_happens setting before row step
-    by_up false = inr (inr (record {
-      row = row;
-      step = step;
-      switch = s;
-      boot = boot_of (before ++ item.Row row step ∷ []) s + 1;
-      hello = send_items booted (hello_of booted s ∷ []);
-      next = refl;
-      told = sends_count booted (hello_of booted s ∷ []);
-      silent = sends_silent booted (hello_of booted s ∷ []);
-      written = refl;
-    }))
-      where
-        booted : List Item
-        booted = (before ++ item.Row row step ∷ [])
-            ++ item.Booted s (boot_of (before ++ item.Row row step ∷ []) s + 1) ∷ []
+restart_kind setting before row step s = by_up (is_up (before ++ item.Row row step ∷ []) s) where
+  by_up : (up : Bool) → PieceKind setting before (item.Row row step ∷ elim up [
+    | true ↦ nothing
+    | false ↦ items_then (item.Booted s (boot_of (before ++ item.Row row step ∷ []) s + 1) ∷ [])
+        (λ booted. send_items booted (hello_of booted s ∷ [])) (before ++ item.Row row step ∷ [])
+  ])
+  by_up true = nothing_happens setting before row step
+  by_up false = inr (inr (record {
+    row = row;
+    step = step;
+    switch = s;
+    boot = boot_of (before ++ item.Row row step ∷ []) s + 1;
+    hello = send_items booted (hello_of booted s ∷ []);
+    next = refl;
+    told = sends_count booted (hello_of booted s ∷ []);
+    silent = sends_silent booted (hello_of booted s ∷ []);
+    written = refl;
+  }))
+    where
+      booted : List Item
+      booted = (before ++ item.Row row step ∷ [])
+          ++ item.Booted s (boot_of (before ++ item.Row row step ∷ []) s + 1) ∷ []
 
 -- ---- deliveries
 
@@ -180,10 +167,9 @@ switch_kind : (setting : Setting) (before : List Item) (row number : ℕ) (step 
     → let now = (before ++ item.Row row step ∷ []) ++ item.Delivered number ∷ [] in
     PieceKind setting before (item.Row row step ∷ item.Delivered number
     ∷ switch_items setting before s body now)
-switch_kind setting before row number step s body =
-    switch_cases (λ items. PieceKind setting before (item.Row row step ∷ item.Delivered number
-    ∷ items)) setting before s body now (λ boot version. answered _) (λ boot version. answered _)
-    (λ boot version is. opened)
+switch_kind setting before row number step s body = switch_cases (λ items. PieceKind setting before
+    (item.Row row step ∷ item.Delivered number ∷ items)) setting before s body now
+    (λ boot version. answered _) (λ boot version. answered _) (λ boot version is. opened)
     (λ advert is news. sent_behind (passed_on setting now s advert)
     (λ net. omega (arith, passed_few setting net now s advert)))
     (nothing_caused setting before row number step)
@@ -197,9 +183,8 @@ switch_kind setting before row number step s body =
     sent_behind : (messages : List Message) → (IsNet setting.net → length messages ≤ 5000)
         → PieceKind setting before (item.Row row step ∷ item.Delivered number
         ∷ send_items now messages)
-    sent_behind messages few =
-        behind_delivered setting before row number step _ (sends_silent now messages)
-        (λ net versions. sends_few now messages 5000 (few net))
+    sent_behind messages few = behind_delivered setting before row number step _
+        (sends_silent now messages) (λ net versions. sends_few now messages 5000 (few net))
 
     answered : (message : Message) → PieceKind setting before (item.Row row step
         ∷ item.Delivered number ∷ send_items now (message ∷ []))
@@ -210,53 +195,44 @@ switch_kind setting before row number step s body =
     opened =
         let whole : before ++ (item.Row row step ∷ item.Delivered number ∷ []) ≡ now =
         sym (append_assoc before (item.Row row step ∷ []) (item.Delivered number ∷ [])) in
-        inr (inl (link_piece setting before (item.Row row step ∷ item.Delivered number ∷ [])
-        (item.Opened s (stamp_of now s)) [] s refl
-        (subst ChangedNoLinks (sym whole)
-        (delivered_first here number (row_first before row step))) (refl, (refl, tt)) tt refl _
-        (ap (λ later. item.Row row step ∷ item.Delivered number
-        ∷ item.Opened s (stamp_of now s) ∷ link_changes setting before later)
-        (sym (append-nil ((before ++ (item.Row row step ∷ item.Delivered number ∷ []))
-        ++ item.Opened s (stamp_of now s) ∷ [])
-        ∙ ap (λ journal. journal ++ item.Opened s (stamp_of now s) ∷ []) whole)))))
+        inr (inl (link_piece setting before
+        (item.Row row step ∷ item.Delivered number ∷ []) (item.Opened s (stamp_of now s)) [] s refl
+        (subst ChangedNoLinks (sym whole) (delivered_first here number (row_first before row step)))
+        (refl, (refl, tt)) tt refl _ (ap (λ later. item.Row row step ∷ item.Delivered number
+        ∷ item.Opened s (stamp_of now s) ∷ link_changes setting before later) (sym (append-nil
+        ((before ++ (item.Row row step ∷ item.Delivered number ∷ [])) ++ item.Opened s (stamp_of now
+        s) ∷ []) ∙ ap (λ journal. journal ++ item.Opened s (stamp_of now s) ∷ []) whole)))))
 
 received_kind : (setting : Setting) (before : List Item) (row number : ℕ) (step : Step)
     (message : Message)
     → let now = (before ++ item.Row row step ∷ []) ++ item.Delivered number ∷ [] in
     PieceKind setting before (item.Row row step ∷ item.Delivered number
     ∷ received_items setting before number message now)
-received_kind setting before row number step message = by_receiver message.to
-  where
-    now : List Item
-    now = (before ++ item.Row row step ∷ []) ++ item.Delivered number ∷ []
+received_kind setting before row number step message = by_receiver message.to where
+  now : List Item
+  now = (before ++ item.Row row step ∷ []) ++ item.Delivered number ∷ []
 
-    by_said : (s : ℕ) (said : Option Body)
-        → PieceKind setting before (item.Row row step ∷ item.Delivered number ∷ elim said [
+  by_said : (s : ℕ) (said : Option Body)
+      → PieceKind setting before (item.Row row step ∷ item.Delivered number ∷ elim said [
+        | None ↦ []
+        | Some body ↦ switch_items setting before s body now
+      ])
+  by_said s None = nothing_caused setting before row number step
+  by_said s (Some body) = switch_kind setting before row number step s body
+
+  by_receiver : (to : Place)
+      → PieceKind setting before (item.Row row step ∷ item.Delivered number ∷ elim to [
+        | receiver.Controller ↦ controller_items setting before message.body now
+        | receiver.Switch s ↦ elim (body_to_switch before s number) [
           | None ↦ []
           | Some body ↦ switch_items setting before s body now
-        ])
-    by_said s None = nothing_caused setting before row number step
-    by_said s (Some body) = switch_kind setting before row number step s body
-
-    by_receiver : (to : Place)
-        → PieceKind setting before (item.Row row step ∷ item.Delivered number ∷ elim to [
-          | receiver.Controller ↦ controller_items setting before message.body now
-          | receiver.Switch s ↦ elim (body_to_switch before s number) [
-            | None ↦ []
-            | Some body ↦ switch_items setting before s body now
-          ]
-        ])
-    by_receiver receiver.Controller =
-        behind_delivered setting before row number step
-        (controller_items setting before message.body now)
-        (plain_keeps_links now _
-        (control_plain now _ (controller_control setting before message.body now)))
-        (λ net versions. omega (
-          arith,
-          versions,
-          controller_few setting net before message.body now,
-        ))
-    by_receiver (receiver.Switch s) = by_said s (body_to_switch before s number)
+        ]
+      ])
+  by_receiver receiver.Controller = behind_delivered setting before row number step
+      (controller_items setting before message.body now) (plain_keeps_links now _
+      (control_plain now _ (controller_control setting before message.body now)))
+      (λ net versions. omega (arith, versions, controller_few setting net before message.body now))
+  by_receiver (receiver.Switch s) = by_said s (body_to_switch before s number)
 
 deliver_kind : (setting : Setting) (before : List Item) (row number : ℕ) (step : Step)
     → let here = before ++ item.Row row step ∷ [] in
@@ -287,9 +263,8 @@ deliver_kind setting before row number step =
 
 resend_silent : (setting : Setting) (s : ℕ) (journal : List Item)
     → NoneConcern concerns_links journal (resend_items setting s journal)
-resend_silent setting s journal =
-    resends_any (λ before next. IsFalse (concerns_links before next)) (λ before n message. refl)
-    setting s journal refl
+resend_silent setting s journal = resends_any (λ before next. IsFalse (concerns_links before next))
+    (λ before n message. refl) setting s journal refl
 
 step_kind : (setting : Setting) (before : List Item) (row : ℕ) (step : Step)
     → let here = before ++ item.Row row step ∷ [] in
@@ -304,12 +279,10 @@ step_kind setting before row (Packet s header) = behind_row setting before row _
 step_kind setting before row (Deliver number) =
     deliver_kind setting before row number (Deliver number)
 step_kind setting before row (Update file) = behind_row setting before row _ _
-    (plain_keeps_links _ _
-    (update_has IsPlain control_is_plain setting file _ (λ version. tt)))
+    (plain_keeps_links _ _ (update_has IsPlain control_is_plain setting file _ (λ version. tt)))
     (λ net versions. omega (
       arith,
-      update_few setting net file
-          (before ++ item.Row row (Update file) ∷ []),
+      update_few setting net file (before ++ item.Row row (Update file) ∷ []),
     ))
 step_kind setting before row (LinkDown one two) =
     link_kind setting before row (LinkDown one two) one two false
@@ -321,20 +294,16 @@ step_kind setting before row (Confirm s) = behind_row setting before row _ _
     (plain_keeps_links _ _ (control_plain _ _ (confirm_control setting s _)))
     (λ net versions. omega (
       arith,
-      confirm_few setting net s
-          (before ++ item.Row row (Confirm s) ∷ []),
+      confirm_few setting net s (before ++ item.Row row (Confirm s) ∷ []),
     ))
 step_kind setting before row (Resend s) = behind_row setting before row _ _
-    (resend_silent setting s _)
-    (λ net versions. omega (
+    (resend_silent setting s _) (λ net versions. omega (
       arith,
-      resend_few setting net s
-          (before ++ item.Row row (Resend s) ∷ []),
+      resend_few setting net s (before ++ item.Row row (Resend s) ∷ []),
     ))
 step_kind setting before row step = behind_row setting before row _ _
-    (plain_keeps_links _ _ (step_plain setting before step _ tt))
-    (λ net versions.
-    omega (arith, step_few setting before step (before ++ item.Row row step ∷ []) tt))
+    (plain_keeps_links _ _ (step_plain setting before step _ tt)) (λ net versions. omega
+    (arith, step_few setting before step (before ++ item.Row row step ∷ []) tt))
 
 pub piece_kind : (setting : Setting) (before : List Item) (row : ℕ) (step : Step)
     → PieceKind setting before (piece setting before row step)
@@ -344,8 +313,7 @@ piece_kind setting before row step = step_kind setting before row step
 -- ---- messages
 
 pub link_changes_few : (setting : Setting) (before now : List Item)
-    → sent (link_changes setting before now)
-    ≡ length (all_adverts_sent setting before now)
+    → sent (link_changes setting before now) ≡ length (all_adverts_sent setting before now)
 unfolding link_changes
 link_changes_few setting before now = sends_count now _
 
@@ -353,26 +321,22 @@ link_changes_few setting before now = sends_count now _
 pub piece_few : (setting : Setting) → IsNet setting.net → (before : List Item)
     → version_count before ≤ 64 → (row : ℕ) (step : Step)
     → sent (piece setting before row step) ≤ 10_000
-piece_few setting net before versions row step = by_kind (piece_kind setting before row step)
-  where
-    by_kind : PieceKind setting before (piece setting before row step)
-        → sent (piece setting before row step) ≤ 10_000
-    by_kind (inl quiet) = omega (arith, quiet.few net versions)
-    by_kind (inr (inl links)) =
-        omega (
-          arith,
-          ap sent links.written,
-          put_few links.changes (λ journal. link_changes setting before links.now) before,
-          links.silent,
-          link_changes_few setting before links.now,
-          changes_few setting before links.now links.switch net links.at,
-        )
-    by_kind (inr (inr boots)) =
-        omega (
-          arith,
-          ap sent boots.written,
-          sent_more (item.Row boots.row boots.step)
-              (item.Booted boots.switch boots.boot ∷ boots.hello),
-          sent_more (item.Booted boots.switch boots.boot) boots.hello,
-          boots.told,
-        )
+piece_few setting net before versions row step = by_kind (piece_kind setting before row step) where
+  by_kind : PieceKind setting before (piece setting before row step)
+      → sent (piece setting before row step) ≤ 10_000
+  by_kind (inl quiet) = omega (arith, quiet.few net versions)
+  by_kind (inr (inl links)) = omega (
+    arith,
+    ap sent links.written,
+    put_few links.changes (λ journal. link_changes setting before links.now) before,
+    links.silent,
+    link_changes_few setting before links.now,
+    changes_few setting before links.now links.switch net links.at,
+  )
+  by_kind (inr (inr boots)) = omega (
+    arith,
+    ap sent boots.written,
+    sent_more (item.Row boots.row boots.step) (item.Booted boots.switch boots.boot ∷ boots.hello),
+    sent_more (item.Booted boots.switch boots.boot) boots.hello,
+    boots.told,
+  )

@@ -19,17 +19,12 @@ pub record AreFew (journal : List Item) : Type 0 where
 
 few_kept : (setting : Setting) → AreKept (HasItemCause setting) AreFew
 few_kept setting before (item.Submitted file version) cause are =
-    let next : Item = item.Submitted file version in
-    let room = cause.few in
-    let free = cause.live in
-    record {
+    let next : Item = item.Submitted file version in record {
       few = rw (count_more before next) (omega (arith, are.few));
       live = rw (count_more before next, retired_more before next) (omega (arith, are.live));
     }
 few_kept setting before (item.Retired version) cause are =
-    let next : Item = item.Retired version in
-    let rises = cause.rises in
-    record {
+    let next : Item = item.Retired version in record {
       few = rw (count_more before next) are.few;
       live = rw (count_more before next, retired_more before next) (omega (arith, are.live));
     }
@@ -64,9 +59,8 @@ plans_kept setting before (item.Submitted file version) cause are plans v above 
     next = item.Submitted file version
 
     newest : version ≡ v → HasPlan setting (before ++ next ∷ []) v
-    newest same = subst (HasPlan setting (before ++ next ∷ [])) same
-        (next_has_plan setting before file version cause.rows are cause.next cause.policy
-        cause.planned)
+    newest same = subst (HasPlan setting (before ++ next ∷ [])) same (next_has_plan setting before
+        file version cause.rows are cause.next cause.policy cause.planned)
 plans_kept setting before next cause are plans v above below =
     let old : v ≤ version_count before = rw (count_more before next) at below in
     has_plan_stays setting before (next ∷ []) v are old (plans v above old)
@@ -74,15 +68,12 @@ plans_kept setting before next cause are plans v above below =
 -- ---- tables
 
 tables_on : (setting : Setting) (before : List Item) (next : Item) (s : ℕ) (installed : Tables)
-    → AreTablesOf setting before s installed
-    → AreTablesOf setting (before ++ next ∷ []) s installed
+    → AreTablesOf setting before s installed → AreTablesOf setting (before ++ next ∷ []) s installed
 tables_on setting before next s installed are = record {
   first = are.first;
   last = omega (arith, are.last, count_rises before next);
   planned = are.later (next ∷ []);
-  later = λ items.
-      subst (λ now. installed ≡ tables_at setting now installed.version s)
-      (sym (append_assoc before (next ∷ []) items)) (are.later (next ∷ items));
+  later = λ items. rw (append_assoc before (next ∷ []) items) (are.later (next ∷ items));
 }
 
 brings_on : (setting : Setting) (before : List Item) (next : Item) (s : ℕ) (body : Body)
@@ -101,19 +92,18 @@ own_tables setting journal s installed are is = record {
   planned = planned;
   later = λ items. planned ∙ sym (ap (λ plan. tables_of plan installed.version s)
       (plan_stays setting journal items installed.version are last));
-}
-  where
-    own : installed.version ≡ is.version
-    own = ap (λ tables. tables.version) is.planned
+} where
+  own : installed.version ≡ is.version
+  own = ap (λ tables. tables.version) is.planned
 
-    first : 1 ≤ installed.version
-    first = omega (arith, own, is.first)
+  first : 1 ≤ installed.version
+  first = omega (arith, own, is.first)
 
-    last : installed.version ≤ version_count journal
-    last = omega (arith, own, is.last)
+  last : installed.version ≤ version_count journal
+  last = omega (arith, own, is.last)
 
-    planned : installed ≡ tables_at setting journal installed.version s
-    planned = subst (λ v. installed ≡ tables_at setting journal v s) (sym own) is.planned
+  planned : installed ≡ tables_at setting journal installed.version s
+  planned = subst (λ v. installed ≡ tables_at setting journal v s) (sym own) is.planned
 
 sent_brings : (setting : Setting) (journal : List Item) (s number : ℕ)
     → VersionsAreNumbered journal → IsPlannedSoFar setting journal → (body : Body)
@@ -136,11 +126,9 @@ all_kept setting before next cause is = record {
   plans = plans_kept setting before next cause is.so_far.versions is.plans;
   so_far = planned_kept setting before next cause is.so_far;
   heard = λ s. heard_on (BringsTables setting before s)
-      (BringsTables setting (before ++ next ∷ []) s) before next s
-      (brings_on setting before next s)
-      (λ number body sent.
-      sent_brings setting before s number is.so_far.versions is.so_far body sent)
-      (is.heard s);
+      (BringsTables setting (before ++ next ∷ []) s) before next s (brings_on setting before next s)
+      (λ number body sent. sent_brings setting before s number is.so_far.versions is.so_far body
+      sent) (is.heard s);
 }
 
 pub all_at_first : (setting : Setting) → IsPlanned setting []
@@ -155,20 +143,16 @@ pub caused_planned : FromCauses IsPlanned
 caused_planned = from_causes IsPlanned all_kept all_at_first
 
 pub versions_planned : FromCauses VersionsArePlanned
-versions_planned setting journal have =
-    let is = caused_planned setting journal have in
-    record {
-      few = is.few.few;
-      live = is.few.live;
-      planned = λ first version above below. elim (cases_lt 1 version) [
-        | inl later ↦ is.plans version later below
-        | inr own ↦ subst (HasPlan setting journal) (one_version version above own)
-            (first_has_plan setting journal first)
-      ];
-    }
-  where
-    one_version : (version : ℕ) → 1 ≤ version → version ≤ 1 → 1 ≡ version
-    one_version version above own = omega (arith, above, own)
+versions_planned setting journal have = let is = caused_planned setting journal have in record {
+  few = is.few.few;
+  live = is.few.live;
+  planned = λ first version above below. elim (cases_lt 1 version) [
+    | inl later ↦ is.plans version later below
+    | inr own ↦ rw (one_version version above own) at (first_has_plan setting journal first)
+  ];
+} where
+  one_version : (version : ℕ) → 1 ≤ version → version ≤ 1 → 1 ≡ version
+  one_version version above own = omega (arith, above, own)
 
 -- ---- what is held
 
@@ -177,13 +161,11 @@ brought : (setting : Setting) (journal : List Item) (s version : ℕ) (bodies : 
     → IsTrue (list_any (installs_version version) bodies)
     → (1 ≤ version) × (version ≤ version_count journal)
 brought setting journal s version [] all any = absurd cc
-brought setting journal s version (body ∷ bodies) all any =
-    by_test (installs_version version body) refl any
-    (brought setting journal s version bodies all.1)
+brought setting journal s version (body ∷ bodies) all any = by_test (installs_version version body)
+    refl any (brought setting journal s version bodies all.1)
   where
     here : (body : Body) → BringsTables setting journal s body
-        → IsTrue (installs_version version body)
-        → (1 ≤ version) × (version ≤ version_count journal)
+        → IsTrue (installs_version version body) → (1 ≤ version) × (version ≤ version_count journal)
     here (Install boot installed) brings is =
         let own : installed.version ≡ version = eqb-true installed.version version is in
         (omega (arith, own, brings.first), omega (arith, own, brings.last))
@@ -197,9 +179,8 @@ brought setting journal s version (body ∷ bodies) all any =
     by_test true e any rest = here body all.0 e
     by_test false e any rest = rest any
 
-held_there : (setting : Setting) (journal : List Item) (s version : ℕ)
-    → IsPlanned setting journal → IsTrue (holds_version journal s version)
-    → (1 ≤ version) × (version ≤ version_count journal)
+held_there : (setting : Setting) (journal : List Item) (s version : ℕ) → IsPlanned setting journal
+    → IsTrue (holds_version journal s version) → (1 ≤ version) × (version ≤ version_count journal)
 unfolding holds_version
 held_there setting journal s version is holds =
     by_heard (list_any (installs_version version) (heard journal s)) refl
@@ -212,8 +193,7 @@ held_there setting journal s version is holds =
     left false c both = cc
 
     first : version ≡ 1 → (1 ≤ version) × (version ≤ version_count journal)
-    first own =
-        let marks = is.so_far.marks in
+    first own = let marks = is.so_far.marks in
         (omega (arith, own), omega (arith, own, marks.first, marks.there))
 
     by_heard : (b : Bool) → list_any (installs_version version) (heard journal s) ≡ b
@@ -224,13 +204,9 @@ held_there setting journal s version is holds =
         first (eqb-true version 1 (left (version == 1) (is_in_first_boot journal s) has))
 
 pub tables_planned : FromCauses TablesArePlanned
-tables_planned setting journal have =
-    let is = caused_planned setting journal have in
-    record {
-      sent = λ s boot n installed sent.
-          own_tables setting journal s installed is.so_far.versions
-          (is.so_far.installs s boot n installed sent);
-      heard = λ s.
-          All-from_recursion (BringsTables setting journal s) (heard journal s) (is.heard s);
-      held = λ s version holds. held_there setting journal s version is holds;
-    }
+tables_planned setting journal have = let is = caused_planned setting journal have in record {
+  sent = λ s boot n installed sent. own_tables setting journal s installed is.so_far.versions
+      (is.so_far.installs s boot n installed sent);
+  heard = λ s. All-from_recursion (BringsTables setting journal s) (heard journal s) (is.heard s);
+  held = λ s version holds. held_there setting journal s version is holds;
+}

@@ -54,10 +54,8 @@ pub behind_piece : (setting : Setting) (journal : List Item) (row : ℕ) (step :
     Fact (here ++ step_items setting journal step here))
     → Fact (journal ++ piece setting journal row step)
 unfolding piece
-behind_piece setting journal row step Fact =
-    let here : List Item = journal ++ item.Row row step ∷ [] in
-    subst Fact (append_assoc journal (item.Row row step ∷ [])
-    (step_items setting journal step here))
+behind_piece setting journal row step Fact = subst Fact (append_assoc journal
+    (item.Row row step ∷ []) (step_items setting journal step (journal ++ item.Row row step ∷ [])))
 
 -- what holds at first, and behind each piece of such a step where it held before it
 pub record IsCarried (setting : Setting) (Fact : List Item → Type 0) : Type 0 where
@@ -75,21 +73,17 @@ carried_on setting Fact carried before (next ∷ steps) own is =
 
 pub reached_carries : (setting : Setting) (Fact : List Item → Type 0) → IsCarried setting Fact
     → (journal : List Item) → IsReached setting journal → Fact journal
-reached_carries setting Fact carried journal reached =
-    subst Fact (sym reached.written)
-    (carried_on setting Fact carried [] reached.steps
-    (own_steps setting reached.steps reached.own) carried.first)
+reached_carries setting Fact carried journal reached = rw reached.written (carried_on setting Fact
+    carried [] reached.steps (own_steps setting reached.steps reached.own) carried.first)
 
 pub so_far_carries : (setting : Setting) (Fact : List Item → Type 0) → IsCarried setting Fact
     → (events : List Event) (journal : List Item)
     → All (IsEvent setting.net (length setting.files)) events
     → AnswersSoFar setting events journal → Fact journal
-so_far_carries setting Fact carried events journal own answers =
-    subst Fact (sym answers.written)
+so_far_carries setting Fact carried events journal own answers = subst Fact (sym answers.written)
     (carried_on setting Fact carried [] answers.steps
-    (first_steps_are (NamesOwn setting) (has_nexts setting) setting 1 events [] answers.steps
-    (λ k d within. own_event setting (get_or events k d) (own k d within)) answers.allowed)
-    carried.first)
+    (first_steps_are (NamesOwn setting) (has_nexts setting) setting 1 events [] answers.steps (λ k d
+    within. own_event setting (get_or events k d) (own k d within)) answers.allowed) carried.first)
 
 -- so what follows for all first items of journals of which such a fact holds, holds of each journal
 -- that is reached
@@ -98,43 +92,34 @@ pub carried_reached : (Fact Holds : Setting → List Item → Type 0)
     → ((setting : Setting) (journal rest : List Item) → Fact setting (journal ++ rest)
     → Holds setting journal) → HoldsReached Holds
 carried_reached Fact Holds carried firsts = record {
-  reached = λ setting journal is.
-      firsts setting journal [] (subst (Fact setting) (sym (append-nil journal))
+  reached = λ setting journal is. firsts setting journal [] (rw (append-nil journal)
       (reached_carries setting (Fact setting) (carried setting) journal is));
   within = λ setting journal rest is. firsts setting journal rest
       (reached_carries setting (Fact setting) (carried setting) (journal ++ rest) is);
-  answered = λ setting events journal own answers.
-      begun setting events journal own
+  answered = λ setting events journal own answers. begun setting events journal own
       (begins_itself setting events journal (answers_so_far setting events journal answers));
   begun = begun;
-}
-  where
-    begun : (setting : Setting) (events : List Event) (journal : List Item)
-        → All (IsEvent setting.net (length setting.files)) events
-        → BeginsAnswer setting events journal → Holds setting journal
-    begun setting events journal own begins =
-        let whole : Fact setting begins.whole =
-        so_far_carries setting (Fact setting) (carried setting) events begins.whole own
-        begins.answers in
-        subst (Holds setting) (sym begins.written)
-        (firsts setting (take begins.length begins.whole) (drop begins.length begins.whole)
-        (subst (Fact setting) (sym (take-append-drop begins.length begins.whole)) whole))
+} where
+  begun : (setting : Setting) (events : List Event) (journal : List Item)
+      → All (IsEvent setting.net (length setting.files)) events
+      → BeginsAnswer setting events journal → Holds setting journal
+  begun setting events journal own begins = subst (Holds setting) (sym begins.written)
+      (firsts setting (take begins.length begins.whole) (drop begins.length begins.whole)
+      (subst (Fact setting) (sym (take-append-drop begins.length begins.whole)) (so_far_carries
+      setting (Fact setting) (carried setting) events begins.whole own begins.answers)))
 
 -- the first items have their causes
 pub begin_has : (cause : List Item → Item → Type 0) (journal rest : List Item)
     → HaveCauses cause [] (journal ++ rest) → HaveCauses cause [] journal
-begin_has cause journal rest whole =
-    subst (HaveCauses cause []) (take-append_seam journal rest)
+begin_has cause journal rest whole = subst (HaveCauses cause []) (take-append_seam journal rest)
     (have_take cause [] (journal ++ rest) (length journal) whole)
 
 -- as one that holds where items have these causes
-pub reached : (Holds : Setting → List Item → Type 0)
-    (cause : Setting → List Item → Item → Type 0)
+pub reached : (Holds : Setting → List Item → Type 0) (cause : Setting → List Item → Item → Type 0)
     → ((setting : Setting) (journal : List Item) → HaveCauses (cause setting) [] journal
-    → Holds setting journal) →
-    ((setting : Setting) → OwnPiecesHave (cause setting) setting) → HoldsReached Holds
-reached Holds cause caused pieces =
-    carried_reached (λ setting. HaveCauses (cause setting) []) Holds
+    → Holds setting journal) → ((setting : Setting) → OwnPiecesHave (cause setting) setting)
+    → HoldsReached Holds
+reached Holds cause caused pieces = carried_reached (λ setting. HaveCauses (cause setting) []) Holds
     (λ setting. record {
       first = tt;
       piece = λ journal row step own have.
@@ -165,12 +150,9 @@ pub reached_by : (Fact Holds : Setting → List Item → Type 0)
     (cause : Setting → List Item → Item → Type 0)
     → ((setting : Setting) → IsCarried setting (OfSettings Fact setting))
     → ((setting : Setting) (journal : List Item) → Fact setting journal
-    → HaveCauses (cause setting) [] journal)
-    → ((setting : Setting) (journal : List Item) → IsSetting setting
-    → HaveCauses (cause setting) [] journal → Holds setting journal)
+    → HaveCauses (cause setting) [] journal) → ((setting : Setting) (journal : List Item)
+    → IsSetting setting → HaveCauses (cause setting) [] journal → Holds setting journal)
     → HoldsReached (OfSettings Holds)
-reached_by Fact Holds cause carried causes caused =
-    carried_reached (OfSettings Fact) (OfSettings Holds) carried
-    (λ setting journal rest fact is.
-    caused setting journal is
+reached_by Fact Holds cause carried causes caused = carried_reached (OfSettings Fact)
+    (OfSettings Holds) carried (λ setting journal rest fact is. caused setting journal is
     (begin_has (cause setting) journal rest (causes setting (journal ++ rest) (fact is))))

@@ -17,13 +17,10 @@ unacked_told setting journal s versions =
 
 pub resend_caused : (setting : Setting) (s : ℕ) (journal : List Item)
     → HaveLinkCauses setting journal (resend_items setting s journal)
-resend_caused setting s journal =
-    resent_has (HasLinkCause setting) (Tells setting journal) setting s journal tt
-    (sends_told setting journal)
-    (each_by_switch (Tells setting journal) setting journal s (λ up. tt)
-    (each_neighbour setting journal s
-    (λ neighbour. map (advert_to neighbour) (held_adverts setting journal s))
-    (held_told setting journal s)))
+resend_caused setting s journal = resent_has (HasLinkCause setting) (Tells setting journal) setting
+    s journal tt (sends_told setting journal) (each_by_switch (Tells setting journal) setting
+    journal s (λ up. tt) (each_neighbour setting journal s (λ neighbour. map (advert_to neighbour)
+    (held_adverts setting journal s)) (held_told setting journal s)))
     (each_by_controller (Tells setting journal) setting journal s
     (λ none member. each_to_member (Tells setting journal) setting journal s tt
     (unacked_told setting journal s (later_versions journal)) tt (λ some. tt))

@@ -21,48 +21,45 @@ each_to_member P setting journal s opening tables stamp collect = (
       (each_append P (unacked_installs setting journal s (later_versions journal)) stamps tables
       (by_stamp (nat_lt (acked_stamp journal s) (current_mark journal))))
       (by_mark (retired_mark journal == 0) refl),
-)
-  where
-    stamps : List Message
-    stamps = if nat_lt (acked_stamp journal s) (current_mark journal)
-        then stamp_for setting journal (current_mark journal) s ∷ [] else []
+) where
+  stamps : List Message
+  stamps = if nat_lt (acked_stamp journal s) (current_mark journal)
+      then stamp_for setting journal (current_mark journal) s ∷ [] else []
 
-    by_stamp : (behind : Bool) → AllByRecursion P
-        (if behind then stamp_for setting journal (current_mark journal) s ∷ [] else [])
-    by_stamp true = (stamp, tt)
-    by_stamp false = tt
+  by_stamp : (behind : Bool) → AllByRecursion P
+      (if behind then stamp_for setting journal (current_mark journal) s ∷ [] else [])
+  by_stamp true = (stamp, tt)
+  by_stamp false = tt
 
-    by_mark : (none : Bool) → (retired_mark journal == 0) ≡ none → AllByRecursion P
-        (if none then [] else collect_for journal (retired_mark journal) s ∷ [])
-    by_mark true e = tt
-    by_mark false e = (collect e, tt)
+  by_mark : (none : Bool) → (retired_mark journal == 0) ≡ none → AllByRecursion P
+      (if none then [] else collect_for journal (retired_mark journal) s ∷ [])
+  by_mark true e = tt
+  by_mark false e = (collect e, tt)
 
 pub each_by_controller : (P : Message → Type 0) (setting : Setting) (journal : List Item) (s : ℕ)
     → (IsFalse (is_over journal s) → IsTrue (is_member journal s)
-    → AllByRecursion P (resent_to_member setting journal s))
-    → (IsFalse (is_over journal s)
+    → AllByRecursion P (resent_to_member setting journal s)) → (IsFalse (is_over journal s)
     → AllByRecursion P (unacked_installs setting journal s (versions_from_current journal)))
     → AllByRecursion P (resent_by_controller setting journal s)
 unfolding resent_by_controller
-each_by_controller P setting journal s to_member to_other = by_over (is_over journal s) refl
-  where
-    by_member : IsFalse (is_over journal s) → (member : Bool) → is_member journal s ≡ member
-        → AllByRecursion P (elim member [
-          | true ↦ resent_to_member setting journal s
-          | false ↦ unacked_installs setting journal s (versions_from_current journal)
-        ])
-    by_member none true e = to_member none e
-    by_member none false e = to_other none
-
-    by_over : (over : Bool) → is_over journal s ≡ over → AllByRecursion P (elim over [
-      | true ↦ []
-      | false ↦ elim (is_member journal s) [
+each_by_controller P setting journal s to_member to_other = by_over (is_over journal s) refl where
+  by_member : IsFalse (is_over journal s) → (member : Bool) → is_member journal s ≡ member
+      → AllByRecursion P (elim member [
         | true ↦ resent_to_member setting journal s
         | false ↦ unacked_installs setting journal s (versions_from_current journal)
-      ]
-    ])
-    by_over true e = tt
-    by_over false e = by_member e (is_member journal s) refl
+      ])
+  by_member none true e = to_member none e
+  by_member none false e = to_other none
+
+  by_over : (over : Bool) → is_over journal s ≡ over → AllByRecursion P (elim over [
+    | true ↦ []
+    | false ↦ elim (is_member journal s) [
+      | true ↦ resent_to_member setting journal s
+      | false ↦ unacked_installs setting journal s (versions_from_current journal)
+    ]
+  ])
+  by_over true e = tt
+  by_over false e = by_member e (is_member journal s) refl
 
 pub resent_has : (cause : List Item → Item → Type 0) (P : Message → Type 0) (setting : Setting)
     (s : ℕ) (journal : List Item) → cause journal item.Nothing

@@ -21,8 +21,7 @@ pub record IsAbove (setting : Setting) (journal : List Item) (s : ℕ) : Type 0 
       → retired_mark journal < acked_stamp journal s
 
 same_above : (setting : Setting) (before : List Item) (next : Item) (s : ℕ)
-    → LeavesMember before next s
-    → retired_mark (before ++ next ∷ []) ≡ retired_mark before
+    → LeavesMember before next s → retired_mark (before ++ next ∷ []) ≡ retired_mark before
     → IsAbove setting before s → IsAbove setting (before ++ next ∷ []) s
 same_above setting before next s leaves retired is = record {
   above = λ there member. omega (
@@ -39,12 +38,10 @@ new_above : (setting : Setting) (before : List Item) (n s version : ℕ) (messag
     → IsAbove setting (before ++ item.Sent n message ∷ []) s
 new_above setting before n s version message are first now =
     let next : Item = item.Sent n message in
-    let opening : open_version (before ++ next ∷ []) s ≡ version = ap (λ o. unwrap_or o 0) now in
-    let current : version ≡ current_mark before = first.current in
-    record {
+    let current : version ≡ current_mark before = first.current in record {
       above = λ there member. omega (
         arith,
-        opening,
+        (ap (λ o. unwrap_or o 0) now),
         current,
         are.retired,
         retired_more before next,
@@ -53,16 +50,14 @@ new_above setting before n s version message are first now =
     }
 
 -- the least acknowledged stamp of the members is at most that of each
-least_member : (setting : Setting) (journal : List Item) (s : ℕ)
-    → s < length setting.net.switches → IsTrue (is_member journal s)
-    → next_retired setting journal ≤ acked_stamp journal s - 1
+least_member : (setting : Setting) (journal : List Item) (s : ℕ) → s < length setting.net.switches
+    → IsTrue (is_member journal s) → next_retired setting journal ≤ acked_stamp journal s - 1
 unfolding next_retired
 least_member setting journal s there member =
     let stamps : List ℕ = map (acked_stamp journal) (members setting journal) in
     let lowest : ℕ = unwrap_or (least_number stamps) (current_mark journal) in
-    let below : lowest ≤ acked_stamp journal s =
-    each_in_range (λ t. lowest ≤ acked_stamp journal t) (is_member journal) 0
-    (length setting.net.switches) s
+    let below : lowest ≤ acked_stamp journal s = each_in_range (λ t. lowest ≤ acked_stamp journal t)
+    (is_member journal) 0 (length setting.net.switches) s
     (each_unmap (λ x. lowest ≤ x) (acked_stamp journal) (members setting journal)
     (least_below stamps (current_mark journal))) (omega arith) (omega (arith, there)) member in
     omega arith
@@ -72,19 +67,15 @@ retires_above : (setting : Setting) (before : List Item) (version s : ℕ)
     → IsAbove setting (before ++ item.Retired version ∷ []) s
 retires_above setting before version s right leaves =
     let next : Item = item.Retired version in
-    let rises = right.rises in
-    let is = right.least in
-    record {
-      above = λ there member.
-          let was : IsTrue (is_member before s) = member_was before next s leaves member in
-          omega (
-            arith,
-            rises,
-            is,
-            retired_more before next,
-            least_member setting before s there was,
-            acked_stamp_rises before next s leaves.known (open_was before next s leaves),
-          );
+    let is = right.least in record {
+      above = λ there member. omega (
+        arith,
+        right.rises,
+        is,
+        retired_more before next,
+        least_member setting before s there (member_was before next s leaves member),
+        acked_stamp_rises before next s leaves.known (open_was before next s leaves),
+      );
     }
 
 pub above_fact : (setting : Setting) → MemberFact setting (IsAbove setting)
@@ -94,9 +85,8 @@ above_fact setting = record {
   none = λ journal s none. record { above = λ there member. absurd (none member) };
   new = λ before n s version message are first now.
       new_above setting before n s version message are first now;
-  raised = λ before version s are may leaves is.
-      same_above setting before (item.Current version) s leaves
-      (retired_more before (item.Current version)) is;
+  raised = λ before version s are may leaves is. same_above setting before (item.Current version) s
+      leaves (retired_more before (item.Current version)) is;
   retires = λ before version s are right leaves is.
       retires_above setting before version s right leaves;
 }
@@ -119,13 +109,11 @@ retired_rises setting before (item.Retired version) cause =
     let rises = cause.rises in rw (retired_more before (item.Retired version)) (omega arith)
 retired_rises setting before next cause = rw (retired_more before next) (omega arith)
 
-pub collects_on : (setting : Setting) (before : List Item) (next : Item)
-    → HasItemCause setting before next → CollectsRetired before
-    → CollectsRetired (before ++ next ∷ [])
+pub collects_on : (setting : Setting) (before : List Item) (next : Item) → HasItemCause setting
+    before next → CollectsRetired before → CollectsRetired (before ++ next ∷ [])
 collects_on setting before next cause are s boot version n is = elim
     (by_number before next n (to_switch s (Collect boot version)) is) [
-      | inl new ↦
-          let right = subst (HasItemCause setting before) new cause in
+      | inl new ↦ let right = subst (HasItemCause setting before) new cause in
           omega (arith, right.retired, retired_rises setting before next cause)
       | inr old ↦ omega (arith, are s boot version n old, retired_rises setting before next cause)
     ]

@@ -44,54 +44,44 @@ pub parts_have : (cause : List Item → Item → Type 0) (Tells : List Item → 
     (setting : Setting) → SettlingHas cause Tells setting → PartsHave cause setting
 unfolding current_items open_items retired_items
 parts_have cause Tells setting has = record {
-  rises = λ journal.
-      let version = next_current setting journal in
+  rises = λ journal. let version = next_current setting journal in
       rise_has journal (nat_lt (current_mark journal) version) (item.Current version)
       (stamp_for setting journal version) (known_more journal (item.Current version))
       (over_more journal (item.Current version)) (has.rises journal);
-  opens = λ journal.
-      has.sends journal _
-      (each_map (Tells journal) (open_for journal (current_mark journal))
-      (opening_switches setting journal)
+  opens = λ journal. has.sends journal _ (each_map (Tells journal)
+      (open_for journal (current_mark journal)) (opening_switches setting journal)
       (each_of_network (λ s. Tells journal (open_for journal (current_mark journal) s)) setting
       (λ s. is_joining journal s && has_acked journal s (current_mark journal))
       (has.opens journal)));
-  retires = λ journal.
-      let version = next_retired setting journal in
+  retires = λ journal. let version = next_retired setting journal in
       rise_has journal (nat_lt (retired_mark journal) version) (item.Retired version)
       (collect_for journal version) (known_more journal (item.Retired version))
       (over_more journal (item.Retired version)) (has.retires journal);
-}
-  where
-    -- a member stays one while a mark rises, in the boot that was known
-    rise_has : (journal : List Item) (rises : Bool) (next : Item) (message : ℕ → Message)
-        → ((s : ℕ) → known_boot (journal ++ next ∷ []) s ≡ known_boot journal s)
-        → ((s : ℕ) → is_over (journal ++ next ∷ []) s ≡ is_over journal s)
-        → (IsTrue rises → Rises cause Tells setting journal next message)
-        → HaveCauses cause journal (elim rises [
-          | false ↦ []
-          | true ↦ items_then (next ∷ []) (λ raised. send_items raised
-              (map message (members setting journal)))
-              journal
-        ])
-    rise_has journal false next message known over may = tt
-    rise_has journal true next message known over may =
-        let raised : List Item = journal ++ next ∷ [] in
-        have_first cause next (λ raised. send_items raised (map message (members setting journal)))
-        journal (may refl).may
-        (has.sends raised _
-        (each_map (Tells raised) message (members setting journal)
-        (each_of_network (λ s. Tells raised (message s)) setting (is_member journal)
-        (λ s there member.
-        let stays : IsTrue (is_member raised s) =
-        member_on journal next s (known s) (over s) member in
-        (may refl).told s there
-        (record { known = sym (known s); not_over = (member_parts raised s stays).0 }) stays))))
+} where
+  -- a member stays one while a mark rises, in the boot that was known
+  rise_has : (journal : List Item) (rises : Bool) (next : Item) (message : ℕ → Message)
+      → ((s : ℕ) → known_boot (journal ++ next ∷ []) s ≡ known_boot journal s)
+      → ((s : ℕ) → is_over (journal ++ next ∷ []) s ≡ is_over journal s)
+      → (IsTrue rises → Rises cause Tells setting journal next message)
+      → HaveCauses cause journal (elim rises [
+        | false ↦ []
+        | true ↦ items_then (next ∷ []) (λ raised. send_items raised
+            (map message (members setting journal)))
+            journal
+      ])
+  rise_has journal false next message known over may = tt
+  rise_has journal true next message known over may =
+      let raised : List Item = journal ++ next ∷ [] in
+      have_first cause next (λ raised. send_items raised (map message (members setting journal)))
+      journal (may refl).may
+      (has.sends raised _ (each_map (Tells raised) message (members setting journal)
+      (each_of_network (λ s. Tells raised (message s)) setting (is_member journal)
+      (λ s there member. let stays = member_on journal next s (known s) (over s) member in
+      (may refl).told s there
+      (record { known = sym (known s); not_over = (member_parts raised s stays).0 }) stays))))
 
-pub settling_has : (cause : List Item → Item → Type 0) (setting : Setting)
-    → PartsHave cause setting → (journal : List Item)
-    → HaveCauses cause journal (settling setting journal)
+pub settling_has : (cause : List Item → Item → Type 0) (setting : Setting) → PartsHave cause setting
+    → (journal : List Item) → HaveCauses cause journal (settling setting journal)
 unfolding settling
-settling_has cause setting have =
-    have_in_turn cause (current_items setting ∷ open_items setting ∷ retired_items setting ∷ [])
-    (have.rises, (have.opens, (have.retires, tt)))
+settling_has cause setting have = have_in_turn cause (current_items setting ∷ open_items setting
+    ∷ retired_items setting ∷ []) (have.rises, (have.opens, (have.retires, tt)))

@@ -38,30 +38,22 @@ pub said_row : (before : List Item) (row s number : ℕ) (step : Step)
 said_row before row s number step =
     let sent = message_more before (item.Row row step) number in
     let up = up_more before (item.Row row step) s in
-    let boot = boot_more before (item.Row row step) s in
-    grind arith
+    let boot = boot_more before (item.Row row step) s in grind arith
 
-delivered_heard : (before : List Item) (s number : ℕ) (body : Body)
-    → body_to_switch before s number ≡ Some body
-    → IsHeard (before ++ item.Delivered number ∷ []) s number body
+delivered_heard : (before : List Item) (s number : ℕ) (body : Body) → body_to_switch before s number
+    ≡ Some body → IsHeard (before ++ item.Delivered number ∷ []) s number body
 delivered_heard before s number body said =
-    let parts = said_parts before s number body said in
-    record {
+    let parts = said_parts before s number body said in record {
       said = record {
         sent = message_more before (item.Delivered number) number ∙ parts.sent;
         up = up_more before (item.Delivered number) s ∙ parts.up;
-        own = subst (λ boot. IsTrue (is_for_boot boot body))
-            (sym (boot_more before (item.Delivered number) s)) parts.own;
+        own = rw (boot_more before (item.Delivered number) s) parts.own;
       };
       earlier = heard before s;
-      heard = heard_more before (item.Delivered number) s
-          ∙ ap (λ o. option_map_or (λ b. heard before s ++ b ∷ []) o (heard before s)) said;
-      stamps = λ version is.
-          let told : option_and_then stamp_in (body_to_switch before s number) ≡ Some version =
-          ap (option_and_then stamp_in) said ∙ is in
-          let after : stamp_of (before ++ item.Delivered number ∷ []) s
-          ≡ raised (stamp_of before s) (Some version) =
-          stamp_told before number s ∙ ap (raised (stamp_of before s)) told in
+      heard = cc (heard_more before (item.Delivered number) s, said);
+      stamps = λ version is. let after : stamp_of (before ++ item.Delivered number ∷ []) s
+          ≡ raised (stamp_of before s) (Some version) = stamp_told before number s
+          ∙ ap (raised (stamp_of before s)) (ap (option_and_then stamp_in) said ∙ is) in
           omega (arith, after);
     }
 
@@ -76,8 +68,7 @@ opens_rightly now s number boot version is = record {
   up = is.said.up;
   number = number;
   version = version;
-  sent = is.said.sent
-      ∙ ap (λ b. Some (to_switch s (OpenAt b version))) (own_boot now s boot is.said.own);
+  sent = cc (is.said.sent, own_boot now s boot is.said.own);
   stamped = is.stamps version refl;
   own = refl;
 }
@@ -95,12 +86,10 @@ switch_have setting before now s number (Install boot tables) is =
     )
   where
     installed : IsTrue (list_any (installs_version tables.version) (heard now s))
-    installed =
-        let own : (tables.version == tables.version) ≡ true =
-        eq-eqb tables.version tables.version refl in
-        ap (list_any (installs_version tables.version)) is.heard
+    installed = ap (list_any (installs_version tables.version)) is.heard
         ∙ list_any-append (installs_version tables.version) is.earlier (Install boot tables ∷ [])
-        ∙ ap (λ b. list_any (installs_version tables.version) is.earlier || (b || false)) own
+        ∙ ap (λ b. list_any (installs_version tables.version) is.earlier || (b || false))
+        (eq-eqb tables.version tables.version refl)
         ∙ or_right (list_any (installs_version tables.version) is.earlier) true refl
 switch_have setting before now s number (Stamp boot version touched) is =
     sends_have setting now (to_controller (Stamped s boot version) ∷ []) (
@@ -127,8 +116,7 @@ said_have setting before here s number body said =
 
 -- a switch whose known boot is raised isn't over, nor is it behind settling
 raised_ends : (setting : Setting) (here : List Item) (s number : ℕ)
-    → IsTrue (raises_known here s number)
-    → let now = here ++ item.Delivered number ∷ [] in
+    → IsTrue (raises_known here s number) → let now = here ++ item.Delivered number ∷ [] in
     IsFalse (is_over (now ++ settling setting now) s)
 raised_ends setting here s number raises =
     let now : List Item = here ++ item.Delivered number ∷ [] in
@@ -139,9 +127,7 @@ raised_ends setting here s number raises =
 pub deliver_have : (setting : Setting) (before : List Item) (row number : ℕ) (step : Step)
     → let here = before ++ item.Row row step ∷ [] in
     Has setting here (deliver_items setting before number here)
-deliver_have setting before row number step =
-    row_delivers (HasItemCause setting) setting before row number step tt tt
-    (settling_have setting _)
-    (λ s raises. installs_have setting s _ (raised_ends setting _ s number raises))
-    (λ s body said. said_have setting before _ s number body
-    (said_row before row s number step ∙ said))
+deliver_have setting before row number step = row_delivers (HasItemCause setting) setting before row
+    number step tt tt (settling_have setting _)
+    (λ s raises. installs_have setting s _ (raised_ends setting _ s number raises)) (λ s body said.
+    said_have setting before _ s number body (said_row before row s number step ∙ said))

@@ -23,8 +23,7 @@ unfolding switch_items
 switch_cases P setting before s (Install boot tables) now installed stamped opens passes none =
     installed boot tables.version
 switch_cases P setting before s (Stamp boot version touched) now installed stamped opens passes
-    none =
-    stamped boot version
+    none = stamped boot version
 switch_cases P setting before s (OpenAt boot version) now installed stamped opens passes none =
     by_serving (serves before s)
   where

@@ -32,14 +32,11 @@ goes_on setting before (item.Down t) s boot cause past up own = record {
   own = own ∙ boot_more before (item.Down t) s;
   same = grind (arith, nat_tests, up_more);
 }
-goes_on setting before (item.Booted t next_boot) s boot cause past up own =
-    let moves : t ≡ s → boot_of before t ≡ boot_of before s = ap (boot_of before) in
-    let next = cause.next in
-    record {
-      up = grind (arith, nat_tests, up_more, boot_more);
-      own = grind (arith, nat_tests, boot_more);
-      same = grind (arith, nat_tests, boot_more);
-    }
+goes_on setting before (item.Booted t next_boot) s boot cause past up own = record {
+  up = grind (arith, nat_tests, up_more, boot_more);
+  own = grind (arith, nat_tests, boot_more);
+  same = grind (arith, nat_tests, boot_more);
+}
 goes_on setting before next s boot cause past up own = record {
   up = rw (up_more before next s) at up;
   own = rw (boot_more before next s) at own;
@@ -65,22 +62,9 @@ stamp_delivered before number s = rw (stamp_told before number s)
 pub stamp_kept : (before : List Item) (next : Item) (s : ℕ) → IsFalse (turns s next)
     → stamp_of before s ≤ stamp_of (before ++ next ∷ []) s
 unfolding stamp_of
-stamp_kept before (item.Down t) s same =
-    let apart : (t == s) ≡ false = same in
-    rw (
-      heard_more before (item.Down t) s,
-      boot_more before (item.Down t) s,
-      up_more before (item.Down t) s,
-      apart,
-    ) (omega arith)
-stamp_kept before (item.Booted t boot) s same =
-    let apart : (t == s) ≡ false = same in
-    rw (
-      heard_more before (item.Booted t boot) s,
-      boot_more before (item.Booted t boot) s,
-      up_more before (item.Booted t boot) s,
-      apart,
-    ) (omega arith)
+stamp_kept before (item.Down t) s same = rw (heard_more, boot_more, up_more, same) (omega arith)
+stamp_kept before (item.Booted t boot) s same = rw (heard_more, boot_more, up_more, same)
+    (omega arith)
 stamp_kept before (item.Delivered number) s same = stamp_delivered before number s
 stamp_kept before next s same =
     rw (heard_more before next s, boot_more before next s, up_more before next s) (omega arith)
@@ -90,12 +74,7 @@ pub stamp_less : (before : List Item) (next : Item) (s : ℕ) → IsFalse (is_de
     → stamp_of (before ++ next ∷ []) s ≤ max 1 (stamp_of before s)
 unfolding stamp_of
 stamp_less before (item.Delivered number) s none = absurd cc
-stamp_less before (item.Down t) s none =
-    rw (
-      heard_more before (item.Down t) s,
-      boot_more before (item.Down t) s,
-      up_more before (item.Down t) s,
-    ) (by_test (t == s))
+stamp_less before (item.Down t) s none = rw (heard_more, boot_more, up_more) (by_test (t == s))
   where
     by_test : (b : Bool) → greatest_number
         ((if unwrap_or (if b then Some false else None) (is_up before s) && boot_of before s == 1
@@ -103,24 +82,19 @@ stamp_less before (item.Down t) s none =
         ≤ max 1 (greatest_number (first_stamp before s ++ filter_map stamp_in (heard before s)))
     by_test true = omega arith
     by_test false = omega arith
-stamp_less before (item.Booted t boot) s none =
-    rw (
-      heard_more before (item.Booted t boot) s,
-      boot_more before (item.Booted t boot) s,
-      up_more before (item.Booted t boot) s,
-    ) (by_test (t == s))
+stamp_less before (item.Booted t boot) s none = rw (heard_more, boot_more, up_more)
+    (by_test (t == s))
   where
     by_test : (b : Bool) → greatest_number
         ((if unwrap_or (if b then Some true else None) (is_up before s)
         && unwrap_or (if b then Some boot else None) (boot_of before s) == 1
         then 1 ∷ [] else []) ++ filter_map stamp_in (if b then [] else heard before s))
         ≤ max 1 (greatest_number (first_stamp before s ++ filter_map stamp_in (heard before s)))
-    by_test true = by_boot (boot == 1)
-      where
-        by_boot : (c : Bool) → greatest_number ((if c then 1 ∷ [] else []) ++ [])
-            ≤ max 1 (greatest_number (first_stamp before s ++ filter_map stamp_in (heard before s)))
-        by_boot true = omega arith
-        by_boot false = omega arith
+    by_test true = by_boot (boot == 1) where
+      by_boot : (c : Bool) → greatest_number ((if c then 1 ∷ [] else []) ++ [])
+          ≤ max 1 (greatest_number (first_stamp before s ++ filter_map stamp_in (heard before s)))
+      by_boot true = omega arith
+      by_boot false = omega arith
     by_test false = omega arith
 stamp_less before next s none =
     rw (heard_more before next s, boot_more before next s, up_more before next s) (omega arith)

@@ -1,5 +1,5 @@
 -- Items that have their causes keep what is known of openings and of switches that serve.
-use Rattle.std.proofs.Common.{[], if◌then◌else◌, ◌++◌, ◌==◌, ◌∙◌, ◌∷◌, ◌≡◌, ◌≤◌, Bool, IsFalse, IsTrue, List, None, Option, Some, ap, arith, eq-eqb, false, inl, inr, is_some, nat_lt, option_and_then, refl, subst, sym, true, ℕ}
+use Rattle.std.proofs.Common.{[], if◌then◌else◌, ◌++◌, ◌==◌, ◌∙◌, ◌∷◌, ◌≡◌, ◌≤◌, Bool, IsFalse, IsTrue, List, None, Option, Some, ap, arith, eq-eqb, false, inl, inr, is_some, nat_lt, option_and_then, refl, sym, true, ℕ}
 use Rattle.base.proofs.Exports.{nat_tests, option_map_or, option_or}
 use Rattle.update_machine.specs.Exports.{Item, OpenAt, Setting, body_to_controller, boot_of, controller_heard, first_number, hello_boot, is_member, is_over, is_up, known_boot, message_of, open_sent, opened_at, serves, to_switch}
 use Rattle.journal.specs.declared.item.Item.TheVariants as item
@@ -20,9 +20,7 @@ pub member_of : (journal : List Item) (s : ℕ) → IsFalse (is_over journal s)
     → IsTrue (is_some (opened_at journal s)) → IsTrue (is_member journal s)
 unfolding is_member
 member_of journal s none opened =
-    let over : is_over journal s ≡ false = none in
-    let is : is_some (opened_at journal s) ≡ true = opened in
-    rw (over, is) refl
+    let is : is_some (opened_at journal s) ≡ true = opened in rw (none, is) refl
 
 -- ---- openings
 
@@ -33,17 +31,14 @@ OpeningsStand journal = (s boot version n : ℕ)
     → opened_in journal s boot ≡ Some version
 
 -- a switch that is opened stays opened at that version
-pub opened_on : (before : List Item) (next : Item) (s boot version : ℕ)
-    → opened_in before s boot ≡ Some version
-    → opened_in (before ++ next ∷ []) s boot ≡ Some version
+pub opened_on : (before : List Item) (next : Item) (s boot version : ℕ) → opened_in before s boot
+    ≡ Some version → opened_in (before ++ next ∷ []) s boot ≡ Some version
 opened_on before next s boot version opened = rw (opened_more before next s boot, opened) refl
 
 pub own_opening : (s boot version n : ℕ)
     → first_number (open_sent s boot (item.Sent n (to_switch s (OpenAt boot version)))) ≡ Some version
-own_opening s boot version n =
-    let s_is : (s == s) ≡ true = eq-eqb s s refl in
-    let boot_is : (boot == boot) ≡ true = eq-eqb boot boot refl in
-    rw (s_is, boot_is) refl
+own_opening s boot version n = let boot_is : (boot == boot) ≡ true = eq-eqb boot boot refl in
+    rw ((eq-eqb s s refl), boot_is) refl
 
 pub new_opening : (before : List Item) (s boot version n : ℕ) → IsRightOpening before s boot version
     → opened_in (before ++ item.Sent n (to_switch s (OpenAt boot version)) ∷ []) s boot
@@ -51,23 +46,19 @@ pub new_opening : (before : List Item) (s boot version n : ℕ) → IsRightOpeni
 new_opening before s boot version n right =
     let next : Item = item.Sent n (to_switch s (OpenAt boot version)) in
     elim right.opens [
-      | inl first ↦
-          let none : opened_in before s boot ≡ None =
-          ap (opened_in before s) right.to.known ∙ sym (opened_is before s) ∙ first.closed in
-          opened_more before next s boot
-          ∙ ap (λ o. option_or o (first_number (open_sent s boot next))) none
+      | inl first ↦ opened_more before next s boot
+          ∙ ap (λ o. option_or o (first_number (open_sent s boot next)))
+          (ap (opened_in before s) right.to.known ∙ sym (opened_is before s) ∙ first.closed)
           ∙ own_opening s boot version n
       | inr same ↦ opened_on before next s boot version
           (ap (opened_in before s) right.to.known ∙ sym (opened_is before s) ∙ same)
     ]
 
-pub openings_on : (setting : Setting) (before : List Item) (next : Item)
-    → HasItemCause setting before next → OpeningsStand before
-    → OpeningsStand (before ++ next ∷ [])
+pub openings_on : (setting : Setting) (before : List Item) (next : Item) → HasItemCause setting
+    before next → OpeningsStand before → OpeningsStand (before ++ next ∷ [])
 openings_on setting before next cause stand s boot version n is =
     elim (by_number before next n (to_switch s (OpenAt boot version)) is) [
-      | inl new ↦ subst (λ x. opened_in (before ++ x ∷ []) s boot ≡ Some version) (sym new)
-          (new_opening before s boot version n (subst (HasItemCause setting before) new cause))
+      | inl new ↦ rw new (new_opening before s boot version n (rw new at cause))
       | inr old ↦ opened_on before next s boot version (stand s boot version n old)
     ]
 
@@ -79,8 +70,7 @@ openings_at_first s boot version n is =
 pub one_opening : (journal : List Item) → OpeningsStand journal → OpensAtOneVersion journal
 one_opening journal stand s boot one other m n first second =
     let a : opened_in journal s boot ≡ Some one = stand s boot one m first in
-    let b : opened_in journal s boot ≡ Some other = stand s boot other n second in
-    cc
+    let b : opened_in journal s boot ≡ Some other = stand s boot other n second in cc
 
 -- ---- switches that serve
 
@@ -96,9 +86,7 @@ up_on : (setting : Setting) (before : List Item) (next : Item) (s : ℕ)
     → HasItemCause setting before next → (IsTrue (serves before s) → IsTrue (is_up before s))
     → IsTrue (serves (before ++ next ∷ []) s) → IsTrue (is_up (before ++ next ∷ []) s)
 up_on setting before (item.Opened t version) s cause up serving =
-    let moves : t ≡ s → is_up before t ≡ is_up before s = ap (is_up before) in
-    let here = cause.up in
-    grind (arith, nat_tests, serving_more, up_more)
+    grind (arith, nat_tests, serving_more, up_more, cause.up)
 up_on setting before (item.Down t) s cause up serving =
     grind (arith, nat_tests, serving_more, up_more)
 up_on setting before (item.Booted t boot) s cause up serving =
@@ -111,8 +99,7 @@ pub opening_known : (before : List Item) (s number version : ℕ) → BootsAreKn
     → message_of before number ≡ Some (to_switch s (OpenAt (boot_of before s) version))
     → known_boot before s ≡ boot_of before s
 opening_known before s number version boots sent =
-    let past : boot_of before s ≤ known_boot before s =
-    boots.sent number (to_switch s (OpenAt (boot_of before s) version)) sent in
+    let past = boots.sent number (to_switch s (OpenAt (boot_of before s) version)) sent in
     omega (arith, boots.known s)
 
 -- no hello of a past boot raises the known one
@@ -125,8 +112,7 @@ not_raised boot (Some of) own same past = omega (arith, past of refl)
 pub delivery_known : (before : List Item) (s number : ℕ) → BootsAreKnown before
     → known_boot before s ≡ boot_of before s
     → known_boot (before ++ item.Delivered number ∷ []) s ≡ known_boot before s
-delivery_known before s number boots same =
-    known_more before (item.Delivered number) s
+delivery_known before s number boots same = known_more before (item.Delivered number) s
     ∙ not_raised (known_boot before s)
     (option_and_then (hello_boot s) (body_to_controller before number)) (boot_of before s) same
     (λ of told. told_past before s number of boots told)
@@ -139,8 +125,7 @@ known_on setting before (item.Opened t version) s cause boots kept serving =
     let own = opening_known before t cause.number cause.version boots cause.sent in
     let moves : t ≡ s → known_boot before t ≡ known_boot before s = ap (known_boot before) in
     let moved : t ≡ s → boot_of before t ≡ boot_of before s = ap (boot_of before) in
-    let here = kept.known in
-    grind (arith, nat_tests, serving_more, known_more, boot_more)
+    let here = kept.known in grind (arith, nat_tests, serving_more, known_more, boot_more)
 known_on setting before (item.Down t) s cause boots kept serving =
     let here = kept.known in grind (arith, nat_tests, serving_more, known_more, boot_more)
 known_on setting before (item.Booted t boot) s cause boots kept serving =
@@ -167,12 +152,10 @@ still_opened before next s same opened =
     by_opened (Some version) is = refl
 
 -- and a member stays one, unless it is over
-pub member_on : (before : List Item) (next : Item) (s : ℕ)
-    → known_boot (before ++ next ∷ []) s ≡ known_boot before s
-    → is_over (before ++ next ∷ []) s ≡ is_over before s → IsTrue (is_member before s)
-    → IsTrue (is_member (before ++ next ∷ []) s)
-member_on before next s known over member =
-    let parts = member_parts before s member in
+pub member_on : (before : List Item) (next : Item) (s : ℕ) → known_boot (before ++ next ∷ []) s
+    ≡ known_boot before s → is_over (before ++ next ∷ []) s ≡ is_over before s
+    → IsTrue (is_member before s) → IsTrue (is_member (before ++ next ∷ []) s)
+member_on before next s known over member = let parts = member_parts before s member in
     member_of (before ++ next ∷ []) s (over ∙ parts.0) (still_opened before next s known parts.1)
 
 opened_here : (before : List Item) (s number version : ℕ) → BootsAreKnown before
@@ -180,10 +163,8 @@ opened_here : (before : List Item) (s number version : ℕ) → BootsAreKnown be
     → message_of before number ≡ Some (to_switch s (OpenAt (boot_of before s) version))
     → IsTrue (is_some (opened_at before s))
 opened_here before s number version boots stand sent =
-    let same : known_boot before s ≡ boot_of before s =
-    opening_known before s number version boots sent in
     let opened : opened_at before s ≡ Some version =
-    opened_is before s ∙ ap (opened_in before s) same
+    opened_is before s ∙ ap (opened_in before s) (opening_known before s number version boots sent)
     ∙ stand s (boot_of before s) version number sent in
     rw opened refl
 
@@ -210,14 +191,12 @@ opened_serving setting before (item.Delivered number) s cause boots stand kept s
     let served = rw (serving_more before (item.Delivered number) s) at serving in
     still_opened before (item.Delivered number) s
     (delivery_known before s number boots (kept.known served)) (kept.opened served)
-opened_serving setting before next s cause boots stand kept serving =
-    still_opened before next s (known_more before next s)
-    (kept.opened (rw (serving_more before next s) at serving))
+opened_serving setting before next s cause boots stand kept serving = still_opened before next s
+    (known_more before next s) (kept.opened (rw (serving_more before next s) at serving))
 
 -- ---- switches that are over
 
-by_raise : (boot : ℕ) (hello : Option ℕ) (over : Bool)
-    → (raised boot hello ≡ boot → IsFalse over)
+by_raise : (boot : ℕ) (hello : Option ℕ) (over : Bool) → (raised boot hello ≡ boot → IsFalse over)
     → IsFalse (if option_map_or (λ of. nat_lt boot of) hello false then false else over)
 by_raise boot None over none = none refl
 by_raise boot (Some of) over none = grind (arith, nat_tests)
@@ -228,30 +207,19 @@ not_over_on : (setting : Setting) (before : List Item) (next : Item) (s : ℕ)
     → known_boot (before ++ next ∷ []) s ≡ boot_of (before ++ next ∷ []) s
     → IsFalse (is_over (before ++ next ∷ []) s)
 not_over_on setting before (item.OverNow t) s cause boots kept up same =
-    let moves : t ≡ s → is_up before t ≡ is_up before s = ap (is_up before) in
-    let down : IsFalse (is_up before t) = cause in
-    let here = kept.not_over in
-    grind (arith, nat_tests, up_more, known_more, boot_more, over_more)
+    grind (arith, nat_tests, up_more, known_more, boot_more, over_more, kept.not_over)
 not_over_on setting before (item.Down t) s cause boots kept up same =
-    let here = kept.not_over in
-    grind (arith, nat_tests, up_more, known_more, boot_more, over_more)
+    grind (arith, nat_tests, up_more, known_more, boot_more, over_more, kept.not_over)
 not_over_on setting before (item.Booted t boot) s cause boots kept up same =
-    let known = boots.known s in
-    let moves : t ≡ s → boot_of before t ≡ boot_of before s = ap (boot_of before) in
-    let next = cause.next in
-    let here = kept.not_over in
-    grind (arith, nat_tests, up_more, known_more, boot_more, over_more)
+    grind (arith, nat_tests, up_more, known_more, boot_more, over_more, kept.not_over)
 not_over_on setting before (item.Delivered number) s cause boots kept up same =
     let next : Item = item.Delivered number in
-    let here : IsTrue (is_up before s) = rw (up_more before next s) at up in
-    let now : known_boot (before ++ next ∷ []) s ≡ boot_of before s =
-    same ∙ boot_more before next s in
     rw (over_more before next s)
     (by_raise (known_boot before s)
     (option_and_then (hello_boot s) (body_to_controller before number)) (is_over before s)
-    (λ stays. kept.not_over here (sym stays ∙ sym (known_more before next s) ∙ now)))
-not_over_on setting before next s cause boots kept up same =
-    rw (over_more before next s)
+    (λ stays. kept.not_over (rw (up_more before next s) at up)
+    (sym stays ∙ sym (known_more before next s) ∙ (same ∙ boot_more before next s))))
+not_over_on setting before next s cause boots kept up same = rw (over_more before next s)
     (kept.not_over (rw (up_more before next s) at up)
     (sym (known_more before next s) ∙ same ∙ boot_more before next s))
 

@@ -21,22 +21,19 @@ tells reads before _ = []
 pub told_by_more : {X : Type 0} (reads : Body → Option X) (before : List Item) (next : Item)
     → told_by reads (before ++ next ∷ []) ≡ told_by reads before ++ tells reads before next
 told_by_more {X = X} reads before (item.Delivered number) =
-    ap (filter_map reads) (told_more before (item.Delivered number))
-    ∙ filter_map-append reads (controller_heard before)
-    (option_to_list (body_to_controller before number))
+    ap (filter_map reads) (told_more before (item.Delivered number)) ∙ filter_map-append reads
+    (controller_heard before) (option_to_list (body_to_controller before number))
     ∙ ap (λ xs. told_by reads before ++ xs) (by_said (body_to_controller before number))
   where
     by_said : (said : Option Body) → filter_map reads (option_to_list said)
         ≡ option_to_list (option_and_then reads said)
     by_said None = refl
-    by_said (Some body) = by_read (reads body) refl
-      where
-        by_read : (read : Option X) → reads body ≡ read
-            → filter_map reads (body ∷ []) ≡ option_to_list read
-        by_read None e = rw e refl
-        by_read (Some x) e = rw e refl
-told_by_more reads before next =
-    ap (filter_map reads) (told_more before next) ∙ sym (append-nil (told_by reads before))
+    by_said (Some body) = by_read (reads body) refl where
+      by_read : (read : Option X) → reads body ≡ read
+          → filter_map reads (body ∷ []) ≡ option_to_list read
+      by_read None e = rw e refl
+      by_read (Some x) e = rw e refl
+told_by_more reads before next = cc (told_more before next, append-nil (told_by reads before))
 
 -- what is told in some body was sent in it
 pub told_sent : {X : Type 0} (reads : Body → Option X) (writes : X → Body) →
@@ -49,9 +46,7 @@ told_sent reads writes is before number x told = by_said (body_to_controller bef
     by_said : (said : Option Body) → body_to_controller before number ≡ said
         → message_of before number ≡ Some (to_controller (writes x))
     by_said None e = let none : None ≡ Some x = rw e at told in absurd cc
-    by_said (Some body) e =
-        said_sent before number body e
-        ∙ ap (λ b. Some (to_controller b)) (is body x (rw e at told))
+    by_said (Some body) e = cc (said_sent before number body e, is body x (rw e at told))
 
 -- ---- facts of each element
 
@@ -59,12 +54,11 @@ told_sent reads writes is before number x told = by_said (body_to_controller bef
 pub each_at : (P : ℕ → Type 0) (v : ℕ) (xs : List ℕ) → AllByRecursion P xs
     → IsTrue (list_any (nat_eq v) xs) → P v
 each_at P v [] all any = absurd cc
-each_at P v (x ∷ xs) all any = by_test (nat_eq v x) refl any (each_at P v xs all.1)
-  where
-    by_test : (b : Bool) → nat_eq v x ≡ b → IsTrue (b || list_any (nat_eq v) xs)
-        → (IsTrue (list_any (nat_eq v) xs) → P v) → P v
-    by_test true e any rest = subst P (sym (eqb-true v x e)) all.0
-    by_test false e any rest = rest any
+each_at P v (x ∷ xs) all any = by_test (nat_eq v x) refl any (each_at P v xs all.1) where
+  by_test : (b : Bool) → nat_eq v x ≡ b → IsTrue (b || list_any (nat_eq v) xs)
+      → (IsTrue (list_any (nat_eq v) xs) → P v) → P v
+  by_test true e any rest = subst P (sym (eqb-true v x e)) all.0
+  by_test false e any rest = rest any
 
 -- among numbers of a range that pass a test
 pub each_in_range : (P : ℕ → Type 0) (test : ℕ → Bool) (low n x : ℕ)

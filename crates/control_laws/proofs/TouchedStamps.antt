@@ -1,5 +1,5 @@
 -- Each stamp that was sent says what the change of its version touches.
-use Rattle.std.proofs.Common.{[], ◌++◌, ◌∙◌, ◌∷◌, ◌≡◌, List, None, Some, arith, inl, inr, subst, sym, ℕ}
+use Rattle.std.proofs.Common.{[], ◌++◌, ◌∙◌, ◌∷◌, List, arith, inl, inr, subst, sym, ℕ}
 use Rattle.ternary.specs.Exports.{WordValue}
 use Rattle.update_machine.specs.Exports.{Item, Setting, VersionsAreNumbered}
 use Rattle.update_machine.proofs.Exports.{numbered_at_first, start_laws, touched_stays}
@@ -31,9 +31,7 @@ touched_kept setting before next cause are = record {
   stamps = record {
     sent = λ n s boot version touched is. elim
         (by_number before next n (stamp_to s boot version touched) is) [
-          | inl new ↦
-              let right : IsRightStamp setting before s boot version touched =
-              subst (HasItemCause setting before) new cause in
+          | inl new ↦ let right = subst (HasItemCause setting before) new cause in
               touched_on setting before next version touched are.versions (record {
                 first = omega (arith, right.current, are.marks.first);
                 last = omega (arith, right.current, are.marks.there);
@@ -50,9 +48,7 @@ touched_at_first setting = record {
   marks = there_at_first;
   versions = numbered_at_first;
   stamps = record {
-    sent = λ n s boot version touched is.
-        let none : None ≡ Some (stamp_to s boot version touched) =
-        rw (start_laws.message n).message at is in absurd cc;
+    sent = λ n s boot version touched is. absurd (cc (rw (start_laws.message n).message at is));
   };
 }
 

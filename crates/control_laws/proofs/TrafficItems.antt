@@ -30,9 +30,8 @@ IsRuleTo before to body = ⊥
 
 -- what such rules have
 pub rule_cases : (before : List Item) (P : Place → Body → Type 0)
-    → ((s version : ℕ) (word : _) (rule : Option ℕ) (action : Action)
-    → IsTrue (is_version before version) → IsIngress before s
-    → P (receiver.Switch s) (CacheRule version word rule action))
+    → ((s version : ℕ) (word : _) (rule : Option ℕ) (action : Action) → IsTrue (is_version before
+    version) → IsIngress before s → P (receiver.Switch s) (CacheRule version word rule action))
     → (to : Place) (body : Body) → IsRuleTo before to body → P to body
 rule_cases before P rules (receiver.Switch s) (CacheRule version word rule action) is =
     rules s version word rule action is.0 is.1
@@ -69,8 +68,7 @@ Work setting journal items = HaveCauses (IsWork setting) journal items
 
 -- a message of a switch to another one: such a rule, or an advert to a switch of the network
 abbrev pub IsBetween : Setting → List Item → Place → Body → Type 0
-IsBetween setting before (receiver.Switch s) (Advertise advert) =
-    s < length setting.net.switches
+IsBetween setting before (receiver.Switch s) (Advertise advert) = s < length setting.net.switches
 IsBetween setting before to body = IsRuleTo before to body
 
 abbrev pub IsTraffic : Setting → List Item → Item → Type 0
@@ -84,9 +82,8 @@ Traffic setting journal items = HaveCauses (IsTraffic setting) journal items
 
 -- what rules have and adverts
 pub between_cases : (setting : Setting) (before : List Item) (P : Place → Body → Type 0)
-    → ((s version : ℕ) (word : _) (rule : Option ℕ) (action : Action)
-    → IsTrue (is_version before version) → IsIngress before s
-    → P (receiver.Switch s) (CacheRule version word rule action))
+    → ((s version : ℕ) (word : _) (rule : Option ℕ) (action : Action) → IsTrue (is_version before
+    version) → IsIngress before s → P (receiver.Switch s) (CacheRule version word rule action))
     → ((s : ℕ) (advert : Advert) → s < length setting.net.switches
     → P (receiver.Switch s) (Advertise advert))
     → (to : Place) (body : Body) → IsBetween setting before to body → P to body
@@ -97,10 +94,9 @@ between_cases setting before P rules adverts to body is = rule_cases before P ru
 -- of such items nothing is asked
 pub traffic_right : (setting : Setting) (before : List Item) (next : Item)
     → IsTraffic setting before next → HasItemCause setting before next
-traffic_right setting before (item.Sent number message) is =
-    between_cases setting before (IsRightMessage setting before)
-    (λ s version word rule action there ingress. tt) (λ s advert there. tt) message.to message.body
-    is
+traffic_right setting before (item.Sent number message) is = between_cases setting before
+    (IsRightMessage setting before) (λ s version word rule action there ingress. tt)
+    (λ s advert there. tt) message.to message.body is
 traffic_right setting before (item.Entered packet s header) is = absurd is
 traffic_right setting before (item.Down s) is = absurd is
 traffic_right setting before (item.Booted s boot) is = absurd is
@@ -113,8 +109,7 @@ traffic_right setting before _ is = tt
 
 pub traffic_has : (setting : Setting) (journal items : List Item) → Traffic setting journal items
     → Has setting journal items
-traffic_has setting =
-    have_weaker (IsTraffic setting) (HasItemCause setting) (traffic_right setting)
+traffic_has setting = have_weaker (IsTraffic setting) (HasItemCause setting) (traffic_right setting)
 
 -- work is traffic
 work_is_traffic : (setting : Setting) (before : List Item) (next : Item)
@@ -130,19 +125,18 @@ work_is_traffic setting before next is = is
 leg_work : (setting : Setting) (journal : List Item) (i s : ℕ) (leg : Leg)
     → Work setting journal (leg_items setting journal i s leg)
 unfolding leg_items
-leg_work setting journal i s leg = by_route (route_for setting journal i s leg) refl
-  where
-    takes : (leg : Leg) (route : List ℕ) → Work setting journal (takes_route i leg route ∷ [])
-    takes (Seek version partition) route = (tt, tt)
-    takes (Exit port) route = (tt, tt)
+leg_work setting journal i s leg = by_route (route_for setting journal i s leg) refl where
+  takes : (leg : Leg) (route : List ℕ) → Work setting journal (takes_route i leg route ∷ [])
+  takes (Seek version partition) route = (tt, tt)
+  takes (Exit port) route = (tt, tt)
 
-    by_route : (o : Option (List ℕ)) → route_for setting journal i s leg ≡ o
-        → Work setting journal (elim o [
-          | None ↦ stuck_on setting journal i s leg ∷ []
-          | Some route ↦ takes_route i leg route ∷ []
-        ])
-    by_route None e = (record { found = refl; none = e }, tt)
-    by_route (Some route) e = takes leg route
+  by_route : (o : Option (List ℕ)) → route_for setting journal i s leg ≡ o
+      → Work setting journal (elim o [
+        | None ↦ stuck_on setting journal i s leg ∷ []
+        | Some route ↦ takes_route i leg route ∷ []
+      ])
+  by_route None e = (record { found = refl; none = e }, tt)
+  by_route (Some route) e = takes leg route
 
 end_work : (setting : Setting) (i s : ℕ) (act : Action) (journal : List Item)
     → Work setting journal (end_items setting i s act journal)
@@ -168,13 +162,12 @@ rule_there setting journal version partition place =
     by_part : (o : Option Hosted) → slice_get (plan_at setting journal version) partition ≡ o
         → IsOfVersion journal (elim o [
           | None ↦ None
-          | Some hosted ↦ option_map
-              (λ rule. record {
-                version = version;
-                part = part_of hosted;
-                place = place;
-                rule = rule;
-              }) (slice_get hosted.0.rules place)
+          | Some hosted ↦ option_map (λ rule. record {
+            version = version;
+            part = part_of hosted;
+            place = place;
+            rule = rule;
+          }) (slice_get hosted.0.rules place)
         ])
     by_part None e = tt
     by_part (Some hosted) e = by_rule hosted (slice_get hosted.0.rules place)
@@ -184,19 +177,17 @@ cache_work : (setting : Setting) (i s : ℕ) (rule : AuthorityRule) (journal : L
     → IsTrue (is_version journal rule.version)
     → Work setting journal (cache_items setting i s rule journal)
 unfolding cache_items sent_from
-cache_work setting i s rule journal there = by_test (is_at s (ingress_of journal i))
-  where
-    by_test : (b : Bool) → Work setting journal (elim b [
-      | true ↦ []
-      | false ↦ send_items journal
-          (cache_rule rule (unwrap_or (ingress_of journal i) 0) (header_at journal i) ∷ [])
-    ])
-    by_test true = tt
-    by_test false = ((there, record { packet = i; ingress = refl }), tt)
+cache_work setting i s rule journal there = by_test (is_at s (ingress_of journal i)) where
+  by_test : (b : Bool) → Work setting journal (elim b [
+    | true ↦ []
+    | false ↦ send_items journal
+        (cache_rule rule (unwrap_or (ingress_of journal i) 0) (header_at journal i) ∷ [])
+  ])
+  by_test true = tt
+  by_test false = ((there, record { packet = i; ingress = refl }), tt)
 
-authority_work : (setting : Setting) (i s : ℕ) (rule : Option AuthorityRule)
-    (journal : List Item) → IsOfVersion journal rule
-    → Work setting journal (authority_items setting i s rule journal)
+authority_work : (setting : Setting) (i s : ℕ) (rule : Option AuthorityRule) (journal : List Item)
+    → IsOfVersion journal rule → Work setting journal (authority_items setting i s rule journal)
 unfolding authority_items
 authority_work setting i s None journal there = tt
 authority_work setting i s (Some rule) journal there =
@@ -215,12 +206,10 @@ authority_work setting i s (Some rule) journal there =
 found_work : (setting : Setting) (i s : ℕ) (what : Found) (journal : List Item)
     → Work setting journal (found_items setting i s what journal)
 found_work setting i s (found.Cached entry) journal =
-    let decided : Item = item.Decided i entry.version entry.rule entry.action
-    (how.Cached entry.message) in
+    let decided = item.Decided i entry.version entry.rule entry.action (how.Cached entry.message) in
     have_first (IsWork setting) decided (end_items setting i s entry.action) journal tt
     (end_work setting i s entry.action (journal ++ decided ∷ []))
-found_work setting i s (found.Authority partition place) journal =
-    authority_work setting i s
+found_work setting i s (found.Authority partition place) journal = authority_work setting i s
     (authority_rule setting journal (stamp_of journal s) partition place) journal
     (rule_there setting journal (stamp_of journal s) partition place)
 found_work setting i s (found.Redirect partition targets) journal =
@@ -260,8 +249,7 @@ arrive_work setting i s journal = arrive_by_work setting i s (leg_of journal i) 
 reroute_by_work : (setting : Setting) (i s : ℕ) (leg : Option Leg) (journal : List Item)
     → Work setting journal (reroute_by setting i s leg journal)
 reroute_by_work setting i s None journal = tt
-reroute_by_work setting i s (Some leg) journal =
-    by_route (route_for setting journal i s leg) refl
+reroute_by_work setting i s (Some leg) journal = by_route (route_for setting journal i s leg) refl
   where
     by_route : (o : Option (List ℕ)) → route_for setting journal i s leg ≡ o
         → Work setting journal (elim o [
@@ -269,9 +257,8 @@ reroute_by_work setting i s (Some leg) journal =
           | Some route ↦ items_then (item.Rerouted i route ∷ []) (go_on setting i s) journal
         ])
     by_route None e = (record { found = refl; none = e }, tt)
-    by_route (Some route) e =
-        have_first (IsWork setting) (item.Rerouted i route) (go_on setting i s) journal tt
-        (grind (arith, arrive_work))
+    by_route (Some route) e = have_first (IsWork setting) (item.Rerouted i route)
+        (go_on setting i s) journal tt (grind (arith, arrive_work))
 
 reroute_work : (setting : Setting) (i s : ℕ) (journal : List Item)
     → Work setting journal (reroute_items setting i s journal)
@@ -289,28 +276,24 @@ pub packet_works : (setting : Setting) (cause : List Item → Item → Type 0) �
     (i s : ℕ) (header : Header) (journal : List Item) → cause journal (item.Entered i s header)
     → HaveCauses cause journal (packet_items setting i s header journal)
 unfolding packet_items
-packet_works setting cause weaker i s header journal enters = by_serving (serves journal s)
-  where
-    entered : Item
-    entered = item.Entered i s header
+packet_works setting cause weaker i s header journal enters = by_serving (serves journal s) where
+  entered : Item
+  entered = item.Entered i s header
 
-    by_serving : (b : Bool) → HaveCauses cause journal (elim b [
-      | false ↦ item.Closed i s ∷ []
-      | true ↦ items_then (entered ∷ []) (lookup_items setting i s) journal
-    ])
-    by_serving false = (weaker journal (item.Closed i s) tt, tt)
-    by_serving true =
-        have_first cause entered (lookup_items setting i s) journal enters
-        (have_weaker (IsWork setting) cause weaker (journal ++ entered ∷ [])
-        (lookup_items setting i s (journal ++ entered ∷ []))
-        (lookup_work setting i s (journal ++ entered ∷ [])))
+  by_serving : (b : Bool) → HaveCauses cause journal (elim b [
+    | false ↦ item.Closed i s ∷ []
+    | true ↦ items_then (entered ∷ []) (lookup_items setting i s) journal
+  ])
+  by_serving false = (weaker journal (item.Closed i s) tt, tt)
+  by_serving true = have_first cause entered (lookup_items setting i s) journal enters
+      (have_weaker (IsWork setting) cause weaker (journal ++ entered ∷ []) (lookup_items setting i
+      s (journal ++ entered ∷ [])) (lookup_work setting i s (journal ++ entered ∷ [])))
 
 pub packet_has : (setting : Setting) (cause : List Item → Item → Type 0) →
     ((before : List Item) (next : Item) → IsTraffic setting before next → cause before next) →
     (i s : ℕ) (header : Header) (journal : List Item) → cause journal (item.Entered i s header)
     → HaveCauses cause journal (packet_items setting i s header journal)
-packet_has setting cause weaker =
-    packet_works setting cause
+packet_has setting cause weaker = packet_works setting cause
     (λ before next is. weaker before next (work_is_traffic setting before next is))
 
 pub hop_work : (setting : Setting) (i : ℕ) (journal : List Item)
@@ -328,14 +311,13 @@ lose_work setting i journal = grind arith
 forget_work : (setting : Setting) (number : ℕ) (journal : List Item)
     → Work setting journal (forget_items number journal)
 unfolding forget_items
-forget_work setting number journal = by_test (is_deliverable journal number) refl
-  where
-    by_test : (b : Bool) → is_deliverable journal number ≡ b → Work setting journal (elim b [
-      | false ↦ nothing
-      | true ↦ item.Forgotten number ∷ []
-    ])
-    by_test false e = (tt, tt)
-    by_test true e = (e, tt)
+forget_work setting number journal = by_test (is_deliverable journal number) refl where
+  by_test : (b : Bool) → is_deliverable journal number ≡ b → Work setting journal (elim b [
+    | false ↦ nothing
+    | true ↦ item.Forgotten number ∷ []
+  ])
+  by_test false e = (tt, tt)
+  by_test true e = (e, tt)
 
 expire_work : (setting : Setting) (s at : ℕ) (journal : List Item)
     → Work setting journal (expire_items setting s at journal)
@@ -394,9 +376,8 @@ pub each_told : (setting : Setting) (told : ℕ → List Message)
     → (switches : List ℕ) → AllByRecursion (λ s. s < length setting.net.switches) switches
     → AllByRecursion (IsAdvert setting) (flat_map told switches)
 each_told setting told adverts [] there = tt
-each_told setting told adverts (s ∷ switches) there =
-    each_append (IsAdvert setting) (told s) (flat_map told switches) (adverts s there.0)
-    (each_told setting told adverts switches there.1)
+each_told setting told adverts (s ∷ switches) there = each_append (IsAdvert setting) (told s)
+    (flat_map told switches) (adverts s there.0) (each_told setting told adverts switches there.1)
 
 told_adverts : (setting : Setting) (before journal : List Item) (s neighbour : ℕ)
     → neighbour < length setting.net.switches
@@ -414,12 +395,11 @@ told_adverts setting before journal s neighbour there =
 pub links_change : (setting : Setting) (before journal : List Item)
     → Change setting journal (link_changes setting before journal)
 unfolding link_changes
-links_change setting before journal =
-    sends_each (IsChange setting) (IsAdvert setting) (λ before n message is. is) journal _
-    (each_flat_map (IsAdvert setting) (messages_of setting before journal)
-    (λ s. each_told setting (messages_over setting before journal s)
-    (told_adverts setting before journal s) (switches_in setting (near setting journal s))
-    (masked_there setting (near setting journal s)))
+links_change setting before journal = sends_each (IsChange setting) (IsAdvert setting)
+    (λ before n message is. is) journal _
+    (each_flat_map (IsAdvert setting) (messages_of setting before journal) (λ s. each_told setting
+    (messages_over setting before journal s) (told_adverts setting before journal s)
+    (switches_in setting (near setting journal s)) (masked_there setting (near setting journal s)))
     (filter (has_changed setting before journal) (switches_of setting)))
 
 pub link_change : (setting : Setting) (before : List Item) (one two : ℕ) (up : Bool)
@@ -439,14 +419,12 @@ links_traffic setting before journal =
 
 pub links_have : (setting : Setting) (before journal : List Item)
     → Has setting journal (link_changes setting before journal)
-links_have setting before journal =
-    traffic_has setting journal (link_changes setting before journal)
-    (links_traffic setting before journal)
+links_have setting before journal = traffic_has setting journal
+    (link_changes setting before journal) (links_traffic setting before journal)
 
 pub passed_traffic : (setting : Setting) (journal : List Item) (s : ℕ) (advert : Advert)
     → Traffic setting journal (send_items journal (passed_on setting journal s advert))
-passed_traffic setting journal s advert =
-    sends_each (IsTraffic setting) (IsAdvert setting)
+passed_traffic setting journal s advert = sends_each (IsTraffic setting) (IsAdvert setting)
     (λ before n message is. advert_between setting before message.to message.body is) journal
     (passed_on setting journal s advert)
     (each_map (IsAdvert setting) (λ neighbour. advert_to neighbour advert)
@@ -477,8 +455,7 @@ pub step_work : (setting : Setting) (before : List Item) (step : Step) (here : L
 step_work setting before step here =
     work_cases (λ step. Work setting here (step_items setting before step here))
     (λ packet. hop_work setting packet here) (λ packet. lose_work setting packet here)
-    (λ message. forget_work setting message here)
-    (λ s place. expire_work setting s place here) step
+    (λ message. forget_work setting message here) (λ s place. expire_work setting s place here) step
 
 -- and those that change links too
 abbrev pub IsTrafficStep : Step → Type 0
@@ -492,6 +469,5 @@ step_traffic setting before (LinkDown one two) here is =
     changes_traffic setting here _ (link_change setting before one two false here)
 step_traffic setting before (LinkUp one two) here is =
     changes_traffic setting here _ (link_change setting before one two true here)
-step_traffic setting before step here is =
-    have_weaker (IsWork setting) (IsTraffic setting) (work_is_traffic setting) here _
-    (step_work setting before step here is)
+step_traffic setting before step here is = have_weaker (IsWork setting) (IsTraffic setting)
+    (work_is_traffic setting) here _ (step_work setting before step here is)

@@ -51,8 +51,7 @@ not_without_tables holds = let no : false ≡ true = holds.stamp in absurd cc
 
 -- nor one that is told to drop them
 abbrev dropped : List Item
-dropped =
-    (installed ++ stamped) ++ item.Sent 3 (to_switch 0 (Collect 1 2)) ∷ item.Delivered 3 ∷ []
+dropped = (installed ++ stamped) ++ item.Sent 3 (to_switch 0 (Collect 1 2)) ∷ item.Delivered 3 ∷ []
 
 not_dropped : HoldsStamp dropped 0 → ⊥
 unfolding boot_of heard is_up current_mark retired_mark message_of holds_version stamp_of
@@ -88,8 +87,7 @@ not_nine are = absurd (omega (arith, are.live))
 
 not_of_no_file : VersionsArePlanned open_net (item.Submitted 7 2 ∷ []) → ⊥
 unfolding version_count
-not_of_no_file are =
-    none_of_7 [] (are.planned (first_planned []) 2 (omega arith) (omega arith))
+not_of_no_file are = none_of_7 [] (are.planned (first_planned []) 2 (omega arith) (omega arith))
 
 its_tables : AreTablesOf open_net two_versions 0 (tables_of plan_q 2 0)
 unfolding version_count
@@ -98,18 +96,15 @@ its_tables = record {
   last = omega arith;
   planned = sym (of_second []);
   later = λ items. sym (of_second items);
-}
-  where
-    of_second : (items : List Item)
-        → tables_at open_net (two_versions ++ items) 2 0 ≡ tables_of plan_q 2 0
-    of_second items = ap (λ plan. tables_of plan 2 0) (second_plan [] items tt)
+} where
+  of_second : (items : List Item)
+      → tables_at open_net (two_versions ++ items) 2 0 ≡ tables_of plan_q 2 0
+  of_second items = ap (λ plan. tables_of plan 2 0) (second_plan [] items tt)
 
 -- the tables of the second version have a partition
-not_second : (items : List Item)
-    → second ≡ tables_at open_net (item.Submitted 2 2 ∷ items) 2 0 → ⊥
+not_second : (items : List Item) → second ≡ tables_at open_net (item.Submitted 2 2 ∷ items) 2 0 → ⊥
 not_second items is =
-    let parts : 0 ≡ 1 =
-    ap (λ (tables : Tables). length tables.parts)
+    let parts = ap (λ (tables : Tables). length tables.parts)
     (is ∙ ap (λ plan. tables_of plan 2 0) (second_plan [] items tt)) in
     absurd (omega (arith, parts))
 
@@ -130,8 +125,7 @@ brings_none = tt
 
 -- the second version was submitted, and its tables were sent to switch 0, which heard them
 abbrev told : List Item
-told =
-    item.Submitted 2 2 ∷ item.Sent 1 (to_switch 0 (Install 1 (tables_of plan_q 2 0)))
+told = item.Submitted 2 2 ∷ item.Sent 1 (to_switch 0 (Install 1 (tables_of plan_q 2 0)))
     ∷ item.Delivered 1 ∷ []
 
 told_rightly : HaveCauses (HasItemCause open_net) [] told
@@ -164,14 +158,10 @@ not_of_no_plan are = not_second sent (are.sent 0 1 1 second refl).planned
 
 not_heard_of_no_plan : TablesArePlanned open_net installed → ⊥
 unfolding heard is_up boot_of message_of
-not_heard_of_no_plan are =
-    let own : AreTablesOf open_net installed 0 second = are.heard 0 0 (OpenAt 1 1) (omega arith) in
-    not_second sent own.planned
+not_heard_of_no_plan are = not_second sent (are.heard 0 0 (OpenAt 1 1) (omega arith)).planned
 
 -- and so does a version that is held without being there
-not_held_unless_there :
-    TablesArePlanned open_net
-    (item.Sent 1 (to_switch 0 (Install 1 second)) ∷ item.Delivered 1 ∷ [])
-    → ⊥
+not_held_unless_there : TablesArePlanned open_net
+    (item.Sent 1 (to_switch 0 (Install 1 second)) ∷ item.Delivered 1 ∷ []) → ⊥
 unfolding holds_version heard is_up boot_of message_of version_count
 not_held_unless_there are = let there = are.held 0 2 refl in absurd (omega (arith, there.1))

@@ -13,8 +13,7 @@ IsOfSwitch setting (Some of) = HasSwitch setting.net of.0
 -- a message to a switch goes to one of the network and names no sender; one to the controller is
 -- from a switch of the network
 abbrev pub IsAddressed : Setting → Place → Body → Type 0
-IsAddressed setting (receiver.Switch s) body =
-    HasSwitch setting.net s × (speaker body ≡ None)
+IsAddressed setting (receiver.Switch s) body = HasSwitch setting.net s × (speaker body ≡ None)
 IsAddressed setting receiver.Controller body = IsOfSwitch setting (speaker body)
 
 -- the message is addressed like this, and its version, if it carries one, exists

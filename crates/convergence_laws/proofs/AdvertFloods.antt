@@ -1,9 +1,8 @@
 -- News that is delivered floods, so what a switch has each neighbour has as new, or was sent,
 -- behind each step.
-use Rattle.std.proofs.Common.{[], if◌then◌else◌, ◌&&◌, ◌++◌, ◌<◌, ◌==◌, ◌∙◌, ◌∷◌, ◌≡◌, ◌≢◌, ◌≤◌, ◌⊎◌, Bool, IsFalse, IsTrue, List, None, Option, Some, ap, append-nil, append_assoc, arith, false, filter_map, inl, inr, length, map, nat_lt, not, option_to_list, refl, slice_index, subst, sym, true, ℕ}
+use Rattle.std.proofs.Common.{[], if◌then◌else◌, ◌&&◌, ◌++◌, ◌<◌, ◌==◌, ◌∙◌, ◌∷◌, ◌≡◌, ◌≢◌, ◌≤◌, ◌⊎◌, Bool, IsFalse, IsTrue, List, None, Option, Some, ap, append-nil, append_assoc, arith, false, inl, inr, length, map, nat_lt, not, option_to_list, refl, slice_index, subst, sym, true, ℕ}
 use Rattle.base.proofs.Exports.{get_or-map-range_with_len, nat_tests, option_map_or}
-use Rattle.update_machine.specs.Exports.{Advert, Advertise, Body, Confirm, Crash, Deliver, HaveCauses, Item, LinkDown, LinkUp, Message, OpenAt, Packet, Place, Resend, Restart, Setting, Step, StepOfRow, Update, advert_known, advert_to, adverts_begun, adverts_heard, adverts_known, after_steps, body_to_switch, deliver_items, delivery_items, is_news_to, is_to_controller, items_then, link_changes, message_of, near, next_message, next_packet, nothing, other_advert, own_advert, passed_on, piece, received_items, send_items, serves, stamp_of, step_items, switch_items, switches_in, switches_of, to_switch}
-use Rattle.ctrl_msg.specs.Exports.{to_controller}
+use Rattle.update_machine.specs.Exports.{Advert, Advertise, Body, Confirm, Crash, Deliver, HaveCauses, Item, LinkDown, LinkUp, Message, OpenAt, Packet, Place, Resend, Restart, Setting, Step, StepOfRow, Update, advert_known, advert_to, adverts_begun, adverts_heard, adverts_known, after_steps, body_to_switch, deliver_items, delivery_items, is_news_to, is_to_controller, items_then, link_changes, message_of, near, next_message, next_packet, nothing, own_advert, passed_on, piece, received_items, send_items, serves, stamp_of, step_items, switch_items, switches_in, switches_of, to_switch}
 use Rattle.ctrl_msg.specs.declared.message.Place.TheVariants as receiver
 use Rattle.failover.specs.Exports.{IsNewest, first_advert, first_adverts, held_advert, is_newer, is_news}
 use Rattle.failover.proofs.HeldAdverts.{held-first}
@@ -31,33 +30,29 @@ pub record IsGivenOf (setting : Setting) (journal : List Item) (s origin : ℕ) 
 pub known_given : (setting : Setting) (journal : List Item) (s origin : ℕ) (advert : Advert)
     → origin ≢ s → origin < 64 → advert_known setting journal s origin ≡ Some advert
     → IsGivenOf setting journal s origin advert
-known_given setting journal s origin advert other small known =
-    record {
-      of = newest.3;
-      given = by_place (in_either advert begun
-          (adverts_heard journal s) there);
-    }
-  where
-    begun : List Advert
-    begun = option_to_list (held_advert (adverts_begun setting journal s) origin)
+known_given setting journal s origin advert other small known = record {
+  of = newest.3;
+  given = by_place (in_either advert begun (adverts_heard journal s) there);
+} where
+  begun : List Advert
+  begun = option_to_list (held_advert (adverts_begun setting journal s) origin)
 
-    newest : IsNewest origin (begun ++ adverts_heard journal s) (Some advert)
-    newest = is_newest setting journal s origin advert other small known
+  newest : IsNewest origin (begun ++ adverts_heard journal s) (Some advert)
+  newest = is_newest setting journal s origin advert other small known
 
-    there : IsIn advert (begun ++ adverts_heard journal s)
-    there = subst (λ xs. IsIn advert xs) (sym newest.2)
-        (in_right advert newest.0 (advert ∷ newest.1) (inl refl))
+  there : IsIn advert (begun ++ adverts_heard journal s)
+  there = rw newest.2 (in_right advert newest.0 (advert ∷ newest.1) (inl refl))
 
-    by_option : (o : Option Advert) → IsIn advert (option_to_list o) → o ≡ Some advert
-    by_option None is = absurd is
-    by_option (Some x) (inl same) = ap Some same
-    by_option (Some x) (inr none) = absurd none
+  by_option : (o : Option Advert) → IsIn advert (option_to_list o) → o ≡ Some advert
+  by_option None is = absurd is
+  by_option (Some x) (inl same) = ap Some same
+  by_option (Some x) (inr none) = absurd none
 
-    by_place : IsIn advert begun ⊎ IsIn advert (adverts_heard journal s)
-        → IsGiven setting journal s advert
-    by_place (inl first) = inl (ap (held_advert (adverts_begun setting journal s)) newest.3
-        ∙ by_option (held_advert (adverts_begun setting journal s) origin) first)
-    by_place (inr told) = inr told
+  by_place : IsIn advert begun ⊎ IsIn advert (adverts_heard journal s)
+      → IsGiven setting journal s advert
+  by_place (inl first) = inl (ap (held_advert (adverts_begun setting journal s)) newest.3
+      ∙ by_option (held_advert (adverts_begun setting journal s) origin) first)
+  by_place (inr told) = inr told
 
 -- ---- a delivery
 
@@ -80,14 +75,11 @@ held_as_new setting before s a small none =
   where
     by_held : (o : Option Advert) → held_advert (adverts_known setting before s) a.origin ≡ o
         → (nat_lt a.origin 64 && option_map_or (is_newer a) o true) ≡ false
-        → (c : Advert) × (advert_known setting before s a.origin ≡ Some c)
-        × IsFalse (is_newer a c)
+        → (c : Advert) × (advert_known setting before s a.origin ≡ Some c) × IsFalse (is_newer a c)
     by_held None e none =
         let below : nat_lt a.origin 64 ≡ true = grind (arith, nat_tests) in
-        let clash : true ≡ false = sym (ap (λ b. b && true) below) ∙ none in
-        absurd cc
-    by_held (Some c) e none =
-        let below : nat_lt a.origin 64 ≡ true = grind (arith, nat_tests) in
+        let clash : true ≡ false = sym (ap (λ b. b && true) below) ∙ none in absurd cc
+    by_held (Some c) e none = let below : nat_lt a.origin 64 ≡ true = grind (arith, nat_tests) in
         (c, e, sym (ap (λ b. b && is_newer a c) below) ∙ none)
 
 -- an advert is passed on where it is news, and had been had as new where it isn't
@@ -101,8 +93,7 @@ advert_spread : {since : ℕ} (setting : Setting) (before : List Item) (row numb
     → Spread setting since (now ++ switch_items setting before t (Advertise advert) now)
 unfolding switch_items
 advert_spread {since = since} setting before row number step t advert net late said alone spread
-    have =
-    by_news (is_news_to setting before t advert) refl
+    have = by_news (is_news_to setting before t advert) refl
   where
     here : List Item
     here = before ++ item.Row row step ∷ []
@@ -119,19 +110,16 @@ advert_spread {since = since} setting before row number step t advert net late s
         → HasNews setting since (now ++ send_items now messages) neighbour a
     passed s neighbour a linked owed =
         let is = alone s a owed.said in
-        let near_now : IsTrue (has (near setting now t) neighbour) =
-        subst (λ u. IsTrue (has (near setting now u) neighbour)) is.0
+        let near_now = subst (λ u. IsTrue (has (near setting now u) neighbour)) is.0
         (subst (λ mask. IsTrue (has mask neighbour)) (sends_near setting now messages s) linked) in
-        let there = (ends_there setting now t neighbour net near_now).other in
-        record {
+        let there = (ends_there setting now t neighbour net near_now).other in record {
           advert = a;
           as_new = as_new_itself a;
           had = inr (sends_tell now messages neighbour a late
-              (subst (λ (b : Advert). IsIn (advert_to neighbour b) messages) (sym is.1)
-              (in_map (λ k. advert_to k advert) neighbour (switches_in setting (near setting now t))
-              (in_filter (has (near setting now t)) neighbour (switches_of setting)
-              (in_range neighbour 0 (length setting.net.switches) (omega arith)
-              (omega (arith, there))) near_now))));
+              (rw is.1 (in_map (λ k. advert_to k advert) neighbour
+              (switches_in setting (near setting now t)) (in_filter (has (near setting now t))
+              neighbour (switches_of setting) (in_range neighbour 0 (length setting.net.switches)
+              (omega arith) (omega (arith, there))) near_now))));
         }
 
     -- it held one as new before
@@ -142,8 +130,7 @@ advert_spread {since = since} setting before row number step t advert net late s
         let is = alone s a owed.said in
         let apart : a.origin ≢ t = subst (λ u. a.origin ≢ u) is.0 owed.other in
         let not_own : (a.origin == t) ≡ false = grind (arith, nat_tests) in
-        let no_news : is_news (adverts_known setting before t) a ≡ false =
-        sym (ap (λ b. not b && is_news (adverts_known setting before t) a) not_own)
+        let no_news = sym (ap (λ b. not b && is_news (adverts_known setting before t) a) not_own)
         ∙ ap (is_news_to setting before t) is.1 ∙ none in
         let best = held_as_new setting before t a owed.small no_news in
         let given = known_given setting before t a.origin best.0 apart owed.small best.1 in
@@ -155,10 +142,9 @@ advert_spread {since = since} setting before row number step t advert net late s
         (spread.each t neighbour best.0 near_here (inr (record {
           other = λ same. apart (sym given.of ∙ same);
           small = omega (arith, given.of, owed.small);
-          given = given_grows setting before here t best.0
-              (up_more before (item.Row row step) t) (boot_more before (item.Row row step) t)
-              (λ body is. subst (λ bodies. IsIn body bodies)
-              (sym (heard_more before (item.Row row step) t)) is) given.given;
+          given = given_grows setting before here t best.0 (up_more before (item.Row row step) t)
+              (boot_more before (item.Row row step) t)
+              (λ body is. rw (heard_more before (item.Row row step) t) is) given.given;
         })) (λ same. elsewhere (sym given.of ∙ same)))
       where
         by_has : (a c : Advert) → IsAsNew c a → ⊥ ⊎ HasNews setting since here neighbour c
@@ -167,8 +153,7 @@ advert_spread {since = since} setting before row number step t advert net late s
         by_has a c as_new (inr has) =
             let next : Item = item.Delivered number in
             let later = news_on setting here next neighbour c (up_more here next neighbour)
-            (boot_more here next neighbour) (delivered_grows here number neighbour) has in
-            record {
+            (boot_more here next neighbour) (delivered_grows here number neighbour) has in record {
               advert = later.advert;
               as_new = as_new_through later.advert c a later.as_new as_new;
               had = later.had;
@@ -180,23 +165,19 @@ advert_spread {since = since} setting before row number step t advert net late s
           | false ↦ []
         ])
     by_news true e = record {
-      each = λ s neighbour a linked had other.
-          elim ((stills_news setting (λ u k b. IsDelivered here number u b) now
-          (send_items now messages) (sends_still now messages) have).each s neighbour a linked had
-          other) [
+      each = λ s neighbour a linked had other. elim
+          ((stills_news setting (λ u k b. IsDelivered here number u b) now (send_items now messages)
+          (sends_still now messages) have).each s neighbour a linked had other) [
             | inl owed ↦ inr (passed s neighbour a linked owed)
             | inr has ↦ inr has
           ];
     }
-    by_news false e =
-        subst (Spread setting since) (sym (append-nil now))
-        (record {
-          each = λ s neighbour a linked had other.
-              elim (have.each s neighbour a linked had other) [
-                | inl owed ↦ inr (had_news e s neighbour a linked other owed)
-                | inr has ↦ inr has
-              ];
-        })
+    by_news false e = subst (Spread setting since) (sym (append-nil now)) (record {
+      each = λ s neighbour a linked had other. elim (have.each s neighbour a linked had other) [
+        | inl owed ↦ inr (had_news e s neighbour a linked other owed)
+        | inr has ↦ inr has
+      ];
+    })
 
 -- a switch that opens has new links
 open_spread : {since : ℕ} (setting : Setting) (before : List Item) (row number : ℕ)
@@ -231,13 +212,10 @@ open_spread {since = since} setting before row number step t boot version net la
       | false ↦ items_then (next ∷ []) (link_changes setting before) now
     ])
     by_serving true causes known have = subst (Spread setting since) (sym (append-nil now)) have
-    by_serving false causes known have =
-        subst (Spread setting since)
-        (append_assoc now (next ∷ []) (link_changes setting before (now ++ next ∷ [])))
-        (pay_links setting before (now ++ next ∷ []) net
-        (omega (arith, late, next_grows now (next ∷ [])))
-        (link_news setting before now next near_now
-        (record {
+    by_serving false causes known have = subst (Spread setting since) (append_assoc now
+        (next ∷ []) (link_changes setting before (now ++ next ∷ []))) (pay_links setting before
+        (now ++ next ∷ []) net (omega (arith, late, next_grows now (next ∷ []))) (link_news setting
+        before now next near_now (record {
           first = causes.0;
           second = delivered_first here number (row_first before row step);
         }) refl known have))
@@ -245,9 +223,8 @@ open_spread {since = since} setting before row number step t boot version net la
 other_still : (setting : Setting) (before : List Item) (s : ℕ) (body : Body) (now : List Item)
     → ((boot version : ℕ) → body ≡ OpenAt boot version → ⊥)
     → Still now (switch_items setting before s body now)
-other_still setting before s body now none =
-    switch_cases (Still now) setting before s body now (λ boot version. sends_still now _)
-    (λ boot version. sends_still now _)
+other_still setting before s body now none = switch_cases (Still now) setting before s body now
+    (λ boot version. sends_still now _) (λ boot version. sends_still now _)
     (λ boot version is. absurd (none boot version is)) (λ advert is news. sends_still now _) tt
 
 -- what is said to a switch
@@ -277,22 +254,19 @@ said_spread setting before row number step t (OpenAt boot version) net late said
     apart : (a : Advert) → Advertise a ≡ OpenAt boot version → ⊥
     apart a same = absurd cc
 said_spread setting before row number step t body net late said alone causes known spread have =
-    still_spread setting _ _
-    (other_still setting before t body _ (λ boot version same. absurd cc))
+    still_spread setting _ _ (other_still setting before t body _ (λ boot version same. absurd cc))
     (unowed setting (before ++ item.Row row step ∷ []) number _
-    (λ s a told.
-    let same : Advertise a ≡ body = (alone s (Advertise a) told).1 in absurd cc) have)
+    (λ s a told. let same : Advertise a ≡ body = (alone s (Advertise a) told).1 in absurd cc) have)
 
 -- ---- deliveries that say nothing to a switch
 
 unsent_items : (setting : Setting) (before : List Item) (number : ℕ) (now : List Item)
     → message_of before number ≡ None → delivery_items setting before number now ≡ []
 unfolding delivery_items
-unsent_items setting before number now none =
-    ap (λ o. elim o [
-      | None ↦ []
-      | Some message ↦ received_items setting before number message now
-    ]) none
+unsent_items setting before number now none = ap (λ o. elim o [
+  | None ↦ []
+  | Some message ↦ received_items setting before number message now
+]) none
 
 abbrev receiver_or : Place → ℕ
 receiver_or (receiver.Switch s) = s
@@ -304,8 +278,7 @@ deliver_spread : {since : ℕ} (setting : Setting) (before : List Item) (row num
     → Spread setting since (here ++ deliver_items setting before number here)
 deliver_spread {since = since} setting before row number step net late known spread =
     deliver_cases (Spread setting since) setting before number here
-    (still_spread setting here nothing (tt, tt) spread)
-    (by_message (message_of before number) refl)
+    (still_spread setting here nothing (tt, tt) spread) (by_message (message_of before number) refl)
   where
     here : List Item
     here = before ++ item.Row row step ∷ []
@@ -342,51 +315,33 @@ deliver_spread {since = since} setting before row number step net late known spr
         → message_of before number ≡ Some (record { to = to; body = body })
         → Spread setting since (now ++ delivery_items setting before number now)
     by_receiver receiver.Controller body e =
-        silent
-        (subst (λ items. Still now items) (sym (delivery_told setting before number body now e))
+        silent (rw (delivery_told setting before number body now e)
         (control_still now _ (controller_control setting before body now)))
-        (λ s other said.
-        let same : Some (to_switch s other) ≡ Some (to_controller body) =
-        sym (sent_of s other said) ∙ e in
-        let clash : false ≡ true =
-        ap (λ (o : Option Message). option_map_or (λ m. is_to_controller m.to) o false) same in
+        (λ s other said. let clash : false ≡ true = ap (λ (o : Option Message). option_map_or
+        (λ m. is_to_controller m.to) o false) (sym (sent_of s other said) ∙ e) in
         absurd cc)
-    by_receiver (receiver.Switch t) body e = by_said (body_to_switch here t number) refl
-      where
-        by_said : (o : Option Body) → body_to_switch here t number ≡ o
-            → Spread setting since (now ++ delivery_items setting before number now)
-        by_said None f =
-            silent
-            (subst (λ items. Still now items) (sym (nothing_said f)) tt)
-            (λ s other said.
-            let same : Some (to_switch s other) ≡ Some (to_switch t body) =
-            sym (sent_of s other said) ∙ e in
-            let at : s ≡ t =
-            ap (λ (o : Option Message). option_map_or (λ m. receiver_or m.to) o 0) same in
-            let clash : None ≡ Some other =
-            sym f ∙ ap (λ u. body_to_switch here u number) (sym at) ∙ said in
-            absurd cc)
-          where
-            nothing_said : body_to_switch here t number ≡ None
-                → delivery_items setting before number now ≡ []
-            nothing_said f = sent_items setting before number t body now e None
-                (sym (said_row before row t number step) ∙ f)
-        by_said (Some told) f =
-            let items = delivery_is setting before number now t told
-            (sym (said_row before row t number step) ∙ f) in
-            subst (λ xs. Spread setting since (now ++ xs)) (sym items)
-            (said_spread setting before row number step t told net
-            (omega (arith, late, next_grows here (item.Delivered number ∷ []))) f
-            (to_switch_alone t told f)
-            (said_have setting before here t number told f)
-            (known_kept setting here (item.Delivered number) tt known) spread have)
+    by_receiver (receiver.Switch t) body e = by_said (body_to_switch here t number) refl where
+      by_said : (o : Option Body) → body_to_switch here t number ≡ o
+          → Spread setting since (now ++ delivery_items setting before number now)
+      by_said None f = silent (rw (nothing_said f) tt) (λ s other said.
+          let at : s ≡ t = ap (λ (o : Option Message). option_map_or (λ m. receiver_or m.to) o 0)
+          (sym (sent_of s other said) ∙ e) in
+          let clash = sym f ∙ ap (λ u. body_to_switch here u number) (sym at) ∙ said in
+          absurd cc)
+        where
+          nothing_said : body_to_switch here t number ≡ None
+              → delivery_items setting before number now ≡ []
+          nothing_said f = sent_items setting before number t body now e None
+              (sym (said_row before row t number step) ∙ f)
+      by_said (Some told) f = rw (delivery_is setting before number now t told
+          (sym (said_row before row t number step) ∙ f)) (said_spread setting before row number step
+          t told net (omega (arith, late, next_grows here (item.Delivered number ∷ []))) f
+          (to_switch_alone t told f) (said_have setting before here t number told f)
+          (known_kept setting here (item.Delivered number) tt known) spread have)
 
     by_message : (o : Option Message) → message_of before number ≡ o
         → Spread setting since (now ++ delivery_items setting before number now)
-    by_message None e =
-        silent
-        (subst (λ items. Still now items) (sym (unsent_items setting before number now e)) tt)
-        (λ s other said.
+    by_message None e = silent (rw (unsent_items setting before number now e) tt) (λ s other said.
         let clash : None ≡ Some (to_switch s other) = sym e ∙ sent_of s other said in absurd cc)
     by_message (Some message) e = by_receiver message.to message.body e
 
@@ -396,20 +351,17 @@ step_spread : {since : ℕ} (setting : Setting) (before : List Item) (row : ℕ)
     → let here = before ++ item.Row row step ∷ [] in
     since ≤ next_message here → IsKnown here → Spread setting since here
     → Spread setting since (here ++ step_items setting before step here)
-step_spread setting before row (Packet s header) net = λ late known have.
-    still_spread setting _ _
+step_spread setting before row (Packet s header) net = λ late known have. still_spread setting _ _
     (packet_works setting IsStill (work_is_still setting) (next_packet before) s header _ tt) have
 step_spread setting before row (Deliver number) net =
     deliver_spread setting before row number (Deliver number) net
-step_spread setting before row (Update file) net = λ late known have.
-    still_spread setting _ _
+step_spread setting before row (Update file) net = λ late known have. still_spread setting _ _
     (update_has IsStill control_is_still setting file _ (λ version. tt)) have
 step_spread setting before row (LinkDown one two) net =
     link_spread setting before row (LinkDown one two) one two false net
 step_spread setting before row (LinkUp one two) net =
     link_spread setting before row (LinkUp one two) one two true net
-step_spread setting before row (Crash s) net =
-    crash_spread setting before row (Crash s) s net
+step_spread setting before row (Crash s) net = crash_spread setting before row (Crash s) s net
 step_spread setting before row (Restart s) net =
     λ late. restart_spread setting before row (Restart s) s
 step_spread setting before row (Confirm s) net = λ late known have.
@@ -420,34 +372,28 @@ step_spread setting before row step net = λ late known have.
     still_spread setting _ _ (work_still setting _ _ (step_work setting before step _ tt)) have
 
 piece_spread : {since : ℕ} (setting : Setting) (before : List Item) (row : ℕ) (step : Step)
-    → IsNet setting.net → since ≤ next_message before → IsKnown before
-    → Spread setting since before
+    → IsNet setting.net → since ≤ next_message before → IsKnown before → Spread setting since before
     → Spread setting since (before ++ piece setting before row step)
 piece_spread {since = since} setting before row step net late known have =
     let next : Item = item.Row row step in
     behind_piece setting before row step (Spread setting since)
-    (step_spread setting before row step net (omega (arith, late, next_grows before (next ∷ [])))
-    (known_kept setting before next tt known)
-    (still_spread setting before (next ∷ []) (tt, tt) have))
+    (step_spread setting before row step net (omega (arith, next_grows)) (known_kept setting before
+    next tt known) (still_spread setting before (next ∷ []) (tt, tt) have))
 
-pub steps_spread : {since : ℕ} (setting : Setting) (before : List Item)
-    (steps : List StepOfRow) → IsNet setting.net → since ≤ next_message before
-    → HaveCauses (IsInOrder setting) [] before → Spread setting since before
-    → Spread setting since (after_steps setting before steps)
+pub steps_spread : {since : ℕ} (setting : Setting) (before : List Item) (steps : List StepOfRow)
+    → IsNet setting.net → since ≤ next_message before → HaveCauses (IsInOrder setting) [] before
+    → Spread setting since before → Spread setting since (after_steps setting before steps)
 steps_spread setting before [] net late causes have = have
-steps_spread setting before (next ∷ steps) net late causes have =
-    steps_spread setting (before ++ piece setting before next.row next.step) steps net
-    (omega (arith, late, next_grows before (piece setting before next.row next.step)))
+steps_spread setting before (next ∷ steps) net late causes have = steps_spread setting
+    (before ++ piece setting before next.row next.step) steps net (omega (arith, next_grows))
     (have_append (IsInOrder setting) [] before (piece setting before next.row next.step) causes
-    (pieces_in_order setting before next.row next.step))
-    (piece_spread setting before next.row next.step net late (caused_traced setting before causes).known
-    have)
+    (pieces_in_order setting before next.row next.step)) (piece_spread setting before next.row
+    next.step net late (caused_traced setting before causes).known have)
 
 -- ---- the beginning
 
-begun_first : (setting : Setting) (s : ℕ) → adverts_begun setting [] s
-    ≡ first_adverts (map (links_of setting.net.links) (switches_of setting))
-    (length setting.net.switches)
+begun_first : (setting : Setting) (s : ℕ) → adverts_begun setting [] s ≡ first_adverts
+    (map (links_of setting.net.links) (switches_of setting)) (length setting.net.switches)
 begun_first setting s = rw (start_laws.up s, start_laws.boot s) refl
 
 -- each switch begins with the first advert of each one
@@ -456,45 +402,35 @@ has_first : (setting : Setting) (s neighbour : ℕ) → s < length setting.net.s
 has_first setting s neighbour there small =
     let near : List ℕ = map (links_of setting.net.links) (switches_of setting) in
     let below : nat_lt s (length setting.net.switches) ≡ true = grind (arith, nat_tests) in
-    let row : slice_index near s ≡ links_of setting.net.links s =
-    get_or-map-range_with_len (links_of setting.net.links) 0 (length setting.net.switches)
-    s s 0 there (omega arith) in
     ap (λ adverts. held_advert adverts s) (begun_first setting neighbour)
     ∙ held-first near (length setting.net.switches) s small
     ∙ ap (λ b. if b then Some (first_advert s (slice_index near s)) else None) below
-    ∙ ap (λ up. Some (first_advert s up)) row
+    ∙ ap (λ up. Some (first_advert s up)) (get_or-map-range_with_len (links_of setting.net.links) 0
+    (length setting.net.switches) s s 0 there (omega arith))
     ∙ ap Some (sym (start_laws.advert setting s))
 
 first_spread : {since : ℕ} (setting : Setting) → IsNet setting.net → Spread setting since []
 first_spread {since = since} setting net = record {
   each = λ s neighbour a linked had other.
       inr (by_had s neighbour a (ends_there setting [] s neighbour net linked).one had);
-}
-  where
-    given_news : (neighbour : ℕ) (a : Advert) → IsGiven setting [] neighbour a
-        → HasNews setting since [] neighbour a
-    given_news neighbour a given =
-        record { advert = a; as_new = as_new_itself a; had = inl given }
+} where
+  given_news : (neighbour : ℕ) (a : Advert) → IsGiven setting [] neighbour a
+      → HasNews setting since [] neighbour a
+  given_news neighbour a given = record { advert = a; as_new = as_new_itself a; had = inl given }
 
-    by_had : (s neighbour : ℕ) (a : Advert) → s < length setting.net.switches
-        → IsHad setting [] s a → HasNews setting since [] neighbour a
-    by_had s neighbour a there (inl own) =
-        given_news neighbour a (inl (
-        ap (λ (b : Advert). held_advert (adverts_begun setting [] neighbour) b.origin) own
-        ∙ ap (held_advert (adverts_begun setting [] neighbour)) (own_origin setting [] s)
-        ∙ has_first setting s neighbour there (omega (arith, there, net.few_switches))
-        ∙ ap Some (sym own)))
-    by_had s neighbour a there (inr of) = by_given of.given
-      where
-        by_given : IsGiven setting [] s a → HasNews setting since [] neighbour a
-        by_given (inl begun) = given_news neighbour a (inl (
-            ap (λ adverts. held_advert adverts a.origin)
-            (begun_first setting neighbour ∙ sym (begun_first setting s)) ∙ begun))
-        by_given (inr told) =
-            let none : IsIn a [] =
-            subst (λ bodies. IsIn a (filter_map (other_advert s) bodies)) (start_laws.heard s)
-            told in
-            absurd none
+  by_had : (s neighbour : ℕ) (a : Advert) → s < length setting.net.switches
+      → IsHad setting [] s a → HasNews setting since [] neighbour a
+  by_had s neighbour a there (inl own) = given_news neighbour a (inl (
+      ap (λ (b : Advert). held_advert (adverts_begun setting [] neighbour) b.origin) own
+      ∙ ap (held_advert (adverts_begun setting [] neighbour)) (own_origin setting [] s)
+      ∙ has_first setting s neighbour there (omega (arith, there, net.few_switches))
+      ∙ ap Some (sym own)))
+  by_had s neighbour a there (inr of) = by_given of.given where
+    by_given : IsGiven setting [] s a → HasNews setting since [] neighbour a
+    by_given (inl begun) = given_news neighbour a (inl (
+        ap (λ adverts. held_advert adverts a.origin)
+        (begun_first setting neighbour ∙ sym (begun_first setting s)) ∙ begun))
+    by_given (inr told) = absurd (rw (start_laws.heard s) at told)
 
 pub spread_at_ends : (setting : Setting) (steps : List StepOfRow) → IsNet setting.net
     → Spread setting 0 (after_steps setting [] steps)

@@ -9,7 +9,6 @@ use Rattle.update_machine.proofs.Exports.{last_given_append, links_keep, near_sa
 use Rattle.control_laws.proofs.Exports.{Control, IsControl, IsKnown, IsWork, Work, boot_more, have_weaker, heard_more, losts_have, losts_keep, restart_cases, row_first, serving_more, up_more}
 use Rattle.convergence_laws.proofs.ChangedLinksTold.{IsOwed, link_news, pay_links, sends_still}
 use Rattle.convergence_laws.proofs.GivenAdverts.{HaveNews, IsHad, IsStill, given_grows, stills_news}
-use Rattle.convergence_laws.proofs.ListElements.{IsIn}
 use Rattle.convergence_laws.proofs.MessageCourses.{next_grows}
 
 abbrev pub Still : List Item → List Item → Type 0
@@ -19,8 +18,7 @@ Still journal items = HaveCauses IsStill journal items
 abbrev pub Spread : Setting → ℕ → List Item → Type 0
 Spread setting since journal = HaveNews setting since (λ s neighbour advert. ⊥) journal
 
-pub still_spread : {since : ℕ} (setting : Setting) (journal items : List Item)
-    → Still journal items
+pub still_spread : {since : ℕ} (setting : Setting) (journal items : List Item) → Still journal items
     → Spread setting since journal → Spread setting since (journal ++ items)
 still_spread setting journal items still have =
     stills_news setting (λ s neighbour advert. ⊥) journal items still have
@@ -56,8 +54,7 @@ control_still = have_weaker IsControl IsStill control_is_still
 
 pub row_near : (setting : Setting) (before : List Item) (row : ℕ) (step : Step) (s : ℕ)
     → near setting (before ++ item.Row row step ∷ []) s ≡ near setting before s
-row_near setting before row step s =
-    near_stays setting s before (item.Row row step ∷ []) (refl, tt)
+row_near setting before row step s = near_stays setting s before (item.Row row step ∷ []) (refl, tt)
 
 pub link_spread : {since : ℕ} (setting : Setting) (before : List Item) (row : ℕ) (step : Step)
     (one two : ℕ) (up : Bool) → IsNet setting.net
@@ -82,9 +79,7 @@ link_spread {since = since} setting before row step one two up net late known ha
       | false ↦ items_then (next ∷ []) (link_changes setting before) here
     ])
     by_test true = still_spread setting here nothing (tt, tt) have
-    by_test false =
-        subst (Spread setting since)
-        (append_assoc here (next ∷ []) (link_changes setting before now))
+    by_test false = rw (append_assoc here (next ∷ []) (link_changes setting before now)) at
         (pay_links setting before now net (omega (arith, late, next_grows here (next ∷ [])))
         (link_news setting before here next (row_near setting before row step)
         (record { first = tt; second = row_first before row step }) refl known have))
@@ -93,53 +88,49 @@ link_spread {since = since} setting before row step one two up net late known ha
 owed_later : (setting : Setting) (before now : List Item) (packets : List ℕ) (s neighbour : ℕ)
     (advert : Advert) → IsOwed setting before now s neighbour advert
     → IsOwed setting before (now ++ map item.Lost packets) s neighbour advert
-owed_later setting before now packets s neighbour advert owed =
-    record {
-      changed = by_changed (is_up now s) (near setting now s) owed.changed up (keeps.near s);
-      told = subst (λ n. 1 ≤ n) (sym (keeps.seq s)) owed.told;
-      had = by_had owed.had;
-      which = by_which owed.which;
-    }
-  where
-    after : List Item
-    after = now ++ map item.Lost packets
+owed_later setting before now packets s neighbour advert owed = record {
+  changed = by_changed (is_up now s) (near setting now s) owed.changed up (keeps.near s);
+  told = subst (λ n. 1 ≤ n) (sym (keeps.seq s)) owed.told;
+  had = by_had owed.had;
+  which = by_which owed.which;
+} where
+  after : List Item
+  after = now ++ map item.Lost packets
 
-    keeps : LinksKeep setting now after
-    keeps = links_keep setting now (map item.Lost packets)
-        (losts_have (λ before next. IsFalse (concerns_links before next)) (λ before i. refl) packets
-        now)
+  keeps : LinksKeep setting now after
+  keeps = links_keep setting now (map item.Lost packets)
+      (losts_have (λ before next. IsFalse (concerns_links before next)) (λ before i. refl) packets
+      now)
 
-    up : is_up after s ≡ is_up now s
-    up = losts_keep (λ journal. is_up journal s) (λ journal i. up_more journal (item.Lost i) s)
-        packets now
+  up : is_up after s ≡ is_up now s
+  up = losts_keep (λ journal. is_up journal s) (λ journal i. up_more journal (item.Lost i) s)
+      packets now
 
-    boot : boot_of after s ≡ boot_of now s
-    boot = losts_keep (λ journal. boot_of journal s)
-        (λ journal i. boot_more journal (item.Lost i) s) packets now
+  boot : boot_of after s ≡ boot_of now s
+  boot = losts_keep (λ journal. boot_of journal s)
+      (λ journal i. boot_more journal (item.Lost i) s) packets now
 
-    same : heard after s ≡ heard now s
-    same = losts_keep (λ journal. heard journal s) (λ journal i. heard_more journal (item.Lost i) s)
-        packets now
+  same : heard after s ≡ heard now s
+  same = losts_keep (λ journal. heard journal s) (λ journal i. heard_more journal (item.Lost i) s)
+      packets now
 
-    by_changed : (up : Bool) (mask : ℕ) → (up && not (near setting before s == mask)) ≡ true
-        → is_up after s ≡ up → near setting after s ≡ mask
-        → IsTrue (has_changed setting before after s)
-    by_changed up mask changed same links = rw (same, links) changed
+  by_changed : (up : Bool) (mask : ℕ) → (up && not (near setting before s == mask)) ≡ true
+      → is_up after s ≡ up → near setting after s ≡ mask
+      → IsTrue (has_changed setting before after s)
+  by_changed up mask changed same links = rw (same, links) changed
 
-    by_had : IsHad setting now s advert → IsHad setting after s advert
-    by_had (inl own) = inl (own ∙ sym (keeps.advert s))
-    by_had (inr of) = inr (record {
-      other = of.other;
-      small = of.small;
-      given = given_grows setting now after s advert up boot
-          (λ body is. subst (λ bodies. IsIn body bodies) (sym same) is) of.given;
-    })
+  by_had : IsHad setting now s advert → IsHad setting after s advert
+  by_had (inl own) = inl (own ∙ sym (keeps.advert s))
+  by_had (inr of) = inr (record {
+    other = of.other;
+    small = of.small;
+    given = given_grows setting now after s advert up boot (λ body is. rw same is) of.given;
+  })
 
-    by_which : (advert ≡ own_advert setting now s)
-        ⊎ IsFalse (has (near setting before s) neighbour)
-        → (advert ≡ own_advert setting after s) ⊎ IsFalse (has (near setting before s) neighbour)
-    by_which (inl own) = inl (own ∙ sym (keeps.advert s))
-    by_which (inr new) = inr new
+  by_which : (advert ≡ own_advert setting now s) ⊎ IsFalse (has (near setting before s) neighbour)
+      → (advert ≡ own_advert setting after s) ⊎ IsFalse (has (near setting before s) neighbour)
+  by_which (inl own) = inl (own ∙ sym (keeps.advert s))
+  by_which (inr new) = inr new
 
 -- what is owed in one way is owed in another
 pub owed_as : {since : ℕ} (setting : Setting) (One Other : ℕ → ℕ → Advert → Type 0)
@@ -183,11 +174,9 @@ crash_spread {since = since} setting before row step s net late known have = by_
         ((now ++ losts) ++ link_changes setting before (now ++ losts))
     down up = pay_links setting before (now ++ losts) net later
         (owed_as setting (IsOwed setting before now) (IsOwed setting before (now ++ losts))
-        (now ++ losts) (owed_later setting before now packets)
-        (stills_news setting (IsOwed setting before now) now losts
-        (losts_have IsStill (λ journal i. tt) packets now)
-        (link_news setting before here next (row_near setting before row step)
-        (record {
+        (now ++ losts) (owed_later setting before now packets) (stills_news setting
+        (IsOwed setting before now) now losts (losts_have IsStill (λ journal i. tt) packets now)
+        (link_news setting before here next (row_near setting before row step) (record {
           first = up_more before (item.Row row step) s ∙ up;
           second = row_first before row step;
         }) refl known have)))
@@ -200,16 +189,13 @@ crash_spread {since = since} setting before row step s net late known have = by_
       | true ↦ items_then (next ∷ losts) (link_changes setting before) here
     ])
     by_up false e = still_spread setting here nothing (tt, tt) have
-    by_up true e =
-        subst (Spread setting since)
-        (append_assoc here (next ∷ losts) (link_changes setting before (here ++ (next ∷ losts))))
-        (subst (λ j. Spread setting since (j ++ link_changes setting before j)) same (down e))
+    by_up true e = subst (Spread setting since) (append_assoc here
+        (next ∷ losts) (link_changes setting before (here ++ (next ∷ losts)))) (rw same at (down e))
 
 booted_link : (here : List Item) (s boot one other : ℕ)
     → is_link_up (here ++ item.Booted s boot ∷ []) one other ≡ is_link_up here one other
 unfolding is_link_up
-booted_link here s boot one other =
-    ap (λ o. unwrap_or o true)
+booted_link here s boot one other = ap (λ o. unwrap_or o true)
     (last_given_append (gives_link (min one other) (max one other)) here (item.Booted s boot ∷ []))
 
 -- a switch that began a boot has no links yet, and had none
@@ -231,25 +217,20 @@ restart_spread {since = since} setting before row step s known have =
     now = here ++ next ∷ []
 
     idle : is_up here s ≡ false → serves here s ≡ false
-    idle down = by_serving (serves here s) refl
-      where
-        by_serving : (b : Bool) → serves here s ≡ b → serves here s ≡ false
-        by_serving false e = e
-        by_serving true e =
-            let clash : false ≡ true = sym down ∙ (known.serving s).up e in absurd cc
+    idle down = by_serving (serves here s) refl where
+      by_serving : (b : Bool) → serves here s ≡ b → serves here s ≡ false
+      by_serving false e = e
+      by_serving true e = let clash : false ≡ true = sym down ∙ (known.serving s).up e in absurd cc
 
     serving_same : is_up here s ≡ false → (t : ℕ) → serves now t ≡ serves here t
-    serving_same down t = by_test (s == t) refl
-      where
-        by_test : (b : Bool) → (s == t) ≡ b → serves now t ≡ serves here t
-        by_test true e =
-            let none : serves now t ≡ false = rw (serving_more here next t, e) refl in
-            none ∙ sym (idle down) ∙ ap (serves here) (eqb-true s t e)
-        by_test false e = rw (serving_more here next t, e) refl
+    serving_same down t = by_test (s == t) refl where
+      by_test : (b : Bool) → (s == t) ≡ b → serves now t ≡ serves here t
+      by_test true e = let none : serves now t ≡ false = rw (serving_more here next t, e) refl in
+          none ∙ sym (idle down) ∙ ap (serves here) (eqb-true s t e)
+      by_test false e = rw (serving_more here next t, e) refl
 
     links_now : is_up here s ≡ false → (t : ℕ) → near setting now t ≡ near setting before t
-    links_now down t =
-        near_same setting here now (serving_same down)
+    links_now down t = near_same setting here now (serving_same down)
         (λ one other. booted_link here s (boot_of here s + 1) one other) t
         ∙ row_near setting before row step t
 
@@ -258,21 +239,15 @@ restart_spread {since = since} setting before row step s known have =
     none down t neighbour advert owed =
         by_changed (is_up now t) (near setting now t) owed.changed (links_now down t)
       where
-        by_changed : (up : Bool) (mask : ℕ)
-            → (up && not (near setting before t == mask)) ≡ true
+        by_changed : (up : Bool) (mask : ℕ) → (up && not (near setting before t == mask)) ≡ true
             → mask ≡ near setting before t → ⊥
         by_changed true mask changed same =
-            let alike : (near setting before t == mask) ≡ true =
-            eq-eqb (near setting before t) mask (sym same) in
-            let clash : false ≡ true = sym (ap not alike) ∙ changed in
-            absurd cc
+            absurd (cc (sym (ap not (eq-eqb (near setting before t) mask (sym same))) ∙ changed))
         by_changed false mask changed same = absurd cc
 
     booted : is_up here s ≡ false → Spread setting since now
     booted down = owed_as setting (IsOwed setting before now) (λ t neighbour advert. ⊥) now
-        (none down)
-        (link_news setting before here next (row_near setting before row step)
-        (record {
+        (none down) (link_news setting before here next (row_near setting before row step) (record {
           first = record { down = down; next = refl };
           second = row_first before row step;
         }) refl known have)

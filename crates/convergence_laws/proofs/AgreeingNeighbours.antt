@@ -30,41 +30,36 @@ boot_stays before next s e = boot_more before next s
 
 serving_boot : (before : List Item) (next : Item) (s : ℕ)
     → serves (before ++ next ∷ []) s ≡ true → boot_of (before ++ next ∷ []) s ≡ boot_of before s
-serving_boot before next s serving = by_turn (turns s next) refl
-  where
-    by_turn : (b : Bool) → turns s next ≡ b → boot_of (before ++ next ∷ []) s ≡ boot_of before s
-    by_turn true e =
-        let clash : true ≡ false = sym serving ∙ serving_turns before next s e in absurd cc
-    by_turn false e = boot_stays before next s e
+serving_boot before next s serving = by_turn (turns s next) refl where
+  by_turn : (b : Bool) → turns s next ≡ b → boot_of (before ++ next ∷ []) s ≡ boot_of before s
+  by_turn true e =
+      let clash : true ≡ false = sym serving ∙ serving_turns before next s e in absurd cc
+  by_turn false e = boot_stays before next s e
 
 tells_kept : (setting : Setting) → AreKept (HasBothCauses setting) (TellsOwn setting)
-tells_kept setting before next both are = record { known = known_now; tells = tells }
-  where
-    now : List Item
-    now = before ++ next ∷ []
+tells_kept setting before next both are = record { known = known_now; tells = tells } where
+  now : List Item
+  now = before ++ next ∷ []
 
-    known_now : IsKnown now
-    known_now = known_kept setting before next both.first are.known
+  known_now : IsKnown now
+  known_now = known_kept setting before next both.first are.known
 
-    tells : (s k : ℕ) → IsTrue (has (near setting now s) k) → 1 ≤ own_seq setting now s
-    tells s k linked =
-        let serving = (ends_serve setting now s k linked).0 in
-        elim (own_on setting before next s both ((known_now.serving s).up serving)
-        (serving_boot before next s serving)) [
-          | inl same ↦ omega (
-            arith,
-            same_seq setting now before s same,
-            are.tells s k (subst (λ mask. IsTrue (has mask k))
-                (same_near setting now before s same) linked),
-          )
-          | inr more ↦ omega (arith, more.seq)
-        ]
+  tells : (s k : ℕ) → IsTrue (has (near setting now s) k) → 1 ≤ own_seq setting now s
+  tells s k linked = let serving = (ends_serve setting now s k linked).0 in
+      elim (own_on setting before next s both ((known_now.serving s).up serving)
+      (serving_boot before next s serving)) [
+        | inl same ↦ omega (
+          arith,
+          same_seq setting now before s same,
+          are.tells s k (rw (same_near setting now before s same) at linked),
+        )
+        | inr more ↦ omega (arith, more.seq)
+      ]
 
 pub caused_tells : (setting : Setting) (journal : List Item)
     → HaveCauses (HasBothCauses setting) [] journal → TellsOwn setting journal
-caused_tells setting journal have =
-    fact_on (HasBothCauses setting) (TellsOwn setting) (tells_kept setting) [] journal have
-    (record {
+caused_tells setting journal have = fact_on (HasBothCauses setting) (TellsOwn setting)
+    (tells_kept setting) [] journal have (record {
       known = known_at_first;
       tells = λ s k linked. omega (arith, start_laws.seq setting s);
     })
@@ -72,12 +67,10 @@ caused_tells setting journal have =
 -- ---- what a neighbour holds, or was told
 
 older_own : (own a : Advert) → (a ≡ own) ⊎ IsTrue (is_newer own a) → IsFalse (is_newer a own)
-older_own own a (inl same) =
-    subst (λ (b : Advert). IsFalse (is_newer b own)) (sym same) (as_new_itself own).new
-older_own own a (inr newer) = less own a newer
-  where
-    less : (x z : Advert) → is_newer x z ≡ true → is_newer z x ≡ false
-    less x z more = grind (arith, nat_tests)
+older_own own a (inl same) = rw same (as_new_itself own).new
+older_own own a (inr newer) = less own a newer where
+  less : (x z : Advert) → is_newer x z ≡ true → is_newer z x ≡ false
+  less x z more = grind (arith, nat_tests)
 
 -- of what it was given it holds what is as new
 given_held : (setting : Setting) (journal : List Item) (s : ℕ) (b a : Advert) → a.origin ≢ s
@@ -88,8 +81,7 @@ given_held setting journal s b a apart small as_new given =
       other = λ same. apart (sym of ∙ same);
       small = omega (arith, of, small);
       given = given;
-    }) in
-    record {
+    }) in record {
       advert = best.advert;
       held = ap (advert_known setting journal s) (sym of) ∙ best.held;
       as_new = as_new_through best.advert b a best.as_new as_new;
@@ -124,20 +116,18 @@ spread_cases {since = since} setting journal are s neighbour origin a linked sma
     s_small = omega (arith, ends.one, are.net.few_switches)
 
     had : IsHad setting journal s a
-    had = by_origin (cases_eq origin s)
-      where
-        by_origin : (origin ≡ s) ⊎ (origin ≢ s) → IsHad setting journal s a
-        by_origin (inl same) =
-            inl (sym (own_told (own_advert setting journal s) a
-            (sym (known_link_laws.own setting journal s s_small)
-            ∙ ap (advert_known setting journal s) (sym same) ∙ known)))
-        by_origin (inr apart) =
-            let given = known_given setting journal s origin a apart small known in
-            inr (record {
-              other = λ same. apart (sym given.of ∙ same);
-              small = omega (arith, given.of, small);
-              given = given.given;
-            })
+    had = by_origin (cases_eq origin s) where
+      by_origin : (origin ≡ s) ⊎ (origin ≢ s) → IsHad setting journal s a
+      by_origin (inl same) = inl (sym (own_told (own_advert setting journal s) a
+          (sym (known_link_laws.own setting journal s s_small)
+          ∙ ap (advert_known setting journal s) (sym same) ∙ known)))
+      by_origin (inr apart) =
+          let given = known_given setting journal s origin a apart small known in
+          inr (record {
+            other = λ same. apart (sym given.of ∙ same);
+            small = omega (arith, given.of, small);
+            given = given.given;
+          })
 
     -- of itself a neighbour holds the newest
     of_itself : a.origin ≡ neighbour → HoldsAsNew setting journal neighbour a
@@ -154,9 +144,8 @@ spread_cases {since = since} setting journal are s neighbour origin a linked sma
             origin = own_origin setting journal neighbour ∙ sym same;
             new = older_own (own_advert setting journal neighbour) a
                 (subst (λ o. (a ≡ own_advert setting journal o)
-                ⊎ IsTrue (is_newer (own_advert setting journal o) a)) same
-                ((are.newest.held s origin a small known).own
-                (subst (λ o. IsTrue (is_up journal o)) (sym same) up)));
+                ⊎ IsTrue (is_newer (own_advert setting journal o) a)) same ((are.newest.held s
+                origin a small known).own (subst (λ o. IsTrue (is_up journal o)) (sym same) up)));
           };
         }
 
@@ -205,8 +194,7 @@ pub spread_agree : {since : ℕ} (setting : Setting) (journal : List Item)
 spread_agree setting journal are gets s neighbour origin a linked small known =
     elim (spread_cases setting journal are s neighbour origin a linked small known) [
       | inl held ↦ held
-      | inr told ↦
-          let ends = ends_there setting journal s neighbour are.net linked in
+      | inr told ↦ let ends = ends_there setting journal s neighbour are.net linked in
           let up : IsTrue (is_up journal neighbour) =
           (are.tells.known.serving neighbour).up (ends_serve setting journal s neighbour linked).1 in
           let found = gets neighbour told.advert ends.other up told.other told.told in

@@ -55,20 +55,15 @@ was_apart : (before : List Item) (next : Item) (t s : ℕ) (body : Body)
     → heard (before ++ next ∷ []) s ≡ (if t == s then [] else heard before s)
     → ((t == s) ≡ false → serves (before ++ next ∷ []) s ≡ serves before s)
     → IsIn body (heard (before ++ next ∷ []) s) → WasIn before next s body
-was_apart before next t s body forgets same is = by_test (t == s) refl
-  where
-    by_test : (b : Bool) → (t == s) ≡ b → WasIn before next s body
-    by_test true e = let none : IsIn body [] = rw (forgets, e) at is in absurd none
-    by_test false e = record {
-      is = rw (forgets, e) at is;
-      serving = λ serving. same e ∙ serving;
-    }
+was_apart before next t s body forgets same is = by_test (t == s) refl where
+  by_test : (b : Bool) → (t == s) ≡ b → WasIn before next s body
+  by_test true e = let none : IsIn body [] = rw (forgets, e) at is in absurd none
+  by_test false e = record { is = rw (forgets, e) at is; serving = λ serving. same e ∙ serving }
 
 was_in : (before : List Item) (next : Item) (s : ℕ) (body : Body) → IsFalse (is_delivered next)
     → IsIn body (heard (before ++ next ∷ []) s) → WasIn before next s body
-was_in before (item.Down t) s body plain is =
-    was_apart before (item.Down t) t s body (heard_more before (item.Down t) s)
-    (λ e. rw (serving_more before (item.Down t) s, e) refl) is
+was_in before (item.Down t) s body plain is = was_apart before (item.Down t) t s body
+    (heard_more before (item.Down t) s) (λ e. rw (serving_more before (item.Down t) s, e) refl) is
 was_in before (item.Booted t boot) s body plain is =
     was_apart before (item.Booted t boot) t s body (heard_more before (item.Booted t boot) s)
     (λ e. rw (serving_more before (item.Booted t boot) s, e) refl) is
@@ -76,12 +71,11 @@ was_in before (item.Opened t version) s body plain is = record {
   is = rw (heard_more before (item.Opened t version) s) at is;
   serving = λ serving.
       rw (serving_more before (item.Opened t version) s) (by_test (t == s) serving);
-}
-  where
-    by_test : (b : Bool) → IsTrue (serves before s)
-        → IsTrue (unwrap_or (if b then Some true else None) (serves before s))
-    by_test true serving = refl
-    by_test false serving = serving
+} where
+  by_test : (b : Bool) → IsTrue (serves before s)
+      → IsTrue (unwrap_or (if b then Some true else None) (serves before s))
+  by_test true serving = refl
+  by_test false serving = serving
 was_in before (item.Delivered number) s body plain is = absurd cc
 was_in before next s body plain is = record {
   is = rw (heard_more before next s) at is;
@@ -96,11 +90,9 @@ answered_stays before next s body serving is =
     IfSome_then (answer_of s body) is (λ answer sent. sent_stays before next (to_controller answer) sent)
 
 answers_on : (Owed : ℕ → Body → Type 0) (before : List Item) (next : Item)
-    → IsFalse (is_delivered next) → AreAnswered Owed before
-    → AreAnswered Owed (before ++ next ∷ [])
+    → IsFalse (is_delivered next) → AreAnswered Owed before → AreAnswered Owed (before ++ next ∷ [])
 answers_on Owed before next plain are = record {
-  each = λ s body is.
-      let was = was_in before next s body plain is in
+  each = λ s body is. let was = was_in before next s body plain is in
       elim (are.each s body was.is) [
         | inl owed ↦ inl owed
         | inr answered ↦ inr (answered_stays before next s body was.serving answered)
@@ -110,28 +102,25 @@ answers_on Owed before next plain are = record {
 hellos_on : (Owed : ℕ → Type 0) (before : List Item) (next : Item) → IsFalse (is_booted next)
     → AreGreeted Owed before → AreGreeted Owed (before ++ next ∷ [])
 hellos_on Owed before next plain are = record {
-  each = λ s up.
-      let same = boot_same next s plain in
+  each = λ s up. let same = boot_same next s plain in
       elim (are.each s (was_up next s plain up)) [
         | inl owed ↦ inl owed
         | inr known ↦ elim known [
           | inl first ↦ inr (inl (same ∙ first))
-          | inr sent ↦ inr (inr (subst (λ b. IsSent (before ++ next ∷ [])
-              (to_controller (Hello s b))) (sym same) (sent_stays before next _ sent)))
+          | inr sent ↦ inr (inr (rw same (sent_stays before next _ sent)))
         ]
       ];
-}
-  where
-    boot_same : (next : Item) (s : ℕ) → IsFalse (is_booted next)
-        → boot_of (before ++ next ∷ []) s ≡ boot_of before s
-    boot_same (item.Booted t boot) s plain = absurd cc
-    boot_same next s plain = boot_more before next s
+} where
+  boot_same : (next : Item) (s : ℕ) → IsFalse (is_booted next)
+      → boot_of (before ++ next ∷ []) s ≡ boot_of before s
+  boot_same (item.Booted t boot) s plain = absurd cc
+  boot_same next s plain = boot_more before next s
 
-    was_up : (next : Item) (s : ℕ) → IsFalse (is_booted next)
-        → IsTrue (is_up (before ++ next ∷ []) s) → IsTrue (is_up before s)
-    was_up (item.Booted t boot) s plain up = absurd cc
-    was_up (item.Down t) s plain up = grind (arith, nat_tests, up_more)
-    was_up next s plain up = rw (up_more before next s) at up
+  was_up : (next : Item) (s : ℕ) → IsFalse (is_booted next)
+      → IsTrue (is_up (before ++ next ∷ []) s) → IsTrue (is_up before s)
+  was_up (item.Booted t boot) s plain up = absurd cc
+  was_up (item.Down t) s plain up = grind (arith, nat_tests, up_more)
+  was_up next s plain up = rw (up_more before next s) at up
 
 plain_answers : (Owed : ℕ → Body → Type 0) → AreKept IsPlain (AreAnswered Owed)
 plain_answers Owed before (item.Delivered number) plain are = absurd plain
@@ -167,9 +156,8 @@ boot_kept s boot before next plain is = boot_more before next s ∙ is
 
 boot_stays : (journal items : List Item) → Plain journal items → (s : ℕ)
     → boot_of (journal ++ items) s ≡ boot_of journal s
-boot_stays journal items plain s =
-    fact_on IsPlain (λ now. boot_of now s ≡ boot_of journal s) (boot_kept s (boot_of journal s))
-    journal items plain refl
+boot_stays journal items plain s = fact_on IsPlain (λ now. boot_of now s ≡ boot_of journal s)
+    (boot_kept s (boot_of journal s)) journal items plain refl
 
 -- ---- a delivery
 
@@ -178,30 +166,28 @@ delivered_owed : (here : List Item) (number : ℕ) → AreAnswered (λ s body. �
     → AreAnswered (λ s body. body_to_switch here s number ≡ Some body)
     (here ++ item.Delivered number ∷ [])
 delivered_owed here number are = record {
-  each = λ s body is.
-      by_said s body (body_to_switch here s number) refl
+  each = λ s body is. by_said s body (body_to_switch here s number) refl
       (rw (heard_more here (item.Delivered number) s) at is);
-}
-  where
-    next : Item
-    next = item.Delivered number
+} where
+  next : Item
+  next = item.Delivered number
 
-    old : (s : ℕ) (body : Body) → IsIn body (heard here s)
-        → (body_to_switch here s number ≡ Some body) ⊎ IsAnswered (here ++ next ∷ []) s body
-    old s body is = elim (are.each s body is) [
-      | inl owed ↦ absurd owed
-      | inr answered ↦ inr (answered_stays here next s body
-          (λ serving. rw (serving_more here next s) serving) answered)
-    ]
+  old : (s : ℕ) (body : Body) → IsIn body (heard here s)
+      → (body_to_switch here s number ≡ Some body) ⊎ IsAnswered (here ++ next ∷ []) s body
+  old s body is = elim (are.each s body is) [
+    | inl owed ↦ absurd owed
+    | inr answered ↦ inr (answered_stays here next s body
+        (λ serving. rw (serving_more here next s) serving) answered)
+  ]
 
-    by_said : (s : ℕ) (body : Body) (o : Option Body) → body_to_switch here s number ≡ o
-        → IsIn body (option_map_or (λ b. heard here s ++ b ∷ []) o (heard here s))
-        → (body_to_switch here s number ≡ Some body) ⊎ IsAnswered (here ++ next ∷ []) s body
-    by_said s body None e is = old s body is
-    by_said s body (Some said) e is = elim (in_either body (heard here s) (said ∷ []) is) [
-      | inl earlier ↦ old s body earlier
-      | inr now ↦ elim now [ inl same ↦ inl (e ∙ ap Some same) | inr none ↦ absurd none ]
-    ]
+  by_said : (s : ℕ) (body : Body) (o : Option Body) → body_to_switch here s number ≡ o
+      → IsIn body (option_map_or (λ b. heard here s ++ b ∷ []) o (heard here s))
+      → (body_to_switch here s number ≡ Some body) ⊎ IsAnswered (here ++ next ∷ []) s body
+  by_said s body None e is = old s body is
+  by_said s body (Some said) e is = elim (in_either body (heard here s) (said ∷ []) is) [
+    | inl earlier ↦ old s body earlier
+    | inr now ↦ elim now [ inl same ↦ inl (e ∙ ap Some same) | inr none ↦ absurd none ]
+  ]
 
 -- a switch that serves does so behind such items
 serving_on : (setting : Setting) (s : ℕ)
@@ -215,27 +201,23 @@ pub opens : (setting : Setting) (before : List Item) (s : ℕ) (now : List Item)
     → serves now s ≡ serves before s → (boot version : ℕ)
     → IsTrue (serves (now ++ switch_items setting before s (OpenAt boot version) now) s)
 unfolding switch_items
-opens setting before s now same boot version = by_serving (serves before s) refl
-  where
-    next : Item
-    next = item.Opened s (stamp_of now s)
+opens setting before s now same boot version = by_serving (serves before s) refl where
+  next : Item
+  next = item.Opened s (stamp_of now s)
 
-    opened : IsTrue (serves (now ++ next ∷ []) s)
-    opened =
-        let here : (s == s) ≡ true = eq-eqb s s refl in
-        rw (serving_more now next s, here) refl
+  opened : IsTrue (serves (now ++ next ∷ []) s)
+  opened = rw (serving_more now next s, eq-eqb s s refl) refl
 
-    by_serving : (b : Bool) → serves before s ≡ b → IsTrue (serves (now ++ elim b [
-      | true ↦ []
-      | false ↦ items_then (next ∷ []) (link_changes setting before) now
-    ]) s)
-    by_serving true e = ap (λ j. serves j s) (append-nil now) ∙ same ∙ e
-    by_serving false e =
-        subst (λ j. IsTrue (serves j s))
-        (append_assoc now (next ∷ []) (link_changes setting before (now ++ next ∷ [])))
-        (fact_on (IsTraffic setting) (λ j. IsTrue (serves j s)) (serving_on setting s)
-        (now ++ next ∷ []) (link_changes setting before (now ++ next ∷ []))
-        (links_traffic setting before (now ++ next ∷ [])) opened)
+  by_serving : (b : Bool) → serves before s ≡ b → IsTrue (serves (now ++ elim b [
+    | true ↦ []
+    | false ↦ items_then (next ∷ []) (link_changes setting before) now
+  ]) s)
+  by_serving true e = ap (λ j. serves j s) (append-nil now) ∙ same ∙ e
+  by_serving false e =
+      rw (append_assoc now (next ∷ []) (link_changes setting before (now ++ next ∷ []))) at
+      (fact_on (IsTraffic setting) (λ j. IsTrue (serves j s)) (serving_on setting s)
+      (now ++ next ∷ []) (link_changes setting before (now ++ next ∷ [])) (links_traffic setting
+      before (now ++ next ∷ [])) opened)
 
 switch_answers : (setting : Setting) (before : List Item) (s : ℕ) (body : Body)
     (now : List Item) → serves now s ≡ serves before s
@@ -257,38 +239,31 @@ pub sent_items : (setting : Setting) (before : List Item) (number s : ℕ) (body
       | Some told ↦ switch_items setting before s told now
     ]
 unfolding delivery_items
-sent_items setting before number s body now sent said is =
-    ap (λ o. elim o [
-      | None ↦ []
-      | Some message ↦ received_items setting before number message now
-    ]) sent
-    ∙ ap (λ o. elim o [
-      | None ↦ []
-      | Some told ↦ switch_items setting before s told now
-    ]) is
+sent_items setting before number s body now sent said is = ap (λ o. elim o [
+  | None ↦ []
+  | Some message ↦ received_items setting before number message now
+]) sent
+    ∙ ap (λ o. elim o [ None ↦ [] | Some told ↦ switch_items setting before s told now ]) is
 
 pub delivery_is : (setting : Setting) (before : List Item) (number : ℕ) (now : List Item)
     (s : ℕ) (body : Body) → body_to_switch before s number ≡ Some body
     → delivery_items setting before number now ≡ switch_items setting before s body now
-delivery_is setting before number now s body said =
-    sent_items setting before number s body now (said_parts before s number body said).sent
-    (Some body) said
+delivery_is setting before number now s body said = sent_items setting before number s body now
+    (said_parts before s number body said).sent (Some body) said
 
 delivery_answers : (setting : Setting) (before : List Item) (number : ℕ) (now : List Item)
     (s : ℕ) (body : Body) → body_to_switch before s number ≡ Some body
     → serves now s ≡ serves before s
     → IsAnswered (now ++ delivery_items setting before number now) s body
 delivery_answers setting before number now s body said same =
-    subst (λ items. IsAnswered (now ++ items) s body)
-    (sym (delivery_is setting before number now s body said))
+    rw (delivery_is setting before number now s body said)
     (switch_answers setting before s body now same)
 
 deliver_spoken : (setting : Setting) (before : List Item) (row number : ℕ)
     → let here = before ++ item.Row row (Deliver number) ∷ [] in HaveSpoken here
     → HaveSpoken (here ++ deliver_items setting before number here)
-deliver_spoken setting before row number spoken =
-    deliver_cases HaveSpoken setting before number here (spoken_stay here nothing (tt, tt) spoken)
-    (record { answers = answers; hellos = hellos })
+deliver_spoken setting before row number spoken = deliver_cases HaveSpoken setting before number
+    here (spoken_stay here nothing (tt, tt) spoken) (record { answers = answers; hellos = hellos })
   where
     here : List Item
     here = before ++ item.Row row (Deliver number) ∷ []
@@ -301,14 +276,12 @@ deliver_spoken setting before row number spoken =
 
     answers : AreAnswered (λ s body. ⊥) (now ++ items)
     answers = record {
-      each = λ s body is.
-          elim ((answers_stay (λ t b. body_to_switch here t number ≡ Some b) now items
-          (delivery_plain setting before number now)
+      each = λ s body is. elim ((answers_stay (λ t b. body_to_switch here t number ≡ Some b) now
+          items (delivery_plain setting before number now)
           (delivered_owed here number spoken.answers)).each s body is) [
             | inl owed ↦ inr (delivery_answers setting before number now s body
-                (sym (said_row before row s number (Deliver number)) ∙ owed)
-                (serving_more here (item.Delivered number) s
-                ∙ serving_more before (item.Row row (Deliver number)) s))
+                (sym (said_row before row s number (Deliver number)) ∙ owed) (serving_more here
+                (item.Delivered number) s ∙ serving_more before (item.Row row (Deliver number)) s))
             | inr answered ↦ inr answered
           ];
     }
@@ -327,26 +300,24 @@ booted_answers here s boot are = answers_on (λ t body. ⊥) here (item.Booted s
 -- it owes its hello
 booted_owed : (here : List Item) (s boot : ℕ) → AreGreeted (λ t. ⊥) here
     → AreGreeted (λ t. t ≡ s) (here ++ item.Booted s boot ∷ [])
-booted_owed here s boot are = record { each = λ t up. by_test t (s == t) refl up }
-  where
-    next : Item
-    next = item.Booted s boot
+booted_owed here s boot are = record { each = λ t up. by_test t (s == t) refl up } where
+  next : Item
+  next = item.Booted s boot
 
-    by_test : (t : ℕ) (b : Bool) → (s == t) ≡ b → IsTrue (is_up (here ++ next ∷ []) t)
-        → (t ≡ s) ⊎ ((boot_of (here ++ next ∷ []) t ≡ 1)
-        ⊎ IsSent (here ++ next ∷ []) (to_controller (Hello t (boot_of (here ++ next ∷ []) t))))
-    by_test t true e up = inl (sym (eqb-true s t e))
-    by_test t false e up =
-        let same : boot_of (here ++ next ∷ []) t ≡ boot_of here t =
-        rw (boot_more here next t, e) refl in
-        elim (are.each t (rw (up_more here next t, e) at up)) [
-          | inl owed ↦ absurd owed
-          | inr known ↦ elim known [
-            | inl first ↦ inr (inl (same ∙ first))
-            | inr sent ↦ inr (inr (subst (λ b. IsSent (here ++ next ∷ [])
-                (to_controller (Hello t b))) (sym same) (sent_stays here next _ sent)))
-          ]
+  by_test : (t : ℕ) (b : Bool) → (s == t) ≡ b → IsTrue (is_up (here ++ next ∷ []) t)
+      → (t ≡ s) ⊎ ((boot_of (here ++ next ∷ []) t ≡ 1)
+      ⊎ IsSent (here ++ next ∷ []) (to_controller (Hello t (boot_of (here ++ next ∷ []) t))))
+  by_test t true e up = inl (sym (eqb-true s t e))
+  by_test t false e up =
+      let same : boot_of (here ++ next ∷ []) t ≡ boot_of here t =
+      rw (boot_more here next t, e) refl in
+      elim (are.each t (rw (up_more here next t, e) at up)) [
+        | inl owed ↦ absurd owed
+        | inr known ↦ elim known [
+          | inl first ↦ inr (inl (same ∙ first))
+          | inr sent ↦ inr (inr (rw same (sent_stays here next _ sent)))
         ]
+      ]
 
 -- and sends it
 restart_spoken : (s : ℕ) (here : List Item) → HaveSpoken here
@@ -376,13 +347,10 @@ restart_spoken s here spoken =
 
     hellos : AreGreeted (λ t. ⊥) (now ++ hello now)
     hellos = record {
-      each = λ t up.
-          elim ((hellos_stay (λ u. u ≡ s) now (hello now) plain
+      each = λ t up. elim ((hellos_stay (λ u. u ≡ s) now (hello now) plain
           (booted_owed here s (boot_of here s + 1) spoken.hellos)).each t up) [
-            | inl owed ↦ inr (inr (subst (λ u. IsSent (now ++ hello now)
-                (to_controller (Hello u (boot_of (now ++ hello now) u)))) (sym owed)
-                (subst (λ b. IsSent (now ++ hello now) (to_controller (Hello s b))) (sym same)
-                (sends_all now (hello_of now s ∷ []) _ (inl refl)))))
+            | inl owed ↦ inr
+                (inr (rw owed (rw same (sends_all now (hello_of now s ∷ []) _ (inl refl)))))
             | inr known ↦ inr known
           ];
     }
@@ -395,25 +363,21 @@ step_spoken : (setting : Setting) (before : List Item) (row : ℕ) (step : Step)
 step_spoken setting before row step true is = λ spoken.
     spoken_stay (before ++ item.Row row step ∷ []) _
     (step_plain setting before step (before ++ item.Row row step ∷ []) is) spoken
-step_spoken setting before row (Deliver number) false is =
-    deliver_spoken setting before row number
+step_spoken setting before row (Deliver number) false is = deliver_spoken setting before row number
 step_spoken setting before row (Restart s) false is =
     restart_spoken s (before ++ item.Row row (Restart s) ∷ [])
 step_spoken setting before row step false is = absurd cc
 
 pub piece_spoken : (setting : Setting) (before : List Item) (row : ℕ) (step : Step)
     → HaveSpoken before → HaveSpoken (before ++ piece setting before row step)
-piece_spoken setting before row step spoken =
-    behind_piece setting before row step HaveSpoken
+piece_spoken setting before row step spoken = behind_piece setting before row step HaveSpoken
     (step_spoken setting before row step (is_plain step) refl
     (spoken_stay before (item.Row row step ∷ []) (tt, tt) spoken))
 
 pub spoken_at_first : HaveSpoken []
 spoken_at_first = record {
   answers = record {
-    each = λ s body is.
-        let none : IsIn body [] = subst (λ bodies. IsIn body bodies) (start_laws.heard s) is in
-        absurd none;
+    each = λ s body is. absurd (subst (λ bodies. IsIn body bodies) (start_laws.heard s) is);
   };
   hellos = record { each = λ s up. inr (inl (start_laws.boot s)) };
 }

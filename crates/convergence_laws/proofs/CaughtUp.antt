@@ -18,8 +18,7 @@ use Rattle.convergence_laws.proofs.StampOrders.{HaveStamps}
 fold_least : (c first : ℕ) (xs : List ℕ) → first ≡ c → AllByRecursion (λ x. x ≡ c) xs
     → fold min first xs ≡ c
 fold_least c first [] is all = is
-fold_least c first (x ∷ xs) is all =
-    fold_least c (min first x) xs (omega (arith, is, all.0)) all.1
+fold_least c first (x ∷ xs) is all = fold_least c (min first x) xs (omega (arith, is, all.0)) all.1
 
 least_same : (c : ℕ) (xs : List ℕ) → AllByRecursion (λ x. x ≡ c) xs
     → unwrap_or (least_number xs) c ≡ c
@@ -29,9 +28,7 @@ least_same c (x ∷ xs) all = fold_least c x xs all.0 all.1
 all_true : (test : ℕ → Bool) (xs : List ℕ) → ((x : ℕ) → IsIn x xs → IsTrue (test x))
     → IsTrue (list_all test xs)
 all_true test [] all = refl
-all_true test (x ∷ xs) all =
-    let here : test x ≡ true = all x (inl refl) in
-    rw here (all_true test xs (λ y is. all y (inr is)))
+all_true test (x ∷ xs) all = rw (all x (inl refl)) (all_true test xs (λ y is. all y (inr is)))
 
 -- ---- what is known at the end of a step
 
@@ -46,9 +43,8 @@ pub record AreReady (setting : Setting) (journal : List Item) : Type 0 where
 
 pub items_caused : (setting : Setting) (journal : List Item)
     → HaveCauses (IsInOrder setting) [] journal → HaveCauses (HasItemCause setting) [] journal
-items_caused setting journal have =
-    have_weaker (IsInOrder setting) (HasItemCause setting) (λ before next both. both.first) []
-    journal have
+items_caused setting journal have = have_weaker (IsInOrder setting) (HasItemCause setting)
+    (λ before next both. both.first) [] journal have
 
 -- ---- what the controller is to know
 
@@ -74,11 +70,9 @@ pub record IsCaughtUp (setting : Setting) (journal : List Item) : Type 0 where
 member_up : (setting : Setting) (journal : List Item) → AreReady setting journal
     → IsCaughtUp setting journal → (s : ℕ) → s < length setting.net.switches
     → IsTrue (is_member journal s) → IsTrue (is_up journal s)
-member_up setting journal are caught s there member =
-    by_up (is_up journal s) refl
-    (all_in (λ t. IsTrue (is_up journal t || not (is_waited_for journal t))) s
-    (switches_of setting) caught.switches
-    (in_range s 0 (length setting.net.switches) (omega arith) (omega (arith, there))))
+member_up setting journal are caught s there member = by_up (is_up journal s) refl
+    (all_in (λ t. IsTrue (is_up journal t || not (is_waited_for journal t))) s (switches_of setting)
+    caught.switches (in_range s 0 (length setting.net.switches) (omega arith) (omega arith)))
   where
     not_true : (b : Bool) → IsTrue (not b) → IsFalse b
     not_true true is = absurd cc
@@ -94,8 +88,7 @@ member_up setting journal are caught s there member =
           confirmed = not_true (is_waited_for journal s) waits;
           not_over = parts.0;
         }) in
-        let none : false ≡ true = sym (ap (λ o. is_some o) closed) ∙ parts.1 in
-        absurd cc
+        absurd (cc (sym (ap (λ o. is_some o) closed) ∙ parts.1))
 
 -- so the current version is the last one
 current_is : (setting : Setting) (journal : List Item) → AreReady setting journal
@@ -103,60 +96,48 @@ current_is : (setting : Setting) (journal : List Item) → AreReady setting jour
 current_is setting journal are caught = elim are.settled.current [
   | inl last ↦ last
   | inr none ↦ elim (cases_lt (current_mark journal) (version_count journal)) [
-    | inl below ↦
-        let all : IsTrue (all_acked setting journal (current_mark journal + 1)) =
+    | inl below ↦ let all : IsTrue (all_acked setting journal (current_mark journal + 1)) =
         all_true (λ s. has_acked journal s (current_mark journal + 1)) (members setting journal)
         (λ s is. acked s below (of_filter (is_member journal) s (switches_of setting) is)) in
-        let clash : false ≡ true = sym none ∙ all in
-        absurd cc
+        absurd (cc (sym none ∙ all))
     | inr above ↦ omega (arith, above, are.bounds.there)
   ]
-]
-  where
-    acked : (s : ℕ) → current_mark journal < version_count journal
-        → IsIn s (switches_of setting) × IsTrue (is_member journal s)
-        → IsTrue (has_acked journal s (current_mark journal + 1))
-    acked s below parts =
-        let there : s < length setting.net.switches =
-        omega (arith, (of_range s 0 (length setting.net.switches) parts.0).1) in
-        caught.acked s (current_mark journal + 1) there
-        (member_up setting journal are caught s there parts.1) (omega arith) (omega (arith, below))
+] where
+  acked : (s : ℕ) → current_mark journal < version_count journal
+      → IsIn s (switches_of setting) × IsTrue (is_member journal s)
+      → IsTrue (has_acked journal s (current_mark journal + 1))
+  acked s below parts =
+      let there : s < length setting.net.switches =
+      omega (arith, (of_range s 0 (length setting.net.switches) parts.0).1) in
+      caught.acked s (current_mark journal + 1) there
+      (member_up setting journal are caught s there parts.1) (omega arith) (omega (arith, below))
 
 -- and each switch that is up is a member
 up_member : (setting : Setting) (journal : List Item) → AreReady setting journal
     → IsCaughtUp setting journal → (s : ℕ) → s < length setting.net.switches
     → IsTrue (is_up journal s) → IsTrue (is_member journal s)
-up_member setting journal are caught s there up = by_member (is_member journal s) refl
-  where
-    joins : (over member : Bool) → over ≡ false → member ≡ false → IsTrue (not over && not member)
-    joins over member none closed = rw (none, closed) refl
+up_member setting journal are caught s there up = by_member (is_member journal s) refl where
+  joins : (over member : Bool) → over ≡ false → member ≡ false → IsTrue (not over && not member)
+  joins over member none closed = rw (none, closed) refl
 
-    by_member : (b : Bool) → is_member journal s ≡ b → IsTrue (is_member journal s)
-    by_member true e = e
-    by_member false e =
-        let own = caught.known s there up in
-        let not_over : is_over journal s ≡ false =
-        (are.recorded.known.serving s).not_over up own in
-        let none : IsFalse (has_acked journal s (current_mark journal)) =
-        all_in (λ t. IsTrue (is_joining journal t)
-        → IsFalse (has_acked journal t (current_mark journal))) s (switches_of setting)
-        are.settled.joining
-        (in_range s 0 (length setting.net.switches) (omega arith) (omega (arith, there)))
-        (joins (is_over journal s) (is_member journal s) not_over e) in
-        let all : IsTrue (has_acked journal s (current_mark journal)) =
-        caught.acked s (current_mark journal) there up (omega arith)
-        (omega (arith, are.bounds.there)) in
-        let clash : false ≡ true = sym none ∙ all in
-        absurd cc
+  by_member : (b : Bool) → is_member journal s ≡ b → IsTrue (is_member journal s)
+  by_member true e = e
+  by_member false e =
+      let not_over : is_over journal s ≡ false =
+      (are.recorded.known.serving s).not_over up (caught.known s there up) in
+      let none = all_in (λ t. IsTrue (is_joining journal t)
+      → IsFalse (has_acked journal t (current_mark journal))) s (switches_of setting)
+      are.settled.joining (in_range s 0 (length setting.net.switches) (omega arith) (omega arith))
+      (joins (is_over journal s) (is_member journal s) not_over e) in
+      absurd (cc (sym none ∙ (caught.acked s (current_mark journal) there up (omega arith)
+      (omega (arith, are.bounds.there)))))
 
 -- ---- retired
 
 retired_is : (setting : Setting) (journal : List Item) → AreReady setting journal
     → IsCaughtUp setting journal → retired_mark journal ≡ current_mark journal - 1
 unfolding next_retired
-retired_is setting journal are caught =
-    are.settled.retired
-    ∙ ap (λ n. n - 1)
+retired_is setting journal are caught = are.settled.retired ∙ ap (λ n. n - 1)
     (least_same (current_mark journal) (map (acked_stamp journal) (members setting journal))
     (each_map (λ x. x ≡ current_mark journal) (acked_stamp journal) (members setting journal)
     (each_of_in (λ s. acked_stamp journal s ≡ current_mark journal) (members setting journal)
@@ -175,34 +156,26 @@ retired_is setting journal are caught =
 
 pub caught_updated : (setting : Setting) (journal : List Item) → AreReady setting journal
     → IsCaughtUp setting journal → IsUpdated setting journal
-caught_updated setting journal are caught =
-    record {
-      serving = All-from_recursion
-          (λ s. IsTrue (is_up journal s) → IsTrue (serves journal s)) (switches_of setting)
-          (each_range (λ s. IsTrue (is_up journal s) → IsTrue (serves journal s)) 0
-          (length setting.net.switches)
-          (λ s above below. up_serves s (omega (arith, below))));
-      stamps = All-from_recursion
-          (λ s. IsTrue (is_up journal s) → stamp_of journal s ≡ version_count journal)
-          (switches_of setting)
-          (each_range
-          (λ s. IsTrue (is_up journal s) → stamp_of journal s ≡ version_count journal) 0
-          (length setting.net.switches)
-          (λ s above below up.
-          let there : s < length setting.net.switches = omega (arith, below) in
-          let known = caught.stamps s there up (up_member setting journal are caught s there up) in
-          let stamps = members.stamps s (up_serves s there up) in
-          omega (arith, known, stamps, are.bounds.stamps s, current)));
-      current = current;
-      retired = retired_is setting journal are caught ∙ ap (λ n. n - 1) current;
-    }
-  where
-    current : current_mark journal ≡ version_count journal
-    current = current_is setting journal are caught
+caught_updated setting journal are caught = record {
+  serving = All-from_recursion (λ s. IsTrue (is_up journal s) → IsTrue (serves journal s))
+      (switches_of setting) (each_range (λ s. IsTrue (is_up journal s) → IsTrue (serves journal s))
+      0 (length setting.net.switches) (λ s above below. up_serves s (omega (arith, below))));
+  stamps = All-from_recursion (λ s. IsTrue (is_up journal s)
+      → stamp_of journal s ≡ version_count journal) (switches_of setting)
+      (each_range (λ s. IsTrue (is_up journal s) → stamp_of journal s ≡ version_count journal) 0
+      (length setting.net.switches)
+      (λ s above below up. let there : s < length setting.net.switches = omega (arith, below) in
+      let known = caught.stamps s there up (up_member setting journal are caught s there up) in
+      omega (arith, known, members.stamps s (up_serves s there up), are.bounds.stamps s, current)));
+  current = current;
+  retired = retired_is setting journal are caught ∙ ap (λ n. n - 1) current;
+} where
+  current : current_mark journal ≡ version_count journal
+  current = current_is setting journal are caught
 
-    members : MembersAcknowledged setting journal
-    members = acknowledged setting journal (items_caused setting journal are.causes)
+  members : MembersAcknowledged setting journal
+  members = acknowledged setting journal (items_caused setting journal are.causes)
 
-    up_serves : (s : ℕ) → s < length setting.net.switches → IsTrue (is_up journal s)
-        → IsTrue (serves journal s)
-    up_serves s there up = caught.serving s there up (up_member setting journal are caught s there up)
+  up_serves : (s : ℕ) → s < length setting.net.switches → IsTrue (is_up journal s)
+      → IsTrue (serves journal s)
+  up_serves s there up = caught.serving s there up (up_member setting journal are caught s there up)

@@ -28,8 +28,7 @@ pub record IsHeldAsNew (setting : Setting) (journal : List Item) (s : ℕ) (than
 
 pub newest_held : (setting : Setting) (journal : List Item) (s : ℕ) (a : Advert)
     → IsOther setting journal s a → IsHeldAsNew setting journal s a
-newest_held setting journal s a of =
-    by_known (advert_known setting journal s a.origin) refl
+newest_held setting journal s a of = by_known (advert_known setting journal s a.origin) refl
     (known_link_laws.newest setting journal s a.origin of.other of.small)
   where
     begun : List Advert
@@ -37,36 +36,30 @@ newest_held setting journal s a of =
 
     there : IsIn a (begun ++ adverts_heard journal s)
     there = elim of.given [
-      | inl given ↦ in_left a begun (adverts_heard journal s)
-          (subst (λ o. IsIn a (option_to_list o)) (sym given) (inl refl))
+      | inl given ↦ in_left a begun (adverts_heard journal s) (rw given (inl refl))
       | inr told ↦ in_right a begun (adverts_heard journal s) told
     ]
 
     by_known : (o : Option Advert) → advert_known setting journal s a.origin ≡ o
-        → IsNewest a.origin (begun ++ adverts_heard journal s) o
-        → IsHeldAsNew setting journal s a
+        → IsNewest a.origin (begun ++ adverts_heard journal s) o → IsHeldAsNew setting journal s a
     by_known None e newest = absurd (all_in (λ (b : Advert). b.origin ≢ a.origin) a
         (begun ++ adverts_heard journal s) newest there refl)
-    by_known (Some best) e newest =
-        record {
-          advert = best;
-          held = e;
-          as_new = record {
-            origin = newest.3;
-            new = by_place (in_either a newest.0 (best ∷ newest.1)
-                (subst (λ xs. IsIn a xs) newest.2 there));
-          };
-        }
-      where
-        by_place : IsIn a newest.0 ⊎ IsIn a (best ∷ newest.1) → IsFalse (is_newer a best)
-        by_place (inl before) = older a best
-            (all_in (λ (b : Advert). b.origin ≡ a.origin → IsTrue (is_newer best b)) a newest.0
-            newest.4 before refl)
-        by_place (inr (inl same)) =
-            subst (λ (b : Advert). IsFalse (is_newer a b)) (sym same) (as_new_itself a).new
-        by_place (inr (inr after)) =
-            all_in (λ (b : Advert). b.origin ≡ a.origin → IsFalse (is_newer b best)) a newest.1
-            newest.5 after refl
+    by_known (Some best) e newest = record {
+      advert = best;
+      held = e;
+      as_new = record {
+        origin = newest.3;
+        new = by_place (in_either a newest.0 (best ∷ newest.1) (rw newest.2 at there));
+      };
+    } where
+      by_place : IsIn a newest.0 ⊎ IsIn a (best ∷ newest.1) → IsFalse (is_newer a best)
+      by_place (inl before) = older a best
+          (all_in (λ (b : Advert). b.origin ≡ a.origin → IsTrue (is_newer best b)) a newest.0
+          newest.4 before refl)
+      by_place (inr (inl same)) = rw same (as_new_itself a).new
+      by_place (inr (inr after)) =
+          all_in (λ (b : Advert). b.origin ≡ a.origin → IsFalse (is_newer b best)) a newest.1
+          newest.5 after refl
 
 pub held_in : (setting : Setting) (journal : List Item) (s origin : ℕ) (advert : Advert)
     → origin < 64 → advert_known setting journal s origin ≡ Some advert
@@ -120,12 +113,11 @@ lives_on before next s none e = record {
 
 serving_lives : (before : List Item) (next : Item) (s : ℕ) → is_delivered next ≡ false
     → serves (before ++ next ∷ []) s ≡ true → LivesOn before next s
-serving_lives before next s none serving = by_turn (turns s next) refl
-  where
-    by_turn : (b : Bool) → turns s next ≡ b → LivesOn before next s
-    by_turn true e =
-        let clash : true ≡ false = sym serving ∙ serving_turns before next s e in absurd cc
-    by_turn false e = lives_on before next s none e
+serving_lives before next s none serving = by_turn (turns s next) refl where
+  by_turn : (b : Bool) → turns s next ≡ b → LivesOn before next s
+  by_turn true e =
+      let clash : true ≡ false = sym serving ∙ serving_turns before next s e in absurd cc
+  by_turn false e = lives_on before next s none e
 
 -- a switch whose links changed owes its neighbours its own advert, and new ones all that it holds
 pub record IsOwed (setting : Setting) (before now : List Item) (s neighbour : ℕ) (advert : Advert)
@@ -155,8 +147,7 @@ link_news {since = since} setting before here next links_same both none known ha
 
     other_back : (s : ℕ) (advert : Advert) → serves now s ≡ true → IsOther setting now s advert
         → IsHad setting here s advert
-    other_back s advert serving of =
-        let life = serving_lives here next s none serving in
+    other_back s advert serving of = let life = serving_lives here next s none serving in
         inr (record {
           other = of.other;
           small = of.small;
@@ -170,8 +161,7 @@ link_news {since = since} setting before here next links_same both none known ha
         → IsOwed setting before now s neighbour advert ⊎ HasNews setting since now neighbour advert
     old s neighbour advert serving linked had other =
         let life = serving_lives here next neighbour none serving in
-        elim (have.each s neighbour advert
-        (subst (λ mask. IsTrue (has mask neighbour)) (sym (links_same s)) linked) had other) [
+        elim (have.each s neighbour advert (rw (links_same s) linked) had other) [
           | inl owed ↦ absurd owed
           | inr has ↦ inr (news_on setting here next neighbour advert life.up life.boot
               (λ body is. subst (λ bodies. IsIn body bodies) (sym life.bodies) is) has)
@@ -182,21 +172,15 @@ link_news {since = since} setting before here next links_same both none known ha
         → advert ≡ own_advert setting now s → IsHad setting here s advert
     own_back s advert serving same own = elim (goes_on s serving) [
       | inl stays ↦ inl (own ∙ stays)
-      | inr more ↦
-          let clash : true ≡ false =
-          sym same ∙ ap (λ mask. mask == near setting now s) (sym (links_same s)) ∙ more.changed in
-          absurd cc
+      | inr more ↦ absurd (cc (sym same
+          ∙ ap (λ mask. mask == near setting now s) (sym (links_same s)) ∙ more.changed))
     ]
 
     seq_now : (s : ℕ) → serves now s ≡ true
         → (near setting before s == near setting now s) ≡ false → 1 ≤ own_seq setting now s
     seq_now s serving apart = elim (goes_on s serving) [
-      | inl stays ↦
-          let same : near setting before s ≡ near setting now s =
-          sym (links_same s) ∙ sym (same_near setting now here s stays) in
-          let clash : true ≡ false =
-          sym (eq-eqb (near setting before s) (near setting now s) same) ∙ apart in
-          absurd cc
+      | inl stays ↦ absurd (cc (sym (eq-eqb (near setting before s) (near setting now s)
+          (sym (links_same s) ∙ sym (same_near setting now here s stays))) ∙ apart))
       | inr more ↦ omega (arith, more.seq)
     ]
 
@@ -204,17 +188,14 @@ link_news {since = since} setting before here next links_same both none known ha
         → (near setting before s == near setting now s) ≡ false → IsHad setting now s advert
         → (advert ≡ own_advert setting now s) ⊎ IsFalse (has (near setting before s) neighbour)
         → IsOwed setting before now s neighbour advert
-    changed s neighbour advert serving apart had which =
-        let up : is_up now s ≡ true = up_now s serving in
-        record {
-          changed = rw (up, apart) refl;
-          told = seq_now s serving apart;
-          had = had;
-          which = which;
-        }
+    changed s neighbour advert serving apart had which = record {
+      changed = rw ((up_now s serving), apart) refl;
+      told = seq_now s serving apart;
+      had = had;
+      which = which;
+    }
 
-    by_old : (s neighbour : ℕ) (advert : Advert) → serves now s ≡ true
-        → serves now neighbour ≡ true
+    by_old : (s neighbour : ℕ) (advert : Advert) → serves now s ≡ true → serves now neighbour ≡ true
         → (near setting before s == near setting now s) ≡ false → IsOther setting now s advert
         → advert.origin ≢ neighbour → (b : Bool) → has (near setting before s) neighbour ≡ b
         → IsOwed setting before now s neighbour advert ⊎ HasNews setting since now neighbour advert
@@ -228,25 +209,19 @@ link_news {since = since} setting before here next links_same both none known ha
         → IsHad setting now s advert → advert.origin ≢ neighbour
         → (b : Bool) → (near setting before s == near setting now s) ≡ b
         → IsOwed setting before now s neighbour advert ⊎ HasNews setting since now neighbour advert
-    by_same s neighbour advert serving at_it linked (inl own) other true e =
-        old s neighbour advert at_it
-        (subst (λ mask. IsTrue (has mask neighbour))
-        (sym (eqb-true (near setting before s) (near setting now s) e)) linked)
+    by_same s neighbour advert serving at_it linked (inl own) other true e = old s neighbour advert
+        at_it (rw (eqb-true (near setting before s) (near setting now s) e) linked)
         (own_back s advert serving e own) other
-    by_same s neighbour advert serving at_it linked (inr of) other true e =
-        old s neighbour advert at_it
-        (subst (λ mask. IsTrue (has mask neighbour))
-        (sym (eqb-true (near setting before s) (near setting now s) e)) linked)
+    by_same s neighbour advert serving at_it linked (inr of) other true e = old s neighbour advert
+        at_it (rw (eqb-true (near setting before s) (near setting now s) e) linked)
         (other_back s advert serving of) other
     by_same s neighbour advert serving at_it linked (inl own) other false e =
         inl (changed s neighbour advert serving e (inl own) (inl own))
-    by_same s neighbour advert serving at_it linked (inr of) other false e =
-        by_old s neighbour advert serving at_it e of other (has (near setting before s) neighbour)
-        refl
+    by_same s neighbour advert serving at_it linked (inr of) other false e = by_old s neighbour
+        advert serving at_it e of other (has (near setting before s) neighbour) refl
 
-    by_link : (s neighbour : ℕ) (advert : Advert)
-        → IsTrue (has (near setting now s) neighbour) → IsHad setting now s advert
-        → advert.origin ≢ neighbour
+    by_link : (s neighbour : ℕ) (advert : Advert) → IsTrue (has (near setting now s) neighbour)
+        → IsHad setting now s advert → advert.origin ≢ neighbour
         → IsOwed setting before now s neighbour advert ⊎ HasNews setting since now neighbour advert
     by_link s neighbour advert linked had other =
         let ends = ends_serve setting now s neighbour linked in
@@ -261,8 +236,7 @@ sends_still = sends_any IsStill (λ before n message. tt)
 
 pub sends_near : (setting : Setting) (journal : List Item) (messages : List Message) (s : ℕ)
     → near setting (journal ++ send_items journal messages) s ≡ near setting journal s
-sends_near setting journal messages s =
-    near_stays setting s journal (send_items journal messages)
+sends_near setting journal messages s = near_stays setting s journal (send_items journal messages)
     (sends_any (λ before next. IsFalse (concerns_links before next)) (λ before n message. refl)
     journal messages)
 
@@ -275,8 +249,7 @@ pub ends_there : (setting : Setting) (journal : List Item) (s neighbour : ℕ) �
     → IsTrue (has (near setting journal s) neighbour) → AreEnds setting s neighbour
 ends_there setting journal s neighbour net is = record {
   one = links.below setting.net neighbour s net
-      (links.both_ways setting.net.links neighbour s
-      ∙ near_linked setting journal s neighbour is);
+      (links.both_ways setting.net.links neighbour s ∙ near_linked setting journal s neighbour is);
   other = links.below setting.net s neighbour net (near_linked setting journal s neighbour is);
 }
 
@@ -312,8 +285,7 @@ over_tells setting before now s neighbour a small owed =
           | true ↦ advert_to neighbour own ∷ []
           | false ↦ map (advert_to neighbour) (held_adverts setting now s)
         ]) neighbour a
-    by_old true e (inl same) had =
-        record { advert = own; as_new = is_own same; is = inl refl }
+    by_old true e (inl same) had = record { advert = own; as_new = is_own same; is = inl refl }
     by_old true e (inr new) had = let clash : true ≡ false = sym e ∙ new in absurd cc
     by_old false e which (inl same) = record {
       advert = own;
@@ -321,59 +293,49 @@ over_tells setting before now s neighbour a small owed =
       is = in_map (advert_to neighbour) own (held_adverts setting now s)
           (held_in setting now s s own small (own_held setting now s small owed.told));
     }
-    by_old false e which (inr of) =
-        let best = newest_held setting now s a of in
-        record {
-          advert = best.advert;
-          as_new = best.as_new;
-          is = in_map (advert_to neighbour) best.advert (held_adverts setting now s)
-              (held_in setting now s a.origin best.advert of.small best.held);
-        }
+    by_old false e which (inr of) = let best = newest_held setting now s a of in record {
+      advert = best.advert;
+      as_new = best.as_new;
+      is = in_map (advert_to neighbour) best.advert (held_adverts setting now s)
+          (held_in setting now s a.origin best.advert of.small best.held);
+    }
 
 pub pay_links : {since : ℕ} (setting : Setting) (before now : List Item) → IsNet setting.net
     → since ≤ next_message now → HaveNews setting since (IsOwed setting before now) now
     → HaveNews setting since (λ s neighbour advert. ⊥) (now ++ link_changes setting before now)
 unfolding link_changes
 pay_links {since = since} setting before now net late have = record {
-  each = λ s neighbour a linked had other.
-      elim (kept.each s neighbour a linked had other) [
-        | inl owed ↦ inr (paid s neighbour a
-            (subst (λ mask. IsTrue (has mask neighbour)) (sends_near setting now messages s) linked)
-            owed)
-        | inr has ↦ inr has
-      ];
-}
-  where
-    messages : List Message
-    messages = flat_map (messages_of setting before now)
-        (filter (has_changed setting before now) (switches_of setting))
+  each = λ s neighbour a linked had other. elim (kept.each s neighbour a linked had other) [
+    | inl owed ↦ inr (paid s neighbour a (rw (sends_near setting now messages s) at linked) owed)
+    | inr has ↦ inr has
+  ];
+} where
+  messages : List Message
+  messages = flat_map (messages_of setting before now)
+      (filter (has_changed setting before now) (switches_of setting))
 
-    after : List Item
-    after = now ++ send_items now messages
+  after : List Item
+  after = now ++ send_items now messages
 
-    kept : HaveNews setting since (IsOwed setting before now) after
-    kept = stills_news setting (IsOwed setting before now) now (send_items now messages)
-        (sends_still now messages) have
+  kept : HaveNews setting since (IsOwed setting before now) after
+  kept = stills_news setting (IsOwed setting before now) now (send_items now messages)
+      (sends_still now messages) have
 
-    paid : (s neighbour : ℕ) (a : Advert) → IsTrue (has (near setting now s) neighbour)
-        → IsOwed setting before now s neighbour a → HasNews setting since after neighbour a
-    paid s neighbour a linked owed =
-        let ends = ends_there setting now s neighbour net linked in
-        let tells = over_tells setting before now s neighbour a
-        (omega (arith, ends.one, net.few_switches)) owed in
-        record {
-          advert = tells.advert;
-          as_new = tells.as_new;
-          had = inr (sends_tell now messages neighbour tells.advert late
-              (in_flat_map (messages_of setting before now) s (advert_to neighbour tells.advert)
-              (filter (has_changed setting before now) (switches_of setting))
-              (in_filter (has_changed setting before now) s (switches_of setting)
-              (in_range s 0 (length setting.net.switches) (omega arith) (omega (arith, ends.one)))
-              owed.changed)
-              (in_flat_map (messages_over setting before now s) neighbour
-              (advert_to neighbour tells.advert) (switches_in setting (near setting now s))
-              (in_filter (has (near setting now s)) neighbour (switches_of setting)
-              (in_range neighbour 0 (length setting.net.switches) (omega arith)
-              (omega (arith, ends.other))) linked)
-              tells.is)));
-        }
+  paid : (s neighbour : ℕ) (a : Advert) → IsTrue (has (near setting now s) neighbour)
+      → IsOwed setting before now s neighbour a → HasNews setting since after neighbour a
+  paid s neighbour a linked owed =
+      let ends = ends_there setting now s neighbour net linked in
+      let tells = over_tells setting before now s neighbour a
+      (omega (arith, ends.one, net.few_switches)) owed in record {
+        advert = tells.advert;
+        as_new = tells.as_new;
+        had = inr (sends_tell now messages neighbour tells.advert late
+            (in_flat_map (messages_of setting before now) s (advert_to neighbour tells.advert)
+            (filter (has_changed setting before now) (switches_of setting))
+            (in_filter (has_changed setting before now) s (switches_of setting) (in_range s 0
+            (length setting.net.switches) (omega arith) (omega (arith, ends.one))) owed.changed)
+            (in_flat_map (messages_over setting before now s) neighbour
+            (advert_to neighbour tells.advert) (switches_in setting (near setting now s)) (in_filter
+            (has (near setting now s)) neighbour (switches_of setting) (in_range neighbour 0 (length
+            setting.net.switches) (omega arith) (omega (arith, ends.other))) linked) tells.is)));
+      }

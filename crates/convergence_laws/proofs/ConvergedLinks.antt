@@ -1,5 +1,5 @@
 -- Where neighbours agree the adverts have spread, so each switch knows the links that can be used.
-use Rattle.std.proofs.Common.{[], ◌<◌, ◌∙◌, ◌∷◌, ◌≡◌, ◌≢◌, ◌⊎◌, IsTrue, List, Some, ap, arith, false, inl, inr, subst, sym, true, ℕ}
+use Rattle.std.proofs.Common.{[], ◌<◌, ◌∙◌, ◌∷◌, ◌≡◌, ◌≢◌, ◌⊎◌, IsTrue, List, Some, ap, arith, inl, inr, subst, sym, true, ℕ}
 use Rattle.base.proofs.Exports.{cases_eq}
 use Rattle.failover.specs.Exports.{is_newer}
 use Rattle.update_machine.specs.Exports.{Advert, Item, Setting, advert_known, is_up, near, own_advert, serves}
@@ -8,7 +8,7 @@ use Rattle.net_file.specs.Exports.{IsNet}
 use Rattle.steps.specs.Exports.{HasSwitch}
 use Rattle.control_laws.specs.Exports.{OwnAreNewest}
 use Rattle.control_laws.proofs.Exports.{ends_serve, own_origin}
-use Rattle.convergence_laws.specs.Exports.{HoldsAsNew, IsAsNew, LeadsOver, NeighboursAgree, Reaches}
+use Rattle.convergence_laws.specs.Exports.{IsAsNew, LeadsOver, NeighboursAgree, Reaches}
 use Rattle.convergence_laws.proofs.AgreeingNeighbours.{TellsOwn}
 use Rattle.convergence_laws.proofs.ChangedLinksTold.{AreEnds, ends_there, near_back, own_held}
 
@@ -21,31 +21,25 @@ pub record AreAgreed (setting : Setting) (journal : List Item) : Type 0 where
   pub tells : TellsOwn setting journal
 
 abbrev pub HoldsOwn : Setting → List Item → ℕ → ℕ → Type 0
-HoldsOwn setting journal s origin =
-    (s ≡ origin)
+HoldsOwn setting journal s origin = (s ≡ origin)
     ⊎ (advert_known setting journal s origin ≡ Some (own_advert setting journal origin))
 
 pub serving_up : (setting : Setting) (journal : List Item) → AreAgreed setting journal → (s : ℕ)
     → serves journal s ≡ true → IsTrue (is_up journal s)
-serving_up setting journal are s serving =
-    (are.tells.known.serving s).up serving
+serving_up setting journal are s serving = (are.tells.known.serving s).up serving
 
 -- of the own advert no other one is as new
 own_alone : (setting : Setting) (journal : List Item) → AreAgreed setting journal
     → (s origin : ℕ) (c : Advert) → origin < 64 → IsTrue (is_up journal origin)
-    → advert_known setting journal s origin ≡ Some c
-    → IsAsNew c (own_advert setting journal origin)
+    → advert_known setting journal s origin ≡ Some c → IsAsNew c (own_advert setting journal origin)
     → c ≡ own_advert setting journal origin
 own_alone setting journal are s origin c small up known as_new =
     let of : c.origin ≡ origin = as_new.origin ∙ own_origin setting journal origin in
-    elim ((are.newest.held s origin c small known).own
-    (subst (λ o. IsTrue (is_up journal o)) (sym of) up)) [
+    elim ((are.newest.held s origin c small known).own (rw of up)) [
       | inl same ↦ same ∙ ap (own_advert setting journal) of
       | inr newer ↦
-          let more : is_newer (own_advert setting journal origin) c ≡ true =
-          subst (λ o. IsTrue (is_newer (own_advert setting journal o) c)) of newer in
-          let clash : true ≡ false = sym more ∙ as_new.new in
-          absurd cc
+          let more = subst (λ o. IsTrue (is_newer (own_advert setting journal o) c)) of newer in
+          absurd (cc (sym more ∙ as_new.new))
     ]
 
 edge_holds : (setting : Setting) (journal : List Item) → AreAgreed setting journal
@@ -66,19 +60,15 @@ edge_holds setting journal are at next origin small up linked holds = by_place (
     known : HoldsOwn setting journal next origin
         → advert_known setting journal next origin ≡ Some own
     known (inr held) = held
-    known (inl same) =
-        ap (λ o. advert_known setting journal next o) (sym same)
+    known (inl same) = ap (λ o. advert_known setting journal next o) (sym same)
         ∙ own_held setting journal next (omega (arith, ends.other, are.net.few_switches))
-        (are.tells.tells next at back)
-        ∙ ap (λ o. Some (own_advert setting journal o)) same
+        (are.tells.tells next at back) ∙ ap (λ o. Some (own_advert setting journal o)) same
 
     by_place : (origin ≡ at) ⊎ (origin ≢ at) → HoldsOwn setting journal at origin
     by_place (inl same) = inl (sym same)
     by_place (inr apart) =
-        let as_new : HoldsAsNew setting journal at own =
-        are.agree next at origin own back small (known holds) in
-        let held : advert_known setting journal at origin ≡ Some as_new.advert =
-        ap (advert_known setting journal at) (sym (own_origin setting journal origin))
+        let as_new = are.agree next at origin own back small (known holds) in
+        let held = ap (advert_known setting journal at) (sym (own_origin setting journal origin))
         ∙ as_new.held in
         inr (held ∙ ap Some (own_alone setting journal are at origin as_new.advert small up held
         as_new.as_new))
@@ -121,9 +111,8 @@ reached_holds setting journal are s origin is reaches =
 pub adverts_reach : (setting : Setting) (journal : List Item) → AreAgreed setting journal
     → (s origin : ℕ) → s ≢ origin → Reaches setting journal s origin
     → advert_known setting journal s origin ≡ Some (own_advert setting journal origin)
-adverts_reach setting journal are s origin apart reaches =
-    by_holds (reached_holds setting journal are s origin
-    (begins reaches.rest reaches.leads) reaches)
+adverts_reach setting journal are s origin apart reaches = by_holds (reached_holds setting journal
+    are s origin (begins reaches.rest reaches.leads) reaches)
   where
     begins : (rest : List ℕ) → LeadsOver setting journal origin s rest → IsThere setting journal s
     begins [] leads = absurd (apart leads)

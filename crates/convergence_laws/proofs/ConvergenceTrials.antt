@@ -53,10 +53,9 @@ finished_at_first = record {
   forgotten = λ number. (start_laws.message number).forgotten;
   switches = All-from_recursion (λ s. IsTrue (is_up [] s || not (is_waited_for [] s)))
       (0 ∷ 1 ∷ []) (by_start 0, (by_start 1, tt));
-}
-  where
-    by_start : (s : ℕ) → IsTrue (is_up [] s || not (is_waited_for [] s))
-    by_start s = ap (λ b. b || not (is_waited_for [] s)) (start_laws.up s)
+} where
+  by_start : (s : ℕ) → IsTrue (is_up [] s || not (is_waited_for [] s))
+  by_start s = ap (λ b. b || not (is_waited_for [] s)) (start_laws.up s)
 
 some_none : (n : ℕ) → Some n ≡ None → ⊥
 some_none n clash = cc

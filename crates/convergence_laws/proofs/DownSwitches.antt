@@ -6,7 +6,7 @@ use Rattle.update_machine.specs.Exports.{Body, Installed, Item, Message, OpenAt,
 use Rattle.ctrl_msg.specs.Exports.{to_controller}
 use Rattle.journal.specs.declared.item.Item.TheVariants as item
 use Rattle.update_machine.proofs.Exports.{start_laws}
-use Rattle.control_laws.specs.Exports.{HasItemCause, IsRightInstalled, IsRightOpening}
+use Rattle.control_laws.specs.Exports.{HasItemCause}
 use Rattle.control_laws.proofs.Exports.{AreKept, FromCauses, IsKnown, StampsAreCurrent, boot_more, by_number, current_at_first, current_kept, from_causes, heard_known, installed_is, is_delivered, known_at_first, known_kept, known_more, known_rises, last_more, opened_at_more, opened_in, opened_more, opened_same, opens_by, over_more, raised_above, raised_none, said_sent, serving_more, told_more, unraised_same, up_more}
 use Rattle.convergence_laws.proofs.ListElements.{IsIn, in_either}
 use Rattle.convergence_laws.proofs.MessageCourses.{IsSent, sendings_more, sent_by, sent_now, sent_stays}
@@ -17,11 +17,9 @@ use Rattle.convergence_laws.proofs.MessageCourses.{IsSent, sendings_more, sent_b
 pub sent_either : (before : List Item) (next : Item) (message : Message)
     → IsSent (before ++ next ∷ []) message
     → IsSent before message ⊎ ((n : ℕ) × (next ≡ item.Sent n message))
-sent_either before next message sent =
-    elim (in_either sent.sending (sendings before) (sent_by before next)
-    (subst (λ xs. IsIn sent.sending xs) (sendings_more before next) sent.is)) [
-      | inl earlier ↦
-          inl (record { sending = sent.sending; is = earlier; of = sent.of })
+sent_either before next message sent = elim (in_either sent.sending (sendings before)
+    (sent_by before next) (rw (sendings_more before next) at sent.is)) [
+      | inl earlier ↦ inl (record { sending = sent.sending; is = earlier; of = sent.of })
       | inr now ↦ inr (by_item next now)
     ]
   where
@@ -58,8 +56,7 @@ pub record AreRecorded (journal : List Item) : Type 0 where
   pub acks : (s boot version : ℕ) → IsSent journal (to_controller (Installed s boot version))
       → boot ≤ known_boot journal s
   -- in its first boot it serves
-  pub first : (s : ℕ) → IsTrue (is_up journal s) → boot_of journal s ≡ 1
-      → IsTrue (serves journal s)
+  pub first : (s : ℕ) → IsTrue (is_up journal s) → boot_of journal s ≡ 1 → IsTrue (serves journal s)
   pub boots : (s : ℕ) → 1 ≤ boot_of journal s
   -- an idle switch was neither opened in its known boot, nor has it acknowledged any tables
   pub closed : (s : ℕ) → IsIdle journal s → opened_at journal s ≡ None
@@ -95,19 +92,16 @@ told_on setting before (item.Delivered number) are body is =
     by_said o e is = elim (in_either body (controller_heard before) (option_to_list o) is) [
       | inl earlier ↦ old earlier
       | inr now ↦ by_now o e now
-    ]
-      where
-        by_now : (o : Option Body) → body_to_controller before number ≡ o
-            → IsIn body (option_to_list o) → IsSent (before ++ next ∷ []) (to_controller body)
-        by_now None e is = absurd is
-        by_now (Some said) e is = elim is [
-          | inl same ↦ sent_stays before next (to_controller body)
-              (are.messages number (to_controller body)
-              (said_sent before number body (e ∙ ap Some same)))
-          | inr none ↦ absurd none
-        ]
-told_on setting before next are body is =
-    sent_stays before next (to_controller body)
+    ] where
+      by_now : (o : Option Body) → body_to_controller before number ≡ o
+          → IsIn body (option_to_list o) → IsSent (before ++ next ∷ []) (to_controller body)
+      by_now None e is = absurd is
+      by_now (Some said) e is = elim is [
+        | inl same ↦ sent_stays before next (to_controller body) (are.messages number
+            (to_controller body) (said_sent before number body (e ∙ ap Some same)))
+        | inr none ↦ absurd none
+      ]
+told_on setting before next are body is = sent_stays before next (to_controller body)
     (are.told body (rw (told_more before next) at is))
 
 openings_on : (before : List Item) (next : Item) → AreRecorded before → (s boot version : ℕ)
@@ -124,9 +118,7 @@ openings_on before next are s boot version opened =
       | inr sent ↦ inr (sent_stays before next _ sent)
     ]
     by_opened None e is =
-        let new = opens_by next s boot version is in
-        inr (subst (λ x. IsSent (before ++ x ∷ []) (to_switch s (OpenAt boot version)))
-        (sym new.1) (sent_now before new.0 _))
+        let new = opens_by next s boot version is in inr (rw new.1 (sent_now before new.0 _))
 
 acks_on : (setting : Setting) (before : List Item) (next : Item)
     → HasItemCause setting before next → AreRecorded before → (s boot version : ℕ)
@@ -134,27 +126,15 @@ acks_on : (setting : Setting) (before : List Item) (next : Item)
     → boot ≤ known_boot (before ++ next ∷ []) s
 acks_on setting before next cause are s boot version sent =
     elim (sent_either before next (to_controller (Installed s boot version)) sent) [
-      | inl earlier ↦ omega (
-        arith,
-        known_rises before next s,
-        are.acks s boot version earlier,
-      )
-      | inr new ↦
-          let right : IsRightInstalled before s boot version =
-          subst (HasItemCause setting before) new.1 cause in
-          omega (
-            arith,
-            right.present.own,
-            are.heard s version right.heard,
-            known_rises before next s,
-          )
+      | inl earlier ↦ omega (arith, known_rises before next s, are.acks s boot version earlier)
+      | inr new ↦ let right = subst (HasItemCause setting before) new.1 cause in
+          omega (arith, right.present.own, are.heard, known_rises)
     ]
 
 -- ---- the first boot
 
-boots_on : (setting : Setting) (before : List Item) (next : Item)
-    → HasItemCause setting before next → AreRecorded before → (s : ℕ)
-    → 1 ≤ boot_of (before ++ next ∷ []) s
+boots_on : (setting : Setting) (before : List Item) (next : Item) → HasItemCause setting before next
+    → AreRecorded before → (s : ℕ) → 1 ≤ boot_of (before ++ next ∷ []) s
 boots_on setting before (item.Booted t boot) cause are s =
     rw (boot_more before (item.Booted t boot) s) (by_test (t == s))
   where
@@ -163,47 +143,34 @@ boots_on setting before (item.Booted t boot) cause are s =
     by_test false = are.boots s
 boots_on setting before next cause are s = rw (boot_more before next s) (are.boots s)
 
-first_on : (setting : Setting) (before : List Item) (next : Item)
-    → HasItemCause setting before next → AreRecorded before → (s : ℕ)
-    → IsTrue (is_up (before ++ next ∷ []) s) → boot_of (before ++ next ∷ []) s ≡ 1
-    → IsTrue (serves (before ++ next ∷ []) s)
-first_on setting before (item.Booted t boot) cause are s up first = by_test (t == s) refl
-  where
-    next : Item
-    next = item.Booted t boot
+first_on : (setting : Setting) (before : List Item) (next : Item) → HasItemCause setting before next
+    → AreRecorded before → (s : ℕ) → IsTrue (is_up (before ++ next ∷ []) s)
+    → boot_of (before ++ next ∷ []) s ≡ 1 → IsTrue (serves (before ++ next ∷ []) s)
+first_on setting before (item.Booted t boot) cause are s up first = by_test (t == s) refl where
+  next : Item
+  next = item.Booted t boot
 
-    by_test : (b : Bool) → (t == s) ≡ b → IsTrue (serves (before ++ next ∷ []) s)
-    by_test true e =
-        let own : boot ≡ 1 = rw (boot_more before next s, e) at first in
-        absurd (omega (arith, own, cause.next, are.boots t))
-    by_test false e =
-        rw (serving_more before next s, e)
-        (are.first s (rw (up_more before next s, e) at up)
-        (rw (boot_more before next s, e) at first))
-first_on setting before (item.Down t) cause are s up first = by_test (t == s) refl
-  where
-    next : Item
-    next = item.Down t
+  by_test : (b : Bool) → (t == s) ≡ b → IsTrue (serves (before ++ next ∷ []) s)
+  by_test true e = absurd (omega (arith, rw (boot_more, e) at first, cause.next, are.boots))
+  by_test false e = rw (serving_more before next s, e) (are.first s
+      (rw (up_more before next s, e) at up) (rw (boot_more before next s, e) at first))
+first_on setting before (item.Down t) cause are s up first = by_test (t == s) refl where
+  next : Item
+  next = item.Down t
 
-    by_test : (b : Bool) → (t == s) ≡ b → IsTrue (serves (before ++ next ∷ []) s)
-    by_test true e =
-        let down : false ≡ true = rw (up_more before next s, e) at up in absurd cc
-    by_test false e =
-        rw (serving_more before next s, e)
-        (are.first s (rw (up_more before next s, e) at up)
-        (rw (boot_more before next s) at first))
-first_on setting before (item.Opened t version) cause are s up first = by_test (t == s) refl
-  where
-    next : Item
-    next = item.Opened t version
+  by_test : (b : Bool) → (t == s) ≡ b → IsTrue (serves (before ++ next ∷ []) s)
+  by_test true e = let down : false ≡ true = rw (up_more before next s, e) at up in absurd cc
+  by_test false e = rw (serving_more before next s, e)
+      (are.first s (rw (up_more before next s, e) at up) (rw (boot_more before next s) at first))
+first_on setting before (item.Opened t version) cause are s up first = by_test (t == s) refl where
+  next : Item
+  next = item.Opened t version
 
-    by_test : (b : Bool) → (t == s) ≡ b → IsTrue (serves (before ++ next ∷ []) s)
-    by_test true e = rw (serving_more before next s, e) refl
-    by_test false e =
-        rw (serving_more before next s, e)
-        (are.first s (rw (up_more before next s) at up) (rw (boot_more before next s) at first))
-first_on setting before next cause are s up first =
-    rw (serving_more before next s)
+  by_test : (b : Bool) → (t == s) ≡ b → IsTrue (serves (before ++ next ∷ []) s)
+  by_test true e = rw (serving_more before next s, e) refl
+  by_test false e = rw (serving_more before next s, e)
+      (are.first s (rw (up_more before next s) at up) (rw (boot_more before next s) at first))
+first_on setting before next cause are s up first = rw (serving_more before next s)
     (are.first s (rw (up_more before next s) at up) (rw (boot_more before next s) at first))
 
 -- ---- idle switches
@@ -230,62 +197,54 @@ idle_was before next s none idle = record {
 -- a delivery that raises no known boot
 idle_delivered : (before : List Item) (number s : ℕ) → raises_known before s number ≡ false
     → IsIdle (before ++ item.Delivered number ∷ []) s → IsIdle before s
-idle_delivered before number s e idle =
-    let next : Item = item.Delivered number in
-    let over : is_over (before ++ next ∷ []) s ≡ is_over before s =
-    over_more before next s ∙ ap (λ b. if b then false else is_over before s) e in
-    record {
-      down = rw (up_more before next s) at idle.down;
-      confirmed = rw (waited_more before next s) at idle.confirmed;
-      not_over = sym over ∙ idle.not_over;
-    }
+idle_delivered before number s e idle = let next : Item = item.Delivered number in record {
+  down = rw (up_more before next s) at idle.down;
+  confirmed = rw (waited_more before next s) at idle.confirmed;
+  not_over = cc (over_more before next s, e, idle.not_over);
+}
 
 -- what is among those that bodies tell was told
 pub any_told : (reads : Body → Option ℕ) (v : ℕ) (bodies : List Body)
     → IsTrue (list_any (nat_eq v) (filter_map reads bodies))
     → (body : Body) × IsIn body bodies × (reads body ≡ Some v)
 any_told reads v [] any = absurd cc
-any_told reads v (body ∷ bodies) any = by_read (reads body) refl any (any_told reads v bodies)
-  where
-    by_test : (w : ℕ) (b : Bool) → nat_eq v w ≡ b → reads body ≡ Some w
-        → IsTrue (b || list_any (nat_eq v) (filter_map reads bodies))
-        → (IsTrue (list_any (nat_eq v) (filter_map reads bodies))
-        → (found : Body) × IsIn found bodies × (reads found ≡ Some v))
-        → (found : Body) × IsIn found (body ∷ bodies) × (reads found ≡ Some v)
-    by_test w true e is any rest = (body, inl refl, is ∙ ap Some (sym (eqb-true v w e)))
-    by_test w false e is any rest = let found = rest any in (found.0, inr found.1, found.2)
+any_told reads v (body ∷ bodies) any = by_read (reads body) refl any (any_told reads v bodies) where
+  by_test : (w : ℕ) (b : Bool) → nat_eq v w ≡ b → reads body ≡ Some w
+      → IsTrue (b || list_any (nat_eq v) (filter_map reads bodies))
+      → (IsTrue (list_any (nat_eq v) (filter_map reads bodies))
+      → (found : Body) × IsIn found bodies × (reads found ≡ Some v))
+      → (found : Body) × IsIn found (body ∷ bodies) × (reads found ≡ Some v)
+  by_test w true e is any rest = (body, inl refl, is ∙ ap Some (sym (eqb-true v w e)))
+  by_test w false e is any rest = let found = rest any in (found.0, inr found.1, found.2)
 
-    by_read : (o : Option ℕ) → reads body ≡ o
-        → IsTrue (list_any (nat_eq v) (cons_option o (filter_map reads bodies)))
-        → (IsTrue (list_any (nat_eq v) (filter_map reads bodies))
-        → (found : Body) × IsIn found bodies × (reads found ≡ Some v))
-        → (found : Body) × IsIn found (body ∷ bodies) × (reads found ≡ Some v)
-    by_read None e any rest = let found = rest any in (found.0, inr found.1, found.2)
-    by_read (Some w) e any rest = by_test w (nat_eq v w) refl e any rest
+  by_read : (o : Option ℕ) → reads body ≡ o
+      → IsTrue (list_any (nat_eq v) (cons_option o (filter_map reads bodies)))
+      → (IsTrue (list_any (nat_eq v) (filter_map reads bodies))
+      → (found : Body) × IsIn found bodies × (reads found ≡ Some v))
+      → (found : Body) × IsIn found (body ∷ bodies) × (reads found ≡ Some v)
+  by_read None e any rest = let found = rest any in (found.0, inr found.1, found.2)
+  by_read (Some w) e any rest = by_test w (nat_eq v w) refl e any rest
 
 -- an acknowledgement that is known was sent, but of the first boot
 acked_sent : (journal : List Item) (s version : ℕ)
-    → ((body : Body) → IsIn body (controller_heard journal)
-    → IsSent journal (to_controller body))
+    → ((body : Body) → IsIn body (controller_heard journal) → IsSent journal (to_controller body))
     → opened_at journal s ≡ None → IsTrue (has_acked journal s version)
     → IsSent journal (to_controller (Installed s (known_boot journal s) version))
 unfolding has_acked opened_at
-acked_sent journal s version told closed any =
-    by_first (known_boot journal s == 1) closed any
-  where
-    boot : ℕ
-    boot = known_boot journal s
+acked_sent journal s version told closed any = by_first (known_boot journal s == 1) closed any where
+  boot : ℕ
+  boot = known_boot journal s
 
-    by_first : (b : Bool)
-        → (if b then Some 1 else first_number (all_given (open_sent s boot) journal)) ≡ None
-        → IsTrue (list_any (nat_eq version) ((if b then 1 ∷ [] else [])
-        ++ filter_map (installed_in s boot) (controller_heard journal)))
-        → IsSent journal (to_controller (Installed s boot version))
-    by_first true closed any = absurd cc
-    by_first false closed any =
-        let found = any_told (installed_in s boot) version (controller_heard journal) any in
-        subst (λ body. IsSent journal (to_controller body))
-        (installed_is s boot found.0 version found.2) (told found.0 found.1)
+  by_first : (b : Bool)
+      → (if b then Some 1 else first_number (all_given (open_sent s boot) journal)) ≡ None
+      → IsTrue (list_any (nat_eq version) ((if b then 1 ∷ [] else [])
+      ++ filter_map (installed_in s boot) (controller_heard journal)))
+      → IsSent journal (to_controller (Installed s boot version))
+  by_first true closed any = absurd cc
+  by_first false closed any =
+      let found = any_told (installed_in s boot) version (controller_heard journal) any in
+      subst (λ body. IsSent journal (to_controller body))
+      (installed_is s boot found.0 version found.2) (told found.0 found.1)
 
 closed_on : (setting : Setting) (before : List Item) (next : Item)
     → HasItemCause setting before next → AreRecorded before → (s : ℕ)
@@ -299,8 +258,7 @@ closed_on setting before (item.Delivered number) cause are s idle =
     by_raise : (b : Bool) → raises_known before s number ≡ b
         → opened_at (before ++ next ∷ []) s ≡ None
     by_raise true e = raised_none before number s are.current e
-    by_raise false e =
-        opened_same before next s (unraised_same before number s e) refl
+    by_raise false e = opened_same before next s (unraised_same before number s e) refl
         ∙ are.closed s (idle_delivered before number s e idle)
 closed_on setting before (item.Sent n message) cause are s idle =
     opened_at_more before next s (known_more before next s)
@@ -323,10 +281,7 @@ closed_on setting before (item.Sent n message) cause are s idle =
         → first_number (open_sent s boot next) ≡ None
     by_new None e = e
     by_new (Some w) e =
-        let new = opens_by next s boot w e in
-        let right : IsRightOpening before s boot w =
-        subst (HasItemCause setting before) new.1 cause in
-        elim right.opens [
+        elim (subst (HasItemCause setting before) (opens_by next s boot w e).1 cause).opens [
           | inl first ↦ absurd (are.silent s w was
               (acked_sent before s w are.told closed first.acked))
           | inr same ↦ let clash : None ≡ Some w = sym closed ∙ same in absurd cc
@@ -341,23 +296,17 @@ silent_now : (setting : Setting) (before : List Item) (next : Item)
     → known_boot (before ++ next ∷ []) s ≡ known_boot before s → IsIdle before s
     → IsSent (before ++ next ∷ [])
     (to_controller (Installed s (known_boot (before ++ next ∷ []) s) version)) → ⊥
-silent_now setting before next cause are s version known idle sent =
-    elim (sent_either before next (to_controller (Installed s (known_boot before s) version))
-    (subst (λ b. IsSent (before ++ next ∷ []) (to_controller (Installed s b version))) known
-    sent)) [
+silent_now setting before next cause are s version known idle sent = elim (sent_either before next
+    (to_controller (Installed s (known_boot before s) version)) (rw known at sent)) [
       | inl earlier ↦ are.silent s version idle earlier
-      | inr new ↦
-          let right : IsRightInstalled before s (known_boot before s) version =
-          subst (HasItemCause setting before) new.1 cause in
-          let clash : false ≡ true = sym idle.down ∙ right.present.up in
+      | inr new ↦ let clash : false ≡ true = sym idle.down ∙ (rw new.1 at cause).present.up in
           absurd cc
     ]
 
-silent_on : (setting : Setting) (before : List Item) (next : Item)
-    → HasItemCause setting before next → AreRecorded before → (s version : ℕ)
-    → IsIdle (before ++ next ∷ []) s
-    → IsSent (before ++ next ∷ [])
-    (to_controller (Installed s (known_boot (before ++ next ∷ []) s) version)) → ⊥
+silent_on : (setting : Setting) (before : List Item) (next : Item) → HasItemCause setting before
+    next → AreRecorded before → (s version : ℕ) → IsIdle (before ++ next ∷ []) s → IsSent
+    (before ++ next ∷ []) (to_controller (Installed s (known_boot (before ++ next ∷ []) s) version))
+    → ⊥
 silent_on setting before (item.Delivered number) cause are s version idle sent =
     by_raise (raises_known before s number) refl
   where
@@ -369,21 +318,15 @@ silent_on setting before (item.Delivered number) cause are s version idle sent =
     no_delivery n is = absurd cc
 
     by_raise : (b : Bool) → raises_known before s number ≡ b → ⊥
-    by_raise true e =
-        elim (sent_either before next
+    by_raise true e = elim (sent_either before next
         (to_controller (Installed s (known_boot (before ++ next ∷ []) s) version)) sent) [
-          | inl earlier ↦ absurd (omega (
-            arith,
-            raised_above before number s e,
-            are.acks s (known_boot (before ++ next ∷ []) s) version earlier,
-          ))
+          | inl earlier ↦ absurd (omega (arith, raised_above, are.acks))
           | inr new ↦ absurd (no_delivery new.0 new.1)
         ]
     by_raise false e = silent_now setting before next cause are s version
         (unraised_same before number s e) (idle_delivered before number s e idle) sent
-silent_on setting before next cause are s version idle sent =
-    silent_now setting before next cause are s version (known_more before next s)
-    (idle_was before next s refl idle) sent
+silent_on setting before next cause are s version idle sent = silent_now setting before next cause
+    are s version (known_more before next s) (idle_was before next s refl idle) sent
 
 -- ---- together
 
@@ -403,13 +346,10 @@ recorded_kept setting before next cause are = record {
 }
 
 none_sent : (message : Message) → IsSent [] message → ⊥
-none_sent message sent =
-    let none : IsIn sent.sending [] = subst (λ xs. IsIn sent.sending xs) start_laws.sent sent.is in
-    absurd none
+none_sent message sent = absurd (subst (λ xs. IsIn sent.sending xs) start_laws.sent sent.is)
 
 not_idle : (s : ℕ) → IsIdle [] s → ⊥
-not_idle s idle =
-    let clash : true ≡ false = sym (start_laws.up s) ∙ idle.down in absurd cc
+not_idle s idle = let clash : true ≡ false = sym (start_laws.up s) ∙ idle.down in absurd cc
 
 recorded_at_first : AreRecorded []
 unfolding controller_heard opened_in
@@ -421,23 +361,20 @@ recorded_at_first = record {
   told = λ body is. absurd is;
   openings = λ s boot version is. by_first s boot (boot == 1) refl version is;
   heard = λ s version any.
-      let none : false ≡ true =
-      subst (λ bodies. IsTrue (list_any (installs_version version) bodies)) (start_laws.heard s) any
-      in
+      let none = subst (λ bodies. IsTrue (list_any (installs_version version) bodies))
+      (start_laws.heard s) any in
       absurd cc;
   acks = λ s boot version sent. absurd (none_sent _ sent);
   first = λ s up boot. start_laws.serving s;
   boots = λ s. omega (arith, start_laws.boot s);
   closed = λ s idle. absurd (not_idle s idle);
   silent = λ s version idle sent. not_idle s idle;
-}
-  where
-    by_first : (s boot : ℕ) (b : Bool) → (boot == 1) ≡ b → (version : ℕ)
-        → (if b then Some 1 else None) ≡ Some version
-        → (boot ≡ 1) ⊎ IsSent [] (to_switch s (OpenAt boot version))
-    by_first s boot true e version is = inl (eqb-true boot 1 e)
-    by_first s boot false e version is = absurd cc
+} where
+  by_first : (s boot : ℕ) (b : Bool) → (boot == 1) ≡ b → (version : ℕ)
+      → (if b then Some 1 else None) ≡ Some version
+      → (boot ≡ 1) ⊎ IsSent [] (to_switch s (OpenAt boot version))
+  by_first s boot true e version is = inl (eqb-true boot 1 e)
+  by_first s boot false e version is = absurd cc
 
 pub caused_recorded : FromCauses (λ setting. AreRecorded)
-caused_recorded =
-    from_causes (λ setting. AreRecorded) recorded_kept (λ setting. recorded_at_first)
+caused_recorded = from_causes (λ setting. AreRecorded) recorded_kept (λ setting. recorded_at_first)

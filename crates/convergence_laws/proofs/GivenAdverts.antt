@@ -18,8 +18,7 @@ use Rattle.convergence_laws.proofs.MessageCourses.{delivered_grows, sendings_mor
 pub as_new_itself : (advert : Advert) → IsAsNew advert advert
 as_new_itself advert = record { origin = refl; new = not_newer advert.boot advert.seq }
 
-new_through : (a b c : Advert) → is_newer b c ≡ false → is_newer a b ≡ false
-    → is_newer a c ≡ false
+new_through : (a b c : Advert) → is_newer b c ≡ false → is_newer a b ≡ false → is_newer a c ≡ false
 new_through a b c later first = grind (arith, nat_tests)
 
 pub as_new_through : (c b a : Advert) → IsAsNew c b → IsAsNew b a → IsAsNew c a
@@ -65,10 +64,9 @@ IsHad setting journal s advert =
 -- what a switch has each neighbour has as new, but where it is still owed
 pub record HaveNews (setting : Setting) (since : ℕ) (Owed : ℕ → ℕ → Advert → Type 0)
     (journal : List Item) : Type 0 where
-  pub each : (s neighbour : ℕ) (advert : Advert)
-      → IsTrue (has (near setting journal s) neighbour) → IsHad setting journal s advert
-      → advert.origin ≢ neighbour
-      → Owed s neighbour advert ⊎ HasNews setting since journal neighbour advert
+  pub each : (s neighbour : ℕ) (advert : Advert) → IsTrue (has (near setting journal s) neighbour)
+      → IsHad setting journal s advert → advert.origin ≢ neighbour → Owed s neighbour advert
+      ⊎ HasNews setting since journal neighbour advert
 
 -- ---- what is kept
 
@@ -81,9 +79,8 @@ pub given_grows : (setting : Setting) (before after : List Item) (s : ℕ) (adve
     → is_up after s ≡ is_up before s → boot_of after s ≡ boot_of before s
     → ((body : Body) → IsIn body (heard before s) → IsIn body (heard after s))
     → IsGiven setting before s advert → IsGiven setting after s advert
-given_grows setting before after s advert up boot grows (inl begun) =
-    inl (ap (λ adverts. held_advert adverts advert.origin)
-    (begun_same setting before after s up boot)
+given_grows setting before after s advert up boot grows (inl begun) = inl
+    (ap (λ adverts. held_advert adverts advert.origin) (begun_same setting before after s up boot)
     ∙ begun)
 given_grows setting before after s advert up boot grows (inr told) =
     let found = of_filter_map (other_advert s) advert (heard before s) told in
@@ -101,8 +98,7 @@ told_on before next s advert boot told = record {
     message = advert_to s advert;
     boot = b;
   }) (sendings (before ++ next ∷ []))) (sym boot)
-      (rw (sendings_more before next)
-      (in_left _ (sendings before) (sent_by before next) told.is));
+      (rw (sendings_more before next) (in_left _ (sendings before) (sent_by before next) told.is));
 }
 
 pub news_on : {since : ℕ} (setting : Setting) (before : List Item) (next : Item) (s : ℕ) (than : Advert)
@@ -114,14 +110,13 @@ news_on {since = since} setting before next s than up boot grows has = record {
   advert = has.advert;
   as_new = has.as_new;
   had = by_had has.had;
-}
-  where
-    by_had : IsGiven setting before s has.advert ⊎ IsToldTo since before s has.advert
-        → IsGiven setting (before ++ next ∷ []) s has.advert
-        ⊎ IsToldTo since (before ++ next ∷ []) s has.advert
-    by_had (inl given) = inl (given_grows setting before (before ++ next ∷ []) s has.advert up boot
-        grows given)
-    by_had (inr told) = inr (told_on before next s has.advert boot told)
+} where
+  by_had : IsGiven setting before s has.advert ⊎ IsToldTo since before s has.advert
+      → IsGiven setting (before ++ next ∷ []) s has.advert
+      ⊎ IsToldTo since (before ++ next ∷ []) s has.advert
+  by_had (inl given) = inl (given_grows setting before (before ++ next ∷ []) s has.advert up boot
+      grows given)
+  by_had (inr told) = inr (told_on before next s has.advert boot told)
 
 -- ---- items that neither deliver, nor turn switches, nor change links
 
@@ -149,8 +144,7 @@ still_leaves setting before (item.Booted s boot) still = absurd still
 still_leaves setting before (item.Opened s version) still = absurd still
 still_leaves setting before (item.LinkIs one two up) still = absurd still
 still_leaves setting before next still =
-    let keeps = links_keep setting before (next ∷ []) (refl, tt) in
-    record {
+    let keeps = links_keep setting before (next ∷ []) (refl, tt) in record {
       up = λ s. up_more before next s;
       boot = λ s. boot_more before next s;
       bodies = λ s. heard_more before next s;
@@ -160,10 +154,8 @@ still_leaves setting before next still =
 
 pub stills_leave : (setting : Setting) (journal items : List Item)
     → HaveCauses IsStill journal items → Leaves setting journal (journal ++ items)
-stills_leave setting journal items still =
-    fact_on IsStill (Leaves setting journal)
-    (λ now next is so_far.
-    let leaves = still_leaves setting now next is in
+stills_leave setting journal items still = fact_on IsStill (Leaves setting journal)
+    (λ now next is so_far. let leaves = still_leaves setting now next is in
     record {
       up = λ s. leaves.up s ∙ so_far.up s;
       boot = λ s. leaves.boot s ∙ so_far.boot s;
@@ -180,38 +172,31 @@ stills_leave setting journal items still =
     })
 
 pub had_back : (setting : Setting) (before after : List Item) (s : ℕ) (advert : Advert)
-    → Leaves setting before after → IsHad setting after s advert
-    → IsHad setting before s advert
+    → Leaves setting before after → IsHad setting after s advert → IsHad setting before s advert
 had_back setting before after s advert leaves (inl own) = inl (own ∙ leaves.advert s)
 had_back setting before after s advert leaves (inr of) = inr (record {
   other = of.other;
   small = of.small;
-  given = given_grows setting after before s advert (sym (leaves.up s))
-      (sym (leaves.boot s))
-      (λ body is. subst (λ bodies. IsIn body bodies) (leaves.bodies s) is) of.given;
+  given = given_grows setting after before s advert (sym (leaves.up s)) (sym (leaves.boot s))
+      (λ body is. rw (leaves.bodies s) at is) of.given;
 })
 
 pub still_news : {since : ℕ} (setting : Setting) (Owed : ℕ → ℕ → Advert → Type 0)
     → AreKept IsStill (HaveNews setting since Owed)
 still_news setting Owed before next still have =
-    let leaves = still_leaves setting before next still in
-    record {
-      each = λ s neighbour advert linked had other.
-          elim (have.each s neighbour advert
-          (subst (λ mask. IsTrue (has mask neighbour)) (leaves.links s) linked)
+    let leaves = still_leaves setting before next still in record {
+      each = λ s neighbour advert linked had other. elim
+          (have.each s neighbour advert (rw (leaves.links s) at linked)
           (had_back setting before (before ++ next ∷ []) s advert leaves had) other) [
             | inl owed ↦ inl owed
             | inr has ↦ inr (news_on setting before next neighbour advert (leaves.up neighbour)
-                (leaves.boot neighbour)
-                (λ body is. subst (λ bodies. IsIn body bodies) (sym (leaves.bodies neighbour)) is)
-                has)
+                (leaves.boot neighbour) (λ body is. rw (leaves.bodies neighbour) is) has)
           ];
     }
 
 pub stills_news : {since : ℕ} (setting : Setting) (Owed : ℕ → ℕ → Advert → Type 0)
-    (journal items : List Item)
-    → HaveCauses IsStill journal items → HaveNews setting since Owed journal
-    → HaveNews setting since Owed (journal ++ items)
+    (journal items : List Item) → HaveCauses IsStill journal items
+    → HaveNews setting since Owed journal → HaveNews setting since Owed (journal ++ items)
 stills_news {since = since} setting Owed journal items still have =
     fact_on IsStill (HaveNews setting since Owed) (still_news setting Owed) journal items still have
 
@@ -219,11 +204,9 @@ stills_news {since = since} setting Owed journal items still have =
 pub told_stills : {since : ℕ} (setting : Setting) (journal items : List Item) (s : ℕ)
     (advert : Advert) → HaveCauses IsStill journal items → IsToldTo since journal s advert
     → IsToldTo since (journal ++ items) s advert
-told_stills {since = since} setting journal items s advert still told =
-    fact_on IsStill (λ now. IsToldTo since now s advert)
-    (λ now next is so_far.
-    told_on now next s advert ((still_leaves setting now next is).boot s) so_far)
-    journal items still told
+told_stills {since = since} setting journal items s advert still told = fact_on IsStill
+    (λ now. IsToldTo since now s advert) (λ now next is so_far. told_on now next s advert
+    ((still_leaves setting now next is).boot s) so_far) journal items still told
 
 -- ---- a delivery
 
@@ -235,94 +218,86 @@ pub record IsDelivered (here : List Item) (number s : ℕ) (advert : Advert) : T
 
 -- what is delivered to a switch is owed to its neighbours
 pub delivered_news : {since : ℕ} (setting : Setting) (here : List Item) (number : ℕ)
-    → HaveNews setting since (λ s neighbour advert. ⊥) here
-    → HaveNews setting since (λ s neighbour advert. IsDelivered here number s advert)
-    (here ++ item.Delivered number ∷ [])
+    → HaveNews setting since (λ s neighbour advert. ⊥) here → HaveNews setting since
+    (λ s neighbour advert. IsDelivered here number s advert) (here ++ item.Delivered number ∷ [])
 delivered_news {since = since} setting here number have = record {
-  each = λ s neighbour advert linked had other.
-      by_had s neighbour advert (subst (λ mask. IsTrue (has mask neighbour)) (keeps.near s) linked)
-      other had;
-}
-  where
-    next : Item
-    next = item.Delivered number
+  each = λ s neighbour advert linked had other. by_had s neighbour advert
+      (rw (keeps.near s) at linked) other had;
+} where
+  next : Item
+  next = item.Delivered number
 
-    now : List Item
-    now = here ++ next ∷ []
+  now : List Item
+  now = here ++ next ∷ []
 
-    keeps : LinksKeep setting here now
-    keeps = links_keep setting here (next ∷ []) (refl, tt)
+  keeps : LinksKeep setting here now
+  keeps = links_keep setting here (next ∷ []) (refl, tt)
 
-    old : (s neighbour : ℕ) (advert : Advert) → IsTrue (has (near setting here s) neighbour)
-        → advert.origin ≢ neighbour → IsHad setting here s advert
-        → IsDelivered here number s advert ⊎ HasNews setting since now neighbour advert
-    old s neighbour advert linked other had =
-        elim (have.each s neighbour advert linked had other) [
-          | inl owed ↦ absurd owed
-          | inr has ↦ inr (news_on setting here next neighbour advert (up_more here next neighbour)
-              (boot_more here next neighbour) (delivered_grows here number neighbour) has)
-        ]
+  old : (s neighbour : ℕ) (advert : Advert) → IsTrue (has (near setting here s) neighbour)
+      → advert.origin ≢ neighbour → IsHad setting here s advert
+      → IsDelivered here number s advert ⊎ HasNews setting since now neighbour advert
+  old s neighbour advert linked other had = elim (have.each s neighbour advert linked had other) [
+    | inl owed ↦ absurd owed
+    | inr has ↦ inr (news_on setting here next neighbour advert (up_more here next neighbour)
+        (boot_more here next neighbour) (delivered_grows here number neighbour) has)
+  ]
 
-    of_advert : (s : ℕ) (body : Body) (advert : Advert) → other_advert s body ≡ Some advert
-        → body ≡ Advertise advert
-    of_advert s (Advertise told) advert is = by_test (told.origin == s) is
-      where
-        by_test : (b : Bool) → (if b then None else Some told) ≡ Some advert
-            → Advertise told ≡ Advertise advert
-        by_test true is = absurd cc
-        by_test false is = cc
-    of_advert s body advert is = absurd cc
+  of_advert : (s : ℕ) (body : Body) (advert : Advert) → other_advert s body ≡ Some advert
+      → body ≡ Advertise advert
+  of_advert s (Advertise told) advert is = by_test (told.origin == s) is where
+    by_test : (b : Bool) → (if b then None else Some told) ≡ Some advert
+        → Advertise told ≡ Advertise advert
+    by_test true is = absurd cc
+    by_test false is = cc
+  of_advert s body advert is = absurd cc
 
-    by_said : (s neighbour : ℕ) (advert : Advert) → IsTrue (has (near setting here s) neighbour)
-        → advert.origin ≢ neighbour → advert.origin ≢ s → advert.origin < 64
-        → (body : Body) → other_advert s body ≡ Some advert
-        → (o : Option Body) → body_to_switch here s number ≡ o
-        → IsIn body (option_map_or (λ b. heard here s ++ b ∷ []) o (heard here s))
-        → IsDelivered here number s advert ⊎ HasNews setting since now neighbour advert
-    by_said s neighbour advert linked other apart small body is None e was =
-        old s neighbour advert linked other (inr (record {
+  by_said : (s neighbour : ℕ) (advert : Advert) → IsTrue (has (near setting here s) neighbour)
+      → advert.origin ≢ neighbour → advert.origin ≢ s → advert.origin < 64 → (body : Body)
+      → other_advert s body ≡ Some advert → (o : Option Body) → body_to_switch here s number ≡ o
+      → IsIn body (option_map_or (λ b. heard here s ++ b ∷ []) o (heard here s))
+      → IsDelivered here number s advert ⊎ HasNews setting since now neighbour advert
+  by_said s neighbour advert linked other apart small body is None e was =
+      old s neighbour advert linked other (inr (record {
+        other = apart;
+        small = small;
+        given = inr (in_filter_map (other_advert s) body advert (heard here s) was is);
+      }))
+  by_said s neighbour advert linked other apart small body is (Some b) e was =
+      elim (in_either body (heard here s) (b ∷ []) was) [
+        | inl earlier ↦ old s neighbour advert linked other (inr (record {
           other = apart;
           small = small;
-          given = inr (in_filter_map (other_advert s) body advert (heard here s) was is);
+          given = inr (in_filter_map (other_advert s) body advert (heard here s) earlier is);
         }))
-    by_said s neighbour advert linked other apart small body is (Some b) e was =
-        elim (in_either body (heard here s) (b ∷ []) was) [
-          | inl earlier ↦ old s neighbour advert linked other (inr (record {
+        | inr last ↦ elim last [
+          | inl same ↦ inl (record {
+            said = e ∙ ap Some (same ∙ of_advert s body advert is);
             other = apart;
             small = small;
-            given = inr (in_filter_map (other_advert s) body advert (heard here s) earlier is);
-          }))
-          | inr last ↦ elim last [
-            | inl same ↦ inl (record {
-              said = e ∙ ap Some (same ∙ of_advert s body advert is);
-              other = apart;
-              small = small;
-            })
-            | inr none ↦ absurd none
-          ]
+          })
+          | inr none ↦ absurd none
         ]
+      ]
 
-    by_had : (s neighbour : ℕ) (advert : Advert) → IsTrue (has (near setting here s) neighbour)
-        → advert.origin ≢ neighbour → IsHad setting now s advert
+  by_had : (s neighbour : ℕ) (advert : Advert) → IsTrue (has (near setting here s) neighbour)
+      → advert.origin ≢ neighbour → IsHad setting now s advert
+      → IsDelivered here number s advert ⊎ HasNews setting since now neighbour advert
+  by_had s neighbour advert linked other (inl own) =
+      old s neighbour advert linked other (inl (own ∙ keeps.advert s))
+  by_had s neighbour advert linked other (inr of) = by_given of.given where
+    by_given : IsGiven setting now s advert
         → IsDelivered here number s advert ⊎ HasNews setting since now neighbour advert
-    by_had s neighbour advert linked other (inl own) =
-        old s neighbour advert linked other (inl (own ∙ keeps.advert s))
-    by_had s neighbour advert linked other (inr of) = by_given of.given
-      where
-        by_given : IsGiven setting now s advert
-            → IsDelivered here number s advert ⊎ HasNews setting since now neighbour advert
-        by_given (inl begun) = old s neighbour advert linked other (inr (record {
-          other = of.other;
-          small = of.small;
-          given = inl (ap (λ adverts. held_advert adverts advert.origin)
-              (sym (begun_same setting here now s (up_more here next s) (boot_more here next s)))
-              ∙ begun);
-        }))
-        by_given (inr told) =
-            let found = of_filter_map (other_advert s) advert (heard now s) told in
-            by_said s neighbour advert linked other of.other of.small found.0 found.2
-            (body_to_switch here s number) refl
-            (subst (λ bodies. IsIn found.0 bodies) (heard_more here next s) found.1)
+    by_given (inl begun) = old s neighbour advert linked other (inr (record {
+      other = of.other;
+      small = of.small;
+      given = inl (ap (λ adverts. held_advert adverts advert.origin)
+          (sym (begun_same setting here now s (up_more here next s) (boot_more here next s)))
+          ∙ begun);
+    }))
+    by_given (inr told) = let found = of_filter_map (other_advert s) advert (heard now s) told in
+        by_said s neighbour advert linked other of.other of.small found.0 found.2
+        (body_to_switch here s number) refl
+        (subst (λ bodies. IsIn found.0 bodies) (heard_more here next s) found.1)
 
 -- ---- what is sent now is of the present boot
 
@@ -333,8 +308,7 @@ boot_sent journal n message s = boot_more journal (item.Sent n message) s
 told_items : {since : ℕ} (journal : List Item) (n : ℕ) (messages : List Message) (s : ℕ) (advert : Advert)
     → IsToldTo since journal s advert → IsToldTo since (journal ++ sent_from n messages) s advert
 unfolding sent_from
-told_items {since = since} journal n [] s advert told =
-    subst (λ now. IsToldTo since now s advert) (sym (append-nil journal)) told
+told_items {since = since} journal n [] s advert told = rw (append-nil journal) told
 told_items {since = since} journal n (message ∷ messages) s advert told =
     let next : Item = item.Sent n message in
     subst (λ now. IsToldTo since now s advert)
@@ -356,9 +330,8 @@ told_now {since = since} journal n (message ∷ messages) s advert late is =
       | inl here ↦ told_items now (n + 1) messages s advert (record {
         number = n;
         late = late;
-        is = rw (sendings_more journal next)
-            (in_right _ (sendings journal) (sent_by journal next) (inl
-            (ap (λ (m : Message). record {
+        is = rw (sendings_more journal next) (in_right _ (sendings journal) (sent_by journal next)
+            (inl (ap (λ (m : Message). record {
               number = n;
               message = m;
               boot = boot_at journal m.to;

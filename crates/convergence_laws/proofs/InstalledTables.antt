@@ -48,9 +48,8 @@ installs_same setting Owed last before items known over current have = record {
         | inl owed ↦ inl owed
         | inr had ↦ elim had [
           | inl first ↦ inr (inl (first.0, known s ∙ first.1))
-          | inr sent ↦ inr (inr (subst
-              (λ b. TablesSent (before ++ items) s b version) (sym (known s))
-              (tables_on before items s (known_boot before s) version sent)))
+          | inr sent ↦ inr
+              (inr (rw (known s) (tables_on before items s (known_boot before s) version sent)))
         ]
       ];
 }
@@ -75,11 +74,9 @@ plain_over before (item.OverNow t) plain s none =
 plain_over before next plain s none = rw (over_more before next s) at none
 
 current_up : (setting : Setting) (before : List Item) (next : Item)
-    → HasItemCause setting before next
-    → current_mark before ≤ current_mark (before ++ next ∷ [])
+    → HasItemCause setting before next → current_mark before ≤ current_mark (before ++ next ∷ [])
 current_up setting before (item.Current version) cause =
-    let rises = cause.rises in
-    rw (current_more before (item.Current version)) (omega arith)
+    let rises = cause.rises in rw (current_more before (item.Current version)) (omega arith)
 current_up setting before next cause = rw (current_more before next) (omega arith)
 
 installs_on : (setting : Setting) (Owed : ℕ → Type 0) (last : ℕ)
@@ -91,11 +88,10 @@ installs_on setting Owed last before next both have =
 settling_installs : (setting : Setting) (Owed : ℕ → Type 0) (last : ℕ) (now : List Item)
     → HaveInstalls setting Owed last now
     → HaveInstalls setting Owed last (now ++ settling setting now)
-settling_installs setting Owed last now have =
-    fact_on (Both (HasItemCause setting) IsPlain) (HaveInstalls setting Owed last)
-    (installs_on setting Owed last) now (settling setting now)
-    (have_both (HasItemCause setting) IsPlain now (settling setting now)
-    (settling_have setting now) (settling_plain setting now)) have
+settling_installs setting Owed last now have = fact_on (Both (HasItemCause setting) IsPlain)
+    (HaveInstalls setting Owed last) (installs_on setting Owed last) now (settling setting now)
+    (have_both (HasItemCause setting) IsPlain now (settling setting now) (settling_have setting now)
+    (settling_plain setting now)) have
 
 -- messages leave all of it
 abbrev IsSending : List Item → Item → Type 0
@@ -110,8 +106,7 @@ sends_installs setting Owed last now messages have =
     (sends_any IsSending (λ before n message. tt) now messages) have
   where
     kept : AreKept IsSending (HaveInstalls setting Owed last)
-    kept before (item.Sent n message) is have =
-        let next : Item = item.Sent n message in
+    kept before (item.Sent n message) is have = let next : Item = item.Sent n message in
         installs_same setting Owed last before (next ∷ []) (λ s. known_more before next s)
         (λ s none. sym (over_more before next s) ∙ none)
         (omega (arith, current_more before next)) have
@@ -121,39 +116,33 @@ sends_installs setting Owed last now messages have =
 
 -- the switch whose known boot it raises is owed its tables
 delivered_owed : (setting : Setting) (last : ℕ) (before : List Item) (number : ℕ)
-    → HaveInstalls setting (λ s. ⊥) last before
-    → HaveInstalls setting (λ s. raises_known before s number ≡ true) last
-    (before ++ item.Delivered number ∷ [])
+    → HaveInstalls setting (λ s. ⊥) last before → HaveInstalls setting
+    (λ s. raises_known before s number ≡ true) last (before ++ item.Delivered number ∷ [])
 delivered_owed setting last before number have = record {
   each = λ s version there none above below.
       by_raise s version there none above below (raises_known before s number) refl;
-}
-  where
-    next : Item
-    next = item.Delivered number
+} where
+  next : Item
+  next = item.Delivered number
 
-    by_raise : (s version : ℕ) → s < length setting.net.switches
-        → IsFalse (is_over (before ++ next ∷ []) s)
-        → current_mark (before ++ next ∷ []) ≤ version → version ≤ last
-        → (b : Bool) → raises_known before s number ≡ b
-        → (raises_known before s number ≡ true)
-        ⊎ (((version ≡ 1) × (known_boot (before ++ next ∷ []) s ≡ 1))
-        ⊎ TablesSent (before ++ next ∷ []) s (known_boot (before ++ next ∷ []) s) version)
-    by_raise s version there none above below true e = inl e
-    by_raise s version there none above below false e =
-        let known = unraised_same before number s e in
-        let over : is_over (before ++ next ∷ []) s ≡ is_over before s =
-        over_more before next s ∙ ap (λ b. if b then false else is_over before s) e in
-        elim (have.each s version there (sym over ∙ none)
-        (omega (arith, above, current_more before next)) below) [
-          | inl owed ↦ absurd owed
-          | inr had ↦ elim had [
-            | inl first ↦ inr (inl (first.0, known ∙ first.1))
-            | inr sent ↦ inr (inr (subst (λ b. TablesSent (before ++ next ∷ []) s b version)
-                (sym known)
-                (tables_on before (next ∷ []) s (known_boot before s) version sent)))
-          ]
+  by_raise : (s version : ℕ) → s < length setting.net.switches
+      → IsFalse (is_over (before ++ next ∷ []) s)
+      → current_mark (before ++ next ∷ []) ≤ version → version ≤ last → (b : Bool)
+      → raises_known before s number ≡ b → (raises_known before s number ≡ true)
+      ⊎ (((version ≡ 1) × (known_boot (before ++ next ∷ []) s ≡ 1))
+      ⊎ TablesSent (before ++ next ∷ []) s (known_boot (before ++ next ∷ []) s) version)
+  by_raise s version there none above below true e = inl e
+  by_raise s version there none above below false e = let known = unraised_same before number s e in
+      elim (have.each s version there
+      (sym (over_more before next s ∙ ap (λ b. if b then false else is_over before s) e) ∙ none)
+      (omega (arith, above, current_more before next)) below) [
+        | inl owed ↦ absurd owed
+        | inr had ↦ elim had [
+          | inl first ↦ inr (inl (first.0, known ∙ first.1))
+          | inr sent ↦ inr
+              (inr (rw known (tables_on before (next ∷ []) s (known_boot before s) version sent)))
         ]
+      ]
 
 -- what raises the known boot of a switch is its hello
 record IsHello (before : List Item) (number s : ℕ) : Type 0 where
@@ -166,9 +155,8 @@ raises_by : (before : List Item) (number s : ℕ) → raises_known before s numb
 raises_by before number s raises =
     by_hello (option_and_then (hello_boot s) (body_to_controller before number)) refl raises
   where
-    by_hello : (o : Option ℕ)
-        → option_and_then (hello_boot s) (body_to_controller before number) ≡ o
-        → option_map_or (λ boot. nat_lt (known_boot before s) boot) o false ≡ true
+    by_hello : (o : Option ℕ) → option_and_then (hello_boot s) (body_to_controller before number)
+        ≡ o → option_map_or (λ boot. nat_lt (known_boot before s) boot) o false ≡ true
         → IsHello before number s
     by_hello None e raises = absurd cc
     by_hello (Some boot) e raises =
@@ -183,16 +171,14 @@ installs_sent setting now s version above below = record {
   tables = tables_at setting now version s;
   of = refl;
   sent = sends_all now _ (install_for setting now version s)
-      (in_map (λ v. install_for setting now v s) version (versions_from_current now)
-      (in_range version (current_mark now) (version_count now + 1 - current_mark now) above
-      (omega (arith, above, below))));
+      (in_map (λ v. install_for setting now v s) version (versions_from_current now) (in_range
+      version (current_mark now) (version_count now + 1 - current_mark now) above (omega arith)));
 }
 
 hello_is : (setting : Setting) (before : List Item) (s boot : ℕ) (now : List Item)
     → IsTrue (is_new_boot before s boot)
     → after_hello setting before (Hello s boot) now ≡ installs_to setting s now
-hello_is setting before s boot now new =
-    ap (λ b. elim b [ true ↦ installs_to setting s now | false ↦ [] ]) new
+hello_is setting before s boot now new = cc new
 
 to_installs : (setting : Setting) (Owed : ℕ → Type 0) (last s : ℕ) (now : List Item)
     → HaveInstalls setting Owed last now
@@ -211,14 +197,12 @@ hello_installs setting Owed last before (Hello s boot) now have = by_new (is_new
     ])
     by_new false = subst (HaveInstalls setting Owed last) (sym (append-nil now)) have
     by_new true = to_installs setting Owed last s now have
-hello_installs setting Owed last before _ now have =
-    subst (HaveInstalls setting Owed last) (sym (append-nil now)) have
+hello_installs setting Owed last before _ now have = rw (append-nil now) have
 
 pub installs_keep : (setting : Setting) (s : ℕ) (now : List Item)
     → ControllerKeeps now (now ++ installs_to setting s now)
 unfolding installs_to
-installs_keep setting s now =
-    leaves_keep now _
+installs_keep setting s now = leaves_keep now _
     (sends_leave now _ (installs_reopen setting now s (versions_from_current now)))
 
 -- behind a hello that raised it all tables are sent
@@ -230,25 +214,20 @@ hello_sends : (setting : Setting) (before : List Item) (s boot version : ℕ) (b
 hello_sends setting before s boot version body now is new below =
     subst (λ items. current_mark (now ++ items) ≤ version
     → TablesSent (now ++ items) s (known_boot (now ++ items) s) version)
-    (sym (ap (λ b. after_hello setting before b now) is
-    ∙ hello_is setting before s boot now new))
-    (λ above.
-    let keeps = installs_keep setting s now in
+    (sym (ap (λ b. after_hello setting before b now) is ∙ hello_is setting before s boot now new))
+    (λ above. let keeps = installs_keep setting s now in
     subst (λ b. TablesSent (now ++ installs_to setting s now) s b version) (sym (keeps.known s))
     (installs_sent setting now s version (omega (arith, above, keeps.current)) below))
 
 -- the count of the versions stands while the marks settle
 settling_count : (setting : Setting) (now : List Item)
     → version_count (now ++ settling setting now) ≡ version_count now
-settling_count setting now =
-    (grows now (settling setting now) (settling_settles setting now)).count
+settling_count setting now = (grows now (settling setting now) (settling_settles setting now)).count
 
-same_body : (before : List Item) (number : ℕ) (one other : Body)
-    → message_of before number ≡ Some (to_controller one)
-    → message_of before number ≡ Some (to_controller other) → one ≡ other
+same_body : (before : List Item) (number : ℕ) (one other : Body) → message_of before number
+    ≡ Some (to_controller one) → message_of before number ≡ Some (to_controller other) → one ≡ other
 same_body before number one other first second =
-    ap (λ (o : Option Message). option_map_or (λ message. message.body) o one)
-    (sym first ∙ second)
+    ap (λ (o : Option Message). option_map_or (λ message. message.body) o one) (sym first ∙ second)
 
 heard_installs : (setting : Setting) (before : List Item) (row number : ℕ) (step : Step)
     (body : Body) (now : List Item) → message_of before number ≡ Some (to_controller body)
@@ -259,8 +238,7 @@ heard_installs : (setting : Setting) (before : List Item) (row number : ℕ) (st
 unfolding controller_items
 heard_installs setting before row number step body now sent last is have =
     subst (HaveInstalls setting (λ s. ⊥) last)
-    (sym (in_two (settling setting) (after_hello setting before body) now))
-    (record {
+    (sym (in_two (settling setting) (after_hello setting before body) now)) (record {
       each = λ s version there none above below. by_owed s version above below
           (all.each s version there none above below);
     })
@@ -286,24 +264,20 @@ heard_installs setting before row number step body now sent last is have =
     by_owed s version above below (inr had) = inr had
     by_owed s version above below (inl raises) =
         let hello = raises_by here number s raises in
-        let told : message_of before number ≡ Some (to_controller (Hello s hello.boot)) =
-        sym (message_more before (item.Row row step) number) ∙ hello.sent in
-        let new : IsTrue (is_new_boot before s hello.boot) =
-        subst (λ k. IsTrue (nat_lt k hello.boot)) (known_more before (item.Row row step) s)
-        hello.new in
-        inr (inr (hello_sends setting before s hello.boot version body settled
-        (same_body before number body (Hello s hello.boot) sent told) new
-        (omega (arith, below, is, settling_count setting now)) above))
+        let new = subst (λ k. IsTrue (nat_lt k hello.boot))
+        (known_more before (item.Row row step) s) hello.new in
+        inr (inr (hello_sends setting before s hello.boot version body settled (same_body before
+        number body (Hello s hello.boot) sent (sym (message_more before (item.Row row step) number)
+        ∙ hello.sent)) new (omega (arith, below, is, settling_count setting now)) above))
 
 pub delivery_told : (setting : Setting) (before : List Item) (number : ℕ) (body : Body)
     (now : List Item) → message_of before number ≡ Some (to_controller body)
     → delivery_items setting before number now ≡ controller_items setting before body now
 unfolding delivery_items
-delivery_told setting before number body now sent =
-    ap (λ o. elim o [
-      | None ↦ []
-      | Some message ↦ received_items setting before number message now
-    ]) sent
+delivery_told setting before number body now sent = ap (λ o. elim o [
+  | None ↦ []
+  | Some message ↦ received_items setting before number message now
+]) sent
 
 deliver_installs : (setting : Setting) (before : List Item) (row number : ℕ)
     → IsTrue (is_message_to_controller before number)
@@ -314,8 +288,7 @@ deliver_installs : (setting : Setting) (before : List Item) (row number : ℕ)
 deliver_installs setting before row number is have =
     deliver_cases (HaveInstalls setting (λ s. ⊥) last) setting before number here
     (installs_on setting (λ s. ⊥) last here item.Nothing (record { first = tt; second = tt }) have)
-    (subst (λ items. HaveInstalls setting (λ s. ⊥) last (now ++ items))
-    (sym (delivery_told setting before number told.0 now told.1))
+    (rw (delivery_told setting before number told.0 now told.1)
     (heard_installs setting before row number (Deliver number) told.0 now told.1 last same
     (delivered_owed setting last here number have)))
   where
@@ -336,14 +309,13 @@ deliver_installs setting before row number is have =
 
 hello_count : (setting : Setting) (before : List Item) (body : Body) (now : List Item)
     → version_count (now ++ after_hello setting before body now) ≡ version_count now
-hello_count setting before (Hello s boot) now = by_new (is_new_boot before s boot)
-  where
-    by_new : (b : Bool) → version_count (now ++ elim b [
-      | true ↦ installs_to setting s now
-      | false ↦ []
-    ]) ≡ version_count now
-    by_new false = ap version_count (append-nil now)
-    by_new true = (installs_keep setting s now).count
+hello_count setting before (Hello s boot) now = by_new (is_new_boot before s boot) where
+  by_new : (b : Bool) → version_count (now ++ elim b [
+    | true ↦ installs_to setting s now
+    | false ↦ []
+  ]) ≡ version_count now
+  by_new false = ap version_count (append-nil now)
+  by_new true = (installs_keep setting s now).count
 hello_count setting before _ now = ap version_count (append-nil now)
 
 controller_count : (setting : Setting) (before : List Item) (body : Body) (now : List Item)
@@ -351,8 +323,7 @@ controller_count : (setting : Setting) (before : List Item) (body : Body) (now :
 unfolding controller_items
 controller_count setting before body now =
     ap version_count (in_two (settling setting) (after_hello setting before body) now)
-    ∙ hello_count setting before body (now ++ settling setting now)
-    ∙ settling_count setting now
+    ∙ hello_count setting before body (now ++ settling setting now) ∙ settling_count setting now
 
 deliver_count : (setting : Setting) (before : List Item) (row number : ℕ)
     → IsTrue (is_message_to_controller before number)
@@ -362,14 +333,12 @@ deliver_count setting before row number is =
     let here : List Item = before ++ item.Row row (Deliver number) ∷ [] in
     let next : Item = item.Delivered number in
     let now : List Item = here ++ next ∷ [] in
-    let same : version_count here ≡ version_count before =
-    count_more before (item.Row row (Deliver number)) in
+    let same = count_more before (item.Row row (Deliver number)) in
     let told = told_is before number is in
     deliver_cases (λ js. version_count js ≡ version_count before) setting before number here
     (count_more here item.Nothing ∙ same)
-    (ap (λ items. version_count (now ++ items))
-    (delivery_told setting before number told.0 now told.1)
-    ∙ controller_count setting before told.0 now ∙ count_more here next ∙ same)
+    (ap (λ items. version_count (now ++ items)) (delivery_told setting before number told.0 now
+    told.1) ∙ controller_count setting before told.0 now ∙ count_more here next ∙ same)
 
 -- ---- an update, and a confirmation
 
@@ -383,9 +352,8 @@ newest_sent setting now s there none = record {
   of = refl;
   sent = sends_all now _ (install_for setting now (version_count now) s)
       (in_map (install_for setting now (version_count now)) s _
-      (in_filter (λ t. not (is_over now t)) s (switches_of setting)
-      (in_range s 0 (length setting.net.switches) (omega arith) (omega (arith, there)))
-      (ap not none)));
+      (in_filter (λ t. not (is_over now t)) s (switches_of setting) (in_range s 0
+      (length setting.net.switches) (omega arith) (omega (arith, there))) (ap not none)));
 }
 
 pub all_keep : (setting : Setting) (now : List Item)
@@ -399,25 +367,21 @@ all_installs : (setting : Setting) (last : ℕ) (now : List Item)
     → last + 1 ≡ version_count now → HaveInstalls setting (λ s. ⊥) last now
     → HaveInstalls setting (λ s. ⊥) (last + 1) (now ++ installs_to_all setting now)
 all_installs setting last now is have = record {
-  each = λ s version there none above below.
-      elim (cases_eq version (version_count now)) [
-        | inl newest ↦ inr (inr (subst (λ v. TablesSent after s (known_boot after s) v) (sym newest)
-            (subst (λ b. TablesSent after s b (version_count now)) (sym (keeps.known s))
-            (newest_sent setting now s there (sym (keeps.over s) ∙ none)))))
-        | inr older ↦ (kept have).each s version there none above
-            (omega (arith, older, below, is))
-      ];
-}
-  where
-    after : List Item
-    after = now ++ installs_to_all setting now
+  each = λ s version there none above below. elim (cases_eq version (version_count now)) [
+    | inl newest ↦ inr (inr (rw newest
+        (rw (keeps.known s) (newest_sent setting now s there (sym (keeps.over s) ∙ none)))))
+    | inr older ↦ (kept have).each s version there none above (omega (arith, older, below, is))
+  ];
+} where
+  after : List Item
+  after = now ++ installs_to_all setting now
 
-    keeps : ControllerKeeps now after
-    keeps = all_keep setting now
+  keeps : ControllerKeeps now after
+  keeps = all_keep setting now
 
-    kept : HaveInstalls setting (λ s. ⊥) last now → HaveInstalls setting (λ s. ⊥) last after
-    kept have = installs_same setting (λ s. ⊥) last now (installs_to_all setting now)
-        keeps.known (λ s none. sym (keeps.over s) ∙ none) (omega (arith, keeps.current)) have
+  kept : HaveInstalls setting (λ s. ⊥) last now → HaveInstalls setting (λ s. ⊥) last after
+  kept have = installs_same setting (λ s. ⊥) last now (installs_to_all setting now)
+      keeps.known (λ s none. sym (keeps.over s) ∙ none) (omega (arith, keeps.current)) have
 
 -- tables of all versions that are there
 abbrev pub AllInstalled : Setting → List Item → Type 0
@@ -428,30 +392,24 @@ counted_on : (setting : Setting) (before : List Item) (next : Item)
     → Both (HasItemCause setting) IsPlain before next
     → version_count (before ++ next ∷ []) ≡ version_count before
     → AllInstalled setting before → AllInstalled setting (before ++ next ∷ [])
-counted_on setting before next both same have =
-    subst (λ m. HaveInstalls setting (λ s. ⊥) m (before ++ next ∷ [])) (sym same)
+counted_on setting before next both same have = rw same
     (installs_on setting (λ s. ⊥) (version_count before) before next both have)
 
 -- and settling behind a version that may be new
 settled_installs : (setting : Setting) (last : ℕ) (now : List Item) → last ≡ version_count now
     → HaveInstalls setting (λ s. ⊥) last now → AllInstalled setting (now ++ settling setting now)
-settled_installs setting last now same have =
-    subst (λ m. HaveInstalls setting (λ s. ⊥) m (now ++ settling setting now))
-    (same ∙ sym (settling_count setting now))
+settled_installs setting last now same have = rw (same ∙ sym (settling_count setting now)) at
     (settling_installs setting (λ s. ⊥) last now have)
 
 update_installs : (setting : Setting) (file : ℕ) (here : List Item) → AllInstalled setting here
     → AllInstalled setting (here ++ update_items setting file here)
-update_installs setting file here have =
-    update_cases (AllInstalled setting) setting file here
+update_installs setting file here have = update_cases (AllInstalled setting) setting file here
     (λ code. counted_on setting here (item.Refused file code) (record { first = tt; second = tt })
     (count_more here (item.Refused file code)) have)
     (settled_installs setting (version_count here + 1) (now ++ installs_to_all setting now)
-    (more ∙ sym (all_keep setting now).count)
-    (all_installs setting (version_count here) now more
-    (installs_same setting (λ s. ⊥) (version_count here) here (next ∷ [])
-    (λ s. known_more here next s) (λ s none. sym (over_more here next s) ∙ none)
-    (omega (arith, current_more here next)) have)))
+    (more ∙ sym (all_keep setting now).count) (all_installs setting (version_count here) now more
+    (installs_same setting (λ s. ⊥) (version_count here) here (next ∷ []) (λ s. known_more here next
+    s) (λ s none. sym (over_more here next s) ∙ none) (omega (arith, current_more)) have)))
   where
     next : Item
     next = item.Submitted file (version_count here + 1)
@@ -464,15 +422,13 @@ update_installs setting file here have =
 
 confirm_installs : (setting : Setting) (s : ℕ) (here : List Item) → AllInstalled setting here
     → AllInstalled setting (here ++ confirm_items setting s here)
-confirm_installs setting s here have =
-    let next : Item = item.OverNow s in
+confirm_installs setting s here have = let next : Item = item.OverNow s in
     confirm_cases (AllInstalled setting) setting s here
     (counted_on setting here item.Nothing (record { first = tt; second = tt })
     (count_more here item.Nothing) have)
     (settled_installs setting (version_count here) (here ++ next ∷ []) (sym (count_more here next))
-    (installs_same setting (λ t. ⊥) (version_count here) here (next ∷ [])
-    (λ t. known_more here next t) (λ t none. plain_over here next tt t none)
-    (omega (arith, current_more here next)) have))
+    (installs_same setting (λ t. ⊥) (version_count here) here (next ∷ []) (λ t. known_more here next
+    t) (λ t none. plain_over here next tt t none) (omega (arith, current_more here next)) have))
 
 -- ---- steps
 
@@ -481,12 +437,10 @@ told_installs : (setting : Setting) (before : List Item) (row : ℕ) (step : Ste
     AllInstalled setting here → AllInstalled setting (here ++ step_items setting before step here)
 told_installs setting before row (Deliver number) is = λ have.
     let here : List Item = before ++ item.Row row (Deliver number) ∷ [] in
-    subst (λ m. HaveInstalls setting (λ s. ⊥) m
-    (here ++ deliver_items setting before number here))
+    subst (λ m. HaveInstalls setting (λ s. ⊥) m (here ++ deliver_items setting before number here))
     (sym (deliver_count setting before row number is))
     (deliver_installs setting before row number is
-    (subst (λ m. HaveInstalls setting (λ s. ⊥) m here)
-    (count_more before (item.Row row (Deliver number))) have))
+    (rw (count_more before (item.Row row (Deliver number))) at have))
 told_installs setting before row (Update file) is =
     update_installs setting file (before ++ item.Row row (Update file) ∷ [])
 told_installs setting before row (Confirm s) is =
@@ -500,29 +454,24 @@ other_installs setting before row step is have =
     let keeps = others_keep setting before row step is in
     subst (λ m. HaveInstalls setting (λ s. ⊥) m (before ++ piece setting before row step))
     (sym keeps.count)
-    (installs_same setting (λ s. ⊥) (version_count before) before
-    (piece setting before row step) keeps.known (λ s none. sym (keeps.over s) ∙ none)
-    (omega (arith, keeps.current)) have)
+    (installs_same setting (λ s. ⊥) (version_count before) before (piece setting before row step)
+    keeps.known (λ s none. sym (keeps.over s) ∙ none) (omega (arith, keeps.current)) have)
 
 pub piece_installs : (setting : Setting) (before : List Item) (row : ℕ) (step : Step)
     → AllInstalled setting before → AllInstalled setting (before ++ piece setting before row step)
-piece_installs setting before row step have = by_kind (asks_controller before step) refl
-  where
-    by_kind : (b : Bool) → asks_controller before step ≡ b
-        → AllInstalled setting (before ++ piece setting before row step)
-    by_kind false e = other_installs setting before row step e have
-    by_kind true e =
-        behind_piece setting before row step (AllInstalled setting)
-        (told_installs setting before row step e
-        (counted_on setting before (item.Row row step) (record { first = tt; second = tt })
-        (count_more before (item.Row row step)) have))
+piece_installs setting before row step have = by_kind (asks_controller before step) refl where
+  by_kind : (b : Bool) → asks_controller before step ≡ b
+      → AllInstalled setting (before ++ piece setting before row step)
+  by_kind false e = other_installs setting before row step e have
+  by_kind true e = behind_piece setting before row step (AllInstalled setting)
+      (told_installs setting before row step e (counted_on setting before (item.Row row step)
+      (record { first = tt; second = tt }) (count_more before (item.Row row step)) have))
 
 -- each switch begins with the first version
 pub installs_at_first : (setting : Setting) → AllInstalled setting []
 installs_at_first setting = record {
-  each = λ s version there none above below.
-      inr (inl (
-        omega (arith, above, below, start_laws.current, start_laws.count),
-        start_laws.known s,
-      ));
+  each = λ s version there none above below. inr (inl (
+    omega (arith, above, below, start_laws.current, start_laws.count),
+    start_laws.known s,
+  ));
 }

@@ -23,30 +23,24 @@ mask_known : (setting : Setting) (journal : List Item) (s z : ℕ) → s < 64
     → slice_index (named_links (adverts_known setting journal s) s (near setting journal s)) z
     ≡ near setting journal z
 unfolding named_links own_advert
-mask_known setting journal s z small holds = by_place (cases_eq z s) holds
-  where
-    rows : List ℕ
-    rows = map neighbours_named (adverts_known setting journal s)
+mask_known setting journal s z small holds = by_place (cases_eq z s) holds where
+  rows : List ℕ
+  rows = map neighbours_named (adverts_known setting journal s)
 
-    within : s < length rows
-    within = omega (
-      arith,
-      small,
-      known_places setting journal s,
-      length-map (adverts_known setting journal s) neighbours_named,
-    )
+  within : s < length rows
+  within = omega (
+    arith,
+    small,
+    known_places setting journal s,
+    length-map (adverts_known setting journal s) neighbours_named,
+  )
 
-    by_place : (z ≡ s) ⊎ (z ≢ s) → HoldsOwn setting journal s z
-        → get_or (set rows s (near setting journal s)) z 0 ≡ near setting journal z
-    by_place (inl same) holds =
-        ap (λ x. get_or (set rows s (near setting journal s)) x 0) same
-        ∙ get_or-set_same rows s (near setting journal s) 0 within
-        ∙ ap (near setting journal) (sym same)
-    by_place (inr apart) (inl same) = absurd (apart (sym same))
-    by_place (inr apart) (inr known) =
-        get_or-set_other rows s z (near setting journal s) 0 apart
-        ∙ claimed_mask (adverts_known setting journal s) z
-        ∙ ap neighbours_named known
+  by_place : (z ≡ s) ⊎ (z ≢ s) → HoldsOwn setting journal s z
+      → get_or (set rows s (near setting journal s)) z 0 ≡ near setting journal z
+  by_place (inl same) holds = cc (same, get_or-set_same rows s (near setting journal s) 0 within)
+  by_place (inr apart) (inl same) = absurd (apart (sym same))
+  by_place (inr apart) (inr known) = get_or-set_other rows s z (near setting journal s) 0 apart
+      ∙ claimed_mask (adverts_known setting journal s) z ∙ ap neighbours_named known
 
 -- ---- known links
 
@@ -56,38 +50,31 @@ pub reach_more : (setting : Setting) (journal : List Item) (from at next : ℕ)
 reach_more setting journal from at next reaches linked = record {
   rest = reaches.rest ++ next ∷ [];
   leads = longer from reaches.rest reaches.leads;
-}
-  where
-    longer : (start : ℕ) (rest : List ℕ) → LeadsOver setting journal at start rest
-        → LeadsOver setting journal next start (rest ++ next ∷ [])
-    longer start [] leads =
-        (subst (λ x. IsTrue (has (near setting journal x) next)) (sym leads) linked, refl)
-    longer start (step ∷ rest) leads = (leads.0, longer step rest leads.1)
+} where
+  longer : (start : ℕ) (rest : List ℕ) → LeadsOver setting journal at start rest
+      → LeadsOver setting journal next start (rest ++ next ∷ [])
+  longer start [] leads = (rw leads linked, refl)
+  longer start (step ∷ rest) leads = (leads.0, longer step rest leads.1)
 
 four : (w x y z : Bool) → w ≡ false → x ≡ true → y ≡ true → z ≡ false
     → (not w && x && y && not z) ≡ true
 four w x y z p q r t = rw (p, q, r, t) refl
 
 known_usable : (setting : Setting) (journal : List Item) → AreAgreed setting journal
-    → (s one other : ℕ) (down : List ℕ) → IsThere setting journal s
-    → Reaches setting journal s one → one < 64 → other < 64
-    → AreJoined (links_known setting journal s down) one other
+    → (s one other : ℕ) (down : List ℕ) → IsThere setting journal s → Reaches setting journal s one
+    → one < 64 → other < 64 → AreJoined (links_known setting journal s down) one other
     → IsTrue (has (near setting journal one) other)
 unfolding is_link
 known_usable setting journal are s one other down is reaches small fits joined =
-    let rows : List ℕ =
-    named_links (adverts_known setting journal s) s (near setting journal s) in
-    let told : is_link rows down one other ≡ true =
-    sym (has_known_link setting journal s down one other small fits) ∙ joined in
-    let named : has (slice_index rows one) other ≡ true = second _ _ _ _ told in
+    let rows = named_links (adverts_known setting journal s) s (near setting journal s) in
     subst (λ mask. IsTrue (has mask other))
     (mask_known setting journal s one (small_of setting are.net s is.there)
-    (reached_holds setting journal are s one is reaches)) named
+    (reached_holds setting journal are s one is reaches))
+    (second _ _ _ _ (sym (has_known_link setting journal s down one other small fits) ∙ joined))
 
 usable_known : (setting : Setting) (journal : List Item) → AreAgreed setting journal
-    → (s one other : ℕ) (down : List ℕ) → IsThere setting journal s
-    → Reaches setting journal s one → AreUnusable setting journal down
-    → IsTrue (has (near setting journal one) other)
+    → (s one other : ℕ) (down : List ℕ) → IsThere setting journal s → Reaches setting journal s one
+    → AreUnusable setting journal down → IsTrue (has (near setting journal one) other)
     → AreJoined (links_known setting journal s down) one other
 unfolding is_link
 usable_known setting journal are s one other down is reaches unusable linked =
@@ -102,47 +89,37 @@ usable_known setting journal are s one other down is reaches unusable linked =
     s_small = small_of setting are.net s is.there
 
     small : one < 64
-    small = small_of setting are.net one
-        (ends_there setting journal one other are.net linked).one
+    small = small_of setting are.net one (ends_there setting journal one other are.net linked).one
 
     fits : other < 64
     fits = small_of setting are.net other
         (ends_there setting journal one other are.net linked).other
 
     apart : (one == other) ≡ false
-    apart = by_test (one == other) refl
-      where
-        by_test : (b : Bool) → (one == other) ≡ b → (one == other) ≡ false
-        by_test false e = e
-        by_test true e =
-            let same : one ≡ other = grind (arith, nat_tests) in
-            let clash : true ≡ false =
-            sym (near_linked setting journal one other linked)
-            ∙ ap (are_linked setting.net.links one) (sym same)
-            ∙ links.not_itself setting.net one are.net in
-            absurd cc
+    apart = by_test (one == other) refl where
+      by_test : (b : Bool) → (one == other) ≡ b → (one == other) ≡ false
+      by_test false e = e
+      by_test true e = absurd (cc (sym (near_linked setting journal one other linked)
+          ∙ ap (are_linked setting.net.links one) (sym (grind (arith, nat_tests)))
+          ∙ links.not_itself setting.net one are.net))
 
     named : has (slice_index rows one) other ≡ true
-    named = ap (λ mask. has mask other)
-        (mask_known setting journal s one s_small
+    named = ap (λ mask. has mask other) (mask_known setting journal s one s_small
         (reached_holds setting journal are s one is reaches)) ∙ linked
 
     back : has (slice_index rows other) one ≡ true
-    back = ap (λ mask. has mask one)
-        (mask_known setting journal s other s_small
-        (reached_holds setting journal are s other is
-        (reach_more setting journal s one other reaches linked)))
+    back =
+        ap (λ mask. has mask one) (mask_known setting journal s other s_small (reached_holds setting
+        journal are s other is (reach_more setting journal s one other reaches linked)))
         ∙ near_both setting journal one other small linked
 
 -- where links lead is a switch with a number below 64
 reached_small : (setting : Setting) (journal : List Item) → AreAgreed setting journal
     → (s target : ℕ) → HasSwitch setting.net s → (rest : List ℕ)
     → LeadsOver setting journal target s rest → target < 64
-reached_small setting journal are s target there [] leads =
-    omega (arith, leads, small_of setting are.net s there)
-reached_small setting journal are s target there (next ∷ rest) leads =
-    reached_small setting journal are next target
-    (ends_there setting journal s next are.net leads.0).other rest leads.1
+reached_small setting journal are s target there [] leads = omega (arith, small_of)
+reached_small setting journal are s target there (next ∷ rest) leads = reached_small setting journal
+    are next target (ends_there setting journal s next are.net leads.0).other rest leads.1
 
 -- ---- routes
 
@@ -177,15 +154,12 @@ stuck_apart : (setting : Setting) (journal : List Item) → AreAgreed setting jo
     → All (λ target. Reaches setting journal s target → ⊥) targets
 stuck_apart setting journal are s targets down there unusable none =
     All-from_recursion (λ target. Reaches setting journal s target → ⊥) targets
-    (each_weaker
-    (λ target. IsReachable (links_known setting journal s down) s target → ⊥)
-    (λ target. Reaches setting journal s target → ⊥)
-    (λ target unreached reaches. unreached
-    (straight_path (links_known setting journal s down) s target reaches.rest
-    (length-known_links (adverts_of_others setting journal s) s (near setting journal s) down)
-    (small_of setting are.net s there)
-    (way_known setting journal are s target down unusable reaches.rest reaches.leads))) targets
-    (unreached setting journal s targets down none))
+    (each_weaker (λ target. IsReachable (links_known setting journal s down) s target → ⊥)
+    (λ target. Reaches setting journal s target → ⊥) (λ target unreached reaches. unreached
+    (straight_path (links_known setting journal s down) s target reaches.rest (length-known_links
+    (adverts_of_others setting journal s) s (near setting journal s) down) (small_of setting are.net
+    s there) (way_known setting journal are s target down unusable reaches.rest reaches.leads)))
+    targets (unreached setting journal s targets down none))
 
 -- ---- together
 

@@ -1,5 +1,5 @@
 -- Elements of lists.
-use Rattle.std.proofs.Common.{[], if◌then◌else◌, ◌++◌, ◌+◌, ◌<◌, ◌∙◌, ◌∷◌, ◌≡◌, ◌≤◌, ◌⊎◌, All, Any, Bool, IsTrue, List, None, Option, Some, ap, arith, false, filter, filter_map, flat_map, inl, inr, length, map, refl, slice_index_or, subst, suc, sym, true, zero, ℕ}
+use Rattle.std.proofs.Common.{[], if◌then◌else◌, ◌++◌, ◌+◌, ◌<◌, ◌∙◌, ◌∷◌, ◌≡◌, ◌≤◌, ◌⊎◌, All, Bool, IsTrue, List, None, Option, Some, ap, arith, false, filter, filter_map, flat_map, inl, inr, length, map, refl, slice_index_or, subst, suc, sym, true, zero, ℕ}
 use Rattle.base.proofs.Exports.{AllByRecursion, cases_eq, cons_option, range_with_len, recursion_from_All}
 
 -- the list has the element
@@ -41,8 +41,7 @@ all_in P x xs all is = each_in P x xs (recursion_from_All P xs all) is
 pub each_of_in : {X : Type 0} (P : X → Type 0) (xs : List X) → ((x : X) → IsIn x xs → P x)
     → AllByRecursion P xs
 each_of_in P [] all = tt
-each_of_in P (x ∷ xs) all =
-    (all x (inl refl), each_of_in P xs (λ y is. all y (inr is)))
+each_of_in P (x ∷ xs) all = (all x (inl refl), each_of_in P xs (λ y is. all y (inr is)))
 
 pub in_map : {X Y : Type 0} (f : X → Y) (x : X) (xs : List X) → IsIn x xs → IsIn (f x) (map f xs)
 in_map f x [] is = absurd is
@@ -54,33 +53,28 @@ in_map f x (y ∷ xs) is = elim is [
 pub in_filter : {X : Type 0} (test : X → Bool) (x : X) (xs : List X) → IsIn x xs
     → IsTrue (test x) → IsIn x (filter test xs)
 in_filter test x [] is passes = absurd is
-in_filter {X = X} test x (y ∷ xs) is passes = by_test (test y) refl is (in_filter test x xs)
-  where
-    by_test : (b : Bool) → test y ≡ b → (y ≡ x) ⊎ IsIn x xs
-        → (IsIn x xs → IsTrue (test x) → IsIn x (filter test xs))
-        → IsIn x (if b then y ∷ filter test xs else filter test xs)
-    by_test true e is rest = elim is [
-      | inl here ↦ inl here
-      | inr later ↦ inr (rest later passes)
-    ]
-    by_test false e is rest = elim is [
-      | inl here ↦ let no : false ≡ true = sym e ∙ ap test here ∙ passes in absurd cc
-      | inr later ↦ rest later passes
-    ]
+in_filter {X = X} test x (y ∷ xs) is passes = by_test (test y) refl is (in_filter test x xs) where
+  by_test : (b : Bool) → test y ≡ b → (y ≡ x) ⊎ IsIn x xs
+      → (IsIn x xs → IsTrue (test x) → IsIn x (filter test xs))
+      → IsIn x (if b then y ∷ filter test xs else filter test xs)
+  by_test true e is rest = elim is [ inl here ↦ inl here | inr later ↦ inr (rest later passes) ]
+  by_test false e is rest = elim is [
+    | inl here ↦ let no : false ≡ true = sym e ∙ ap test here ∙ passes in absurd cc
+    | inr later ↦ rest later passes
+  ]
 
 pub of_filter : {X : Type 0} (test : X → Bool) (x : X) (xs : List X) → IsIn x (filter test xs)
     → IsIn x xs × IsTrue (test x)
 of_filter test x [] is = absurd is
-of_filter {X = X} test x (y ∷ xs) is = by_test (test y) refl is (of_filter test x xs)
-  where
-    by_test : (b : Bool) → test y ≡ b → IsIn x (if b then y ∷ filter test xs else filter test xs)
-        → (IsIn x (filter test xs) → IsIn x xs × IsTrue (test x))
-        → ((y ≡ x) ⊎ IsIn x xs) × IsTrue (test x)
-    by_test true e is rest = elim is [
-      | inl here ↦ (inl here, sym (ap test here) ∙ e)
-      | inr later ↦ let parts = rest later in (inr parts.0, parts.1)
-    ]
-    by_test false e is rest = let parts = rest is in (inr parts.0, parts.1)
+of_filter {X = X} test x (y ∷ xs) is = by_test (test y) refl is (of_filter test x xs) where
+  by_test : (b : Bool) → test y ≡ b → IsIn x (if b then y ∷ filter test xs else filter test xs)
+      → (IsIn x (filter test xs) → IsIn x xs × IsTrue (test x))
+      → ((y ≡ x) ⊎ IsIn x xs) × IsTrue (test x)
+  by_test true e is rest = elim is [
+    | inl here ↦ (inl here, sym (ap test here) ∙ e)
+    | inr later ↦ let parts = rest later in (inr parts.0, parts.1)
+  ]
+  by_test false e is rest = let parts = rest is in (inr parts.0, parts.1)
 
 pub in_flat_map : {X Y : Type 0} (f : X → List Y) (x : X) (y : Y) (xs : List X) → IsIn x xs
     → IsIn y (f x) → IsIn y (flat_map f xs)
@@ -113,37 +107,27 @@ in_at [] k x within is = absurd (omega arith)
 in_at (y ∷ xs) zero x within is = inl is
 in_at (y ∷ xs) (suc k) x within is = inr (in_at xs k x (omega (arith, within)) is)
 
-pub some_in : {X : Type 0} (P : X → Type 0) (xs : List X) → Any P xs
-    → (x : X) × IsIn x xs × P x
-some_in P xs some = (some.1, in_at xs some.0 some.1 some.2 some.3, some.4)
-
 -- what a test that tells something tells of elements
 pub in_filter_map : {X Y : Type 0} (f : X → Option Y) (x : X) (y : Y) (xs : List X) → IsIn x xs
     → f x ≡ Some y → IsIn y (filter_map f xs)
 in_filter_map f x y [] is told = absurd is
 in_filter_map {Y = Y} f x y (z ∷ xs) is told = elim is [
-  | inl here ↦
-      let told_here : f z ≡ Some y = ap f here ∙ told in
-      subst (λ o. IsIn y (cons_option o (filter_map f xs))) (sym told_here) (inl refl)
+  | inl here ↦ rw (ap f here ∙ told) (inl refl)
   | inr later ↦ by_told (f z) (in_filter_map f x y xs later told)
-]
-  where
-    by_told : (o : Option Y) → IsIn y (filter_map f xs)
-        → IsIn y (cons_option o (filter_map f xs))
-    by_told None is = is
-    by_told (Some w) is = inr is
+] where
+  by_told : (o : Option Y) → IsIn y (filter_map f xs) → IsIn y (cons_option o (filter_map f xs))
+  by_told None is = is
+  by_told (Some w) is = inr is
 
 pub of_filter_map : {X Y : Type 0} (f : X → Option Y) (y : Y) (xs : List X)
     → IsIn y (filter_map f xs) → (x : X) × IsIn x xs × (f x ≡ Some y)
 of_filter_map f y [] is = absurd is
-of_filter_map {X = X} {Y = Y} f y (z ∷ xs) is =
-    by_told (f z) refl is (of_filter_map f y xs)
-  where
-    by_told : (o : Option Y) → f z ≡ o → IsIn y (cons_option o (filter_map f xs))
-        → (IsIn y (filter_map f xs) → (x : X) × IsIn x xs × (f x ≡ Some y))
-        → (x : X) × IsIn x (z ∷ xs) × (f x ≡ Some y)
-    by_told None e is rest = let found = rest is in (found.0, inr found.1, found.2)
-    by_told (Some w) e is rest = elim is [
-      | inl here ↦ (z, inl refl, e ∙ ap Some here)
-      | inr later ↦ let found = rest later in (found.0, inr found.1, found.2)
-    ]
+of_filter_map {X = X} {Y = Y} f y (z ∷ xs) is = by_told (f z) refl is (of_filter_map f y xs) where
+  by_told : (o : Option Y) → f z ≡ o → IsIn y (cons_option o (filter_map f xs))
+      → (IsIn y (filter_map f xs) → (x : X) × IsIn x xs × (f x ≡ Some y))
+      → (x : X) × IsIn x (z ∷ xs) × (f x ≡ Some y)
+  by_told None e is rest = let found = rest is in (found.0, inr found.1, found.2)
+  by_told (Some w) e is rest = elim is [
+    | inl here ↦ (z, inl refl, e ∙ ap Some here)
+    | inr later ↦ let found = rest later in (found.0, inr found.1, found.2)
+  ]

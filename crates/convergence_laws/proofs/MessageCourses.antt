@@ -24,8 +24,7 @@ sent_by before _ = []
 pub sendings_more : (before : List Item) (next : Item)
     → sendings (before ++ next ∷ []) ≡ sendings before ++ sent_by before next
 unfolding sendings
-sendings_more before next =
-    folded_append changes_sendings [] before (next ∷ []) ∙ by_item next
+sendings_more before next = cc (folded_append changes_sendings [] before (next ∷ []), by_item next)
   where
     by_item : (next : Item) → changes_sendings before (sendings before) next
         ≡ sendings before ++ sent_by before next
@@ -52,8 +51,7 @@ sent_stays before next message sent = record {
 pub sent_on : (journal items : List Item) (message : Message) → IsSent journal message
     → IsSent (journal ++ items) message
 sent_on journal [] message sent = subst (λ now. IsSent now message) (sym (append-nil journal)) sent
-sent_on journal (next ∷ items) message sent =
-    subst (λ now. IsSent now message) (append_assoc journal (next ∷ []) items)
+sent_on journal (next ∷ items) message sent = rw (append_assoc journal (next ∷ []) items) at
     (sent_on (journal ++ next ∷ []) items message (sent_stays journal next message sent))
 
 pub sent_now : (before : List Item) (number : ℕ) (message : Message)
@@ -70,8 +68,7 @@ pub all_sent : (journal : List Item) (n : ℕ) (messages : List Message) (messag
     → IsIn message messages → IsSent (journal ++ sent_from n messages) message
 unfolding sent_from
 all_sent journal n [] message is = absurd is
-all_sent journal n (first ∷ messages) message is =
-    let next : Item = item.Sent n first in
+all_sent journal n (first ∷ messages) message is = let next : Item = item.Sent n first in
     subst (λ now. IsSent now message)
     (append_assoc journal (next ∷ []) (sent_from (n + 1) messages))
     (elim is [
@@ -82,8 +79,7 @@ all_sent journal n (first ∷ messages) message is =
 
 pub sends_all : (journal : List Item) (messages : List Message) (message : Message)
     → IsIn message messages → IsSent (journal ++ send_items journal messages) message
-sends_all journal messages message is =
-    all_sent journal (next_message journal) messages message is
+sends_all journal messages message is = all_sent journal (next_message journal) messages message is
 
 -- ---- what one more item makes of numbers and deliveries
 
@@ -155,13 +151,12 @@ IsSentFirst before _ = ⊤
 pub deliverable_sent : (journal : List Item) (number : ℕ) → is_deliverable journal number ≡ true
     → (message : Message) × (message_of journal number ≡ Some message)
 unfolding is_deliverable
-deliverable_sent journal number is = by_message (message_of journal number) refl is
-  where
-    by_message : (o : Option Message) → message_of journal number ≡ o
-        → (is_some o && not (is_forgotten journal number)) ≡ true
-        → (message : Message) × (message_of journal number ≡ Some message)
-    by_message None e is = absurd cc
-    by_message (Some message) e is = (message, e)
+deliverable_sent journal number is = by_message (message_of journal number) refl is where
+  by_message : (o : Option Message) → message_of journal number ≡ o
+      → (is_some o && not (is_forgotten journal number)) ≡ true
+      → (message : Message) × (message_of journal number ≡ Some message)
+  by_message None e is = absurd cc
+  by_message (Some message) e is = (message, e)
 
 plain_sent_first : (before : List Item) (next : Item) → plain.IsPlain before next
     → IsSentFirst before next
@@ -182,9 +177,8 @@ abbrev pub IsInOrder : Setting → List Item → Item → Type 0
 IsInOrder setting = Both (HasItemCause setting) (Both TakesNext IsSentFirst)
 
 pub pieces_in_order : (setting : Setting) → PiecesHave (IsInOrder setting) setting
-pieces_in_order setting journal row step =
-    have_both (HasItemCause setting) (Both TakesNext IsSentFirst) journal _
-    (boots.pieces_have setting journal row step)
+pieces_in_order setting journal row step = have_both (HasItemCause setting)
+    (Both TakesNext IsSentFirst) journal _ (boots.pieces_have setting journal row step)
     (have_both TakesNext IsSentFirst journal _ (piece_next setting journal row step)
     (plain.pieces_have IsSentFirst sent_first_others plain_sent_first setting journal row step))
 
@@ -212,13 +206,11 @@ delivered_grows before number s body is =
     by_said None = is
     by_said (Some b) = in_left body (heard before s) (b ∷ []) is
 
-heard_grows : (before : List Item) (next : Item) (s : ℕ) (body : Body)
-    → IsFalse (turns s next) → IsIn body (heard before s)
-    → IsIn body (heard (before ++ next ∷ []) s)
+heard_grows : (before : List Item) (next : Item) (s : ℕ) (body : Body) → IsFalse (turns s next)
+    → IsIn body (heard before s) → IsIn body (heard (before ++ next ∷ []) s)
 heard_grows before (item.Down t) s body same is = grind (arith, heard_more)
 heard_grows before (item.Booted t boot) s body same is = grind (arith, heard_more)
-heard_grows before (item.Delivered number) s body same is =
-    delivered_grows before number s body is
+heard_grows before (item.Delivered number) s body same is = delivered_grows before number s body is
 heard_grows before next s body same is = rw (heard_more before next s) is
 
 -- what is delivered to the switch in its boot it hears
@@ -227,11 +219,9 @@ delivery_heard : (before : List Item) (s number : ℕ) (body : Body)
     → IsTrue (is_for_boot (boot_of before s) body)
     → IsIn body (heard (before ++ item.Delivered number ∷ []) s)
 delivery_heard before s number body sent up own =
-    let here : (s == s) ≡ true = eq-eqb s s refl in
-    let is_up_here : is_up before s ≡ true = up in
     let for_it : is_for_boot (boot_of before s) body ≡ true = own in
     let said : body_to_switch before s number ≡ Some body =
-    rw (sent, here, is_up_here, for_it, body_to_switch) refl in
+    rw (sent, eq-eqb s s refl, up, for_it, body_to_switch) refl in
     rw (heard_more before (item.Delivered number) s, said)
     (in_right body (heard before s) (body ∷ []) (inl refl))
 
@@ -264,8 +254,7 @@ switch_heard : (before : List Item) (next : Item) (s : ℕ) (x : Sending) (to : 
 switch_heard before (item.Delivered number) s x to is sent on course own delivered =
     elim (delivered_either before number x.number delivered) [
       | inl same ↦ delivery_heard before s number x.message.body
-          (ap (message_of before) same ∙ sent ∙ ap Some is) on.up
-          (subst (λ b. IsTrue (is_for_boot b x.message.body)) on.own own)
+          (ap (message_of before) same ∙ sent ∙ ap Some is) on.up (rw on.own at own)
       | inr was ↦ heard_grows before (item.Delivered number) s x.message.body refl
           (course.heard on.up on.own own was)
     ]
@@ -280,9 +269,8 @@ switch_on : (setting : Setting) (before : List Item) (next : Item) (s : ℕ) (x 
 switch_on setting before next s x cause sent course = record {
   own = omega (arith, course.own, boot_rises setting before next s cause);
   past = course.past;
-  heard = λ up own for delivered.
-      switch_heard before next s x (to_switch s x.message.body) refl sent
-      (goes_on setting before next s x.boot cause course.own up own) course for delivered;
+  heard = λ up own for delivered. switch_heard before next s x (to_switch s x.message.body) refl
+      sent (goes_on setting before next s x.boot cause course.own up own) course for delivered;
 }
 
 told_on : (before : List Item) (next : Item) (x : Sending)
@@ -320,33 +308,25 @@ traced_on setting before next x cause traced = record {
 new_course : (before : List Item) (number : ℕ) (to : Place) (body : Body)
     → IsKnown (before ++ item.Sent number (record { to = to; body = body }) ∷ [])
     → IsFalse (was_delivered before number)
-    → Course (before ++ item.Sent number (record { to = to; body = body }) ∷ []) to
-    (record {
+    → Course (before ++ item.Sent number (record { to = to; body = body }) ∷ []) to (record {
       number = number;
       message = record { to = to; body = body };
       boot = boot_at before to;
     })
 new_course before number (receiver.Switch s) body known fresh =
     let next : Item = item.Sent number (to_switch s body) in
-    let here : (number == number) ≡ true = eq-eqb number number refl in
-    let sent : message_of (before ++ next ∷ []) number ≡ Some (to_switch s body) =
-    rw (message_more before next number, here) refl in
-    let below = known.boots.known s in
     let same : boot_of (before ++ next ∷ []) s ≡ boot_of before s = boot_more before next s in
     record {
       own = omega (arith, same);
-      past = IfSome_then (body_boot body) (known.boots.sent number (to_switch s body) sent)
-          (λ boot past. omega (arith, past, below, same));
+      past = IfSome_then (body_boot body) (known.boots.sent number (to_switch s body)
+          (rw (message_more before next number, eq-eqb number number refl) refl))
+          (λ boot past. omega (arith, past, known.boots.known s, same));
       heard = λ up own for delivered.
-          let no : false ≡ true =
-          sym fresh ∙ (rw (delivered_more before next number) at delivered) in
-          absurd cc;
+          let no = sym fresh ∙ (rw (delivered_more before next number) at delivered) in absurd cc;
     }
-new_course before number receiver.Controller body known fresh =
-    λ delivered.
-    let next : Item = item.Sent number (to_controller body) in
-    let no : false ≡ true = sym fresh ∙ (rw (delivered_more before next number) at delivered) in
-    absurd cc
+new_course before number receiver.Controller body known fresh = λ delivered. let next : Item =
+    item.Sent number (to_controller body) in
+    absurd (cc (sym fresh ∙ (rw (delivered_more before next number) at delivered)))
 
 new_traced : (setting : Setting) (before : List Item) (number : ℕ) (message : Message)
     → IsInOrder setting before (item.Sent number message) → AreTraced before
@@ -354,12 +334,10 @@ new_traced : (setting : Setting) (before : List Item) (number : ℕ) (message : 
     (record { number = number; message = message; boot = boot_at before message.to })
 new_traced setting before number message cause are =
     let next : Item = item.Sent number message in
-    let here : (number == number) ≡ true = eq-eqb number number refl in
-    let takes : number ≡ next_message before = cause.second.first in
-    record {
+    let takes : number ≡ next_message before = cause.second.first in record {
       first = omega (arith, takes, next_first before);
       number = rw (next_more before next) (omega (arith, takes));
-      message = rw (message_more before next number, here) refl;
+      message = rw (message_more before next number, eq-eqb number number refl) refl;
       course = new_course before number message.to message.body
           (known_kept setting before next cause.first are.known)
           (by_test (was_delivered before number) refl);
@@ -367,13 +345,10 @@ new_traced setting before number message cause are =
   where
     by_test : (b : Bool) → was_delivered before number ≡ b → IsFalse (was_delivered before number)
     by_test false e = e
-    by_test true e =
-        let takes : number ≡ next_message before = cause.second.first in
-        absurd (omega (arith, are.delivered number e, takes))
+    by_test true e = absurd (omega (arith, are.delivered number e, cause.second.first))
 
-sent_traced : (setting : Setting) (before : List Item) (next : Item)
-    → IsInOrder setting before next → AreTraced before
-    → AllByRecursion (IsTraced (before ++ next ∷ [])) (sent_by before next)
+sent_traced : (setting : Setting) (before : List Item) (next : Item) → IsInOrder setting before next
+    → AreTraced before → AllByRecursion (IsTraced (before ++ next ∷ [])) (sent_by before next)
 sent_traced setting before (item.Sent number message) cause are =
     (new_traced setting before number message cause are, tt)
 sent_traced setting before _ cause are = tt
@@ -382,8 +357,7 @@ sent_traced setting before _ cause are = tt
 
 sent_below : (setting : Setting) (before : List Item) (next : Item) (n : ℕ) (message : Message)
     → IsInOrder setting before next → AreTraced before
-    → message_of (before ++ next ∷ []) n ≡ Some message
-    → n < next_message (before ++ next ∷ [])
+    → message_of (before ++ next ∷ []) n ≡ Some message → n < next_message (before ++ next ∷ [])
 sent_below setting before (item.Sent number sent) n message cause are is =
     by_test (number == n) refl
   where
@@ -391,12 +365,8 @@ sent_below setting before (item.Sent number sent) n message cause are is =
     next = item.Sent number sent
 
     by_test : (b : Bool) → (number == n) ≡ b → n < next_message (before ++ next ∷ [])
-    by_test true e =
-        let takes : number ≡ next_message before = cause.second.first in
-        rw (next_more before next) (omega (arith, takes, eqb-true number n e))
-    by_test false e =
-        let was : message_of before n ≡ Some message =
-        rw (message_more before next n, e) at is in
+    by_test true e = rw next_more (omega (arith, cause.second.first, eqb-true))
+    by_test false e = let was = rw (message_more before next n, e) at is in
         omega (arith, are.sent n message was, next_rises before next)
 sent_below setting before next n message cause are is =
     let was : message_of before n ≡ Some message = rw (message_more before next n) at is in
@@ -413,13 +383,11 @@ delivered_below setting before (item.Delivered number) n cause are is =
 
     by_test : (b : Bool) → (number == n) ≡ b → IsTrue (b || was_delivered before n)
         → n < next_message (before ++ next ∷ [])
-    by_test true e was =
-        let sent = cause.second.second in
+    by_test true e was = let sent = cause.second.second in
         omega (arith, are.sent number sent.0 sent.1, eqb-true number n e, next_rises before next)
     by_test false e was = omega (arith, are.delivered n was, next_rises before next)
 delivered_below setting before next n cause are is =
-    let was : IsTrue (was_delivered before n) = rw (delivered_more before next n) at is in
-    omega (arith, are.delivered n was, next_rises before next)
+    omega (arith, are.delivered n (rw (delivered_more before next n) at is), next_rises before next)
 
 forgotten_below : (setting : Setting) (before : List Item) (next : Item) (n : ℕ)
     → IsInOrder setting before next → AreTraced before
@@ -432,13 +400,11 @@ forgotten_below setting before (item.Forgotten number) n cause are is =
 
     by_test : (b : Bool) → (number == n) ≡ b → IsTrue (b || is_forgotten before n)
         → n < next_message (before ++ next ∷ [])
-    by_test true e was =
-        let sent = cause.second.second in
+    by_test true e was = let sent = cause.second.second in
         omega (arith, are.sent number sent.0 sent.1, eqb-true number n e, next_rises before next)
     by_test false e was = omega (arith, are.forgotten n was, next_rises before next)
 forgotten_below setting before next n cause are is =
-    let was : IsTrue (is_forgotten before n) = rw (forgotten_more before next n) at is in
-    omega (arith, are.forgotten n was, next_rises before next)
+    omega (arith, are.forgotten n (rw (forgotten_more before next n) at is), next_rises before next)
 
 pub traced_kept : (setting : Setting) → AreKept (IsInOrder setting) AreTraced
 traced_kept setting before next cause are = record {

@@ -1,7 +1,7 @@
 -- The laws on news and on known links, behind any steps.
 use Rattle.std.proofs.Common.{[], if◌then◌else◌, ◌==◌, ◌∙◌, ◌∷◌, ◌≡◌, ◌≢◌, ◌⊎◌, Contains, IsTrue, List, None, Some, ap, arith, eq-eqb, eqb-true, false, inl, inr, refl, subst, suc, sym, true, zero, ℕ}
-use Rattle.base.proofs.Exports.{and_parts, list_any, nat_tests}
-use Rattle.update_machine.specs.Exports.{Advert, Advertise, Body, HaveCauses, IsQuiet, Item, Setting, StepOfRow, after_steps, begins_boot, boot_of, heard, is_for_boot, is_later_body, is_up, other_advert, sendings}
+use Rattle.base.proofs.Exports.{and_parts, nat_tests}
+use Rattle.update_machine.specs.Exports.{Advert, Advertise, Body, HaveCauses, IsQuiet, Item, Setting, StepOfRow, after_steps, boot_of, heard, is_for_boot, is_later_body, is_up, other_advert, sendings}
 use Rattle.ctrl_msg.specs.declared.message.Place.TheVariants as receiver
 use Rattle.failover.specs.Exports.{is_newer}
 use Rattle.net_file.specs.Exports.{IsNet}
@@ -43,18 +43,14 @@ news_spread setting journal are s neighbour origin a linked small known =
 
 -- ---- in a quiet journal what was told was heard
 
-later_advert : (body : Body) (b : Advert)
-    → (body ≡ Advertise b) ⊎ IsTrue (is_later_body body (Advertise b))
-    → (c : Advert) × (body ≡ Advertise c) × IsAsNew c b
+later_advert : (body : Body) (b : Advert) → (body ≡ Advertise b)
+    ⊎ IsTrue (is_later_body body (Advertise b)) → (c : Advert) × (body ≡ Advertise c) × IsAsNew c b
 later_advert body b (inl same) = (b, same, as_new_itself b)
 later_advert (Advertise c) b (inr more) =
     let parts = and_parts (c.origin == b.origin) (is_newer c b) more in (
       c,
       refl,
-      record {
-        origin = eqb-true c.origin b.origin parts.0;
-        new = older b c parts.1;
-      },
+      record { origin = eqb-true c.origin b.origin parts.0; new = older b c parts.1 },
     )
   where
     older : (x z : Advert) → is_newer z x ≡ true → is_newer x z ≡ false
@@ -70,35 +66,28 @@ told_given setting journal s b quiet causes there up other told = record {
   as_new = says.2;
   given = inr (in_filter_map (other_advert s) (Advertise says.0) says.0 (heard journal s)
       (subst (λ body. IsIn body (heard journal s)) says.1 heard_it) told_of);
-}
-  where
-    later : IsGot journal (receiver.Switch s) (Advertise b)
-    later = got setting journal s told.number (boot_of journal s) (receiver.Switch s) (Advertise b)
-        quiet causes there told.is refl
-        (λ after since.
-        let here : is_up journal s ≡ true = up in
-        let to : (s == s) ≡ true = eq-eqb s s refl in
-        let same : list_any (begins_boot s) after ≡ false = since in
-        rw (here, to, same) refl)
+} where
+  later : IsGot journal (receiver.Switch s) (Advertise b)
+  later = got setting journal s told.number (boot_of journal s) (receiver.Switch s) (Advertise b)
+      quiet causes there told.is refl (λ after since. let to : (s == s) ≡ true = eq-eqb s s refl in
+      rw (up, to, since) refl)
 
-    says : (c : Advert) × (later.body ≡ Advertise c) × IsAsNew c b
-    says = later_advert later.body b later.says
+  says : (c : Advert) × (later.body ≡ Advertise c) × IsAsNew c b
+  says = later_advert later.body b later.says
 
-    for_it : IsTrue (is_for_boot later.boot later.body)
-    for_it = subst (λ body. IsTrue (is_for_boot later.boot body)) (sym says.1) refl
+  for_it : IsTrue (is_for_boot later.boot later.body)
+  for_it = subst (λ body. IsTrue (is_for_boot later.boot body)) (sym says.1) refl
 
-    heard_it : IsIn later.body (heard journal s)
-    heard_it = heard_in_boot journal s later.number later.boot later.body
-        (caused_traced setting journal causes) later.is up later.own for_it later.delivered
+  heard_it : IsIn later.body (heard journal s)
+  heard_it = heard_in_boot journal s later.number later.boot later.body
+      (caused_traced setting journal causes) later.is up later.own for_it later.delivered
 
-    apart : (says.0.origin == s) ≡ false
-    apart =
-        let of = says.2.origin in
-        let elsewhere : says.0.origin ≢ s = λ same. other (sym of ∙ same) in
-        grind (arith, nat_tests)
+  apart : (says.0.origin == s) ≡ false
+  apart = let elsewhere : says.0.origin ≢ s = λ same. other (sym says.2.origin ∙ same) in
+      grind (arith, nat_tests)
 
-    told_of : other_advert s (Advertise says.0) ≡ Some says.0
-    told_of = ap (λ c. if c then None else Some says.0) apart
+  told_of : other_advert s (Advertise says.0) ≡ Some says.0
+  told_of = ap (λ c. if c then None else Some says.0) apart
 
 -- ---- behind any steps
 
@@ -134,22 +123,19 @@ news_at_ends = at_ends (λ setting journal. IsNet setting.net → NewsSpreads se
 
 pub quiet_at_ends : HoldsAtEnds (λ setting journal.
     IsNet setting.net → IsQuiet setting journal → NeighboursAgree setting journal)
-quiet_at_ends = at_ends (λ setting journal.
-    IsNet setting.net → IsQuiet setting journal → NeighboursAgree setting journal)
-    (λ setting steps net quiet.
-    spread_agree setting (after_steps setting [] steps) (all_spread setting steps net)
-    (λ s b there up other told. told_given setting (after_steps setting [] steps) s b quiet
-    (steps_have (IsInOrder setting) setting (pieces_in_order setting) [] steps tt) there up other
-    told))
+quiet_at_ends = at_ends (λ setting journal. IsNet setting.net → IsQuiet setting journal
+    → NeighboursAgree setting journal) (λ setting steps net quiet. spread_agree setting
+    (after_steps setting [] steps) (all_spread setting steps net) (λ s b there up other told.
+    told_given setting (after_steps setting [] steps) s b quiet (steps_have (IsInOrder setting)
+    setting (pieces_in_order setting) [] steps tt) there up other told))
 
 agreed_at_ends : (Holds : Setting → List Item → Type 0)
     → ((setting : Setting) (journal : List Item) → AreAgreed setting journal → Holds setting journal)
     → HoldsAtEnds (λ setting journal.
     IsNet setting.net → NeighboursAgree setting journal → Holds setting journal)
-agreed_at_ends Holds holds = at_ends (λ setting journal.
-    IsNet setting.net → NeighboursAgree setting journal → Holds setting journal)
-    (λ setting steps net agree.
-    holds setting (after_steps setting [] steps) (record {
+agreed_at_ends Holds holds = at_ends (λ setting journal. IsNet setting.net
+    → NeighboursAgree setting journal → Holds setting journal)
+    (λ setting steps net agree. holds setting (after_steps setting [] steps) (record {
       net = net;
       agree = agree;
       newest = newest_stepped setting steps;

@@ -40,6 +40,5 @@ packet_walk setting i s header journal =
 
 pub hop_walk : (setting : Setting) (i : ℕ) (journal : List Item)
     → Walk setting journal (hop_items setting i journal)
-hop_walk setting i journal =
-    have_weaker (IsWork setting) (Walks setting) (work_walks setting) journal _
-    (hop_work setting i journal)
+hop_walk setting i journal = have_weaker (IsWork setting) (Walks setting) (work_walks setting)
+    journal _ (hop_work setting i journal)

@@ -85,16 +85,14 @@ traffic_is setting before _ is = tt
 
 switch_aside : (setting : Setting) (before : List Item) (s : ℕ) (body : Body) (now : List Item)
     → Aside now (switch_items setting before s body now)
-switch_aside setting before s body now =
-    switch_cases (Aside now) setting before s body now (λ boot version. sends_aside now _)
-    (λ boot version. sends_aside now _)
+switch_aside setting before s body now = switch_cases (Aside now) setting before s body now
+    (λ boot version. sends_aside now _) (λ boot version. sends_aside now _)
     (λ boot version is. grind (arith, have_first, links_aside))
     (λ advert is news. sends_aside now _) tt
 
 delivery_aside : (setting : Setting) (before : List Item) (number : ℕ) (now : List Item)
     → Aside now (delivery_items setting before number now)
-delivery_aside setting before number now =
-    delivery_has (Aside now) setting before number now tt
+delivery_aside setting before number now = delivery_has (Aside now) setting before number now tt
     (λ body sent. control_aside now _ (controller_control setting before body now))
     (λ s body said. switch_aside setting before s body now)
 
@@ -111,14 +109,13 @@ lose_aside packet journal = grind arith
 
 forget_aside : (number : ℕ) (journal : List Item) → Aside journal (forget_items number journal)
 unfolding forget_items
-forget_aside number journal = by_test (is_deliverable journal number) refl
-  where
-    by_test : (b : Bool) → is_deliverable journal number ≡ b → Aside journal (elim b [
-      | false ↦ nothing
-      | true ↦ item.Forgotten number ∷ []
-    ])
-    by_test false e = (tt, tt)
-    by_test true e = (e, tt)
+forget_aside number journal = by_test (is_deliverable journal number) refl where
+  by_test : (b : Bool) → is_deliverable journal number ≡ b → Aside journal (elim b [
+    | false ↦ nothing
+    | true ↦ item.Forgotten number ∷ []
+  ])
+  by_test false e = (tt, tt)
+  by_test true e = (e, tt)
 
 expire_aside : (setting : Setting) (s place : ℕ) (journal : List Item)
     → Aside journal (expire_items setting s place journal)
@@ -165,13 +162,11 @@ pub step_plain : (setting : Setting) (before : List Item) (step : Step) (here : 
     → is_plain step ≡ true → Plain here (step_items setting before step here)
 step_plain setting before (Packet s header) here is =
     packet_has setting IsPlain (traffic_is setting) (next_packet before) s header _ tt
-step_plain setting before (Hop packet) here is =
-    have_weaker (IsTraffic setting) IsPlain (traffic_is setting) _ _
-    (step_traffic setting before (Hop packet) _ tt)
+step_plain setting before (Hop packet) here is = have_weaker (IsTraffic setting) IsPlain
+    (traffic_is setting) _ _ (step_traffic setting before (Hop packet) _ tt)
 step_plain setting before (Deliver message) here is = absurd cc
 step_plain setting before (Restart s) here is = absurd cc
-step_plain setting before step here is =
-    aside_plain _ _ (step_aside setting before step here refl)
+step_plain setting before step here is = aside_plain _ _ (step_aside setting before step here refl)
 
 -- ---- all steps, where the two other items have causes of their own
 
@@ -215,22 +210,21 @@ deliver_have cause others setting before row number step =
 restart_have : (cause : List Item → Item → Type 0) → HasOthers cause → (s : ℕ)
     → (journal : List Item) → HaveCauses cause journal (restart_items s journal)
 unfolding restart_items
-restart_have cause others s journal = by_up (is_up journal s) refl
-  where
-    next : Item
-    next = item.Booted s (boot_of journal s + 1)
+restart_have cause others s journal = by_up (is_up journal s) refl where
+  next : Item
+  next = item.Booted s (boot_of journal s + 1)
 
-    hello : List Item → List Item
-    hello booted = send_items booted (hello_of booted s ∷ [])
+  hello : List Item → List Item
+  hello booted = send_items booted (hello_of booted s ∷ [])
 
-    by_up : (b : Bool) → is_up journal s ≡ b → HaveCauses cause journal (elim b [
-      | true ↦ nothing
-      | false ↦ items_then (next ∷ []) hello journal
-    ])
-    by_up true e = (others.aside journal item.Nothing tt, tt)
-    by_up false e = have_first cause next hello journal (others.booted journal s e)
-        (aside_have cause others (journal ++ next ∷ []) _
-        (sends_aside (journal ++ next ∷ []) (hello_of (journal ++ next ∷ []) s ∷ [])))
+  by_up : (b : Bool) → is_up journal s ≡ b → HaveCauses cause journal (elim b [
+    | true ↦ nothing
+    | false ↦ items_then (next ∷ []) hello journal
+  ])
+  by_up true e = (others.aside journal item.Nothing tt, tt)
+  by_up false e = have_first cause next hello journal (others.booted journal s e)
+      (aside_have cause others (journal ++ next ∷ []) _
+      (sends_aside (journal ++ next ∷ []) (hello_of (journal ++ next ∷ []) s ∷ [])))
 
 -- the steps of packets that move
 abbrev pub moves : Step → Bool

@@ -1,5 +1,5 @@
 -- In a quiet journal what matters was heard, or what replaces it.
-use Rattle.std.proofs.Common.{[], ◌&&◌, ◌++◌, ◌+◌, ◌<◌, ◌==◌, ◌||◌, ◌∙◌, ◌∷◌, ◌≡◌, ◌≤◌, ◌⊎◌, Bool, IfSome, IsFalse, IsTrue, List, Some, ap, append-nil, append_assoc, arith, eq-eqb, eqb-true, false, inl, inr, nat_lt, refl, subst, sym, true, ℕ}
+use Rattle.std.proofs.Common.{[], ◌&&◌, ◌++◌, ◌+◌, ◌<◌, ◌==◌, ◌||◌, ◌∙◌, ◌∷◌, ◌≡◌, ◌≤◌, ◌⊎◌, Bool, IsFalse, IsTrue, List, Some, ap, append-nil, append_assoc, arith, eq-eqb, eqb-true, false, inl, inr, nat_lt, refl, subst, sym, true, ℕ}
 use Rattle.base.proofs.Exports.{list_any, nat_tests, or_right, ⊤}
 use Rattle.ctrl_msg.specs.Exports.{body_boot, to_controller}
 use Rattle.update_machine.specs.Exports.{Advertise, AreReceived, Body, Collect, HaveCauses, IsQuiet, IsReceived, IsReplaced, Item, Message, Place, Replaces, Sending, Setting, Stamp, Stamped, are_old_tables, begins_boot, boot_at, boot_of, changes_sendings, controller_heard, count_of, current_mark, folded_from, heard, is_delivery, is_for_boot, is_later_body, is_old_answer, is_up, matters, sendings, speaker, to_switch, was_delivered}
@@ -22,21 +22,17 @@ pub record IsSentAs (journal : List Item) (message : Message) : Type 0 where
 
 pub sent_as : (journal : List Item) (message : Message) → IsSent journal message
     → IsSentAs journal message
-sent_as journal message sent =
-    let x : Sending = sent.sending in
-    let same : x ≡ record { number = x.number; message = message; boot = x.boot } =
-    ap (λ m. record { number = x.number; message = m; boot = x.boot }) sent.of in
-    record {
-      number = x.number;
-      boot = x.boot;
-      is = subst (λ y. IsIn y (sendings journal)) same sent.is;
-    }
+sent_as journal message sent = let x : Sending = sent.sending in record {
+  number = x.number;
+  boot = x.boot;
+  is = subst (λ y. IsIn y (sendings journal))
+      (ap (λ m. record { number = x.number; message = m; boot = x.boot }) sent.of) sent.is;
+}
 
 pub sendings_on : (journal items : List Item) (x : Sending) → IsIn x (sendings journal)
     → IsIn x (sendings (journal ++ items))
 sendings_on journal [] x is = subst (λ now. IsIn x (sendings now)) (sym (append-nil journal)) is
-sendings_on journal (next ∷ items) x is =
-    subst (λ now. IsIn x (sendings now)) (append_assoc journal (next ∷ []) items)
+sendings_on journal (next ∷ items) x is = rw (append_assoc journal (next ∷ []) items) at
     (sendings_on (journal ++ next ∷ []) items x
     (rw (sendings_more journal next) (in_left x (sendings journal) (sent_by journal next) is)))
 
@@ -74,8 +70,7 @@ behind_one setting journal before next items x sent = record {
   between = next ∷ sent.between;
   after = sent.after;
   is = ap (λ xs. next ∷ xs) sent.is;
-  boot = sent.boot
-      ∙ ap (λ js. boot_at js x.message.to) (append_assoc before (next ∷ []) sent.between);
+  boot = cc (sent.boot, append_assoc before (next ∷ []) sent.between);
   received = sent.received;
 }
 
@@ -84,9 +79,8 @@ sent_behind : (setting : Setting) (journal before : List Item) (value : List Sen
     → IsIn x (folded_from changes_sendings before value items)
     → IsIn x value ⊎ IsSentBehind setting journal before items x
 sent_behind setting journal before value [] x received is = inl is
-sent_behind setting journal before value (item.Sent number message ∷ items) x received is =
-    elim (sent_behind setting journal (before ++ next ∷ []) (value ++ own ∷ []) items x received.1
-    is) [
+sent_behind setting journal before value (item.Sent number message ∷ items) x received is = elim
+    (sent_behind setting journal (before ++ next ∷ []) (value ++ own ∷ []) items x received.1 is) [
       | inl so_far ↦ elim (in_either x value (own ∷ []) so_far) [
         | inl old ↦ inl old
         | inr new ↦ elim new [
@@ -117,9 +111,8 @@ sent_behind setting journal before value (next ∷ items) x received is =
       | inr later ↦ inr (behind_one setting journal before next items x later)
     ]
 
-sent_at : (setting : Setting) (journal : List Item) (x : Sending)
-    → AreReceived setting journal journal → IsIn x (sendings journal)
-    → IsSentBehind setting journal [] journal x
+sent_at : (setting : Setting) (journal : List Item) (x : Sending) → AreReceived setting journal
+    journal → IsIn x (sendings journal) → IsSentBehind setting journal [] journal x
 unfolding sendings
 sent_at setting journal x received is =
     elim (sent_behind setting journal [] [] journal x received is) [
@@ -132,19 +125,16 @@ sent_at setting journal x received is =
 pub delivered_append : (before after : List Item) (n : ℕ)
     → was_delivered (before ++ after) n ≡ (was_delivered before n || was_delivered after n)
 unfolding was_delivered
-delivered_append before after n =
-    ap (nat_lt 0) (count_of_append (is_delivery n) before after)
+delivered_append before after n = ap (nat_lt 0) (count_of_append (is_delivery n) before after)
     ∙ some_of (count_of (is_delivery n) before) (count_of (is_delivery n) after)
   where
     some_of : (a b : ℕ) → nat_lt 0 (a + b) ≡ (nat_lt 0 a || nat_lt 0 b)
-    some_of a b = by_test (nat_lt 0 a) refl
-      where
-        by_test : (t : Bool) → nat_lt 0 a ≡ t → nat_lt 0 (a + b) ≡ (t || nat_lt 0 b)
-        by_test true e = grind (arith, nat_tests)
-        by_test false e =
-            let none : a ≡ 0 = grind (arith, nat_tests) in
-            let same : a + b ≡ b = omega (arith, none) in
-            ap (nat_lt 0) same
+    some_of a b = by_test (nat_lt 0 a) refl where
+      by_test : (t : Bool) → nat_lt 0 a ≡ t → nat_lt 0 (a + b) ≡ (t || nat_lt 0 b)
+      by_test true e = grind (arith, nat_tests)
+      by_test false e =
+          let none : a ≡ 0 = grind (arith, nat_tests) in
+          let same : a + b ≡ b = omega (arith, none) in ap (nat_lt 0) same
 
 -- what was delivered at the end of a journal was delivered
 delivered_behind : (journal front after : List Item) (n : ℕ) → journal ≡ front ++ after
@@ -158,8 +148,7 @@ delivered_behind journal front after n is delivered =
 have_split : (cause : List Item → Item → Type 0) (before xs ys : List Item)
     → HaveCauses cause before (xs ++ ys)
     → HaveCauses cause before xs × HaveCauses cause (before ++ xs) ys
-have_split cause before [] ys have =
-    (tt, subst (λ js. HaveCauses cause js ys) (sym (append-nil before)) have)
+have_split cause before [] ys have = (tt, rw (append-nil before) have)
 have_split cause before (x ∷ xs) ys have =
     let rest = have_split cause (before ++ x ∷ []) xs ys have.1 in (
       (have.0, rest.0),
@@ -169,15 +158,13 @@ have_split cause before (x ∷ xs) ys have =
 boots_rise : (setting : Setting) (before items : List Item) (s : ℕ)
     → HaveCauses (HasItemCause setting) before items
     → boot_of before s ≤ boot_of (before ++ items) s
-boots_rise setting before [] s have =
-    omega (arith, ap (λ js. boot_of js s) (append-nil before))
-boots_rise setting before (next ∷ items) s have =
-    omega (
-      arith,
-      boot_rises setting before next s have.0,
-      boots_rise setting (before ++ next ∷ []) items s have.1,
-      ap (λ js. boot_of js s) (append_assoc before (next ∷ []) items),
-    )
+boots_rise setting before [] s have = omega (arith, ap (λ js. boot_of js s) (append-nil before))
+boots_rise setting before (next ∷ items) s have = omega (
+  arith,
+  boot_rises setting before next s have.0,
+  boots_rise setting (before ++ next ∷ []) items s have.1,
+  ap (λ js. boot_of js s) (append_assoc before (next ∷ []) items),
+)
 
 boot_begun : (setting : Setting) (before : List Item) (next : Item) (s : ℕ)
     → HasItemCause setting before next → begins_boot s next ≡ true
@@ -185,8 +172,7 @@ boot_begun : (setting : Setting) (before : List Item) (next : Item) (s : ℕ)
 boot_begun setting before (item.Booted t boot) s cause is =
     let own : (t == s) ≡ true = is in
     let same : boot_of before t ≡ boot_of before s = ap (boot_of before) (eqb-true t s own) in
-    let next = cause.next in
-    rw (boot_more before (item.Booted t boot) s, own) (omega (arith, next, same))
+    rw (boot_more before (item.Booted t boot) s, own) (omega (arith, cause.next, same))
 boot_begun setting before next s cause is = absurd cc
 
 -- items behind which a switch is in the same boot begin none of it
@@ -205,8 +191,7 @@ no_boot setting before (next ∷ items) s have same =
 
     by_test : (b : Bool) → begins_boot s next ≡ b
         → (boot_of ((before ++ next ∷ []) ++ items) s ≡ boot_of (before ++ next ∷ []) s
-        → list_any (begins_boot s) items ≡ false)
-        → (b || list_any (begins_boot s) items) ≡ false
+        → list_any (begins_boot s) items ≡ false) → (b || list_any (begins_boot s) items) ≡ false
     by_test true e rest =
         absurd (omega (arith, on, rises, same, boot_begun setting before next s have.0 e))
     by_test false e rest =
@@ -248,8 +233,7 @@ replaced_by message (item.Sent number later ∷ after) replaced = elim replaced 
     replaces = here.0;
     delivered = here.1;
   }
-  | inr rest ↦
-      replaced_on message (item.Sent number later) after (replaced_by message after rest)
+  | inr rest ↦ replaced_on message (item.Sent number later) after (replaced_by message after rest)
 ]
 replaced_by message (next ∷ after) replaced =
     replaced_on message next after (replaced_by message after replaced)
@@ -281,8 +265,7 @@ pub record IsGot (journal : List Item) (to : Place) (of : Body) : Type 0 where
   pub own : IsOwn journal to boot
 
 pub got : (setting : Setting) (journal : List Item) (s number boot : ℕ) (to : Place) (body : Body)
-    → IsQuiet setting journal → HaveCauses (IsInOrder setting) [] journal
-    → HasSwitch setting.net s
+    → IsQuiet setting journal → HaveCauses (IsInOrder setting) [] journal → HasSwitch setting.net s
     → IsIn (record {
       number = number;
       message = record { to = to; body = body };
@@ -306,9 +289,8 @@ got setting journal s number boot to body quiet have there is own matter =
     at = sent_at setting journal _ quiet.messages is
 
     causes : HaveCauses (HasItemCause setting) [] (at.between ++ next ∷ at.after)
-    causes = subst (HaveCauses (HasItemCause setting) []) at.is
-        (have_weaker (IsInOrder setting) (HasItemCause setting) (λ before item both. both.first)
-        [] journal have)
+    causes = subst (HaveCauses (HasItemCause setting) []) at.is (have_weaker (IsInOrder setting)
+        (HasItemCause setting) (λ before item both. both.first) [] journal have)
 
     behind : HaveCauses (HasItemCause setting) at.between (next ∷ at.after)
     behind = (have_split (HasItemCause setting) [] at.between (next ∷ at.after) causes).1
@@ -318,9 +300,8 @@ got setting journal s number boot to body quiet have there is own matter =
 
     since : (of : Place) → boot ≡ boot_at at.between of → IsOwn journal of boot
         → IsSince of at.after
-    since (receiver.Switch t) before own =
-        no_boot setting (at.between ++ next ∷ []) at.after t behind.1
-        (omega (arith, whole t, boot_more at.between next t, before, own))
+    since (receiver.Switch t) before own = no_boot setting (at.between ++ next ∷ []) at.after t
+        behind.1 (omega (arith, whole t, boot_more at.between next t, before, own))
     since receiver.Controller before own = tt
 
     by_replaced : IsReplacedBy message at.after → IsGot journal to body
@@ -338,37 +319,33 @@ got setting journal s number boot to body quiet have there is own matter =
       delivered = delivered_behind journal (front ++ later ∷ []) found.behind found.number
           (split ∙ sym (append_assoc front (later ∷ []) found.behind)) found.delivered;
       own = still to at.boot own;
-    }
-      where
-        later : Item
-        later = item.Sent found.number found.later
+    } where
+      later : Item
+      later = item.Sent found.number found.later
 
-        front : List Item
-        front = at.between ++ next ∷ found.between
+      front : List Item
+      front = at.between ++ next ∷ found.between
 
-        split : journal ≡ front ++ later ∷ found.behind
-        split = at.is ∙ ap (λ xs. at.between ++ next ∷ xs) found.is
-            ∙ sym (append_assoc at.between (next ∷ found.between) (later ∷ found.behind))
+      split : journal ≡ front ++ later ∷ found.behind
+      split = at.is ∙ ap (λ xs. at.between ++ next ∷ xs) found.is
+          ∙ sym (append_assoc at.between (next ∷ found.between) (later ∷ found.behind))
 
-        parts : HaveCauses (HasItemCause setting) at.between (next ∷ found.between)
-            × HaveCauses (HasItemCause setting) front (later ∷ found.behind)
-        parts = have_split (HasItemCause setting) at.between (next ∷ found.between)
-            (later ∷ found.behind)
-            (subst (λ xs. HaveCauses (HasItemCause setting) at.between (next ∷ xs)) found.is
-            behind)
+      parts : HaveCauses (HasItemCause setting) at.between (next ∷ found.between)
+          × HaveCauses (HasItemCause setting) front (later ∷ found.behind)
+      parts = have_split (HasItemCause setting) at.between
+          (next ∷ found.between) (later ∷ found.behind) (rw found.is at behind)
 
-        still : (of : Place) → boot ≡ boot_at at.between of → IsOwn journal of boot
-            → IsOwn journal of (boot_at front of)
-        still (receiver.Switch t) before own =
-            omega (
-              arith,
-              before,
-              own,
-              boots_rise setting at.between (next ∷ found.between) t parts.0,
-              boots_rise setting front (later ∷ found.behind) t parts.1,
-              ap (λ js. boot_of js t) split,
-            )
-        still receiver.Controller before own = tt
+      still : (of : Place) → boot ≡ boot_at at.between of → IsOwn journal of boot
+          → IsOwn journal of (boot_at front of)
+      still (receiver.Switch t) before own = omega (
+        arith,
+        before,
+        own,
+        boots_rise setting at.between (next ∷ found.between) t parts.0,
+        boots_rise setting front (later ∷ found.behind) t parts.1,
+        ap (λ js. boot_of js t) split,
+      )
+      still receiver.Controller before own = tt
 
     by_received : IsReceived number message at.after → IsGot journal to body
     by_received (inl delivered) = record {
@@ -408,13 +385,10 @@ pub record WasHeard (bodies : List Body) (of : Body) : Type 0 where
 -- a message to a switch that carries its boot was sent in that boot
 pub own_boot : (journal : List Item) (s boot : ℕ) (x : Sending) → SwitchCourse journal s x
     → body_boot x.message.body ≡ Some boot → boot ≡ boot_of journal s → x.boot ≡ boot
-own_boot journal s boot x course of own =
-    let past : boot ≤ x.boot = subst (λ o. IfSome o (λ b. b ≤ x.boot)) of course.past in
-    omega (arith, past, own, course.own)
+own_boot journal s boot x course of own = omega (arith, rw of at course.past, own, course.own)
 
 pub heard_in_boot : (journal : List Item) (s number boot : ℕ) (body : Body) → AreTraced journal
-    → IsIn (record { number = number; message = to_switch s body; boot = boot })
-    (sendings journal)
+    → IsIn (record { number = number; message = to_switch s body; boot = boot }) (sendings journal)
     → IsTrue (is_up journal s) → boot ≡ boot_of journal s → IsTrue (is_for_boot boot body)
     → IsTrue (was_delivered journal number) → IsIn body (heard journal s)
 heard_in_boot journal s number boot body traced is up own for delivered =
@@ -449,12 +423,10 @@ heard_of setting journal s body quiet causes there sent up of new =
     matter : (after : List Item) → IsFalse (list_any (begins_boot s) after)
         → IsTrue (matters journal s (to_switch s body) after)
     matter after since =
-        let here : is_up journal s ≡ true = up in
-        let same : (s == s) ≡ true = eq-eqb s s refl in
         let none : list_any (begins_boot s) after ≡ false = since in
         let mine : (own == own) ≡ true = eq-eqb own own refl in
         let fresh : are_old_tables (current_mark journal) body ≡ false = new in
-        rw (here, same, none, of, mine, fresh) (by_advert _)
+        rw (up, eq-eqb s s refl, none, of, mine, fresh) (by_advert _)
       where
         by_advert : (b : Bool) → ((b || true) && true) ≡ true
         by_advert true = refl
@@ -465,50 +437,38 @@ heard_of setting journal s body quiet causes there sent up of new =
         its.is boot matter
 
     heard_later : IsIn later.body (heard journal s)
-    heard_later =
-        let says : body_boot later.body ≡ Some own =
-        says_boot later.body body own later.says of in
-        let same : (own == later.boot) ≡ true = eq-eqb own later.boot (sym later.own) in
+    heard_later = let same : (own == later.boot) ≡ true = eq-eqb own later.boot (sym later.own) in
         heard_in_boot journal s later.number later.boot later.body traced later.is up later.own
-        (rw (says, same) refl) later.delivered
+        (rw ((says_boot later.body body own later.says of), same) refl) later.delivered
 
 -- ---- at the controller
 
 pub told_of : (setting : Setting) (journal : List Item) (s : ℕ) (body : Body)
-    → IsQuiet setting journal → HaveCauses (IsInOrder setting) [] journal
-    → HasSwitch setting.net s → IsSent journal (to_controller body)
-    → IsTrue (is_up journal s) → speaker body ≡ Some (s, boot_of journal s)
-    → IsFalse (is_old_answer (current_mark journal) body)
-    → WasHeard (controller_heard journal) body
-told_of setting journal s body quiet causes there sent up speaks new =
-    record {
-      body = later.body;
-      is = (each_in (IsTraced journal) y (sendings journal)
-          (caused_traced setting journal causes).each later.is).course later.delivered;
-      says = later.says;
-    }
-  where
-    own : ℕ
-    own = boot_of journal s
+    → IsQuiet setting journal → HaveCauses (IsInOrder setting) [] journal → HasSwitch setting.net s
+    → IsSent journal (to_controller body) → IsTrue (is_up journal s)
+    → speaker body ≡ Some (s, boot_of journal s)
+    → IsFalse (is_old_answer (current_mark journal) body) → WasHeard (controller_heard journal) body
+told_of setting journal s body quiet causes there sent up speaks new = record {
+  body = later.body;
+  is = (each_in (IsTraced journal) y (sendings journal)
+      (caused_traced setting journal causes).each later.is).course later.delivered;
+  says = later.says;
+} where
+  own : ℕ
+  own = boot_of journal s
 
-    its : IsSentAs journal (to_controller body)
-    its = sent_as journal (to_controller body) sent
+  its : IsSentAs journal (to_controller body)
+  its = sent_as journal (to_controller body) sent
 
-    matter : (after : List Item) → IsTrue (matters journal s (to_controller body) after)
-    matter after =
-        let here : is_up journal s ≡ true = up in
-        let same : (s == s) ≡ true = eq-eqb s s refl in
-        let mine : (own == own) ≡ true = eq-eqb own own refl in
-        let fresh : is_old_answer (current_mark journal) body ≡ false = new in
-        rw (here, speaks, same, mine, fresh) refl
+  matter : (after : List Item) → IsTrue (matters journal s (to_controller body) after)
+  matter after =
+      let mine : (own == own) ≡ true = eq-eqb own own refl in
+      let fresh : is_old_answer (current_mark journal) body ≡ false = new in
+      rw (up, speaks, eq-eqb s s refl, mine, fresh) refl
 
-    later : IsGot journal receiver.Controller body
-    later = got setting journal s its.number its.boot receiver.Controller body quiet causes there
-        its.is tt (λ after since. matter after)
+  later : IsGot journal receiver.Controller body
+  later = got setting journal s its.number its.boot receiver.Controller body quiet causes there
+      its.is tt (λ after since. matter after)
 
-    y : Sending
-    y = record {
-      number = later.number;
-      message = to_controller later.body;
-      boot = later.boot;
-    }
+  y : Sending
+  y = record { number = later.number; message = to_controller later.body; boot = later.boot }

@@ -30,34 +30,29 @@ IsStamped journal s = IsTrue (is_member journal s)
 
 -- ---- where nothing changes for the switch
 
-stamped_same : (before items : List Item) (s : ℕ)
-    → known_boot (before ++ items) s ≡ known_boot before s
-    → (IsTrue (is_member (before ++ items) s) → IsTrue (is_member before s))
+stamped_same : (before items : List Item) (s : ℕ) → known_boot (before ++ items) s
+    ≡ known_boot before s → (IsTrue (is_member (before ++ items) s) → IsTrue (is_member before s))
     → opened_at (before ++ items) s ≡ opened_at before s
-    → current_mark (before ++ items) ≡ current_mark before
-    → IsStamped before s → IsStamped (before ++ items) s
+    → current_mark (before ++ items) ≡ current_mark before → IsStamped before s
+    → IsStamped (before ++ items) s
 stamped_same before items s known member opened current is now = elim (is (member now)) [
   | inl at_it ↦ inl (opened ∙ at_it ∙ ap Some (sym current))
-  | inr told ↦ inr (subst (λ b. IsStampSent (before ++ items) s b
-      (current_mark (before ++ items))) (sym known)
-      (subst (IsStampSent (before ++ items) s (known_boot before s)) (sym current)
-      (record { touched = told.touched; sent = sent_on before items _ told.sent })))
+  | inr told ↦ inr (rw known (subst (IsStampSent (before ++ items) s (known_boot before s))
+      (sym current) (record { touched = told.touched; sent = sent_on before items _ told.sent })))
 ]
 
 stamped_leaving : (before : List Item) (next : Item) (s : ℕ) → LeavesMember before next s
     → current_mark (before ++ next ∷ []) ≡ current_mark before
     → IsStamped before s → IsStamped (before ++ next ∷ []) s
-stamped_leaving before next s leaves current is =
-    stamped_same before (next ∷ []) s leaves.known (member_was before next s leaves) leaves.opened
-    current is
+stamped_leaving before next s leaves current is = stamped_same before (next ∷ []) s leaves.known
+    (member_was before next s leaves) leaves.opened current is
 
 stamps_keep : (setting : Setting) (before items : List Item)
     → ControllerKeeps before (before ++ items) → HaveStamps setting before
     → HaveStamps setting (before ++ items)
 stamps_keep setting before items keeps have = record {
   each = λ s there. stamped_same before items s (keeps.known s)
-      (λ member. sym (keeps.member s) ∙ member) (keeps.opened s) keeps.current
-      (have.each s there);
+      (λ member. sym (keeps.member s) ∙ member) (keeps.opened s) keeps.current (have.each s there);
 }
 
 -- ---- items
@@ -66,8 +61,7 @@ stamps_keep setting before items keeps have = record {
 stamped_sent : (setting : Setting) (before : List Item) (n s : ℕ) (message : Message)
     → HasItemCause setting before (item.Sent n message) → IsStamped before s
     → IsStamped (before ++ item.Sent n message ∷ []) s
-stamped_sent setting before n s message cause is =
-    let next : Item = item.Sent n message in
+stamped_sent setting before n s message cause is = let next : Item = item.Sent n message in
     sent_cases setting before n s message cause (IsStamped (before ++ next ∷ []) s)
     (λ leaves. stamped_leaving before next s leaves (current_more before next) is)
     (λ none member. absurd (none member))
@@ -75,27 +69,24 @@ stamped_sent setting before n s message cause is =
     inl (now ∙ ap Some (first.current ∙ sym (current_more before next))))
 
 -- an item that opens none, and ends and raises no boot
-stamped_still : (before : List Item) (next : Item) (s : ℕ)
-    → known_boot (before ++ next ∷ []) s ≡ known_boot before s
-    → is_over (before ++ next ∷ []) s ≡ is_over before s
+stamped_still : (before : List Item) (next : Item) (s : ℕ) → known_boot (before ++ next ∷ []) s
+    ≡ known_boot before s → is_over (before ++ next ∷ []) s ≡ is_over before s
     → open_sent s (known_boot before s) next ≡ []
-    → current_mark (before ++ next ∷ []) ≡ current_mark before
-    → IsStamped before s → IsStamped (before ++ next ∷ []) s
+    → current_mark (before ++ next ∷ []) ≡ current_mark before → IsStamped before s
+    → IsStamped (before ++ next ∷ []) s
 stamped_still before next s known over none current is =
     stamped_leaving before next s (quiet_leaves before next s known over none) current is
 
 stamped_over : (before : List Item) (t s : ℕ) → IsStamped before s
     → IsStamped (before ++ item.OverNow t ∷ []) s
-stamped_over before t s is =
-    let next : Item = item.OverNow t in
+stamped_over before t s is = let next : Item = item.OverNow t in
     over_cases before t s (IsStamped (before ++ next ∷ []) s)
     (λ leaves. stamped_leaving before next s leaves (current_more before next) is)
     (λ none member. absurd (none member))
 
 stamped_delivered : (before : List Item) (number s : ℕ) → StampsAreCurrent before
     → IsStamped before s → IsStamped (before ++ item.Delivered number ∷ []) s
-stamped_delivered before number s are is =
-    let next : Item = item.Delivered number in
+stamped_delivered before number s are is = let next : Item = item.Delivered number in
     delivered_cases before number s are (IsStamped (before ++ next ∷ []) s)
     (λ leaves. stamped_leaving before next s leaves (current_more before next) is)
     (λ none member. absurd (none member))
@@ -114,8 +105,7 @@ stamps_later setting before (item.Sent n message) both have = record {
   each = λ s there. stamped_sent setting before n s message both.first (have.each s there);
 }
 stamps_later setting before (item.Retired version) both have =
-    let next : Item = item.Retired version in
-    record {
+    let next : Item = item.Retired version in record {
       each = λ s there. stamped_still before next s (known_more before next s)
           (over_more before next s) refl (current_more before next) (have.each s there);
     }
@@ -141,48 +131,44 @@ raised_stamps : (setting : Setting) (now : List Item) (version : ℕ)
     (raised ++ send_items raised (map (stamp_for setting now version) (members setting now)))
 raised_stamps setting now version = record {
   each = λ s there member. inr (by_member s there (was_member s member));
-}
-  where
-    next : Item
-    next = item.Current version
+} where
+  next : Item
+  next = item.Current version
 
-    raised : List Item
-    raised = now ++ next ∷ []
+  raised : List Item
+  raised = now ++ next ∷ []
 
-    stamps : List Message
-    stamps = map (stamp_for setting now version) (members setting now)
+  stamps : List Message
+  stamps = map (stamp_for setting now version) (members setting now)
 
-    after : List Item
-    after = raised ++ send_items raised stamps
+  after : List Item
+  after = raised ++ send_items raised stamps
 
-    keeps : ControllerKeeps raised after
-    keeps = leaves_keep raised _ (sends_leave raised stamps
-        (each_map (ReopensAlone raised) (stamp_for setting now version) (members setting now)
-        (each_always (λ s. ReopensAlone raised (stamp_for setting now version s)) (λ s. tt)
-        (members setting now))))
+  keeps : ControllerKeeps raised after
+  keeps = leaves_keep raised _ (sends_leave raised stamps (each_map (ReopensAlone raised)
+      (stamp_for setting now version) (members setting now) (each_always (λ s. ReopensAlone raised
+      (stamp_for setting now version s)) (λ s. tt) (members setting now))))
 
-    leaves : (s : ℕ) → LeavesMember now next s
-    leaves s = quiet_leaves now next s (known_more now next s) (over_more now next s) refl
+  leaves : (s : ℕ) → LeavesMember now next s
+  leaves s = quiet_leaves now next s (known_more now next s) (over_more now next s) refl
 
-    was_member : (s : ℕ) → IsTrue (is_member after s) → IsTrue (is_member now s)
-    was_member s member = member_was now next s (leaves s) (sym (keeps.member s) ∙ member)
+  was_member : (s : ℕ) → IsTrue (is_member after s) → IsTrue (is_member now s)
+  was_member s member = member_was now next s (leaves s) (sym (keeps.member s) ∙ member)
 
-    mark : current_mark after ≡ version
-    mark = keeps.current ∙ current_more now next
+  mark : current_mark after ≡ version
+  mark = keeps.current ∙ current_more now next
 
-    by_member : (s : ℕ) → s < length setting.net.switches → IsTrue (is_member now s)
-        → IsStampSent after s (known_boot after s) (current_mark after)
-    by_member s there member =
-        subst (λ b. IsStampSent after s b (current_mark after))
-        (sym (keeps.known s ∙ known_more now next s))
-        (subst (IsStampSent after s (known_boot now s)) (sym mark) (record {
-          touched = touched_by setting now version;
-          sent = sends_all raised stamps (stamp_for setting now version s)
-              (in_map (stamp_for setting now version) s (members setting now)
-              (in_filter (is_member now) s (switches_of setting)
-              (in_range s 0 (length setting.net.switches) (omega arith) (omega (arith, there)))
-              member));
-        }))
+  by_member : (s : ℕ) → s < length setting.net.switches → IsTrue (is_member now s)
+      → IsStampSent after s (known_boot after s) (current_mark after)
+  by_member s there member = subst (λ b. IsStampSent after s b (current_mark after))
+      (sym (keeps.known s ∙ known_more now next s))
+      (subst (IsStampSent after s (known_boot now s)) (sym mark) (record {
+        touched = touched_by setting now version;
+        sent = sends_all raised stamps (stamp_for setting now version s)
+            (in_map (stamp_for setting now version) s (members setting now)
+            (in_filter (is_member now) s (switches_of setting) (in_range s 0
+            (length setting.net.switches) (omega arith) (omega (arith, there))) member));
+      }))
 
 current_stamps : (setting : Setting) (now : List Item) → HaveStamps setting now
     → HaveStamps setting (now ++ current_items setting now)
@@ -200,24 +186,20 @@ current_stamps setting now have = by_test (nat_lt (current_mark now) (next_curre
       | true ↦ items_then (item.Current version ∷ []) (λ raised. send_items raised stamps) now
     ])
     by_test false = subst (HaveStamps setting) (sym (append-nil now)) have
-    by_test true =
-        subst (HaveStamps setting)
-        (append_assoc now (item.Current version ∷ [])
-        (send_items (now ++ item.Current version ∷ []) stamps))
+    by_test true = subst (HaveStamps setting) (append_assoc now
+        (item.Current version ∷ []) (send_items (now ++ item.Current version ∷ []) stamps))
         (raised_stamps setting now version)
 
 settling_stamps : (setting : Setting) (now : List Item) → HaveStamps setting now
     → HaveStamps setting (now ++ settling setting now)
 unfolding settling
-settling_stamps setting now have =
-    subst (HaveStamps setting) (append_assoc now first rest)
+settling_stamps setting now have = subst (HaveStamps setting) (append_assoc now first rest)
     (fact_on (Both (HasItemCause setting) IsLater) (HaveStamps setting) (stamps_later setting)
-    (now ++ first) rest
-    (have_both (HasItemCause setting) IsLater (now ++ first) rest
+    (now ++ first) rest (have_both (HasItemCause setting) IsLater (now ++ first) rest
     (have_rest (HasItemCause setting) now first rest (settling_have setting now))
     (have_in_turn IsLater (open_items setting ∷ retired_items setting ∷ [])
-    (open_later setting, (retired_later setting, tt)) (now ++ first)))
-    (current_stamps setting now have))
+    (open_later setting, (retired_later setting, tt)) (now ++ first))) (current_stamps setting now
+    have))
   where
     first : List Item
     first = current_items setting now
@@ -229,24 +211,21 @@ settling_stamps setting now have =
 
 hello_stamps : (setting : Setting) (before : List Item) (body : Body) (now : List Item)
     → HaveStamps setting now → HaveStamps setting (now ++ after_hello setting before body now)
-hello_stamps setting before (Hello s boot) now have = by_new (is_new_boot before s boot)
-  where
-    by_new : (b : Bool) → HaveStamps setting (now ++ elim b [
-      | true ↦ installs_to setting s now
-      | false ↦ []
-    ])
-    by_new false = subst (HaveStamps setting) (sym (append-nil now)) have
-    by_new true = stamps_keep setting now _ (installs_keep setting s now) have
+hello_stamps setting before (Hello s boot) now have = by_new (is_new_boot before s boot) where
+  by_new : (b : Bool) → HaveStamps setting (now ++ elim b [
+    | true ↦ installs_to setting s now
+    | false ↦ []
+  ])
+  by_new false = subst (HaveStamps setting) (sym (append-nil now)) have
+  by_new true = stamps_keep setting now _ (installs_keep setting s now) have
 hello_stamps setting before _ now have = subst (HaveStamps setting) (sym (append-nil now)) have
 
 heard_stamps : (setting : Setting) (before : List Item) (body : Body) (now : List Item)
     → HaveStamps setting now → HaveStamps setting (now ++ controller_items setting before body now)
 unfolding controller_items
-heard_stamps setting before body now have =
-    subst (HaveStamps setting)
-    (sym (in_two (settling setting) (after_hello setting before body) now))
-    (hello_stamps setting before body (now ++ settling setting now)
-    (settling_stamps setting now have))
+heard_stamps setting before body now have = subst (HaveStamps setting)
+    (sym (in_two (settling setting) (after_hello setting before body) now)) (hello_stamps setting
+    before body (now ++ settling setting now) (settling_stamps setting now have))
 
 still_stamps : (setting : Setting) (before : List Item) (next : Item)
     → ((s : ℕ) → known_boot (before ++ next ∷ []) s ≡ known_boot before s)
@@ -266,18 +245,15 @@ nothing_stamps setting here have = still_stamps setting here item.Nothing
     (known_more here item.Nothing) (over_more here item.Nothing) (λ s. refl)
     (current_more here item.Nothing) have
 
-deliver_stamps : (setting : Setting) (before here : List Item) (number : ℕ)
-    → StampsAreCurrent here → IsTrue (is_message_to_controller before number)
-    → HaveStamps setting here
+deliver_stamps : (setting : Setting) (before here : List Item) (number : ℕ) → StampsAreCurrent here
+    → IsTrue (is_message_to_controller before number) → HaveStamps setting here
     → HaveStamps setting (here ++ deliver_items setting before number here)
 deliver_stamps setting before here number are is have =
     let now : List Item = here ++ item.Delivered number ∷ [] in
     let told = told_is before number is in
     deliver_cases (HaveStamps setting) setting before number here (nothing_stamps setting here have)
-    (subst (λ items. HaveStamps setting (now ++ items))
-    (sym (delivery_told setting before number told.0 now told.1))
-    (heard_stamps setting before told.0 now
-    (record { each = λ s there. stamped_delivered here number s are (have.each s there) })))
+    (rw (delivery_told setting before number told.0 now told.1) (heard_stamps setting before told.0
+    now (record { each = λ s there. stamped_delivered here number s are (have.each s there) })))
 
 update_stamps : (setting : Setting) (file : ℕ) (here : List Item) → HaveStamps setting here
     → HaveStamps setting (here ++ update_items setting file here)
@@ -285,20 +261,17 @@ update_stamps setting file here have =
     let next : Item = item.Submitted file (version_count here + 1) in
     let now : List Item = here ++ next ∷ [] in
     update_cases (HaveStamps setting) setting file here
-    (λ code.
-    let refused : Item = item.Refused file code in
+    (λ code. let refused : Item = item.Refused file code in
     still_stamps setting here refused (known_more here refused) (over_more here refused) (λ s. refl)
     (current_more here refused) have)
-    (settling_stamps setting (now ++ installs_to_all setting now)
-    (stamps_keep setting now (installs_to_all setting now) (all_keep setting now)
-    (still_stamps setting here next (known_more here next) (over_more here next) (λ s. refl)
-    (current_more here next) have)))
+    (settling_stamps setting (now ++ installs_to_all setting now) (stamps_keep setting now
+    (installs_to_all setting now) (all_keep setting now) (still_stamps setting here next
+    (known_more here next) (over_more here next) (λ s. refl) (current_more here next) have)))
 
 confirm_stamps : (setting : Setting) (s : ℕ) (here : List Item) → HaveStamps setting here
     → HaveStamps setting (here ++ confirm_items setting s here)
-confirm_stamps setting s here have =
-    confirm_cases (HaveStamps setting) setting s here (nothing_stamps setting here have)
-    (settling_stamps setting (here ++ item.OverNow s ∷ [])
+confirm_stamps setting s here have = confirm_cases (HaveStamps setting) setting s here
+    (nothing_stamps setting here have) (settling_stamps setting (here ++ item.OverNow s ∷ [])
     (record { each = λ t there. stamped_over here s t (have.each t there) }))
 
 told_stamps : (setting : Setting) (before here : List Item) (step : Step)
@@ -313,22 +286,19 @@ told_stamps setting before here step is are have = absurd cc
 pub piece_stamps : (setting : Setting) (before : List Item) (row : ℕ) (step : Step)
     → StampsAreCurrent before → HaveStamps setting before
     → HaveStamps setting (before ++ piece setting before row step)
-piece_stamps setting before row step are have = by_kind (asks_controller before step) refl
-  where
-    next : Item
-    next = item.Row row step
+piece_stamps setting before row step are have = by_kind (asks_controller before step) refl where
+  next : Item
+  next = item.Row row step
 
-    begun : HaveStamps setting (before ++ next ∷ [])
-    begun = still_stamps setting before next (λ s. known_more before next s)
-        (λ s. over_more before next s) (λ s. refl) (current_more before next) have
+  begun : HaveStamps setting (before ++ next ∷ [])
+  begun = still_stamps setting before next (λ s. known_more before next s)
+      (λ s. over_more before next s) (λ s. refl) (current_more before next) have
 
-    by_kind : (b : Bool) → asks_controller before step ≡ b
-        → HaveStamps setting (before ++ piece setting before row step)
-    by_kind false e =
-        stamps_keep setting before _ (others_keep setting before row step e) have
-    by_kind true e =
-        behind_piece setting before row step (HaveStamps setting)
-        (told_stamps setting before _ step e (current_kept setting before next tt are) begun)
+  by_kind : (b : Bool) → asks_controller before step ≡ b
+      → HaveStamps setting (before ++ piece setting before row step)
+  by_kind false e = stamps_keep setting before _ (others_keep setting before row step e) have
+  by_kind true e = behind_piece setting before row step (HaveStamps setting)
+      (told_stamps setting before _ step e (current_kept setting before next tt are) begun)
 
 -- each switch begins at the first version
 pub stamps_at_first : (setting : Setting) → HaveStamps setting []

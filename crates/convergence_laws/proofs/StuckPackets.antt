@@ -31,11 +31,10 @@ ends_none = record {
   aside = is_no_end;
   delivered = λ journal number is. tt;
   booted = λ journal s down. tt;
-}
-  where
-    is_no_end : (before : List Item) (next : Item) → IsAside before next → IsNoEnd before next
-    is_no_end before (item.Stuck i s cause leg down) is = absurd is
-    is_no_end before _ is = tt
+} where
+  is_no_end : (before : List Item) (next : Item) → IsAside before next → IsNoEnd before next
+  is_no_end before (item.Stuck i s cause leg down) is = absurd is
+  is_no_end before _ is = tt
 
 -- ---- a set of links that were found down
 
@@ -43,54 +42,42 @@ ends_none = record {
 more_links : (down : List ℕ) (x y a b : ℕ) → IsTrue (has_link (with_link down x y) a b)
     → IsTrue (has_link down a b) ⊎ ((min a b ≡ min x y) × (max a b ≡ max x y))
 unfolding has_link with_link
-more_links down x y a b is = by_row (cases_eq (min a b) low)
-  where
-    low : ℕ
-    low = min x y
+more_links down x y a b is = by_row (cases_eq (min a b) low) where
+  low : ℕ
+  low = min x y
 
-    high : ℕ
-    high = max x y
+  high : ℕ
+  high = max x y
 
-    row : ℕ
-    row = bit_or (get_or down low 0) (2 ^ high)
+  row : ℕ
+  row = bit_or (get_or down low 0) (2 ^ high)
 
-    by_high : min a b ≡ low → (max a b ≡ high) ⊎ (max a b ≢ high)
-        → IsTrue (has row (max a b))
-        → IsTrue (has (get_or down (min a b) 0) (max a b))
-        ⊎ ((min a b ≡ low) × (max a b ≡ high))
-    by_high same (inl top) here = inr (same, top)
-    by_high same (inr apart) here =
-        inl (subst (λ k. IsTrue (has (get_or down k 0) (max a b))) (sym same)
-        (by_or (has (get_or down low 0) (max a b)) (has (2 ^ high) (max a b))
-        (has-pow_other high (max a b) apart)
-        (sym (has-or (get_or down low 0) (2 ^ high) (max a b)) ∙ here)))
-      where
-        by_or : (p q : Bool) → q ≡ false → (p || q) ≡ true → p ≡ true
-        by_or true q none is = refl
-        by_or false q none is = let clash : false ≡ true = sym none ∙ is in absurd cc
+  by_high : min a b ≡ low → (max a b ≡ high) ⊎ (max a b ≢ high) → IsTrue (has row (max a b))
+      → IsTrue (has (get_or down (min a b) 0) (max a b)) ⊎ ((min a b ≡ low) × (max a b ≡ high))
+  by_high same (inl top) here = inr (same, top)
+  by_high same (inr apart) here = inl (rw same (by_or (has (get_or down low 0) (max a b))
+      (has (2 ^ high) (max a b)) (has-pow_other high (max a b) apart)
+      (sym (has-or (get_or down low 0) (2 ^ high) (max a b)) ∙ here)))
+    where
+      by_or : (p q : Bool) → q ≡ false → (p || q) ≡ true → p ≡ true
+      by_or true q none is = refl
+      by_or false q none is = let clash : false ≡ true = sym none ∙ is in absurd cc
 
-    by_within : min a b ≡ low → (low < length down) ⊎ (length down ≤ low)
-        → IsTrue (has (get_or down (min a b) 0) (max a b))
-        ⊎ ((min a b ≡ low) × (max a b ≡ high))
-    by_within same (inl within) =
-        by_high same (cases_eq (max a b) high)
-        (subst (λ mask. IsTrue (has mask (max a b)))
-        (ap (λ k. get_or (set down low row) k 0) same ∙ get_or-set_same down low row 0 within) is)
-    by_within same (inr past) =
-        let none : get_or (set down low row) (min a b) 0 ≡ 0 =
-        get_or_past (set down low row) (min a b) 0
-        (omega (arith, same, past, length-set down low row)) in
-        let clash : false ≡ true =
-        sym (has-zero (max a b)) ∙ ap (λ mask. has mask (max a b)) (sym none) ∙ is in
-        absurd cc
+  by_within : min a b ≡ low → (low < length down) ⊎ (length down ≤ low)
+      → IsTrue (has (get_or down (min a b) 0) (max a b)) ⊎ ((min a b ≡ low) × (max a b ≡ high))
+  by_within same (inl within) = by_high same (cases_eq (max a b) high)
+      (rw (ap (λ k. get_or (set down low row) k 0) same ∙ get_or-set_same down low row 0 within)
+      at is)
+  by_within same (inr past) =
+      let clash : false ≡ true = sym (has-zero (max a b))
+      ∙ ap (λ mask. has mask (max a b)) (sym (get_or_past (set down low row) (min a b) 0
+      (omega (arith, same, past, length-set down low row)))) ∙ is in
+      absurd cc
 
-    by_row : (min a b ≡ low) ⊎ (min a b ≢ low)
-        → IsTrue (has (get_or down (min a b) 0) (max a b))
-        ⊎ ((min a b ≡ low) × (max a b ≡ high))
-    by_row (inl same) = by_within same (cases_lt low (length down))
-    by_row (inr apart) =
-        inl (subst (λ mask. IsTrue (has mask (max a b)))
-        (get_or-set_other down low (min a b) row 0 apart) is)
+  by_row : (min a b ≡ low) ⊎ (min a b ≢ low) → IsTrue (has (get_or down (min a b) 0) (max a b))
+      ⊎ ((min a b ≡ low) × (max a b ≡ high))
+  by_row (inl same) = by_within same (cases_lt low (length down))
+  by_row (inr apart) = inl (rw (get_or-set_other down low (min a b) row 0 apart) at is)
 
 unusable_more : (setting : Setting) (journal : List Item) → IsNet setting.net
     → (down : List ℕ) (x y : ℕ) → AreUnusable setting journal down
@@ -112,13 +99,9 @@ unusable_more setting journal net down x y unusable none a b linked =
     clashes is = let clash : false ≡ true = sym none ∙ is in absurd cc
 
     not_it : ((a ≡ x) × (b ≡ y)) ⊎ ((a ≡ y) × (b ≡ x)) → ⊥
-    not_it (inl ends) =
-        clashes (subst (λ k. IsTrue (has (near setting journal x) k)) ends.1
-        (subst (λ k. IsTrue (has (near setting journal k) b)) ends.0 linked))
+    not_it (inl ends) = clashes (rw ends.1 at (rw ends.0 at linked))
     not_it (inr ends) =
-        clashes (subst (λ k. IsTrue (has (near setting journal x) k)) ends.0
-        (subst (λ k. IsTrue (has (near setting journal k) a)) ends.1
-        (near_back setting journal a b net linked)))
+        clashes (rw ends.0 at (rw ends.1 at (near_back setting journal a b net linked)))
 
     by_link : (c : Bool) → has_link (with_link down x y) a b ≡ c
         → IsFalse (has_link (with_link down x y) a b)
@@ -160,12 +143,10 @@ same_route : (setting : Setting) (before after : List Item) (s : ℕ) → IsSame
     → route_from setting after s targets down ≡ route_from setting before s targets down
 unfolding route_from adverts_known
 same_route setting before after s same links targets down =
-    let up : is_up after s ≡ is_up before s = same.up in
-    let boot : boot_of after s ≡ boot_of before s = same.boot in
     let bodies : heard after s ≡ heard before s = same.heard in
     let advert : own_advert setting after s ≡ own_advert setting before s = links.advert s in
     let linked : near setting after s ≡ near setting before s = links.near s in
-    rw (up, boot, bodies, advert, linked) refl
+    rw (same.up, same.boot, bodies, advert, linked) refl
 
 walks_links : (setting : Setting) (before : List Item) (next : Item)
     → Walks setting before next → IsFalse (concerns_links before next)
@@ -190,16 +171,14 @@ found_on : (setting : Setting) (journal : List Item) → IsNet setting.net
     → StaysSo setting journal before i
     → AreUnusable setting journal (found_down (before ++ next ∷ []) i)
 found_on setting journal net before (item.FoundDown p x y) i walks stays =
-    subst (AreUnusable setting journal) (sym (found_more before (item.FoundDown p x y) i))
-    (by_test (p == i))
+    rw (found_more before (item.FoundDown p x y) i) (by_test (p == i))
   where
     by_test : (b : Bool) → AreUnusable setting journal
         (if b then with_link (found_down before i) x y else found_down before i)
     by_test true = unusable_more setting journal net (found_down before i) x y stays.found
         (ap (λ mask. has mask y) (sym (stays.links x)) ∙ walks)
     by_test false = stays.found
-found_on setting journal net before next i walks stays =
-    subst (AreUnusable setting journal) (sym (found_more before next i)) stays.found
+found_on setting journal net before next i walks stays = rw (found_more before next i) stays.found
 
 pub stays_on : (setting : Setting) (journal : List Item) → IsNet setting.net → (i : ℕ)
     → AreKept (Walks setting) (λ now. StaysSo setting journal now i)
@@ -208,10 +187,8 @@ stays_on setting journal net i before next walks stays =
     let plans = policies_keep before (next ∷ []) (walks_policies setting before next walks, tt) in
     record {
       links = λ s. links.near s ∙ stays.links s;
-      routes = λ s targets down.
-          same_route setting before (before ++ next ∷ []) s (walks_same setting before next s walks)
-          links targets down
-          ∙ stays.routes s targets down;
+      routes = λ s targets down. same_route setting before (before ++ next ∷ []) s
+          (walks_same setting before next s walks) links targets down ∙ stays.routes s targets down;
       targets = λ leg. by_leg leg (λ v. plans.plan setting v) ∙ stays.targets leg;
       found = found_on setting journal net before next i walks stays;
     }
@@ -228,8 +205,7 @@ stays_itself setting journal i none = record {
   links = λ t. refl;
   routes = λ t targets found. refl;
   targets = λ leg. refl;
-  found = λ one other linked.
-      ap (λ links. has_link links one other) none ∙ has_link-none one other;
+  found = λ one other linked. ap (λ links. has_link links one other) none ∙ has_link-none one other;
 }
 
 -- ---- steps
@@ -240,10 +216,8 @@ walk_apart : (setting : Setting) (journal : List Item) → AreAgreed setting jou
     → found_down journal i ≡ no_links → HasSwitch setting.net s
     → All (λ target. Reaches setting journal s target → ⊥) (targets_of setting journal leg)
 walk_apart setting journal are items front rest i s cause leg down walk is none there =
-    let whole : Walk setting journal (front ++ item.Stuck i s cause leg down ∷ rest) =
-    subst (Walk setting journal) is walk in
-    let stays : StaysSo setting journal (journal ++ front) i =
-    fact_on (Walks setting) (λ now. StaysSo setting journal now i)
+    let whole = subst (Walk setting journal) is walk in
+    let stays = fact_on (Walks setting) (λ now. StaysSo setting journal now i)
     (stays_on setting journal are.net i) journal front
     (have_front (Walks setting) journal front _ whole) (stays_itself setting journal i none) in
     let knows : KnowsNoRoute setting (journal ++ front) i s leg down =
@@ -283,8 +257,7 @@ stuck_reaches_none setting journal are row step front rest i s cause leg down is
           none there
       | inr ends ↦ absurd (end_apart setting journal
           (items_then (next ∷ []) (step_items setting journal step) journal) front rest i s cause
-          leg down
-          (have_first IsNoEnd next (step_items setting journal step) journal tt ends) is)
+          leg down (have_first IsNoEnd next (step_items setting journal step) journal tt ends) is)
     ]
   where
     next : Item

@@ -1,5 +1,5 @@
 -- In a quiet journal every update has come to its end.
-use Rattle.std.proofs.Common.{[], if◌then◌else◌, ◌++◌, ◌+◌, ◌-◌, ◌<◌, ◌==◌, ◌||◌, ◌∙◌, ◌∷◌, ◌≡◌, ◌≤◌, ◌⊎◌, Bool, IsFalse, IsTrue, List, None, Option, Some, ap, arith, eq-eqb, false, filter_map, fold, inl, inr, is_some, length, max, nat_eq, nat_lt, refl, subst, sym, true, unwrap_or, ℕ}
+use Rattle.std.proofs.Common.{[], if◌then◌else◌, ◌++◌, ◌+◌, ◌-◌, ◌<◌, ◌==◌, ◌||◌, ◌∙◌, ◌∷◌, ◌≡◌, ◌≤◌, ◌⊎◌, Bool, IsFalse, IsTrue, List, None, Option, Some, ap, arith, eq-eqb, false, filter_map, fold, inl, inr, is_some, length, max, nat_eq, nat_lt, refl, sym, true, unwrap_or, ℕ}
 use Rattle.base.proofs.Exports.{list_any, nat_tests}
 use Rattle.update_machine.specs.Exports.{Advertise, Body, Collect, HaveCauses, Hello, Install, Installed, IsQuiet, Item, OpenAt, Setting, Stamp, Stamped, StepOfRow, Tables, acked_stamp, after_steps, boot_of, controller_heard, current_mark, has_acked, heard, hello_boot, installed_in, is_later_body, is_member, is_up, known_boot, open_version, opened_at, piece, serves, stamped_in, version_count}
 use Rattle.ctrl_msg.specs.Exports.{to_controller}
@@ -31,12 +31,10 @@ any_in v [] is = absurd is
 any_in v (x ∷ xs) is = elim is [
   | inl here ↦ let same : nat_eq v x ≡ true = eq-eqb v x (sym here) in rw same refl
   | inr later ↦ by_test (nat_eq v x) (any_in v xs later)
-]
-  where
-    by_test : (b : Bool) → IsTrue (list_any (nat_eq v) xs)
-        → IsTrue (b || list_any (nat_eq v) xs)
-    by_test true any = refl
-    by_test false any = any
+] where
+  by_test : (b : Bool) → IsTrue (list_any (nat_eq v) xs) → IsTrue (b || list_any (nat_eq v) xs)
+  by_test true any = refl
+  by_test false any = any
 
 -- ---- what is known at the end of a step
 
@@ -52,9 +50,8 @@ steps_stand : (setting : Setting) (before : List Item) (steps : List StepOfRow)
 steps_stand setting before [] stand = stand
 steps_stand setting before (next ∷ steps) stand =
     steps_stand setting (before ++ piece setting before next.row next.step) steps (record {
-      causes = have_append (IsInOrder setting) [] before
-          (piece setting before next.row next.step) stand.causes
-          (pieces_in_order setting before next.row next.step);
+      causes = have_append (IsInOrder setting) [] before (piece setting before next.row next.step)
+          stand.causes (pieces_in_order setting before next.row next.step);
       spoken = piece_spoken setting before next.row next.step stand.spoken;
       installs = piece_installs setting before next.row next.step stand.installs;
       stamps = piece_stamps setting before next.row next.step
@@ -72,8 +69,7 @@ steps_ready setting steps =
       installs = installs_at_first setting;
       stamps = stamps_at_first setting;
     }) in
-    let caused = items_caused setting journal stand.causes in
-    record {
+    let caused = items_caused setting journal stand.causes in record {
       causes = stand.causes;
       recorded = caused_recorded setting journal caused;
       bounds = bounded setting journal caused;
@@ -104,14 +100,12 @@ says_same body of alone (inr later) = absurd cc
 
 was_itself : (bodies : List Body) (of : Body) → IsTrue (is_alone of) → WasHeard bodies of
     → IsIn of bodies
-was_itself bodies of alone was =
-    subst (λ b. IsIn b bodies) (says_same was.body of alone was.says) was.is
+was_itself bodies of alone was = rw (says_same was.body of alone was.says) at was.is
 
 pub hello_known : (journal : List Item) (s boot : ℕ) → IsIn (Hello s boot) (controller_heard journal)
     → boot ≤ known_boot journal s
 unfolding known_boot
-hello_known journal s boot is =
-    let same : (s == s) ≡ true = eq-eqb s s refl in
+hello_known journal s boot is = let same : (s == s) ≡ true = eq-eqb s s refl in
     in_fold 1 boot (filter_map (hello_boot s) (controller_heard journal))
     (in_filter_map (hello_boot s) (Hello s boot) boot (controller_heard journal) is (rw same refl))
 
@@ -119,19 +113,15 @@ hello_known journal s boot is =
 known_own : (setting : Setting) (journal : List Item) → AreReady setting journal
     → IsQuiet setting journal → (s : ℕ) → s < length setting.net.switches
     → IsTrue (is_up journal s) → known_boot journal s ≡ boot_of journal s
-known_own setting journal are quiet s there up =
-    let below : known_boot journal s ≤ boot_of journal s =
-    are.recorded.known.boots.known s in
+known_own setting journal are quiet s there up = let below = are.recorded.known.boots.known s in
     elim (are.spoken.hellos.each s up) [
       | inl none ↦ absurd none
       | inr said ↦ elim said [
         | inl first ↦ omega (arith, below, first, known_first journal s)
-        | inr sent ↦
-            let heard = told_of setting journal s (Hello s (boot_of journal s)) quiet are.causes
-            there sent up refl refl in
-            let told : boot_of journal s ≤ known_boot journal s =
-            hello_known journal s (boot_of journal s)
-            (was_itself (controller_heard journal) (Hello s (boot_of journal s)) refl heard) in
+        | inr sent ↦ let told : boot_of journal s ≤ known_boot journal s =
+            hello_known journal s (boot_of journal s) (was_itself (controller_heard journal)
+            (Hello s (boot_of journal s)) refl (told_of setting journal s
+            (Hello s (boot_of journal s)) quiet are.causes there sent up refl refl)) in
             omega (arith, below, told)
       ]
     ]
@@ -142,24 +132,18 @@ pub installed_acked : (journal : List Item) (s version : ℕ)
     → IsIn (Installed s (known_boot journal s) version) (controller_heard journal)
     → IsTrue (has_acked journal s version)
 unfolding has_acked
-installed_acked journal s version is =
-    let here : (s == s) ≡ true = eq-eqb s s refl in
-    let own : (known_boot journal s == known_boot journal s) ≡ true =
-    eq-eqb (known_boot journal s) (known_boot journal s) refl in
-    any_in version
+installed_acked journal s version is = any_in version
     ((if known_boot journal s == 1 then 1 ∷ [] else [])
     ++ filter_map (installed_in s (known_boot journal s)) (controller_heard journal))
     (in_right version (if known_boot journal s == 1 then 1 ∷ [] else []) _
     (in_filter_map (installed_in s (known_boot journal s))
     (Installed s (known_boot journal s) version) version (controller_heard journal) is
-    (rw (here, own) refl)))
+    (rw ((eq-eqb s s refl), eq-eqb (known_boot journal s) (known_boot journal s) refl) refl)))
 
 pub first_acked : (journal : List Item) (s : ℕ) → known_boot journal s ≡ 1
     → IsTrue (has_acked journal s 1)
 unfolding has_acked
-first_acked journal s first =
-    let one : (known_boot journal s == 1) ≡ true = eq-eqb (known_boot journal s) 1 first in
-    rw one refl
+first_acked journal s first = rw (eq-eqb (known_boot journal s) 1 first) refl
 
 not_below : (v w : ℕ) → w ≤ v → IsFalse (nat_lt v w)
 not_below v w above = grind (arith, nat_tests)
@@ -169,30 +153,23 @@ all_installed : (setting : Setting) (journal : List Item) → AreReady setting j
     → IsQuiet setting journal → (s version : ℕ) → s < length setting.net.switches
     → IsTrue (is_up journal s) → current_mark journal ≤ version → version ≤ version_count journal
     → IsTrue (has_acked journal s version)
-all_installed setting journal are quiet s version there up above below =
-    elim (are.installs.each s version there
-    ((are.recorded.known.serving s).not_over up own) above below) [
+all_installed setting journal are quiet s version there up above below = elim (are.installs.each s
+    version there ((are.recorded.known.serving s).not_over up own) above below) [
       | inl none ↦ absurd none
       | inr had ↦ elim had [
-        | inl first ↦ subst (λ v. IsTrue (has_acked journal s v)) (sym first.0)
-            (first_acked journal s first.1)
-        | inr sent ↦
-            let tables : Tables = sent.tables in
+        | inl first ↦ rw first.0 (first_acked journal s first.1)
+        | inr sent ↦ let tables : Tables = sent.tables in
             let body : Body = Install (known_boot journal s) tables in
-            let heard_it = heard_of setting journal s body quiet are.causes there sent.sent
-            up (ap Some own)
-            (not_below tables.version (current_mark journal) (omega (arith, sent.of, above))) in
-            elim (are.spoken.answers.each s body
-            (was_itself (heard journal s) body refl heard_it)) [
+            elim (are.spoken.answers.each s body (was_itself (heard journal s) body refl
+            (heard_of setting journal s body quiet are.causes there sent.sent up (ap Some own)
+            (not_below tables.version (current_mark journal) (omega (arith, sent.of, above)))))) [
               | inl none ↦ absurd none
-              | inr answer ↦ subst (λ v. IsTrue (has_acked journal s v)) sent.of
-                  (installed_acked journal s tables.version
-                  (was_itself (controller_heard journal)
-                  (Installed s (known_boot journal s) tables.version) refl
-                  (told_of setting journal s (Installed s (known_boot journal s) tables.version)
-                  quiet are.causes there answer up (ap (λ b. Some (s, b)) own)
-                  (not_below tables.version (current_mark journal)
-                  (omega (arith, sent.of, above))))))
+              | inr answer ↦ rw sent.of at
+                  (installed_acked journal s tables.version (was_itself (controller_heard journal)
+                  (Installed s (known_boot journal s) tables.version) refl (told_of setting journal
+                  s (Installed s (known_boot journal s) tables.version) quiet are.causes there
+                  answer up (ap (λ b. Some (s, b)) own) (not_below tables.version
+                  (current_mark journal) (omega (arith, sent.of, above))))))
             ]
       ]
     ]
@@ -204,9 +181,7 @@ all_installed setting journal are quiet s version there up above below =
 opened_first : (journal : List Item) (s : ℕ) → known_boot journal s ≡ 1
     → opened_at journal s ≡ Some 1
 unfolding opened_at
-opened_first journal s first =
-    let one : (known_boot journal s == 1) ≡ true = eq-eqb (known_boot journal s) 1 first in
-    rw one refl
+opened_first journal s first = rw (eq-eqb (known_boot journal s) 1 first) refl
 
 -- ---- opened switches
 
@@ -216,9 +191,8 @@ opening_heard : (setting : Setting) (journal : List Item) → AreReady setting j
     → IsTrue (is_up journal s) → opened_at journal s ≡ Some version
     → (boot_of journal s ≡ 1) ⊎ IsIn (OpenAt (boot_of journal s) version) (heard journal s)
 opening_heard setting journal are quiet s version there up opened =
-    let own = known_own setting journal are quiet s there up in
-    elim (are.recorded.openings s (boot_of journal s) version
-    (ap (opened_in journal s) (sym own) ∙ sym (opened_is journal s) ∙ opened)) [
+    elim (are.recorded.openings s (boot_of journal s) version (ap (opened_in journal s)
+    (sym (known_own setting journal are quiet s there up)) ∙ sym (opened_is journal s) ∙ opened)) [
       | inl first ↦ inl first
       | inr sent ↦ inr (was_itself (heard journal s) (OpenAt (boot_of journal s) version) refl
           (heard_of setting journal s (OpenAt (boot_of journal s) version) quiet are.causes there
@@ -253,13 +227,11 @@ member_serves setting journal are quiet s there up member =
 -- a stamp, or one of a greater version
 later_stamp : (body : Body) (boot version : ℕ) (touched : List WordValue)
     → (body ≡ Stamp boot version touched) ⊎ IsTrue (is_later_body body (Stamp boot version touched))
-    → (later : ℕ) × (words : List WordValue) × (body ≡ Stamp boot later words)
-    × (version ≤ later)
+    → (later : ℕ) × (words : List WordValue) × (body ≡ Stamp boot later words) × (version ≤ later)
 later_stamp body boot version touched (inl same) = (version, touched, same, omega arith)
 later_stamp (Stamp of later words) boot version touched (inr more) =
-    let own : of ≡ boot = grind (arith, nat_tests) in
     let above : version ≤ later = grind (arith, nat_tests) in
-    (later, words, ap (λ b. Stamp b later words) own, above)
+    (later, words, ap (λ b. Stamp b later words) (grind (arith, nat_tests)), above)
 later_stamp body boot version touched (inr more) = absurd cc
 
 later_stamped : (body : Body) (s boot version : ℕ)
@@ -277,62 +249,53 @@ pub stamped_acked : (journal : List Item) (s version : ℕ)
     → IsIn (Stamped s (known_boot journal s) version) (controller_heard journal)
     → version ≤ acked_stamp journal s
 unfolding acked_stamp
-stamped_acked journal s version is =
-    let here : (s == s) ≡ true = eq-eqb s s refl in
-    let own : (known_boot journal s == known_boot journal s) ≡ true =
-    eq-eqb (known_boot journal s) (known_boot journal s) refl in
-    in_fold (open_version journal s) version
+stamped_acked journal s version is = in_fold (open_version journal s) version
     (filter_map (stamped_in s (known_boot journal s)) (controller_heard journal))
     (in_filter_map (stamped_in s (known_boot journal s)) (Stamped s (known_boot journal s) version)
-    version (controller_heard journal) is (rw (here, own) refl))
+    version (controller_heard journal) is
+    (rw ((eq-eqb s s refl), eq-eqb (known_boot journal s) (known_boot journal s) refl) refl))
 
 told_stamps : (setting : Setting) (journal : List Item) → AreReady setting journal
-    → IsQuiet setting journal → (s : ℕ) → s < length setting.net.switches
-    → IsTrue (is_up journal s)
+    → IsQuiet setting journal → (s : ℕ) → s < length setting.net.switches → IsTrue (is_up journal s)
     → IsStampSent journal s (known_boot journal s) (current_mark journal)
     → current_mark journal ≤ acked_stamp journal s
-told_stamps setting journal are quiet s there up stamp =
-    omega (
-      arith,
-      later.3,
-      more.2,
-      stamped_acked journal s more.0
-          (subst (λ b. IsIn b (controller_heard journal)) more.1 told.is),
-    )
-  where
-    known : ℕ
-    known = known_boot journal s
+told_stamps setting journal are quiet s there up stamp = omega (
+  arith,
+  later.3,
+  more.2,
+  stamped_acked journal s more.0 (rw more.1 at told.is),
+) where
+  known : ℕ
+  known = known_boot journal s
 
-    own : known ≡ boot_of journal s
-    own = known_own setting journal are quiet s there up
+  own : known ≡ boot_of journal s
+  own = known_own setting journal are quiet s there up
 
-    was : WasHeard (heard journal s) (Stamp known (current_mark journal) stamp.touched)
-    was = heard_of setting journal s (Stamp known (current_mark journal) stamp.touched) quiet
-        are.causes there stamp.sent up (ap Some own) refl
+  was : WasHeard (heard journal s) (Stamp known (current_mark journal) stamp.touched)
+  was = heard_of setting journal s (Stamp known (current_mark journal) stamp.touched) quiet
+      are.causes there stamp.sent up (ap Some own) refl
 
-    later : (v : ℕ) × (words : List WordValue) × (was.body ≡ Stamp known v words)
-        × (current_mark journal ≤ v)
-    later = later_stamp was.body known (current_mark journal) stamp.touched was.says
+  later : (v : ℕ) × (words : List WordValue) × (was.body ≡ Stamp known v words)
+      × (current_mark journal ≤ v)
+  later = later_stamp was.body known (current_mark journal) stamp.touched was.says
 
-    answer : IsSent journal (to_controller (Stamped s known later.0))
-    answer = elim (are.spoken.answers.each s (Stamp known later.0 later.1)
-        (subst (λ b. IsIn b (heard journal s)) later.2 was.is)) [
-          | inl none ↦ absurd none
-          | inr sent ↦ sent
-        ]
+  answer : IsSent journal (to_controller (Stamped s known later.0))
+  answer = elim (are.spoken.answers.each s (Stamp known later.0 later.1) (rw later.2 at was.is)) [
+    | inl none ↦ absurd none
+    | inr sent ↦ sent
+  ]
 
-    told : WasHeard (controller_heard journal) (Stamped s known later.0)
-    told = told_of setting journal s (Stamped s known later.0) quiet are.causes there answer up
-        (ap (λ b. Some (s, b)) own) refl
+  told : WasHeard (controller_heard journal) (Stamped s known later.0)
+  told = told_of setting journal s (Stamped s known later.0) quiet are.causes there answer up
+      (ap (λ b. Some (s, b)) own) refl
 
-    more : (v : ℕ) × (told.body ≡ Stamped s known v) × (later.0 ≤ v)
-    more = later_stamped told.body s known later.0 told.says
+  more : (v : ℕ) × (told.body ≡ Stamped s known v) × (later.0 ≤ v)
+  more = later_stamped told.body s known later.0 told.says
 
 -- one that was opened at the current version is known to stamp with it
 pub opened_stamps : (journal : List Item) (s : ℕ) → opened_at journal s ≡ Some (current_mark journal)
     → current_mark journal ≤ acked_stamp journal s
-opened_stamps journal s opened =
-    omega (arith, acked_stamp_opened journal s, ap (λ o. unwrap_or o 0) opened)
+opened_stamps journal s opened = omega (arith, acked_stamp_opened, ap (λ o. unwrap_or o 0) opened)
 
 -- ---- together
 
@@ -352,7 +315,6 @@ quiet_caught setting journal are quiet = record {
 pub updated_at_ends :
     HoldsAtEnds (λ setting journal. IsQuiet setting journal → IsUpdated setting journal)
 updated_at_ends = at_ends (λ setting journal. IsQuiet setting journal → IsUpdated setting journal)
-    (λ setting steps quiet.
-    let ready = steps_ready setting steps in
+    (λ setting steps quiet. let ready = steps_ready setting steps in
     caught_updated setting (after_steps setting [] steps) ready
     (quiet_caught setting (after_steps setting [] steps) ready quiet))

@@ -1,11 +1,7 @@
 -- Counters in planes of bits.
-use Rattle.std.proofs.Common.{[], ◌*◌, ◌+◌, ◌<◌, ◌^◌, ◌∙◌, ◌∷◌, ◌≡◌, ◌≤◌, List, add-one, ap, arith, bit_and, bit_or, bit_xor, drop, get_or, length, length-drop, pow-suc, pow_mono, refl, replicate, set, suc, zero, ℕ}
+use Rattle.std.proofs.Common.{[], ◌*◌, ◌+◌, ◌<◌, ◌^◌, ◌∙◌, ◌∷◌, ◌≡◌, ◌≤◌, List, add-one, ap, arith, bit_and, bit_or, bit_xor, drop, get_or, length, length-drop, pow-suc, pow_mono, set, suc, zero, ℕ}
 use Rattle.base.proofs.Exports.{bit_at, bit_at-lt, bit_at-zero, bit_at_and, bit_at_or, bit_at_xor}
 use Rattle.cut_tree.specs.Exports.{count_at}
-
-pub count_at-replicate : (n bit : ℕ) → count_at (replicate n 0) bit ≡ 0
-count_at-replicate zero bit = refl
-count_at-replicate (suc n) bit = omega (arith, count_at-replicate n bit, bit_at-zero bit)
 
 pub count_at-lt : (planes : List ℕ) (bit : ℕ) → count_at planes bit < 2 ^ length planes
 count_at-lt [] bit = omega arith
@@ -24,36 +20,32 @@ count_at-set (old ∷ planes) (suc place) plane bit within = rw (pow-suc 2 place
 -- a plane and a carry are added bit by bit
 full_adder : (plane carry bit : ℕ) → bit_at (bit_xor plane carry) bit + 2 * bit_at
     (bit_and plane carry) bit ≡ bit_at plane bit + bit_at carry bit
-full_adder plane carry bit =
-    omega (
-      arith,
-      bit_at_xor plane carry bit,
-      bit_at_and plane carry bit,
-      bit_at-lt plane bit,
-      bit_at-lt carry bit,
-    )
+full_adder plane carry bit = omega (
+  arith,
+  bit_at_xor plane carry bit,
+  bit_at_and plane carry bit,
+  bit_at-lt plane bit,
+  bit_at-lt carry bit,
+)
 
 -- so are three sets
-pub three_added : (a b c bit : ℕ)
-    → bit_at (bit_xor (bit_xor a b) c) bit
+pub three_added : (a b c bit : ℕ) → bit_at (bit_xor (bit_xor a b) c) bit
     + 2 * bit_at (bit_or (bit_and a b) (bit_and (bit_xor a b) c)) bit
     ≡ bit_at a bit + bit_at b bit + bit_at c bit
-three_added a b c bit =
-    omega (
-      arith,
-      bit_at_xor (bit_xor a b) c bit,
-      bit_at_xor a b bit,
-      bit_at_or (bit_and a b) (bit_and (bit_xor a b) c) bit,
-      bit_at_and a b bit,
-      bit_at_and (bit_xor a b) c bit,
-      bit_at-lt a bit,
-      bit_at-lt b bit,
-      bit_at-lt c bit,
-    )
+three_added a b c bit = omega (
+  arith,
+  bit_at_xor (bit_xor a b) c bit,
+  bit_at_xor a b bit,
+  bit_at_or (bit_and a b) (bit_and (bit_xor a b) c) bit,
+  bit_at_and a b bit,
+  bit_at_and (bit_xor a b) c bit,
+  bit_at-lt a bit,
+  bit_at-lt b bit,
+  bit_at-lt c bit,
+)
 
 -- four sets are added to the two lowest planes, and to what is carried on
-pub four_added : (planes : List ℕ) (sum one ones two twos fours a b c d bit : ℕ)
-    → 2 ≤ length planes
+pub four_added : (planes : List ℕ) (sum one ones two twos fours a b c d bit : ℕ) → 2 ≤ length planes
     → bit_at sum bit + 2 * bit_at one bit
     ≡ bit_at (get_or planes 0 0) bit + bit_at a bit + bit_at b bit
     → bit_at ones bit + 2 * bit_at two bit ≡ bit_at sum bit + bit_at c bit + bit_at d bit
@@ -75,9 +67,7 @@ pub carried_on : (planes : List ℕ) (place carry bit : ℕ) → place < length 
 carried_on planes place carry bit within =
     let plane = get_or planes place 0 in
     let weight = 2 ^ place in
-    let sum : weight * (bit_at (bit_xor plane carry) bit + 2 * bit_at (bit_and plane carry) bit)
-    ≡ weight * (bit_at plane bit + bit_at carry bit) = ap (λ n. weight * n)
-    (full_adder plane carry bit) in
+    let sum = ap (λ n. weight * n) (full_adder plane carry bit) in
     let twice : 2 ^ (place + 1) ≡ weight * 2 = ap (λ n. 2 ^ n) (add-one place) ∙ pow-suc 2 place in
     rw twice (omega (arith, sum, count_at-set planes place (bit_xor plane carry) bit within))
 
@@ -87,10 +77,9 @@ pub carried_out : (planes : List ℕ) (place carry bit : ℕ) → place < length
     → count_at (set planes place (bit_xor (get_or planes place 0) carry)) bit ≡ count_at planes
     bit + 2 ^ place * bit_at carry bit
 carried_out planes place carry bit within none =
-    let zero_bit : bit_at (bit_and (get_or planes place 0) carry) bit ≡ 0 = ap (λ n. bit_at n bit)
-    none ∙ bit_at-zero bit in
     let nothing : 2 ^ (place + 1) * bit_at (bit_and (get_or planes place 0) carry) bit
-    ≡ 2 ^ (place + 1) * 0 = ap (λ n. 2 ^ (place + 1) * n) zero_bit in
+    ≡ 2 ^ (place + 1) * 0 =
+    ap (λ n. 2 ^ (place + 1) * n) (ap (λ n. bit_at n bit) none ∙ bit_at-zero bit) in
     omega (arith, nothing, carried_on planes place carry bit within)
 
 -- the planes past the first count less than half as far

@@ -25,8 +25,7 @@ at_free n rules region free = rw free
 pub least_nowhere : (n : ℕ) (rules : List Rule) (region : WordValue)
     → ((bit : ℕ) → bit < n → is_fixed_of region bit ≡ true) → least_below n rules region ≡ None
 least_nowhere zero rules region fixed = least_none rules region
-least_nowhere (suc n) rules region fixed =
-    at_fixed n rules region (fixed n (omega arith))
+least_nowhere (suc n) rules region fixed = at_fixed n rules region (fixed n (omega arith))
     ∙ least_nowhere n rules region (λ bit within. fixed bit (omega arith))
 
 -- ---- the function gives a least cut
@@ -68,17 +67,15 @@ least_missing (suc n) rules region none bit within = elim (cases_Bool (is_fixed_
 ]
 
 -- what is known one bit further
-further : (n : ℕ) (rules : List Rule) (region : WordValue) (cost : Cost)
-    → IsLeastBelow n rules region cost
-    → (is_fixed_of region n ≡ false → CostsAtMost cost (cost_of rules region n))
+further : (n : ℕ) (rules : List Rule) (region : WordValue) (cost : Cost) → IsLeastBelow n rules
+    region cost → (is_fixed_of region n ≡ false → CostsAtMost cost (cost_of rules region n))
     → IsLeastBelow (suc n) rules region cost
 further n rules region cost below here = record {
   is = below.is;
   bound = omega (arith, below.bound);
   free = below.free;
   least = λ other within free. elim (cases_eq other n) [
-    | inl same ↦
-        let Goal : ℕ → Type 0 = λ k. CostsAtMost cost (cost_of rules region k) in
+    | inl same ↦ let Goal : ℕ → Type 0 = λ k. CostsAtMost cost (cost_of rules region k) in
         subst Goal (sym same) (here (sym (ap (is_fixed_of region) same) ∙ free))
     | inr before ↦ below.least other (omega arith) free
   ];
@@ -103,23 +100,18 @@ newest n rules region free before = record {
 
 least_after : (n : ℕ) (rules : List Rule) (region : WordValue) (before : Option Cost)
     → least_below n rules region ≡ before
-    → ((cost : Cost) → before ≡ Some cost → IsLeastBelow n rules region cost)
-    → is_fixed_of region n ≡ false → IsLeastBelow (suc n) rules region
-    (cheaper_cost (cost_of rules region n) before)
-least_after n rules region None is known free = newest n rules region free
-    (λ other within freed. absurd
-    (both_ways _ freed (least_missing n rules region is other within)))
+    → ((cost : Cost) → before ≡ Some cost → IsLeastBelow n rules region cost) → is_fixed_of region n
+    ≡ false → IsLeastBelow (suc n) rules region (cheaper_cost (cost_of rules region n) before)
+least_after n rules region None is known free = newest n rules region free (λ other within freed.
+    absurd (both_ways _ freed (least_missing n rules region is other within)))
 least_after n rules region (Some best) is known free =
     let cost = cost_of rules region n in
     let below = known best refl in
     elim (cases_Bool (is_cheaper cost best)) [
       | inl less ↦
-          let same : cheaper_cost cost (Some best) ≡ cost = cond-true _ cost best less in
-          rw same (newest n rules region free
-          (λ other within freed. at_most_trans cost best _ (cheaper_less cost best less)
-          (below.least other within freed)))
-      | inr more ↦
-          let same : cheaper_cost cost (Some best) ≡ best = cond-false _ cost best more in
+          rw (cond-true _ cost best less) (newest n rules region free (λ other within freed.
+          at_most_trans cost best _ (cheaper_less cost best less) (below.least other within freed)))
+      | inr more ↦ let same : cheaper_cost cost (Some best) ≡ best = cond-false _ cost best more in
           rw same (further n rules region best below (λ _. not_cheaper cost best below.bound more))
     ]
 
@@ -130,16 +122,11 @@ least_some : (n : ℕ) (rules : List Rule) (region : WordValue) (cost : Cost)
     → least_below n rules region ≡ Some cost → IsLeastBelow n rules region cost
 least_some zero rules region cost is = let never = sym (least_none rules region) ∙ is in cc
 least_some (suc n) rules region cost is = elim (cases_Bool (is_fixed_of region n)) [
-  | inl fixed ↦
-      further n rules region cost
-      (least_some n rules region cost (sym (at_fixed n rules region fixed) ∙ is))
-      (λ free. absurd (both_ways _ free fixed))
-  | inr free ↦
-      let same : cheaper_cost (cost_of rules region n) (least_below n rules region) ≡ cost =
-      some_same _ _ (sym (at_free n rules region free) ∙ is) in
-      subst (IsLeastBelow (suc n) rules region) same
-      (least_after n rules region (least_below n rules region) refl
-      (λ best known. least_some n rules region best known) free)
+  | inl fixed ↦ further n rules region cost (least_some n rules region cost
+      (sym (at_fixed n rules region fixed) ∙ is)) (λ free. absurd (both_ways _ free fixed))
+  | inr free ↦ subst (IsLeastBelow (suc n) rules region)
+      (some_same _ _ (sym (at_free n rules region free) ∙ is)) (least_after n rules region
+      (least_below n rules region) refl (λ best known. least_some n rules region best known) free)
 ]
 
 -- the least cut of all

@@ -12,8 +12,7 @@ both_within false q t is = refl
 
 meets_by : (w r : WordValue) (bit : ℕ) (one : Bool) → IsFalse (is_fixed_of r bit)
     → IsTrue (covers_of r w) → meets w (fix_of r bit one) ≡ admits w bit one
-meets_by w r bit one free within = meets_half w r bit one free
-    ∙ ap (λ t. t && admits w bit one) (meets_cover r w within)
+meets_by w r bit one free within = cc (meets_half w r bit one free, meets_cover r w within)
 
 -- ---- a word's own bit
 
@@ -29,9 +28,8 @@ one_digit n false small is = grind (arith, nat_tests)
 
 other_digit : (n : ℕ) (one : Bool) → n < 2 → ((n == 1) ≡ one → ⊥) → (n == from_bool one) ≡ false
 other_digit n true small other = false_from_ne_true (n == 1) other
-other_digit n false small other = false_from_ne_true (n == 0) (λ e.
-    other (false_from_ne_true (n == 1) (λ set. omega
-    (arith, eqb-true n 0 e, eqb-true n 1 set))))
+other_digit n false small other = false_from_ne_true (n == 0) (λ e. other
+    (false_from_ne_true (n == 1) (λ set. omega (arith, eqb-true n 0 e, eqb-true n 1 set))))
 
 same_bool : (a b : Bool) → beq a b ≡ true → a ≡ b
 same_bool true true e = refl
@@ -53,11 +51,10 @@ value_digit w bit one is = one_digit (bit_at w.value bit) one (bit_at-lt w.value
 pub admits_digit : (w : WordValue) (bit : ℕ) (one : Bool) → bit_at w.value bit ≡ from_bool one
     → admits w bit one ≡ true
 unfolding admits
-admits_digit w bit one is = by_case (not (is_fixed_of w bit))
-  where
-    by_case : (free : Bool) → (free || (bit_at w.value bit == from_bool one)) ≡ true
-    by_case true = refl
-    by_case false = eq-eqb (bit_at w.value bit) (from_bool one) is
+admits_digit w bit one is = by_case (not (is_fixed_of w bit)) where
+  by_case : (free : Bool) → (free || (bit_at w.value bit == from_bool one)) ≡ true
+  by_case true = refl
+  by_case false = eq-eqb (bit_at w.value bit) (from_bool one) is
 
 pub admits_other : (w : WordValue) (bit : ℕ) (one : Bool) → is_fixed_of w bit ≡ true
     → beq (bit_and (w.value / 2 ^ bit) 1 == 1) one ≡ false → admits w bit one ≡ false
@@ -89,20 +86,18 @@ lies_at region rules index rule all within is =
 
 -- the word of those of its headers that have the bit
 pub half_met : HoldsLaws → (w r x : WordValue) (bit : ℕ) (one : Bool) → IsWord w → IsWord r
-    → IsWord x → bit < 104 → IsFalse (is_fixed_of r bit) → IsTrue (covers_of r w)
-    → admits w bit one ≡ true
-    → ((h : ℕ) → holds x h ≡ (holds w h && (bit_at h bit == from_bool one)))
+    → IsWord x → bit < 104 → IsFalse (is_fixed_of r bit) → IsTrue (covers_of r w) → admits w bit one
+    ≡ true → ((h : ℕ) → holds x h ≡ (holds w h && (bit_at h bit == from_bool one)))
     → Some x ≡ meet_of w (fix_of r bit one)
 half_met laws w r x bit one w_word r_word x_word bound free within admitted each =
     let half = fix_of r bit one in
     let met = met_joined w half (meets_by w r bit one free within ∙ admitted) in
-    let both = meet_both w half (meeting_word w half) met in
     let m_word = meet_word w half (meeting_word w half) w_word (fix_word r bit one r_word bound)
     met in
-    sym (met ∙ ap Some (laws.same (meeting_word w half) x m_word x_word (λ h small.
-    both h ∙ ap (λ t. holds w h && t) (fix_holds r bit one free h)
-    ∙ both_within (holds w h) (holds r h) (bit_at h bit == from_bool one)
-    (λ held. covers_held r w h within held) ∙ sym (each h))))
+    sym (met ∙ ap Some (laws.same (meeting_word w half) x m_word x_word
+    (λ h small. (meet_both w half (meeting_word w half) met) h
+    ∙ ap (λ t. holds w h && t) (fix_holds r bit one free h) ∙ both_within (holds w h) (holds r h)
+    (bit_at h bit == from_bool one) (λ held. covers_held r w h within held) ∙ sym (each h))))
 
 -- no header where the word has the other bit
 pub half_apart : (w r : WordValue) (bit : ℕ) (one : Bool) → IsFalse (is_fixed_of r bit)

@@ -45,12 +45,9 @@ pub least_fewer : (bits left plane : ℕ) (rest count : ℕ → ℕ)
 least_fewer bits left plane rest count is known small some bit =
     let fewer = bit_xor left (bit_and left plane) in
     let k = trailing_zeros w128 fewer in
-    let below : fewer < 2 ^ 128 = xor_lt 128 left (bit_and left plane) small
-    (omega (arith, small, and_le_l left plane)) in
-    let lowest = bit_at-trailing_zeros w128 fewer (omega (arith, some)) below in
-    let there : bit_at left k ≡ 1 = omega
-    (arith, lowest.1, fewer_digit left plane k, bit_at-lt left k) in
-    let first = (known k).0 there in
+    let lowest = bit_at-trailing_zeros w128 fewer (omega (arith, some))
+    (xor_lt 128 left (bit_and left plane) small (omega (arith, small, and_le_l left plane))) in
+    let first = (known k).0 (omega (arith, lowest.1, fewer_digit left plane k, bit_at-lt left k)) in
     let clear : bit_at plane k ≡ 0 = omega
     (arith, lowest.1, fewer_digit left plane k, bit_at-lt left k, bit_at-lt plane k) in (
       λ set.
@@ -82,23 +79,19 @@ pub least_same : (bits left plane : ℕ) (rest count : ℕ → ℕ)
     → (bit : ℕ) → (bit_at left bit ≡ 1) ↔ IsLeastOf bits count bit
 least_same bits left plane rest count is known none bit =
     let ones : (k : ℕ) → bit_at left k ≡ 1 → bit_at plane k ≡ 1 = λ k set.
-    let zero_bit : bit_at (bit_xor left (bit_and left plane)) k ≡ 0 = ap (λ n. bit_at n k) none
-    ∙ bit_at-zero k in
+    let zero_bit = ap (λ n. bit_at n k) none ∙ bit_at-zero k in
     omega (arith, zero_bit, set, fewer_digit left plane k, bit_at-lt plane k) in (
-      λ set.
-          let own = (known bit).0 set in
-          record {
-            member = own.member;
-            least = λ other m. elim (cases_lt (rest bit) (rest other)) [
-              | inl less ↦ omega (arith, is bit, is other, bit_at-lt plane bit)
-              | inr more ↦
-                  let also : bit_at left other ≡ 1 = (known other).1 (record {
-                    member = m;
-                    least = λ third n. omega (arith, more, own.least third n);
-                  }) in
-                  omega (arith, is bit, is other, ones other also, bit_at-lt plane bit, own.least other m)
-            ];
-          },
+      λ set. let own = (known bit).0 set in record {
+        member = own.member;
+        least = λ other m. elim (cases_lt (rest bit) (rest other)) [
+          | inl less ↦ omega (arith, is bit, is other, bit_at-lt plane bit)
+          | inr more ↦ let also : bit_at left other ≡ 1 = (known other).1 (record {
+            member = m;
+            least = λ third n. omega (arith, more, own.least third n);
+          }) in
+              omega (arith, is bit, is other, ones other also, bit_at-lt plane bit, own.least other m)
+        ];
+      },
       λ best. (known bit).1 (least_above bits plane rest count is bit best),
     )
 
@@ -181,8 +174,7 @@ least_start first second height which bits bit p q =
 
 -- a digit in which two counts differ, and one that the first is the higher
 abbrev pub AreOrdered : ℕ → ℕ → ℕ → ℕ → Type 0
-AreOrdered settled more first second =
-    ((settled ≡ 0) × (more ≡ 0) × (first ≡ second))
+AreOrdered settled more first second = ((settled ≡ 0) × (more ≡ 0) × (first ≡ second))
     ⊎ ((settled ≡ 1) × (more ≡ 1) × (second < first))
     ⊎ ((settled ≡ 1) × (more ≡ 0) × (first < second))
 
@@ -223,8 +215,6 @@ ordered_step first second place next settled more bit is within also so_far =
     let d = bit_xor a b in
     let f = bit_xor d (bit_and d settled) in
     let d_is = bit_at_xor a b bit in
-    let t_is : bit_at (bit_or settled d) bit ≡ max (bit_at settled bit) ((bit_at a bit + bit_at b bit) % 2) =
-    bit_at_or settled d bit ∙ ap (max (bit_at settled bit)) d_is in
     let f_is : bit_at f bit ≡ ((bit_at a bit + bit_at b bit) % 2 + min ((bit_at a bit + bit_at b bit) % 2) (bit_at settled bit)) % 2 =
     bit_at_xor d (bit_and d settled) bit
     ∙ ap (λ n. (bit_at d bit + n) % 2) (bit_at_and d settled bit)
@@ -232,7 +222,8 @@ ordered_step first second place next settled more bit is within also so_far =
     let n_is = bit_at_or more (bit_and f a) bit
     ∙ ap (max (bit_at more bit)) (bit_at_and f a bit ∙ ap (λ n. min n (bit_at a bit)) f_is) in
     rw (planes_at first place next bit is within, planes_at second place next bit is also)
-    (ordered_next _ _ _ _ _ _ _ _ (bit_at-lt a bit) (bit_at-lt b bit) t_is n_is so_far)
+    (ordered_next _ _ _ _ _ _ _ _ (bit_at-lt a bit) (bit_at-lt b bit)
+    (bit_at_or settled d bit ∙ ap (max (bit_at settled bit)) d_is) n_is so_far)
 
 -- ---- the first bit whose cut costs least
 
@@ -259,9 +250,8 @@ pub least_first : (low high : List ℕ) (above bits fewest least bit : ℕ)
     → ((k : ℕ) → (bit_at above k ≡ 1) ↔ (count_at low k < count_at high k))
     → ((k : ℕ) → (bit_at fewest k ≡ 1) ↔ IsLeastOf bits (count_by low high above) k)
     → ((k : ℕ) → (bit_at least k ≡ 1) ↔ IsLeastOf fewest (count_by high low above) k)
-    → bit_at least bit ≡ 1 → ((j : ℕ) → j < bit → bit_at least j ≡ 0)
-    → (other : ℕ) → bit_at bits other ≡ 1
-    → CostsAtMost (counted_cost low high bit) (counted_cost low high other)
+    → bit_at least bit ≡ 1 → ((j : ℕ) → j < bit → bit_at least j ≡ 0) → (other : ℕ)
+    → bit_at bits other ≡ 1 → CostsAtMost (counted_cost low high bit) (counted_cost low high other)
 least_first low high above bits fewest least bit is_above is_fewest is_least set before other m =
     let last = (is_least bit).0 set in
     let own = (is_fewest bit).0 last.member in
@@ -277,8 +267,7 @@ least_first low high above bits fewest least bit is_above is_fewest is_least set
     → bit_at least other ≡ 1 = λ e f. (is_least other).1 (record {
       member = also e;
       least = λ third n. omega (arith, e, f, here.0, here.1, there.0, there.1, last.least third n);
-    }) in
-    record {
+    }) in record {
       larger = omega (arith, here.0, there.0, own.least other m);
       sum = λ e. omega (arith, e, here.0, here.1, there.0, there.1, last.least other (also e));
       bit = λ e f. elim (cases_lt other bit) [
@@ -294,14 +283,12 @@ pub free_mask : (region : WordValue) (mask bit : ℕ) → mask ≡ region.mask �
     → (bit_at (bit_and (2 ^ 104 - 1) (2 ^ 128 - 1 - mask)) bit ≡ 1) ↔ IsFreeBit region bit
 unfolding is_fixed_of
 free_mask region mask bit same small =
-    let fixed : (bit_at mask bit == 1) ≡ is_fixed_of region bit =
-    ap (λ m. bit_at m bit == 1) same in
+    let fixed = ap (λ m. bit_at m bit == 1) same in
     let both = bit_at_and (2 ^ 104 - 1) (2 ^ 128 - 1 - mask) bit in
     let apart : bit < 128 → bit_at (2 ^ 128 - 1 - mask) bit ≡ 1 - bit_at mask bit =
     λ below. bit_at_not w128 mask bit (omega arith) below in (
       λ set. elim (cases_lt bit 104) [
-        | inl below ↦
-            let unset : bit_at mask bit ≡ 0 =
+        | inl below ↦ let unset : bit_at mask bit ≡ 0 =
             omega (arith, both, apart (omega arith), bit_at_ones 104 bit below, set) in
             record { bound = below; free = sym fixed ∙ ap (λ n. n == 1) unset }
         | inr above ↦ absurd (omega (arith, set, both, bit_at_ones_above 104 bit above))
@@ -310,8 +297,7 @@ free_mask region mask bit same small =
         | inl set ↦ absurd (both_ways _ free.free (sym fixed ∙ eq-eqb _ _ set))
         | inr unset ↦
             let zero_bit : bit_at mask bit ≡ 0 = omega (arith, bit_at-lt mask bit, unset) in
-            let bound = free.bound in
-            omega (arith, both, apart (omega arith), bit_at_ones 104 bit bound, zero_bit)
+            omega (arith, both, apart (omega arith), bit_at_ones 104 bit free.bound, zero_bit)
       ],
     )
 
@@ -320,18 +306,16 @@ pub all_fixed : (region : WordValue) (free bit : ℕ) → bit < 104
 all_fixed region free bit within is none = elim (cases_Bool (is_fixed_of region bit)) [
   | inl fixed ↦ fixed
   | inr unfixed ↦
-      let set : bit_at free bit ≡ 1 = is.1 (record { bound = within; free = unfixed }) in
       let zero_bit : bit_at free bit ≡ 0 = ap (λ n. bit_at n bit) none ∙ bit_at-zero bit in
-      absurd (omega (arith, set, zero_bit))
+      absurd (omega (arith, is.1 (record { bound = within; free = unfixed }), zero_bit))
 ]
 
 -- what is counted at the first bit that costs least
 pub counted_cut : (low high : Side) (rules : List Rule) (region : WordValue) (free bit : ℕ)
     → HasCounted low false rules region → HasCounted high true rules region
     → ((k : ℕ) → (bit_at free k ≡ 1) ↔ IsFreeBit region k) → bit_at free bit ≡ 1
-    → ((other : ℕ) → bit_at free other ≡ 1
-    → CostsAtMost (counted_cost low.counts.planes high.counts.planes bit)
-    (counted_cost low.counts.planes high.counts.planes other))
+    → ((other : ℕ) → bit_at free other ≡ 1 → CostsAtMost (counted_cost low.counts.planes
+    high.counts.planes bit) (counted_cost low.counts.planes high.counts.planes other))
     → Some (counted_cost low.counts.planes high.counts.planes bit) ≡ least_below 104 rules region
 counted_cut low high rules region free bit lows highs frees set least =
     let counted : ℕ → Cost = counted_cost low.counts.planes high.counts.planes in

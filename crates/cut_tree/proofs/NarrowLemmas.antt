@@ -57,35 +57,29 @@ mask_covers m r q e = (covers_decides m r).1 (λ k p.
 
 -- a word covers the region that its meet with the region covers
 covers_met : (w r m : WordValue) → meet_of w r ≡ Some m → covers_of m r ≡ covers_of w r
-covers_met w r m met = meet_greatest w r m r met
-    ∙ ap (λ b. covers_of w r && b) (covers_reflexive r) ∙ both_true (covers_of w r)
+covers_met w r m met = cc (meet_greatest w r m r met, covers_reflexive r, both_true (covers_of w r))
   where
     both_true : (b : Bool) → (b && true) ≡ b
     both_true true = refl
     both_true false = refl
 
 -- it does so where the meet fixes the bits that the region does, and no others
-pub covers_by_mask : (w r m : WordValue) → meet_of w r ≡ Some m
-    → covers_of w r ≡ eqb m.mask r.mask
-covers_by_mask w r m met = by_case (covers_of w r) refl
-  where
-    inside : IsTrue (covers_of r m)
-    inside = (meet_within w r m met).1
+pub covers_by_mask : (w r m : WordValue) → meet_of w r ≡ Some m → covers_of w r ≡ eqb m.mask r.mask
+covers_by_mask w r m met = by_case (covers_of w r) refl where
+  inside : IsTrue (covers_of r m)
+  inside = (meet_within w r m met).1
 
-    by_case : (b : Bool) → covers_of w r ≡ b → b ≡ eqb m.mask r.mask
-    by_case true is = sym (eq-eqb m.mask r.mask
-        (same_masks m r (covers_met w r m met ∙ is) inside))
-    by_case false is = sym (false_from_ne_true (eqb m.mask r.mask) (λ same.
-        let covers = sym (covers_met w r m met)
-        ∙ mask_covers m r inside (eqb-true m.mask r.mask same) in cc))
+  by_case : (b : Bool) → covers_of w r ≡ b → b ≡ eqb m.mask r.mask
+  by_case true is = sym (eq-eqb m.mask r.mask (same_masks m r (covers_met w r m met ∙ is) inside))
+  by_case false is = sym (false_from_ne_true (eqb m.mask r.mask) (λ same. let covers =
+      sym (covers_met w r m met) ∙ mask_covers m r inside (eqb-true m.mask r.mask same) in cc))
 
 narrow_last : (rules : List Rule) (index : ℕ) (rule : Rule) (region word : WordValue)
     → index < length rules → rule ≡ get_or rules index rule → meet_of rule.word region ≡ Some word
     → covers_of rule.word region ≡ true → narrow (drop index rules) region ≡ with_word rule
     word ∷ []
 unfolding narrowed_rule
-narrow_last rules index rule region word within is some covers =
-    let met = meet_some _ _ _ some in
+narrow_last rules index rule region word within is some covers = let met = meet_some _ _ _ some in
     at_item (λ rs. narrow rs region) rules index rule within is
     ∙ narrow_covered region rule (drop (index + 1) rules) met.0 covers
     ∙ ap (λ w. with_word rule w ∷ []) met.1
@@ -137,8 +131,7 @@ all_narrowed : (P : Rule → Type 0) (rules : List Rule) (region : WordValue)
     → ((rule : Rule) → meets rule.word region ≡ true → P (narrowed_rule region rule))
     → All P (narrow rules region)
 all_narrowed P [] region each = All-same P _ _ (narrow_none region) (All-nil P)
-all_narrowed P (rule ∷ rules) region each =
-    let rest = all_narrowed P rules region each in
+all_narrowed P (rule ∷ rules) region each = let rest = all_narrowed P rules region each in
     elim (cases_Bool (meets rule.word region)) [
       | inl meet ↦ elim (cases_Bool (covers_of rule.word region)) [
         | inl covers ↦ All-same P _ _ (narrow_covered region rule rules meet covers)
@@ -158,8 +151,7 @@ narrow_within rules region = all_narrowed (LiesIn region) rules region
 pub narrow_few : (rules : List Rule) (region : WordValue) → length (narrow rules region) ≤ length
     rules
 narrow_few [] region = omega (arith, ap length (narrow_none region))
-narrow_few (rule ∷ rules) region =
-    let rest = narrow_few rules region in
+narrow_few (rule ∷ rules) region = let rest = narrow_few rules region in
     elim (cases_Bool (meets rule.word region)) [
       | inl meet ↦ elim (cases_Bool (covers_of rule.word region)) [
         | inl covers ↦ omega (arith, ap length (narrow_covered region rule rules meet covers))
@@ -176,9 +168,8 @@ narrow_words [] region whole words = All-same (λ rule. IsWord rule.word) _ _ (n
 narrow_words (rule ∷ rules) region whole words =
     let P : Rule → Type 0 = λ rule. IsWord rule.word in
     let rest = narrow_words rules region whole (All-tail P rule rules words) in
-    let word : meets rule.word region ≡ true → P (narrowed_rule region rule) = λ meet.
-    meet_word rule.word region _ (All-head P rule rules words) whole
-    (met_joined rule.word region meet) in
+    let word : meets rule.word region ≡ true → P (narrowed_rule region rule) = λ meet. meet_word
+    rule.word region _ (All-head P rule rules words) whole (met_joined rule.word region meet) in
     elim (cases_Bool (meets rule.word region)) [
       | inl meet ↦ elim (cases_Bool (covers_of rule.word region)) [
         | inl covers ↦ All-same P _ _ (narrow_covered region rule rules meet covers)

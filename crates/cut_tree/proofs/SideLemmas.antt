@@ -21,10 +21,8 @@ low_digit mask value m v = grind (arith, nat_tests)
 pub met_high : (w : WordValue) (bit : ℕ) → w.mask < 2 ^ 104 → bit < 104
     → bit_at (bit_or w.value (2 ^ 128 - 1 - w.mask)) bit ≡ from_bool (admits w bit true)
 unfolding admits is_fixed_of
-met_high w bit small within =
-    let clear : bit_at (2 ^ 128 - 1 - w.mask) bit ≡ 1 - bit_at w.mask bit = bit_at_not w128 w.mask
-    bit (omega arith) (omega arith) in
-    bit_at_or w.value (2 ^ 128 - 1 - w.mask) bit ∙ ap (max (bit_at w.value bit)) clear
+met_high w bit small within = bit_at_or w.value (2 ^ 128 - 1 - w.mask) bit
+    ∙ ap (max (bit_at w.value bit)) (bit_at_not w128 w.mask bit (omega arith) (omega arith))
     ∙ high_digit (bit_at w.mask bit) (bit_at w.value bit) (bit_at-lt w.mask bit)
     (bit_at-lt w.value bit)
 
@@ -32,11 +30,10 @@ pub met_low : (w : WordValue) (bit : ℕ) → IsWord w → w.value < 2 ^ 104 →
     → bit_at (2 ^ 128 - 1 - w.value) bit ≡ from_bool (admits w bit false)
 unfolding admits is_fixed_of
 met_low w bit word small within =
-    let clear : bit_at (2 ^ 128 - 1 - w.value) bit ≡ 1 - bit_at w.value bit =
-    bit_at_not w128 w.value bit (omega arith) (omega arith) in
     let both : min (bit_at w.value bit) (bit_at w.mask bit) ≡ bit_at w.value bit =
     sym (bit_at_and w.value w.mask bit) ∙ ap (λ n. bit_at n bit) word.within in
-    clear ∙ low_digit (bit_at w.mask bit) (bit_at w.value bit) (bit_at-lt w.mask bit) (omega arith)
+    (bit_at_not w128 w.value bit (omega arith) (omega arith))
+    ∙ low_digit (bit_at w.mask bit) (bit_at w.value bit) (bit_at-lt w.mask bit) (omega arith)
 
 -- ---- the halves that it covers
 
@@ -54,8 +51,7 @@ same_digit a b p q r s = grind (arith, nat_tests)
 pub covers_only : (w r : WordValue) (k : ℕ) → IsTrue (covers_of r w)
     → IsTrue (covers_of (free_of w k) r) → IsOnly (beyond w r) k
 unfolding free_of
-covers_only w r k within covers = λ j other.
-    let inner = (covers_decides r w).0 within j in
+covers_only w r k within covers = λ j other. let inner = (covers_decides r w).0 within j in
     let outer = (covers_decides (free_of w k) r).0 covers j in
     let fixed : bit_at w.mask j ≡ 1 → bit_at r.mask j ≡ 1 =
     λ e. (outer (without_bit-other w.mask k j other ∙ e)).0 in
@@ -69,9 +65,8 @@ only_covers w r k within only = (covers_decides (free_of w k) r).1 (λ j set.
     let other : j ≢ k = λ e. let lost : bit_at (free_of w k).mask j ≡ 0 =
     ap (bit_at (free_of w k).mask) e ∙ without_bit-same w.mask k in omega (arith, lost, set) in
     let m : bit_at w.mask j ≡ 1 = sym (without_bit-other w.mask k j other) ∙ set in
-    let none : (bit_at w.mask j + bit_at r.mask j) % 2 ≡ 0 = sym (bit_at_xor w.mask r.mask j)
-    ∙ only j other in
-    let q : bit_at r.mask j ≡ 1 = omega (arith, m, none, bit_at-lt r.mask j) in
+    let q : bit_at r.mask j ≡ 1 =
+    omega (arith, m, sym (bit_at_xor w.mask r.mask j) ∙ only j other, bit_at-lt r.mask j) in
     (q, sym ((covers_decides r w).0 within j q).1 ∙ sym (without_bit-other w.value k j other)))
 
 -- a word that fixes what the region does
@@ -87,27 +82,22 @@ pub covered_one : (w r : WordValue) (t k : ℕ) (one : Bool) (met : ℕ) → IsT
     → beyond w r ≡ 2 ^ t → bit_at met k ≡ from_bool (admits w k one)
     → bit_at (bit_and (beyond w r) met) k ≡ from_bool (covers_of w (fix_of r k one))
 covered_one w r t k one met within is admitted =
-    let bits : bit_at (bit_and (beyond w r) met) k ≡ min (bit_at (2 ^ t) k) (bit_at met k) =
-    bit_at_and (beyond w r) met k ∙ ap (λ n. min (bit_at n k) (bit_at met k)) is in
-    let half : covers_of w (fix_of r k one) ≡ (covers_of (free_of w k) r && admits w k one) =
-    covers_half w r k one in
+    let bits = bit_at_and (beyond w r) met k ∙ ap (λ n. min (bit_at n k) (bit_at met k)) is in
+    let half = covers_half w r k one in
     elim (cases_eq k t) [
-      | inl same ↦
-          let covers = only_covers w r k within
-          (λ j other. ap (λ n. bit_at n j) is
-          ∙ bit_at-pow_other t j (λ e. other (e ∙ sym same))) in
-          let one_bit : bit_at (2 ^ t) k ≡ 1 = ap (bit_at (2 ^ t)) same ∙ bit_at-pow_same t in
+      | inl same ↦ let covers = only_covers w r k within
+          (λ j other. ap (λ n. bit_at n j) is ∙ bit_at-pow_other t j (λ e. other (e ∙ sym same))) in
           let least : min (bit_at (2 ^ t) k) (bit_at met k) ≡ bit_at met k =
-          omega (arith, one_bit, bit_at-lt met k) in
+          omega (arith, ap (bit_at (2 ^ t)) same ∙ bit_at-pow_same t, bit_at-lt met k) in
           bits ∙ least ∙ admitted ∙ sym (ap from_bool (half ∙ ap (λ t. t && admits w k one) covers))
-      | inr other ↦
-          let lost : covers_of (free_of w k) r ≡ false = false_from_ne_true _ (λ covers.
-          let zero_bit : bit_at (2 ^ t) t ≡ 0 = sym (ap (λ n. bit_at n t) is)
-          ∙ covers_only w r k within covers t (λ e. other (sym e)) in
-          omega (arith, zero_bit, bit_at-pow_same t)) in
-          let least : min (bit_at (2 ^ t) k) (bit_at met k) ≡ 0 =
-          omega (arith, bit_at-pow_other t k other) in
-          bits ∙ least ∙ sym (ap from_bool (half ∙ ap (λ t. t && admits w k one) lost))
+      | inr other ↦ let lost : covers_of (free_of w k) r ≡ false =
+          false_from_ne_true _ (λ covers. omega (
+            arith,
+            sym (ap (λ n. bit_at n t) is) ∙ covers_only w r k within covers t (λ e. other (sym e)),
+            bit_at-pow_same t,
+          )) in
+          bits ∙ (omega (arith, bit_at-pow_other t k other))
+          ∙ sym (ap from_bool (half ∙ ap (λ t. t && admits w k one) lost))
     ]
 
 -- a word that fixes more than one
@@ -134,8 +124,7 @@ from_bool-zero false is = refl
 
 pub covers_no_half : (w r : WordValue) (k : ℕ) (one : Bool) → IsTrue (covers_of r w)
     → 0 < beyond w r → beyond w r < 2 ^ 128
-    → (beyond w r ≡ 2 ^ trailing_zeros w128 (beyond w r) → ⊥)
-    → covers_of w (fix_of r k one) ≡ false
+    → (beyond w r ≡ 2 ^ trailing_zeros w128 (beyond w r) → ⊥) → covers_of w (fix_of r k one) ≡ false
 covers_no_half w r k one within some small many = from_bool-zero (covers_of w (fix_of r k one))
     (sym (covered_none w r k one within some small many) ∙ bit_at-zero k)
 
@@ -154,15 +143,13 @@ lowest_beyond n some small = (bit_at-trailing_zeros w128 n (omega arith) small).
 pub still_open : (a b bit : ℕ) → b < 2 ^ 128 → bit < 104 → bit_at (bit_and a (2 ^ 128 - 1 - b)) bit
     ≡ min (bit_at a bit) (1 - bit_at b bit)
 still_open a b bit small within =
-    bit_at_and a (2 ^ 128 - 1 - b) bit
-    ∙ ap (min (bit_at a bit)) (bit_at_not w128 b bit small (omega arith))
+    cc (bit_at_and a (2 ^ 128 - 1 - b) bit, bit_at_not w128 b bit small (omega arith))
 
 -- what a rule adds to the count of a half, and what it leaves to come
 side_sum : (was met covered rest all : ℕ) → was < 2 → met < 2 → met + (1 - covered) * rest ≡ all
     → min was met + min was (1 - covered) * rest ≡ was * all
 side_sum zero met covered rest all digit small is =
-    let none : min zero (1 - covered) ≡ 0 = omega arith in
-    rw none (omega arith)
+    let none : min zero (1 - covered) ≡ 0 = omega arith in rw none (omega arith)
 side_sum (suc zero) met covered rest all digit small is =
     let same : min (suc zero) (1 - covered) ≡ 1 - covered = omega arith in
     rw same (omega (arith, is))
@@ -181,9 +168,7 @@ kept_count half rule rules = elim (cases_Bool (meets rule.word half)) [
     | inl covers ↦ rw (meet, covers, narrow_covered half rule rules meet covers) (omega arith)
     | inr past ↦ rw (meet, past, narrow_more half rule rules meet past) (omega arith)
   ]
-  | inr apart ↦
-      let past : covers_of rule.word half ≡ false = false_from_ne_true _
-      (λ covers. both_ways _ apart
+  | inr apart ↦ let past = false_from_ne_true _ (λ covers. both_ways _ apart
       (meets_comm rule.word half ∙ meets_cover rule.word half covers)) in
       rw (apart, past, narrow_apart half rule rules apart) (omega arith)
 ]
@@ -199,9 +184,8 @@ side_step region rule rules bit one was met covered within free digit is_met is_
     let half = fix_of region bit one in
     let meet : meets rule.word half ≡ admits rule.word bit one = meets_half rule.word region bit one
     free.free ∙ ap (λ t. t && admits rule.word bit one) (meets_cover region rule.word within) in
-    let m : met ≡ from_bool (meets rule.word half) = is_met ∙ ap from_bool (sym meet) in
     side_sum was met covered _ _ digit (rw is_met (from_bool-lt _))
-    (rw (m, is_covered) (kept_count half rule rules))
+    (rw ((is_met ∙ ap from_bool (sym meet)), is_covered) (kept_count half rule rules))
 
 -- the same for a rule that covers no half
 pub met_step : (region : WordValue) (rule : Rule) (rules : List Rule) (bit : ℕ) (one : Bool)
@@ -224,8 +208,7 @@ pub counted_all : (side : Side) (one : Bool) (rules : List Rule) (region : WordV
     → HasCounted side one rules region
 counted_all side one rules region place counting past = λ bit free.
     let half = fix_of region bit side.one in
-    let none : length (narrow (drop place rules) half) ≡ 0 =
-    ap length (narrow_end rules place half past) in
-    let nothing : bit_at side.«open» bit * length (narrow (drop place rules) half) ≡ bit_at
-    side.«open» bit * 0 = ap (λ n. bit_at side.«open» bit * n) none in
+    let nothing : bit_at side.«open» bit * length (narrow (drop place rules) half)
+    ≡ bit_at side.«open» bit * 0 =
+    ap (λ n. bit_at side.«open» bit * n) (ap length (narrow_end rules place half past)) in
     omega (arith, counting.rest bit free, nothing)

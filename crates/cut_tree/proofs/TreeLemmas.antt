@@ -43,13 +43,11 @@ tree_cut most rules region cost many is =
     let least = least_cuts rules region cost is in
     let bit = cost.bit in
     let low = free_count (fix_of region bit false) in
-    let high = free_count (fix_of region bit true) in
-    let same : low ≡ high = omega
+    let same : low ≡ (free_count (fix_of region bit true)) = omega
     (arith, half_count rules region bit false least, half_count rules region bit true least) in
-    let from : tree_at most rules region ≡ tree_within (suc low) most rules region =
-    ap (λ n. tree_within n most rules region) (half_count rules region bit false least) in
     let lower = tree_within low most (side_of rules region bit false) (fix_of region bit false) in
-    from ∙ within_cut low most rules region cost many is
+    (ap (λ n. tree_within n most rules region) (half_count rules region bit false least))
+    ∙ within_cut low most rules region cost many is
     ∙ ap (λ n. Node bit lower
     (tree_within n most (side_of rules region bit true) (fix_of region bit true))) same
 
@@ -100,28 +98,24 @@ defined_from n most rules region None some node count none = elim (cases_lt most
   | inr few ↦ rw (tree_leaf most rules region few) (leaf_defined most rules region few)
   | inl many ↦ absurd (never_stuck most rules region some many node none)
 ]
-defined_from zero most rules region (Some cost) some node count is =
-    absurd (omega (
-      arith,
-      count,
-      half_count rules region cost.bit false
-          (least_cuts rules region cost is),
-    ))
+defined_from zero most rules region (Some cost) some node count is = absurd (omega (
+  arith,
+  count,
+  half_count rules region cost.bit false (least_cuts rules region cost is),
+))
 defined_from (suc n) most rules region (Some cost) some node count is =
     elim (cases_lt most (length rules)) [
       | inr few ↦ rw (tree_leaf most rules region few) (leaf_defined most rules region few)
-      | inl many ↦
-          let least = least_cuts rules region cost is in
+      | inl many ↦ let least = least_cuts rules region cost is in
           let bit = cost.bit in
           let low = side_of rules region bit false in
           let high = side_of rules region bit true in
-          let low_count : free_count (fix_of region bit false) ≡ n =
-          omega (arith, count, half_count rules region bit false least) in
           let high_count : free_count (fix_of region bit true) ≡ n =
           omega (arith, count, half_count rules region bit true least) in
           let lower = defined_from n most low (fix_of region bit false)
           (least_below 104 low (fix_of region bit false)) some
-          (side_node rules region bit false node least.cuts.bound) low_count refl in
+          (side_node rules region bit false node least.cuts.bound)
+          (omega (arith, count, half_count rules region bit false least)) refl in
           let higher = defined_from n most high (fix_of region bit true)
           (least_below 104 high (fix_of region bit true)) some
           (side_node rules region bit true node least.cuts.bound) high_count refl in
@@ -145,9 +139,8 @@ one_tree (Node bit low high) (Node other lower higher) rules region most p q =
     lower in
     let High : ℕ → Type 0 = λ k. IsTreeOf (side_of rules region k true) (fix_of region k true) most
     higher in
-    let l : low ≡ lower = one_tree low lower _ _ most p.1 (subst Low same q.1) in
     let h : high ≡ higher = one_tree high higher _ _ most p.2 (subst High same q.2) in
-    λ i. Node (sym same i) (l i) (h i)
+    λ i. Node (sym same i) ((one_tree low lower _ _ most p.1 (subst Low same q.1)) i) (h i)
 
 -- ---- the root
 
@@ -199,7 +192,6 @@ exceeds_low tree low high bit room e is =
 pub exceeds_high : {R : Type 0} (tree low high : Shape) (bit room left : ℕ) (e : Failure R)
     → tree ≡ Node bit low high → room ≡ left + leaf_count low
     → IfRefused (λ _. left < leaf_count high) e → IfRefused (λ _. room < leaf_count tree) e
-exceeds_high tree low high bit room left e is taken =
-    IfRefused-weaker (λ _. left < leaf_count high) (λ _. room < leaf_count tree)
-    (λ _ more. rw is (omega (arith, taken, more, length-append (leaves_of low) (leaves_of high))))
-    e
+exceeds_high tree low high bit room left e is taken = IfRefused-weaker (λ _. left < leaf_count high)
+    (λ _. room < leaf_count tree)
+    (λ _ more. rw is (omega (arith, taken, more, length-append (leaves_of low) (leaves_of high)))) e

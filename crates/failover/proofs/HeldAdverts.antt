@@ -53,8 +53,7 @@ unfolding first_adverts switches
 by_origin-first near count = record {
   places = length-map-range_with_len (first_of near count) 0 64;
   origins = λ origin found e. elim (cases_lt origin 64) [
-    | inl below ↦ ap (λ (a : Advert). a.origin)
-        (first_of_origin (nat_lt origin count) _ found
+    | inl below ↦ ap (λ (a : Advert). a.origin) (first_of_origin (nat_lt origin count) _ found
         (sym (held-first near count origin below) ∙ e))
     | inr past ↦ (let none : held_advert (map (first_of near count) switches) origin ≡ None =
         get_or_past (map (first_of near count) switches) origin None
@@ -67,30 +66,23 @@ pub after_no_news : (adverts : List (Option Advert)) (advert : Advert) →
 unfolding after_hearing
 after_no_news adverts advert old = rw old refl
 
-pub after_news : (adverts : List (Option Advert)) (advert : Advert) →
-    is_news adverts advert ≡ true →
-    after_hearing adverts advert ≡ set adverts advert.origin (Some advert)
+pub after_news : (adverts : List (Option Advert)) (advert : Advert) → is_news adverts advert ≡ true
+    → after_hearing adverts advert ≡ set adverts advert.origin (Some advert)
 unfolding after_hearing
 after_news adverts advert new = rw new refl
 
 -- ---- one advert heard
 
-abbrev WithTest : List (Option Advert) → Advert → (List (Option Advert) → Type 0) → Bool → Type 0
-WithTest adverts advert P test = is_news adverts advert ≡ test → P (after_hearing adverts advert)
-
 -- heard or not
-pub hearing : (adverts : List (Option Advert)) (advert : Advert) →
-    ((is_news adverts advert ≡ true)
+pub hearing : (adverts : List (Option Advert)) (advert : Advert) → ((is_news adverts advert ≡ true)
     × (after_hearing adverts advert ≡ set adverts advert.origin (Some advert)))
     ⊎ ((is_news adverts advert ≡ false) × (after_hearing adverts advert ≡ adverts))
-hearing adverts advert = by_test (is_news adverts advert) refl
-  where
-    by_test : (test : Bool) → is_news adverts advert ≡ test →
-        ((is_news adverts advert ≡ true)
-        × (after_hearing adverts advert ≡ set adverts advert.origin (Some advert)))
-        ⊎ ((is_news adverts advert ≡ false) × (after_hearing adverts advert ≡ adverts))
-    by_test true e = inl (e, after_news adverts advert e)
-    by_test false e = inr (e, after_no_news adverts advert e)
+hearing adverts advert = by_test (is_news adverts advert) refl where
+  by_test : (test : Bool) → is_news adverts advert ≡ test → ((is_news adverts advert ≡ true)
+      × (after_hearing adverts advert ≡ set adverts advert.origin (Some advert)))
+      ⊎ ((is_news adverts advert ≡ false) × (after_hearing adverts advert ≡ adverts))
+  by_test true e = inl (e, after_news adverts advert e)
+  by_test false e = inr (e, after_no_news adverts advert e)
 
 below_test : (origin : ℕ) (more : Bool) → (nat_lt origin 64 && more) ≡ true → origin < 64
 below_test origin more h = grind (arith, nat_tests)
@@ -103,8 +95,7 @@ news_below adverts advert h = below_test advert.origin _ h
 pub by_origin-hearing : (adverts : List (Option Advert)) (advert : Advert) → AreByOrigin adverts →
     AreByOrigin (after_hearing adverts advert)
 by_origin-hearing adverts advert by = elim (hearing adverts advert) [
-  | inl news ↦ subst AreByOrigin (sym news.1)
-      (by_origin-set adverts advert by (news_below adverts advert news.0))
+  | inl news ↦ rw news.1 (by_origin-set adverts advert by (news_below adverts advert news.0))
   | inr old ↦ subst AreByOrigin (sym old.1) by
 ]
 
@@ -113,13 +104,11 @@ pub held_heard : (adverts : List (Option Advert)) (advert : Advert) → AreByOri
     ≡ Some advert
 held_heard adverts advert by news =
     ap (λ (all : List (Option Advert)). held_advert all advert.origin)
-    (after_news adverts advert news)
-    ∙ get_or-set_same adverts advert.origin (Some advert) None
-    (omega (arith, by.places, news_below adverts advert news))
+    (after_news adverts advert news) ∙ get_or-set_same adverts advert.origin (Some advert) None
+    (omega (arith, by.places, news_below))
 
-pub held_others : (adverts : List (Option Advert)) (advert : Advert) (origin : ℕ) →
-    origin ≢ advert.origin → held_advert (after_hearing adverts advert) origin
-    ≡ held_advert adverts origin
+pub held_others : (adverts : List (Option Advert)) (advert : Advert) (origin : ℕ) → origin
+    ≢ advert.origin → held_advert (after_hearing adverts advert) origin ≡ held_advert adverts origin
 held_others adverts advert origin apart = elim (hearing adverts advert) [
   | inl news ↦ ap (λ (all : List (Option Advert)). held_advert all origin) news.1
       ∙ get_or-set_other adverts advert.origin origin (Some advert) None apart

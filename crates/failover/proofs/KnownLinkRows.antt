@@ -1,5 +1,5 @@
 -- The rows of known links.
-use Rattle.std.proofs.Common.{[], ◌&&◌, ◌+◌, ◌<◌, ◌==◌, ◌↔◌, ◌∙◌, ◌∷◌, ◌≡◌, ◌≢◌, ◌≤◌, ◌⊎◌, Bool, IsTrue, List, None, Option, ap, arith, eq-eqb, eqb-true, false, get_or, get_or-set_other, get_or-set_same, inl, inr, length, length-set, map, nat_le, not, refl, set, subst, sym, true, ℕ}
+use Rattle.std.proofs.Common.{[], ◌&&◌, ◌+◌, ◌<◌, ◌==◌, ◌↔◌, ◌∙◌, ◌∷◌, ◌≡◌, ◌≢◌, ◌≤◌, ◌⊎◌, Bool, IsTrue, List, None, Option, ap, arith, eq-eqb, eqb-true, false, get_or, get_or-set_other, get_or-set_same, inl, inr, length, length-set, map, nat_le, not, refl, set, sym, true, ℕ}
 use Rattle.base.proofs.Exports.{and_parts, cases_lt, get_or-map, get_or-switches, get_or_past, has-zero, has_mask, has_mask_past, length-map, length-switches, nat_tests, same_sets}
 use Rattle.failover.specs.declared.advert.Advert.{Advert}
 use Rattle.base.specs.Exports.{has, mask_of, mask_where, switches}
@@ -8,9 +8,8 @@ use Rattle.failover.proofs.LinkBalls.{and_both, apart_tests, false_of}
 use Rattle.failover.proofs.LinkSets.{has_link-turned}
 use Rattle.failover.proofs.WiderLoop.{AreBothWays}
 
-mask_where_none : {X : Type 0} (test : X → Bool) (k : ℕ) (xs : List X) → ((x : X) →
-    test x ≡ false) →
-    mask_where test k xs ≡ 0
+mask_where_none : {X : Type 0} (test : X → Bool) (k : ℕ) (xs : List X)
+    → ((x : X) → test x ≡ false) → mask_where test k xs ≡ 0
 unfolding mask_where
 mask_where_none test k [] none = refl
 mask_where_none test k (x ∷ xs) none = rw (none x, mask_where_none test (k + 1) xs none) refl
@@ -34,17 +33,15 @@ at_least n past = grind (arith, nat_tests)
 pub no_row_past : (neighbours down : List ℕ) (one : ℕ) → length neighbours ≡ 64 → 64 ≤ one →
     nat_le 64 one ≡ (links_at neighbours down one == 0)
 unfolding mask_of
-no_row_past neighbours down one rows past =
-    at_least one past ∙ is_zero _
-    (mask_where_none (is_link neighbours down one) 0 switches (strange neighbours down one
-    (omega arith)))
+no_row_past neighbours down one rows past = at_least one past
+    ∙ is_zero _ (mask_where_none (is_link neighbours down one) 0 switches
+    (strange neighbours down one (omega arith)))
 
 -- ---- rows of links
 
 pub length-link_rows : (neighbours down : List ℕ) → length (links_of_each neighbours down) ≡ 64
 unfolding links_of_each
-length-link_rows neighbours down =
-    length-map switches (links_at neighbours down) ∙ length-switches
+length-link_rows neighbours down = length-map switches (links_at neighbours down) ∙ length-switches
 
 pub row_of : (neighbours down : List ℕ) (one : ℕ) → one < 64 →
     get_or (links_of_each neighbours down) one 0 ≡ links_at neighbours down one
@@ -55,9 +52,8 @@ row_of neighbours down one below =
 
 has_row : (neighbours down : List ℕ) (one other : ℕ) → one < 64 → other < 64 →
     has (get_or (links_of_each neighbours down) one 0) other ≡ is_link neighbours down one other
-has_row neighbours down one other one_fits other_fits =
-    ap (λ row. has row other) (row_of neighbours down one one_fits)
-    ∙ has_mask (is_link neighbours down one) other other_fits
+has_row neighbours down one other one_fits other_fits = cc
+    (row_of neighbours down one one_fits, has_mask (is_link neighbours down one) other other_fits)
 
 row_past : (neighbours down : List ℕ) (one other : ℕ) → (one < 64 → other < 64 → ⊥) →
     has (get_or (links_of_each neighbours down) one 0) other ≡ false
@@ -65,8 +61,7 @@ row_past neighbours down one other past = elim (cases_lt one 64) [
   | inl below ↦ ap (λ row. has row other) (row_of neighbours down one below)
       ∙ has_mask_past (is_link neighbours down one) other
       (elim (cases_lt other 64) [ inl fits ↦ absurd (past below fits) | inr more ↦ more ])
-  | inr more ↦ ap (λ row. has row other)
-      (get_or_past (links_of_each neighbours down) one 0
+  | inr more ↦ ap (λ row. has row other) (get_or_past (links_of_each neighbours down) one 0
       (omega (arith, length-link_rows neighbours down))) ∙ has-zero other
 ]
 
@@ -83,11 +78,9 @@ turned_number x y = grind (arith, nat_tests)
 link_turned : (neighbours down : List ℕ) (one other : ℕ) →
     is_link neighbours down one other ≡ is_link neighbours down other one
 unfolding is_link
-link_turned neighbours down one other =
-    rw (turned_number one other, has_link-turned down one other)
-    (swapped (not (other == one)) (has (get_or neighbours one 0) other) (has
-    (get_or neighbours other 0) one)
-    (not (has_link down other one)))
+link_turned neighbours down one other = rw (turned_number one other, has_link-turned down one other)
+    (swapped (not (other == one)) (has (get_or neighbours one 0) other)
+    (has (get_or neighbours other 0) one) (not (has_link down other one)))
 
 pub row_turned : (neighbours down : List ℕ) → AreBothWays (links_of_each neighbours down)
 row_turned neighbours down one other = elim (both_or_not one other) [
@@ -95,14 +88,13 @@ row_turned neighbours down one other = elim (both_or_not one other) [
       ∙ link_turned neighbours down one other ∙ sym (has_row neighbours down other one fit.1 fit.0)
   | inr past ↦ row_past neighbours down one other past
       ∙ sym (row_past neighbours down other one (λ p q. past q p))
-]
-  where
-    both_or_not : (one other : ℕ) → ((one < 64) × (other < 64)) ⊎ (one < 64 → other < 64 → ⊥)
-    both_or_not one other = elim (cases_lt one 64) [
-      | inl p ↦ elim (cases_lt other 64)
-          [ inl q ↦ inl (p, q) | inr q ↦ inr (λ _ r. absurd (omega arith)) ]
-      | inr p ↦ inr (λ r _. absurd (omega arith))
-    ]
+] where
+  both_or_not : (one other : ℕ) → ((one < 64) × (other < 64)) ⊎ (one < 64 → other < 64 → ⊥)
+  both_or_not one other = elim (cases_lt one 64) [
+    | inl p ↦ elim (cases_lt other 64)
+        [ inl q ↦ inl (p, q) | inr q ↦ inr (λ _ r. absurd (omega arith)) ]
+    | inr p ↦ inr (λ r _. absurd (omega arith))
+  ]
 
 -- ---- known links
 
@@ -129,8 +121,7 @@ pub named_links_held : (adverts : List (Option Advert)) (named : List ℕ) (at n
     (neighbours : List ℕ) → IsDatabase adverts named → neighbours ≡ set named at near →
     neighbours ≡ named_links adverts at near
 unfolding named_links
-named_links_held adverts named at near neighbours held e =
-    e ∙ ap (λ all. set all at near) held.neighbours
+named_links_held adverts named at near neighbours held e = cc (e, held.neighbours)
 
 -- ---- isolated targets
 
@@ -161,15 +152,13 @@ bare_known : (adverts : List (Option Advert)) (at near : ℕ) (down : List ℕ) 
     has (get_or (known_links adverts at near down) target 0) one ≡ false
 unfolding known_links links_of_each
 bare_known adverts at near down target one fits bare =
-    ap (λ row. has row one) (row_of (named_links adverts at near) down target fits ∙ bare)
-    ∙ has-zero one
+    cc (row_of (named_links adverts at near) down target fits, bare, has-zero one)
 
 joined_row : (adverts : List (Option Advert)) (at near : ℕ) (down : List ℕ) (target : ℕ) →
     links_at (named_links adverts at near) down target ≡ 0 → (one : ℕ) →
     has (get_or (known_links adverts at near down) one 0) target ≡ true → ⊥
-joined_row adverts at near down target bare one joined =
-    apart_tests _ (sym (known_turned adverts at near down one target) ∙ joined)
-    (elim (cases_lt target 64) [
+joined_row adverts at near down target bare one joined = apart_tests _
+    (sym (known_turned adverts at near down one target) ∙ joined) (elim (cases_lt target 64) [
       | inl fits ↦ bare_known adverts at near down target one fits bare
       | inr past ↦ known_past adverts at near down target one (λ p q. absurd (omega arith))
     ])
@@ -190,10 +179,8 @@ isolated_tells adverts at target near down rows = (
     linkless = λ one joined. joined_row adverts at near down target
         (eqb-true _ 0 (and_parts _ _ h).1) one joined;
   }),
-  (λ isolated. and_both _ _ (not_test target at isolated.other)
-      (eq-eqb _ 0 (same_sets _ 0
-      (λ other. bare_row adverts at near down target rows isolated.linkless other
-      ∙ sym (has-zero other))))),
+  (λ isolated. and_both _ _ (not_test target at isolated.other) (eq-eqb _ 0 (same_sets _ 0 (λ other.
+      bare_row adverts at near down target rows isolated.linkless other ∙ sym (has-zero other))))),
 )
 
 pub isolated_is : (adverts : List (Option Advert)) (at target near : ℕ)
@@ -207,17 +194,15 @@ isolated_is adverts at target near down neighbours answer e linkless apart =
 pub isolated_answer : (adverts : List (Option Advert)) (at target near : ℕ) (down : List ℕ)
     (answer : Bool) → length adverts ≡ 64 → answer ≡ is_isolated adverts at target near down →
     IsTrue answer ↔ IsIsolated (known_links adverts at near down) at target
-isolated_answer adverts at target near down answer rows same =
-    subst (λ (b : Bool). IsTrue b ↔ IsIsolated (known_links adverts at near down) at target)
-    (sym same) (isolated_tells adverts at target near down rows)
+isolated_answer adverts at target near down answer rows same = rw same
+    (isolated_tells adverts at target near down rows)
 
 -- ---- what each switch names
 
 told_own : (adverts : List (Option Advert)) (at near : ℕ) → length adverts ≡ 64 → at < 64 →
     get_or (named_links adverts at near) at 0 ≡ near
 unfolding named_links
-told_own adverts at near rows fits =
-    get_or-set_same (map neighbours_named adverts) at near 0
+told_own adverts at near rows fits = get_or-set_same (map neighbours_named adverts) at near 0
     (omega (arith, length-map adverts neighbours_named, rows))
 
 told_other : (adverts : List (Option Advert)) (at near origin other : ℕ) → length adverts ≡ 64 →
@@ -245,14 +230,12 @@ own_link adverts at near down other rows fits other_fits apart =
     (ap (λ row. has row other) (told_own adverts at near rows fits))
     (told_other adverts at near other at rows other_fits (λ e. apart (sym e)))
 
-pub link_elsewhere : (adverts : List (Option Advert)) (at near : ℕ) (down : List ℕ)
-    (one other : ℕ) → length adverts ≡ 64 → one < 64 → other < 64 → one ≢ other → one ≢ at →
-    other ≢ at → has (get_or (known_links adverts at near down) one 0) other ≡
-    (names_neighbour adverts one other && names_neighbour adverts other one
-    && not (has_link down one other))
+pub link_elsewhere : (adverts : List (Option Advert)) (at near : ℕ) (down : List ℕ) (one other : ℕ)
+    → length adverts ≡ 64 → one < 64 → other < 64 → one ≢ other → one ≢ at → other ≢ at
+    → has (get_or (known_links adverts at near down) one 0) other ≡ (names_neighbour adverts one
+    other && names_neighbour adverts other one && not (has_link down one other))
 link_elsewhere adverts at near down one other rows one_fits other_fits apart one_apart other_apart =
     has_known adverts at near down one other one_fits other_fits
     ∙ link_test (named_links adverts at near) down one other (names_neighbour adverts one other)
-    (names_neighbour adverts other one) apart
-    (told_other adverts at near one other rows one_fits one_apart)
-    (told_other adverts at near other one rows other_fits other_apart)
+    (names_neighbour adverts other one) apart (told_other adverts at near one other rows one_fits
+    one_apart) (told_other adverts at near other one rows other_fits other_apart)

@@ -53,24 +53,19 @@ onward_distinct links target (suc k) at rows target_fits at_fits away =
 
 pub reaches : (links : List ℕ) (target at : ℕ) (rest : List ℕ) (k : ℕ) → length links ≡ 64 →
     at < 64 → LinksLead links target at rest → length rest ≤ k → has (ball links target k) at ≡ true
-reaches links target at [] zero rows fits leads short =
-    ap (has (ball links target 0)) leads ∙ has_target links target
-reaches links target at [] (suc k) rows fits leads short =
-    ball_grows links target k at (omega arith)
-    (reaches links target at [] k rows fits leads (omega arith))
+reaches links target at [] zero rows fits leads short = cc (leads, has_target links target)
+reaches links target at [] (suc k) rows fits leads short = ball_grows links target k at
+    (omega arith) (reaches links target at [] k rows fits leads (omega arith))
 reaches links target at (next ∷ rest) zero rows fits leads short = absurd (omega arith)
-reaches links target at (next ∷ rest) (suc k) rows fits leads short =
-    ball_gains links target k at next (omega arith) leads.1
-    (reaches links target next rest k rows leads.0 leads.2 (omega arith))
+reaches links target at (next ∷ rest) (suc k) rows fits leads short = ball_gains links target k at
+    next (omega arith) leads.1 (reaches links target next rest k rows leads.0 leads.2 (omega arith))
 
 at_most_next : (x y : ℕ) (xs ys : List ℕ) → x ≤ y → (x ≡ y → IsAtMost xs ys) →
     IsAtMost (x ∷ xs) (y ∷ ys)
-at_most_next x y xs ys less rest =
-    elim (cases_lt x y) [
-      | inl below ↦ inl below
-      | inr above ↦
-          (let same : x ≡ y = omega arith in inr (same, rest same))
-    ]
+at_most_next x y xs ys less rest = elim (cases_lt x y) [
+  | inl below ↦ inl below
+  | inr above ↦ (let same : x ≡ y = omega arith in inr (same, rest same))
+]
 
 pub onward_least : (links : List ℕ) (target k at : ℕ) (rest : List ℕ) → length links ≡ 64 →
     target < 64 → at < 64 → IsAway links target k at → LinksLead links target at rest →

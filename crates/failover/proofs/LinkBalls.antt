@@ -16,10 +16,9 @@ true_of true h = refl
 true_of false h = absurd (h refl)
 
 pub apart_tests : {P : Type 0} (b : Bool) → b ≡ true → b ≡ false → P
-apart_tests b holds fails = absurd (false_is_not_true (sym fails ∙ holds))
-  where
-    false_is_not_true : false ≡ true → ⊥
-    false_is_not_true e = cc
+apart_tests b holds fails = absurd (false_is_not_true (sym fails ∙ holds)) where
+  false_is_not_true : false ≡ true → ⊥
+  false_is_not_true e = cc
 
 pub or_cases : (a b : Bool) → (a || b) ≡ true → (a ≡ true) ⊎ (b ≡ true)
 or_cases true b h = inl refl
@@ -51,16 +50,13 @@ pub wider_lt : (links : List ℕ) (within : ℕ) → length links ≤ 64 → wit
 unfolding grown_ball
 wider_lt links within rows fits = or_lt 64 _ _ fits (mask_where_lt _ 0 links 64 (omega arith))
 
-has_wider : (links : List ℕ) (within at : ℕ) → at < length links →
-    has (grown_ball links within) at ≡ (has within at
-    || not (bit_and (get_or links at 0) within == 0))
+has_wider : (links : List ℕ) (within at : ℕ) → at < length links → has (grown_ball links within) at
+    ≡ (has within at || not (bit_and (get_or links at 0) within == 0))
 unfolding grown_ball
-has_wider links within at below =
-    rw (
-      has-or,
-      mask_where_at (λ row. not (bit_and row within == 0)) 0 links 0 at at
-          (omega arith) below,
-    )
+has_wider links within at below = rw (
+  has-or,
+  mask_where_at (λ row. not (bit_and row within == 0)) 0 links 0 at at (omega arith) below,
+)
     refl
 
 pub wider_keeps : (links : List ℕ) (within at : ℕ) → at < length links → has within at ≡ true →
@@ -78,8 +74,7 @@ pub wider_gains : (links : List ℕ) (within at next : ℕ) → at < length link
     has (get_or links at 0) next ≡ true → has within next ≡ true →
     has (grown_ball links within) at ≡ true
 wider_gains links within at next below link h =
-    let both : has (bit_and (get_or links at 0) within) next ≡ true = rw (has-and, link, h) refl in
-    wider_meets links within at below (positive _ next both)
+    wider_meets links within at below (positive _ next (rw (has-and, link, h) refl))
 
 -- the least switch of the set to which this one has a link
 pub record IsNearer (links : List ℕ) (within at next : ℕ) : Type 0 where
@@ -96,10 +91,7 @@ unfolding least_neighbour_in
 least_of links within at fits some =
     let row = get_or links at 0 in
     let small : bit_and row within < 2 ^ 64 = omega (arith, and_le_r row within) in
-    let both : (has row (least_in (bit_and row within)) && has within
-    (least_in (bit_and row within))) ≡ true =
-    sym (has-and row within _) ∙ has_least _ some small in
-    record {
+    let both = sym (has-and row within _) ∙ has_least _ some small in record {
       below = least_lt _ some small;
       joined = (and_parts _ _ both).0;
       inside = (and_parts _ _ both).1;
@@ -141,12 +133,10 @@ ball_gains links target k at next below link h = wider_gains links _ at next bel
 
 -- a switch without links has itself alone
 only_target : (target at : ℕ) → has (2 ^ target) at ≡ true → at ≡ target
-only_target target at h = elim
-    (cases_eq at target) [
-      | inl same ↦ same
-      | inr apart ↦ apart_tests _ h
-          (has-pow_other target at apart)
-    ]
+only_target target at h = elim (cases_eq at target) [
+  | inl same ↦ same
+  | inr apart ↦ apart_tests _ h (has-pow_other target at apart)
+]
 
 pub at_target : (links : List ℕ) (target at : ℕ) → has (ball links target 0) at ≡ true → at ≡ target
 unfolding ball
@@ -182,7 +172,6 @@ pub next_step : (links : List ℕ) (target k at : ℕ) → length links ≡ 64 �
     IsAway links target (suc k) at →
     IsStep links target k at (least_neighbour_in links (ball links target k) at)
 unfolding ball
-next_step links target k at rows target_fits at_fits away =
-    step_from links target k at _ (omega arith) away
-    (added_is_nearer links (ball links target k) at (omega arith)
+next_step links target k at rows target_fits at_fits away = step_from links target k at _
+    (omega arith) away (added_is_nearer links (ball links target k) at (omega arith)
     (ball_lt links target k (omega arith) target_fits) away.here (away.later k (omega arith)))

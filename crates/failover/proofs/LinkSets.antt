@@ -73,14 +73,12 @@ has_link-either links one other set = elim (cases_lt one other) [
 
 pub has_link-first : (links : List ℕ) (one other : ℕ) → IsLinkSet links →
     has (get_or links one 0) other ≡ true → true ≡ has_link links one other
-has_link-first links one other set there =
-    sym (ap (λ b. b || has (get_or links other 0) one) there) ∙ has_link-either links one other set
+has_link-first links one other set there = cc (there, has_link-either links one other set)
 
 pub has_link-second : (links : List ℕ) (one other : ℕ) → IsLinkSet links →
     has (get_or links one 0) other ≡ false → has (get_or links other 0) one ≡
     has_link links one other
-has_link-second links one other set absent =
-    sym (ap (λ b. b || has (get_or links other 0) one) absent) ∙ has_link-either links one other set
+has_link-second links one other set absent = cc (absent, has_link-either links one other set)
 
 pub has_link-above : (links : List ℕ) (one other : ℕ) → IsLinkSet links →
     64 ≤ max one other → false ≡ has_link links one other
@@ -104,14 +102,12 @@ pub has_link-turned : (links : List ℕ) (x y : ℕ) → has_link links x y ≡ 
 unfolding has_link
 has_link-turned links x y =
     let low : min x y ≡ min y x = omega arith in
-    let high : max x y ≡ max y x = omega arith in
-    rw (low, high) refl
+    let high : max x y ≡ max y x = omega arith in rw (low, high) refl
 
 same_pair : (one other x y : ℕ) → min x y ≡ min one other → max x y ≡ max one other →
     is_link_of one other x y ≡ true
 same_pair one other x y low high = elim (cases_eq x one) [
-  | inl same ↦ or_left _ _ (and_both _ _ (eq-eqb x one same)
-      (eq-eqb y other (omega arith)))
+  | inl same ↦ or_left _ _ (and_both _ _ (eq-eqb x one same) (eq-eqb y other (omega arith)))
   | inr apart ↦ or_right _ _ (and_both _ _ (eq-eqb x other (omega arith))
       (eq-eqb y one (omega arith)))
 ]
@@ -148,19 +144,15 @@ has_link-with_link links one other x y set one_fits other_fits =
           (row_gains (get_or links (min one other) 0) (max one other) (max x y)
           (is_link_of one other x y) (λ e. same_pair one other x y same e)
           (λ apart. other_pair one other x y (λ low high. apart high)))
-      | inr apart ↦ rw (
-        get_or-set_other links (min one other)
-            (min x y) _ 0 apart,
-        other_pair one other x y (λ low high. apart low),
-      ) (sym (or-false _))
+      | inr apart ↦ rw (get_or-set_other, other_pair one other x y (λ low high. apart low))
+          (sym (or-false _))
     ]
 
 row_at : (links : List ℕ) (k x : ℕ) → k < x → has (get_or links k 0) x ≡ has_link links k x
 unfolding has_link
 row_at links k x less =
     let low : min k x ≡ k = omega arith in
-    let high : max k x ≡ x = omega arith in
-    rw (low, high) refl
+    let high : max k x ≡ x = omega arith in rw (low, high) refl
 
 same_rows : (a b : List ℕ) → IsLinkSet a → IsLinkSet b →
     ((x y : ℕ) → has_link a x y ≡ has_link b x y) → (k : ℕ) → get_or a k 0 ≡ get_or b k 0
@@ -171,7 +163,6 @@ same_rows a b one other same k = same_sets _ _ (λ x. elim (cases_lt k x) [
 
 pub same_link_sets : (a b : List ℕ) → IsLinkSet a → IsLinkSet b →
     ((x y : ℕ) → has_link a x y ≡ has_link b x y) → a ≡ b
-same_link_sets a b one other same =
-    same_lists a b (one.masks ∙ sym other.masks)
+same_link_sets a b one other same = same_lists a b (one.masks ∙ sym other.masks)
     (λ k d below. get_or_default a k d 0 below ∙ same_rows a b one other same k
     ∙ sym (get_or_default b k d 0 (omega (arith, one.masks, other.masks))))

@@ -24,12 +24,10 @@ push_behind : (origin : ℕ) (seen : List Advert) (advert best : Advert) →
 push_behind origin seen advert best old (before, after, parts, of_best, older, later) = (
   before,
   after ++ advert ∷ [],
-  ap (λ s. s ++ advert ∷ []) parts
-      ∙ append_assoc before (best ∷ after) (advert ∷ []),
+  cc (parts, append_assoc before (best ∷ after) (advert ∷ [])),
   of_best,
   older,
-  All-push
-      (λ a. a.origin ≡ origin → is_newer a best ≡ false) after advert later old,
+  All-push (λ a. a.origin ≡ origin → is_newer a best ≡ false) after advert later old,
 )
 
 push_other : (origin : ℕ) (seen : List Advert) (advert : Advert) (now : Option Advert) →
@@ -46,11 +44,9 @@ push_first origin seen advert of_it newest = (
   [],
   refl,
   of_it,
-  All-weaker (λ a. a.origin ≢ origin)
-      (λ a. a.origin ≡ origin → is_newer advert a ≡ true)
-      (λ a apart e. absurd (apart e)) seen newest,
-  All-nil
-      (λ a. a.origin ≡ origin → is_newer a advert ≡ false),
+  All-weaker (λ a. a.origin ≢ origin) (λ a. a.origin ≡ origin → is_newer advert a ≡ true) (λ a apart
+      e. absurd (apart e)) seen newest,
+  All-nil (λ a. a.origin ≡ origin → is_newer a advert ≡ false),
 )
 
 push_newer : (origin : ℕ) (seen : List Advert) (advert best : Advert) → advert.origin ≡ origin →
@@ -58,20 +54,17 @@ push_newer : (origin : ℕ) (seen : List Advert) (advert best : Advert) → adve
     IsNewest origin (seen ++ advert ∷ []) (Some advert)
 push_newer origin seen advert best of_it newer (before, after, parts, of_best, older, later) =
     let P : Advert → Type 0 = λ a. a.origin ≡ origin → is_newer advert a ≡ true in
-    let front : All P before = All-weaker (λ a. a.origin ≡ origin → is_newer best a ≡ true) P
-    (λ a h e. newer_through advert best a newer (h e)) before older in
-    let back : All P (best ∷ after) =
-    All-cons P best after (λ e. newer)
+    let back : All P (best ∷ after) = All-cons P best after (λ e. newer)
     (All-weaker (λ a. a.origin ≡ origin → is_newer a best ≡ false) P
     (λ a h e. newer_past advert best a newer (h e)) after later) in (
       seen,
       [],
       refl,
       of_it,
-      All-same P seen (before ++ best ∷ after) parts
-          (All-append P before (best ∷ after) front back),
-      All-nil
-          (λ a. a.origin ≡ origin → is_newer a advert ≡ false),
+      All-same P seen (before ++ best ∷ after) parts (All-append P before
+          (best ∷ after) (All-weaker (λ a. a.origin ≡ origin → is_newer best a ≡ true) P
+          (λ a h e. newer_through advert best a newer (h e)) before older) back),
+      All-nil (λ a. a.origin ≡ origin → is_newer a advert ≡ false),
     )
 
 push_news : (origin : ℕ) (seen : List Advert) (advert : Advert) (now : Option Advert) →
@@ -105,12 +98,10 @@ newest_same : (adverts : List (Option Advert)) (seen : List Advert) (advert : Ad
     IsNewest advert.origin (seen ++ advert ∷ [])
     (held_advert (after_hearing adverts advert) advert.origin)
 newest_same adverts seen advert by below newest = elim (hearing adverts advert) [
-  | inl news ↦ subst (IsNewest advert.origin (seen ++ advert ∷ []))
-      (sym (held_heard adverts advert by news.0))
+  | inl news ↦ rw (held_heard adverts advert by news.0)
       (push_news advert.origin seen advert (held_advert adverts advert.origin) refl
       (sym (news_test adverts advert below) ∙ news.0) newest)
-  | inr old ↦ subst (IsNewest advert.origin (seen ++ advert ∷ []))
-      (sym (ap (λ (all : List (Option Advert)). held_advert all advert.origin) old.1))
+  | inr old ↦ rw (ap (λ (all : List (Option Advert)). held_advert all advert.origin) old.1)
       (push_old advert.origin seen advert (held_advert adverts advert.origin)
       (sym (news_test adverts advert below) ∙ old.0) newest)
 ]
@@ -120,28 +111,21 @@ newest_hearing : (adverts : List (Option Advert)) (seen : List Advert) (advert :
     → IsNewest origin seen (held_advert adverts origin) →
     IsNewest origin (seen ++ advert ∷ []) (held_advert (after_hearing adverts advert) origin)
 newest_hearing adverts seen advert origin by below newest = elim (cases_eq origin advert.origin) [
-  | inl same ↦ (let here = newest_same adverts seen advert by (omega arith)
-      (subst (λ (o : ℕ). IsNewest o seen (held_advert adverts o)) same newest) in
+  | inl same ↦ (let here = newest_same adverts seen advert by (omega arith) (rw same at newest) in
       subst (λ (o : ℕ). IsNewest o (seen ++ advert ∷ [])
       (held_advert (after_hearing adverts advert) o))
       (sym same) here)
-  | inr apart ↦ subst (IsNewest origin (seen ++ advert ∷ []))
-      (sym (held_others adverts advert origin apart))
+  | inr apart ↦ rw (held_others adverts advert origin apart)
       (push_other origin seen advert (held_advert adverts origin) (λ e. apart (sym e)) newest)
 ]
 
 newest_after : (adverts : List (Option Advert)) (seen heard : List Advert) (origin : ℕ) →
     AreByOrigin adverts → origin < 64 → IsNewest origin seen (held_advert adverts origin) →
     IsNewest origin (seen ++ heard) (held_advert (after_hearing_all adverts heard) origin)
-newest_after adverts seen [] origin by below newest =
-    subst (λ (s : List Advert). IsNewest origin s (held_advert adverts origin))
-    (sym (append-nil seen)) newest
+newest_after adverts seen [] origin by below newest = rw (append-nil seen) newest
 newest_after adverts seen (advert ∷ heard) origin by below newest =
-    subst (λ (s : List Advert). IsNewest origin s
-    (held_advert (after_hearing_all adverts (advert ∷ heard)) origin))
-    (append_assoc seen (advert ∷ []) heard)
-    (newest_after (after_hearing adverts advert) (seen ++ advert ∷ []) heard origin
-    (by_origin-hearing adverts advert by) below
+    rw (append_assoc seen (advert ∷ []) heard) at (newest_after (after_hearing adverts advert)
+    (seen ++ advert ∷ []) heard origin (by_origin-hearing adverts advert by) below
     (newest_hearing adverts seen advert origin by below newest))
 
 newest_held : (origin : ℕ) (now : Option Advert) →
@@ -153,10 +137,8 @@ newest_held origin (Some advert) by = (
   [],
   refl,
   by advert refl,
-  All-nil
-      (λ a. a.origin ≡ origin → is_newer advert a ≡ true),
-  All-nil
-      (λ a. a.origin ≡ origin → is_newer a advert ≡ false),
+  All-nil (λ a. a.origin ≡ origin → is_newer advert a ≡ true),
+  All-nil (λ a. a.origin ≡ origin → is_newer a advert ≡ false),
 )
 
 pub held_newest : (adverts : List (Option Advert)) (heard : List Advert) (origin : ℕ) →

@@ -11,12 +11,10 @@ use Rattle.failover.proofs.LeastPaths.{length-onward, onward_leads, onward_disti
 
 switch_below : (links : List ℕ) (target at : ℕ) (rest : List ℕ) → at < 64 →
     LinksLead links target at rest → (q : ℕ) → list_any (nat_eq q) (at ∷ rest) ≡ true → q < 64
-switch_below links target at [] fits leads q h =
-    elim (or_cases (nat_eq q at) false h) [
-      | inl same ↦ (let e = eqb-true q at same in omega arith)
-      | inr none ↦ apart_tests false
-          none refl
-    ]
+switch_below links target at [] fits leads q h = elim (or_cases (nat_eq q at) false h) [
+  | inl same ↦ (let e = eqb-true q at same in omega arith)
+  | inr none ↦ apart_tests false none refl
+]
 switch_below links target at (next ∷ rest) fits leads q h =
     elim (or_cases (nat_eq q at) (list_any (nat_eq q) (next ∷ rest)) h) [
       | inl same ↦ (let e = eqb-true q at same in omega arith)
@@ -51,15 +49,11 @@ target_below links target at (next ∷ rest) fits leads =
 
 no_fewer : (links : List ℕ) (target k at : ℕ) (rest : List ℕ) → length links ≡ 64 → at < 64 →
     IsAway links target k at → LinksLead links target at rest → k ≤ length rest
-no_fewer links target k at rest rows fits away leads =
-    elim (cases_lt (length rest) k) [
-      | inl short ↦ apart_tests _ (reaches links target at rest (length rest) rows fits leads
-          (omega arith)) (away.later (length rest) short)
-      | inr long ↦ long
-    ]
-
-at_most_same : (x : ℕ) (xs ys : List ℕ) → IsAtMost xs ys → IsAtMost (x ∷ xs) (x ∷ ys)
-at_most_same x xs ys h = inr (refl, h)
+no_fewer links target k at rest rows fits away leads = elim (cases_lt (length rest) k) [
+  | inl short ↦ apart_tests _ (reaches links target at rest (length rest) rows fits leads
+      (omega arith)) (away.later (length rest) short)
+  | inr long ↦ long
+]
 
 fewest_of : (links : List ℕ) (target k from : ℕ) → length links ≡ 64 → from < 64 →
     IsAway links target k from → (other : List ℕ) → IsPath links from target other →
@@ -67,8 +61,7 @@ fewest_of : (links : List ℕ) (target k from : ℕ) → length links ≡ 64 →
 unfolding IsPath
 fewest_of links target k from rows fits away [] path = absurd path
 fewest_of links target k from rows fits away (first ∷ rest) path =
-    let leads : LinksLead links target from rest =
-    subst (λ (x : ℕ). LinksLead links target x rest) path.0 path.2 in
+    let leads = subst (λ (x : ℕ). LinksLead links target x rest) path.0 path.2 in
     omega (arith, no_fewer links target k from rest rows fits away leads)
 
 least_of_all : (links : List ℕ) (target k from : ℕ) → length links ≡ 64 → target < 64 → from < 64 →
@@ -76,14 +69,11 @@ least_of_all : (links : List ℕ) (target k from : ℕ) → length links ≡ 64 
     length other ≡ suc k → IsAtMost (from ∷ path_after links target k from) other
 unfolding IsPath
 least_of_all links target k from rows target_fits fits away [] path long = absurd path
-least_of_all links target k from rows target_fits fits away (first ∷ rest) path long =
-    let leads : LinksLead links target from rest =
-    subst (λ (x : ℕ). LinksLead links target x rest) path.0 path.2 in
-    inr (
-      sym path.0,
-      onward_least links target k from rest rows target_fits fits away leads
-          (omega arith),
-    )
+least_of_all links target k from rows target_fits fits away (first ∷ rest) path long = inr (
+  sym path.0,
+  onward_least links target k from rest rows target_fits fits away
+      (subst (λ (x : ℕ). LinksLead links target x rest) path.0 path.2) (omega arith),
+)
 
 found_path : (links : List ℕ) (target k from : ℕ) → length links ≡ 64 → target < 64 → from < 64 →
     IsAway links target k from → IsPath links from target (from ∷ path_after links target k from)
@@ -92,22 +82,19 @@ found_path links target k from rows target_fits fits away = (
   refl,
   fits,
   onward_leads links target k from rows target_fits fits away,
-  onward_distinct links
-      target k from rows target_fits fits away,
+  onward_distinct links target k from rows target_fits fits away,
 )
 
 pub found_is_least : (links : List ℕ) (target k from : ℕ) → length links ≡ 64 → target < 64 →
     from < 64 → IsAway links target k from →
     IsLeastPath links from target (from ∷ path_after links target k from)
 found_is_least links target k from rows target_fits fits away =
-    let long = length-onward links target k from in
-    record {
+    let long = length-onward links target k from in record {
       path = found_path links target k from rows target_fits fits away;
       fewest = λ other path. omega (
         arith,
         long,
-        fewest_of links target k from rows fits away other
-            path,
+        fewest_of links target k from rows fits away other path,
       );
       least = λ other path same. least_of_all links target k from rows target_fits fits away other
           path (omega (arith, long, same));
@@ -121,9 +108,8 @@ unfolding IsPath IsOutOfReach
 no_path links target from rows fits out [] path = path
 no_path links target from rows fits out (first ∷ rest) path =
     let few = (path_is_route_list links from target (first ∷ rest) path).few in
-    let leads : LinksLead links target from rest =
-    subst (λ (x : ℕ). LinksLead links target x rest) path.0 path.2 in
-    apart_tests _ (reaches links target from rest 63 rows fits leads (omega arith))
+    apart_tests _ (reaches links target from rest 63 rows fits
+    (subst (λ (x : ℕ). LinksLead links target x rest) path.0 path.2) (omega arith))
     (out 63 (omega arith))
 
 pub out_of_reach : (links : List ℕ) (target from : ℕ) → length links ≡ 64 → from < 64 →
@@ -138,8 +124,7 @@ stands_still : (links : List ℕ) (target j i : ℕ) → ball links target (suc 
     ball links target (j + i) ≡ ball links target j
 unfolding ball
 stands_still links target j zero same = ap (ball links target) (omega arith)
-stands_still links target j (suc i) same =
-    let next : j + suc i ≡ suc (j + i) = omega arith in
+stands_still links target j (suc i) same = let next : j + suc i ≡ suc (j + i) = omega arith in
     ap (ball links target) next ∙ ap (grown_ball links) (stands_still links target j i same) ∙ same
 
 -- where the balls stand still without the switch, none ever has it
@@ -160,19 +145,17 @@ grows : (links : List ℕ) (target j k from : ℕ) → IsAway links target (j + 
 unfolding ball
 grows links target j k from away = false_of _ (λ still.
     let same : ball links target (suc j) ≡ ball links target j = eqb-true _ _ still in
-    let there : has (ball links target j) from ≡ true =
-    ap (λ b. has b from) (sym (stands_still links target j (suc k) same)) ∙ away.here in
-    apart_tests _ there (away.later j (omega arith)))
+    apart_tests _ (ap (λ b. has b from) (sym (stands_still links target j (suc k) same))
+    ∙ away.here) (away.later j (omega arith)))
 
 -- a turn of the search: the switch is here, balls stand still, or the rest of the search decides
 abbrev turn : Bool → Bool → Option ℕ → Option ℕ
 turn here still rest = elim here
     [ true ↦ Some 0 | false ↦ elim still [ true ↦ None | false ↦ option_map suc rest ] ]
 
-links_away-turn : (most : ℕ) (links : List ℕ) (from within : ℕ) →
-    links_away (suc most) links from within ≡
-    turn (has within from) (grown_ball links within == within)
-    (links_away most links from (grown_ball links within))
+links_away-turn : (most : ℕ) (links : List ℕ) (from within : ℕ)
+    → links_away (suc most) links from within ≡ turn (has within from)
+    (grown_ball links within == within) (links_away most links from (grown_ball links within))
 unfolding links_away
 links_away-turn most links from within = refl
 
@@ -197,23 +180,20 @@ away_found : (most : ℕ) (links : List ℕ) (target j k from : ℕ) → k < mos
 unfolding ball
 away_found zero links target j k from fits away = absurd (omega arith)
 away_found (suc most) links target j zero from fits away =
-    let here : has (ball links target j) from ≡ true =
-    ap (λ n. has (ball links target n) from) (omega arith) ∙ away.here in
-    links_away-turn most links from (ball links target j) ∙ turn_here _ _ _ here
+    links_away-turn most links from (ball links target j)
+    ∙ turn_here _ _ _ (ap (λ n. has (ball links target n) from) (omega arith) ∙ away.here)
 away_found (suc most) links target j (suc k) from fits away =
-    let there : IsAway links target (suc j + k) from =
-    subst (λ (n : ℕ). IsAway links target n from) (omega arith) away in
     links_away-turn most links from (ball links target j)
     ∙ turn_on _ _ _ (away.later j (omega arith)) (grows links target j k from away)
-    ∙ ap (option_map suc) (away_found most links target (suc j) k from (omega arith) there)
+    ∙ ap (option_map suc) (away_found most links target (suc j) k from (omega arith)
+    (subst (λ (n : ℕ). IsAway links target n from) (omega arith) away))
 
 none_found : (most : ℕ) (links : List ℕ) (target j from : ℕ) → j + most ≤ 64 →
     IsOutOfReach links target from → links_away most links from (ball links target j) ≡ None
 unfolding links_away IsOutOfReach ball
 none_found zero links target j from fits out = refl
 none_found (suc most) links target j from fits out =
-    links_away-turn most links from (ball links target j)
-    ∙ turn_none _ _ _ (out j (omega arith))
+    links_away-turn most links from (ball links target j) ∙ turn_none _ _ _ (out j (omega arith))
     (none_found most links target (suc j) from (omega arith) out)
 
 -- ---- the route to one target
@@ -224,10 +204,9 @@ both_below a b p q = grind (arith, nat_tests)
 guarded : Bool → Option (List ℕ) → Option (List ℕ)
 guarded test route = elim test [ true ↦ route | false ↦ None ]
 
-route_to-guarded : (links : List ℕ) (from target : ℕ) →
-    route_to links from target ≡ guarded (nat_lt from 64 && nat_lt target 64)
-    (option_map (λ k. from ∷ path_after links target k from)
-    (links_away 64 links from (ball links target 0)))
+route_to-guarded : (links : List ℕ) (from target : ℕ) → route_to links from target
+    ≡ guarded (nat_lt from 64 && nat_lt target 64) (option_map (λ k. from
+    ∷ path_after links target k from) (links_away 64 links from (ball links target 0)))
 unfolding route_to guarded ball
 route_to-guarded links from target = refl
 
@@ -248,14 +227,12 @@ pub route_to-away : (links : List ℕ) (from target k : ℕ) → from < 64 → t
 route_to-away links from target k from_fits target_fits fits away =
     route_to-guarded links from target
     ∙ guarded_true _ _ (both_below from target from_fits target_fits)
-    ∙ ap (option_map (λ k. from ∷ path_after links target k from))
-    (away_found 64 links target 0 k from fits
-    (subst (λ (n : ℕ). IsAway links target n from) (omega arith) away))
+    ∙ ap (option_map (λ k. from ∷ path_after links target k from)) (away_found 64 links target 0 k
+    from fits (subst (λ (n : ℕ). IsAway links target n from) (omega arith) away))
 
 pub route_to-out : (links : List ℕ) (from target : ℕ) → from < 64 → target < 64 →
     IsOutOfReach links target from → route_to links from target ≡ None
-route_to-out links from target from_fits target_fits out =
-    route_to-guarded links from target
+route_to-out links from target from_fits target_fits out = route_to-guarded links from target
     ∙ guarded_true _ _ (both_below from target from_fits target_fits)
     ∙ ap (option_map (λ k. from ∷ path_after links target k from))
     (none_found 64 links target 0 from (omega arith) out)
@@ -275,23 +252,20 @@ later_or_away : (links : List ℕ) (target from k : ℕ) →
     has (ball links target k) from ≡ b →
     IsAway links target k from ⊎ ((j : ℕ) → j < suc k → has (ball links target j) from ≡ false)
 later_or_away links target from k before true e = inl (record { here = e; later = before })
-later_or_away links target from k before false e =
-    inr (λ j less. elim (cases_lt j k) [
-      | inl earlier ↦ before j earlier
-      | inr last ↦ ap (λ n. has (ball links target n) from)
-          (omega arith) ∙ e
-    ])
+later_or_away links target from k before false e = inr (λ j less. elim (cases_lt j k) [
+  | inl earlier ↦ before j earlier
+  | inr last ↦ ap (λ n. has (ball links target n) from) (omega arith) ∙ e
+])
 
 search_up_to : (links : List ℕ) (target from k : ℕ) →
     ((i : ℕ) × (i < k) × IsAway links target i from)
     ⊎ ((j : ℕ) → j < k → has (ball links target j) from ≡ false)
 search_up_to links target from zero = inr (λ j less. absurd (omega arith))
-search_up_to links target from (suc k) =
-    elim (search_up_to links target from k) [
-      | inl found ↦ inl (found.0, omega arith, found.2)
-      | inr before ↦ elim (later_or_away links target from k before _ refl)
-          [ inl away ↦ inl (k, omega arith, away) | inr later ↦ inr later ]
-    ]
+search_up_to links target from (suc k) = elim (search_up_to links target from k) [
+  | inl found ↦ inl (found.0, omega arith, found.2)
+  | inr before ↦ elim (later_or_away links target from k before _ refl)
+      [ inl away ↦ inl (k, omega arith, away) | inr later ↦ inr later ]
+]
 
 pub away_or_out : (links : List ℕ) (target from : ℕ) →
     ((k : ℕ) × (k < 64) × IsAway links target k from) ⊎ IsOutOfReach links target from
@@ -330,28 +304,24 @@ unreachable links from target h = λ reach. stray links from target h reach.0 re
 
 -- the least path to the target, or none where it isn't reachable
 abbrev IsAnswer : List ℕ → ℕ → ℕ → Option (List ℕ) → Type 0
-IsAnswer links from target route =
-    IsSomeAnd route (IsLeastPath links from target)
+IsAnswer links from target route = IsSomeAnd route (IsLeastPath links from target)
     ⊎ (¬ IsReachable links from target × (route ≡ None))
 
 some_answer : (links : List ℕ) (from target : ℕ) (route : Option (List ℕ)) (path : List ℕ) →
     IsLeastPath links from target path → route ≡ Some path → IsAnswer links from target route
-some_answer links from target route path least e =
-    inl (subst (λ (r : Option (List ℕ)). IsSomeAnd r (IsLeastPath links from target)) (sym e) least)
+some_answer links from target route path least e = inl (rw e least)
 
 answer_within : (links : List ℕ) (from target : ℕ) → length links ≡ 64 → from < 64 → target < 64 →
     IsAnswer links from target (route_to links from target)
-answer_within links from target rows from_fits target_fits =
-    elim (away_or_out links target from) [
-      | inl away ↦ some_answer links from target _ _
-          (found_is_least links target away.0 from rows target_fits from_fits away.2)
-          (route_to-away links from target away.0 from_fits target_fits away.1 away.2)
-      | inr out ↦ inr (
-        out_of_reach links target from rows from_fits out,
-        route_to-out links from
-            target from_fits target_fits out,
-      )
-    ]
+answer_within links from target rows from_fits target_fits = elim (away_or_out links target from) [
+  | inl away ↦ some_answer links from target _ _
+      (found_is_least links target away.0 from rows target_fits from_fits away.2)
+      (route_to-away links from target away.0 from_fits target_fits away.1 away.2)
+  | inr out ↦ inr (
+    out_of_reach links target from rows from_fits out,
+    route_to-out links from target from_fits target_fits out,
+  )
+]
 
 answer_above : (links : List ℕ) (from target : ℕ) → (from < 64 → target < 64 → ⊥) →
     IsAnswer links from target (route_to links from target)
@@ -360,21 +330,19 @@ answer_above links from target h =
 
 route_to_answers : (links : List ℕ) (from target : ℕ) → length links ≡ 64 →
     IsAnswer links from target (route_to links from target)
-route_to_answers links from target rows =
-    elim (cases_lt from 64) [
-      | inl from_fits ↦ elim (cases_lt target 64) [
-        | inl target_fits ↦ answer_within links from target rows from_fits target_fits
-        | inr past ↦ answer_above links from target (λ p q. absurd (omega arith))
-      ]
-      | inr past ↦ answer_above links from target (λ p q. absurd (omega arith))
-    ]
+route_to_answers links from target rows = elim (cases_lt from 64) [
+  | inl from_fits ↦ elim (cases_lt target 64) [
+    | inl target_fits ↦ answer_within links from target rows from_fits target_fits
+    | inr past ↦ answer_above links from target (λ p q. absurd (omega arith))
+  ]
+  | inr past ↦ answer_above links from target (λ p q. absurd (omega arith))
+]
 
 abbrev chosen : Option (List ℕ) → Option (List ℕ) → Option (List ℕ)
 chosen route rest = elim route [ Some path ↦ Some path | None ↦ rest ]
 
-pub first_route-chosen : (links : List ℕ) (from target : ℕ) (targets : List ℕ) →
-    first_route links from (target ∷ targets) ≡
-    chosen (route_to links from target) (first_route links from targets)
+pub first_route-chosen : (links : List ℕ) (from target : ℕ) (targets : List ℕ) → first_route links
+    from (target ∷ targets) ≡ chosen (route_to links from target) (first_route links from targets)
 unfolding first_route
 first_route-chosen links from target targets = refl
 
@@ -398,10 +366,8 @@ pub first_route_is_route : (links : List ℕ) (from : ℕ) (targets : List ℕ) 
     IsRoute links from targets (first_route links from targets)
 first_route_is_route links from [] rows = no_targets links from
 first_route_is_route links from (target ∷ targets) rows =
-    subst (λ (r : Option (List ℕ)). IsRoute links from (target ∷ targets) r)
-    (sym (first_route-chosen links from target targets))
-    (chosen_is_route links from target targets _ _ (route_to_answers links from target rows)
-    (first_route_is_route links from targets rows))
+    rw (first_route-chosen links from target targets) (chosen_is_route links from target targets _ _
+    (route_to_answers links from target rows) (first_route_is_route links from targets rows))
 
 -- ---- there is one route
 
@@ -409,21 +375,19 @@ same_lists : (xs ys : List ℕ) → length xs ≡ length ys → IsAtMost xs ys �
 same_lists [] [] long less more = refl
 same_lists [] (y ∷ ys) long less more = absurd (omega arith)
 same_lists (x ∷ xs) [] long less more = absurd (omega arith)
-same_lists (x ∷ xs) (y ∷ ys) long less more =
-    elim less [
-      | inl below ↦ elim more [ inl above ↦ absurd (omega arith) | inr same ↦ absurd (omega arith) ]
-      | inr same ↦ elim more [
-        | inl above ↦ absurd (omega arith)
-        | inr again ↦ (let rest = same_lists xs ys (omega arith) same.1 again.1 in let first : x ≡
-            y = same.0 in cc)
-      ]
-    ]
+same_lists (x ∷ xs) (y ∷ ys) long less more = elim less [
+  | inl below ↦ elim more [ inl above ↦ absurd (omega arith) | inr same ↦ absurd (omega arith) ]
+  | inr same ↦ elim more [
+    | inl above ↦ absurd (omega arith)
+    | inr again ↦ (let rest = same_lists xs ys (omega arith) same.1 again.1 in let first : x ≡
+        y = same.0 in cc)
+  ]
+]
 
 one_least_path : (links : List ℕ) (from target : ℕ) (a b : List ℕ) →
     IsLeastPath links from target a → IsLeastPath links from target b → a ≡ b
 one_least_path links from target a b one other =
-    let long : length a ≡ length b =
-    omega (arith, one.fewest b other.path, other.fewest a one.path) in
+    let long : length a ≡ length b = omega (arith, one.fewest, other.fewest) in
     same_lists a b long (one.least b other.path (sym long)) (other.least a one.path long)
 
 reached_by : (links : List ℕ) (from target : ℕ) (route : Option (List ℕ)) →
@@ -444,17 +408,16 @@ pub one_route : (links : List ℕ) (from : ℕ) (targets : List ℕ) (one other 
     IsRoute links from targets one → IsRoute links from targets other → one ≡ other
 unfolding IsRoute
 one_route links from [] one other a b = a ∙ sym b
-one_route links from (target ∷ targets) one other a b =
-    elim a [
-      | inl least ↦ elim b [
-        | inl again ↦ same_some links from target one other least again
-        | inr none ↦ absurd (none.0 (reached_by links from target one least))
-      ]
-      | inr missing ↦ elim b [
-        | inl least ↦ absurd (missing.0 (reached_by links from target other least))
-        | inr none ↦ one_route links from targets one other missing.1 none.1
-      ]
-    ]
+one_route links from (target ∷ targets) one other a b = elim a [
+  | inl least ↦ elim b [
+    | inl again ↦ same_some links from target one other least again
+    | inr none ↦ absurd (none.0 (reached_by links from target one least))
+  ]
+  | inr missing ↦ elim b [
+    | inl least ↦ absurd (missing.0 (reached_by links from target other least))
+    | inr none ↦ one_route links from targets one other missing.1 none.1
+  ]
+]
 
 -- ---- over the known links
 
@@ -476,15 +439,13 @@ known_route_is_route adverts from targets near down =
 pub first_route-found : (links : List ℕ) (from target : ℕ) (targets route : List ℕ) →
     route_to links from target ≡ Some route → first_route links from (target ∷ targets) ≡ Some route
 first_route-found links from target targets route e =
-    first_route-chosen links from target targets
-    ∙ ap (λ r. chosen r (first_route links from targets)) e
+    cc (first_route-chosen links from target targets, e)
 
 pub first_route-missing : (links : List ℕ) (from target : ℕ) (targets : List ℕ) →
     route_to links from target ≡ None →
     first_route links from (target ∷ targets) ≡ first_route links from targets
 first_route-missing links from target targets e =
-    first_route-chosen links from target targets
-    ∙ ap (λ r. chosen r (first_route links from targets)) e
+    cc (first_route-chosen links from target targets, e)
 
 pub first_route-none : (links : List ℕ) (from : ℕ) → first_route links from [] ≡ None
 unfolding first_route
@@ -510,9 +471,7 @@ pub route_is_list : (links : List ℕ) (from : ℕ) (targets : List ℕ) (route 
     IsRoute links from targets route → IfSome route IsRouteList
 unfolding IsRoute
 route_is_list links from [] route h = none_is_list route h
-route_is_list links from (target ∷ targets) route h =
-    elim h [
-      | inl least ↦ least_is_list links from target route least
-      | inr none ↦ route_is_list
-          links from targets route none.1
-    ]
+route_is_list links from (target ∷ targets) route h = elim h [
+  | inl least ↦ least_is_list links from target route least
+  | inr none ↦ route_is_list links from targets route none.1
+]

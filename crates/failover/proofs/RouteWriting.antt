@@ -1,5 +1,5 @@
 -- The route as it is written down.
-use Rattle.std.proofs.Common.{[], ◌++◌, ◌+◌, ◌-◌, ◌<◌, ◌^◌, ◌∙◌, ◌∷◌, ◌≡◌, ◌≤◌, List, Some, add-one, ap, append_assoc, arith, bit_and, drop, drop-drop, drop_at, false, get_or, get_or-drop, get_or-set_other, get_or-set_same, inl, inr, length, length-drop, length-take, refl, replicate, set, subst, suc, sym, take, take_all, take_at, zero, ℕ}
+use Rattle.std.proofs.Common.{[], ◌++◌, ◌+◌, ◌-◌, ◌<◌, ◌^◌, ◌∙◌, ◌∷◌, ◌≡◌, ◌≤◌, List, Some, add-one, ap, append_assoc, arith, bit_and, drop, drop-drop, false, get_or, get_or-drop, get_or-set_other, get_or-set_same, inl, inr, length, length-drop, length-take, refl, replicate, set, subst, suc, sym, take, take_all, take_at, zero, ℕ}
 use Rattle.base.proofs.Exports.{cases_eq, set-append_seam, take_more}
 use Rattle.base.specs.Exports.{has}
 use Rattle.failover.specs.Exports.{AreBalls, IsAway, IsOutOfReach, IsRouteList, ball, grown_ball, least_neighbour_in, path_after, path_by_balls, route_to}
@@ -31,10 +31,9 @@ pub along-onward : (links balls : List ℕ) (target k at : ℕ) → AreBalls lin
     path_by_balls links balls k at ≡ path_after links target k at
 unfolding path_by_balls path_after
 along-onward links balls target zero at kept = refl
-along-onward links balls target (suc k) at kept =
-    rw (last_ball links target balls k kept)
-    (ap (λ rest. least_neighbour_in links (ball links target k) at ∷ rest)
-    (along-onward links balls target k _ (fewer_balls links target balls k kept)))
+along-onward links balls target (suc k) at kept = rw (last_ball links target balls k kept)
+    (ap (λ rest. least_neighbour_in links (ball links target k) at ∷ rest) (along-onward links balls
+    target k _ (fewer_balls links target balls k kept)))
 
 -- ---- what was found may be written down
 
@@ -42,8 +41,7 @@ pub is_route_list : (links balls : List ℕ) (target k from : ℕ) → length li
     from < 64 → IsAway links target k from → AreBalls links target balls k →
     IsRouteList (from ∷ path_by_balls links balls k from)
 is_route_list links balls target k from rows target_fits from_fits away kept =
-    rw (along-onward links balls target k from kept)
-    (path_is_route_list links from target _
+    rw (along-onward links balls target k from kept) (path_is_route_list links from target _
     (found_is_least links target k from rows target_fits from_fits away).path)
 
 pub route_to-along : (links balls : List ℕ) (target k from : ℕ) → length links ≡ 64 → target < 64 →
@@ -73,17 +71,15 @@ pub below_in : (route : List ℕ) (k y : ℕ) (ys : List ℕ) → IsRouteList ro
 below_in route k y ys list e = let here =
     left_at route k y ys e in subst (λ (x : ℕ). x < 64) here.1 (list.switches k 0 here.0)
 
-pub along-next : (links balls : List ℕ) (left at m : ℕ) → left ≡ suc m →
-    path_by_balls links balls left at ≡ least_neighbour_in links (get_or balls m 0) at
-    ∷ path_by_balls links balls m
-    (least_neighbour_in links (get_or balls m 0) at)
+pub along-next : (links balls : List ℕ) (left at m : ℕ) → left ≡ suc m
+    → path_by_balls links balls left at ≡ least_neighbour_in links (get_or balls m 0) at
+    ∷ path_by_balls links balls m (least_neighbour_in links (get_or balls m 0) at)
 unfolding path_by_balls
 along-next links balls left at m e = rw e refl
 
-pub written_more : (route switches : List ℕ) (k next : ℕ) → length route ≤ 64 →
-    k + 1 < length route → next ≡ get_or route (k + 1) 0 →
-    switches ≡ take (k + 1) route ++ replicate (63 - k) 0 →
-    set switches (k + 1) next ≡ take (k + 1 + 1) route ++ replicate (63 - (k + 1)) 0
+pub written_more : (route switches : List ℕ) (k next : ℕ) → length route ≤ 64 → k + 1 < length route
+    → next ≡ get_or route (k + 1) 0 → switches ≡ take (k + 1) route ++ replicate (63 - k) 0
+    → set switches (k + 1) next ≡ take (k + 1 + 1) route ++ replicate (63 - (k + 1)) 0
 written_more route switches k next few below e written =
     let front = take (k + 1) route in
     let rest = replicate (63 - (k + 1)) 0 in
@@ -99,21 +95,12 @@ written_more route switches k next few below e written =
 
 pub whole_front : (route switches : List ℕ) (k : ℕ) → length route ≡ k + 1 →
     switches ≡ take (k + 1) route ++ replicate (63 - k) 0 → switches ≡ route ++ replicate (63 - k) 0
-whole_front route switches k long written =
-    written ∙ ap (λ f. f ++ replicate (63 - k) 0) (take_all (k + 1) route (omega arith))
+whole_front route switches k long written = cc (written, take_all (k + 1) route (omega arith))
 
 pub written_route : (route switches : List ℕ) (k : ℕ) → length route ≡ k + 1 →
     switches ≡ take (k + 1) route ++ replicate (63 - k) 0 → take (k + 1) switches ≡ route
 written_route route switches k long written =
     ap (take (k + 1)) (whole_front route switches k long written) ∙ take_at route _ (k + 1) long
-
-pub written_rest : (route switches : List ℕ) (k : ℕ) → length route ≡ k + 1 →
-    switches ≡ take (k + 1) route ++ replicate (63 - k) 0 →
-    drop (k + 1) switches ≡ replicate (64 - (k + 1)) 0
-written_rest route switches k long written =
-    let fewer : 63 - k ≡ 64 - (k + 1) = omega arith in
-    ap (drop (k + 1)) (whole_front route switches k long written) ∙ drop_at route _ (k + 1) long
-    ∙ ap (λ (n : ℕ). replicate n 0) fewer
 
 -- ---- balls that a turn keeps
 

@@ -42,20 +42,17 @@ row_begins neighbours down one within fits = record {
   row_fits = pow_pos 64;
   rest_fits = omega (arith, and_le_r (get_or neighbours one 0) within);
   named = λ k h. (and_parts _ _ (sym (has-and (get_or neighbours one 0) within k) ∙ h)).0;
-  found = λ k below. rw (has-zero k, has-and)
-      (named_within (has (get_or neighbours one 0) k) (has within k) _
-      (named neighbours down one k));
+  found = λ k below. rw (has-zero k, has-and) (named_within (has (get_or neighbours one 0) k)
+      (has within k) _ (named neighbours down one k));
 }
 
 pub row_ends : (neighbours down : List ℕ) (one within row rest : ℕ) → within < 2 ^ 64 →
     IsRowSoFar neighbours down one within row rest →
     rest ≡ 0 → row ≡ bit_and (links_at neighbours down one) within
-row_ends neighbours down one within row rest fits so_far none =
-    same_masks row _ so_far.row_fits
-    (omega (arith, and_le_r (links_at neighbours down one) within))
+row_ends neighbours down one within row rest fits so_far none = same_masks row _ so_far.row_fits
+    (omega (arith, and_le_r))
     (λ k below. at_end (has row k) (has rest k) _ _ (ap (λ n. has n k) none ∙ has-zero k)
-    (so_far.found k below)
-    ∙ sym (has-and (links_at neighbours down one) within k
+    (so_far.found k below) ∙ sym (has-and (links_at neighbours down one) within k
     ∙ ap (λ b. b && has within k) (has_mask (is_link neighbours down one) k below)))
   where
     at_end : (row rest link wanted : Bool) → rest ≡ false → (row || (rest && link)) ≡ wanted →
@@ -80,9 +77,8 @@ one_bit a h = grind (arith, nat_tests)
 pub less : (rest k : ℕ) → has rest k ≡ true → bit_xor rest (2 ^ k) < rest
 unfolding has
 less rest k h =
-    let set : bit_at rest k ≡ 1 = one_bit (bit_at rest k) h in
     let common : bit_and rest (2 ^ k) ≡ 2 ^ k =
-    and_pow rest k ∙ ap (λ b. b * 2 ^ k) set ∙ one_times (2 ^ k) in
+    and_pow rest k ∙ ap (λ b. b * 2 ^ k) (one_bit (bit_at rest k) h) ∙ one_times (2 ^ k) in
     omega (arith, xor_add_and rest (2 ^ k), common, pow_pos k)
   where
     one_times : (n : ℕ) → 1 * n ≡ n
@@ -120,12 +116,7 @@ row_goes_on neighbours down one within row rest other gain gone so_far left fits
             (turn_same (has row other) _ _ (sym
             (ap (λ b. has row other || (b && is_link neighbours down one other)) left)
             ∙ so_far.found other fits))
-        | inr apart ↦ rw (
-          has-or,
-          has_only_other
-              (is_link neighbours down one other) other k apart,
-          has-xor_other rest other k apart,
-        )
+        | inr apart ↦ rw (has-or, has_only_other, has-xor_other)
             (turn_other (has row k) (has rest k) _ _ (so_far.found k below))
       ];
     })
@@ -170,9 +161,8 @@ pub or_others : (a b gain : ℕ) → a < 2 ^ 64 → b < 2 ^ 64 →
 or_others a b gain a_fits b_fits e =
     let gain_fits : gain < 2 ^ 64 = omega (arith, and_le_l b (bit_not w64 a)) in
     same_masks _ _ (or_lt 64 _ _ a_fits gain_fits) (or_lt 64 _ _ a_fits b_fits)
-    (λ k below. has-or a gain k
-    ∙ ap (λ t. has a k || t) (ap (λ m. has m k) e ∙ has-and b (bit_not w64 a) k
-    ∙ ap (λ t. has b k && t) (has-not a k a_fits below))
+    (λ k below. has-or a gain k ∙ ap (λ t. has a k || t) (ap (λ m. has m k) e
+    ∙ has-and b (bit_not w64 a) k ∙ ap (λ t. has b k && t) (has-not a k a_fits below))
     ∙ or_more (has a k) (has b k) ∙ sym (has-or a b k))
 
 has_all : (k : ℕ) → k < 64 → has (2 ^ 64 - 1) k ≡ true
@@ -181,9 +171,8 @@ has_all k below = eq-eqb _ 1 (bit_at_ones 64 k below)
 
 -- among all switches
 pub and_all : (a : ℕ) → a < 2 ^ 64 → bit_and a (2 ^ 64 - 1) ≡ a
-and_all a fits = same_masks _ _ (omega (arith, and_le_r a (2 ^ 64 - 1))) fits
-    (λ k below. has-and a (2 ^ 64 - 1) k ∙ ap (λ t. has a k && t) (has_all k below)
-    ∙ and-true (has a k))
+and_all a fits = same_masks _ _ (omega (arith, and_le_r)) fits (λ k below. has-and a (2 ^ 64 - 1) k
+    ∙ ap (λ t. has a k && t) (has_all k below) ∙ and-true (has a k))
 
 -- the first that is left
 pub first_left : (rest : ℕ) → rest < 2 ^ 64 → (rest ≡ 0 → ⊥) → has rest (least_in rest) ≡ true

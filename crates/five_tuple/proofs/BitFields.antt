@@ -12,9 +12,8 @@ or_below n a k b e h = ap (λ m. bit_or m b) e ∙ or_shifted a k b h ∙ ap (λ
 
 -- the five fields of a header, each shifted to its place and joined by `or`
 pub or_of_fields : (s d p q r : ℕ) → s < 2 ^ 32 → d < 2 ^ 32 → p < 2 ^ 16 → q < 2 ^ 16 → r < 2 ^ 8
-    → bit_or (bit_or (bit_or (bit_or (s * 2 ^ 72 % 2 ^ 128) (d * 2 ^ 40 % 2 ^ 128))
-    (p * 2 ^ 24 % 2 ^ 128)) (q * 2 ^ 8 % 2 ^ 128)) r ≡ s * 2 ^ 72 + d * 2 ^ 40 + p * 2 ^ 24 + q * 2
-    ^ 8 + r
+    → bit_or (bit_or (bit_or (bit_or (s * 2 ^ 72 % 2 ^ 128) (d * 2 ^ 40 % 2 ^ 128)) (p * 2 ^ 24 % 2
+    ^ 128)) (q * 2 ^ 8 % 2 ^ 128)) r ≡ s * 2 ^ 72 + d * 2 ^ 40 + p * 2 ^ 24 + q * 2 ^ 8 + r
 or_of_fields s d p q r hs hd hp hq hr =
     let es : s * 2 ^ 72 % 2 ^ 128 ≡ s * 2 ^ 72 = mod-eq_of_lt (omega arith) in
     let ed : d * 2 ^ 40 % 2 ^ 128 ≡ d * 2 ^ 40 = mod-eq_of_lt (omega arith) in
@@ -53,8 +52,7 @@ header_numbered-number_of h n hs hd hp hq hr e =
     let b : n / 2 ^ 40 % 2 ^ 32 ≡ f.dst = omega arith in
     let c : n / 2 ^ 24 % 2 ^ 16 ≡ f.sport = omega arith in
     let d : n / 2 ^ 8 % 2 ^ 16 ≡ f.dport = omega arith in
-    let g : n % 2 ^ 8 ≡ f.proto = omega arith in
-    rw (a, b, c, d, g)
+    let g : n % 2 ^ 8 ≡ f.proto = omega arith in rw (a, b, c, d, g)
 
 -- the number of the header that a number packs
 pub number_back : (n : ℕ) → n < 2 ^ 104 → number_of (header_numbered n) ≡ n

@@ -27,35 +27,28 @@ module _ (s d p q r s' d' p' q' r' : ℕ) (h : HasBits d p q r) (h' : HasBits d'
       (bit_and p p') (bit_and q q') (bit_and r r')
   unfolding steps
   and_steps =
-      let e1 = and_block 32 s s' d d' h.dst h'.dst in
       let e2 = and_block 16 (s * 2 ^ 32 + d) (s' * 2 ^ 32 + d') p p' h.sport h'.sport in
       let e3 = and_block 16 ((s * 2 ^ 32 + d) * 2 ^ 16 + p) ((s' * 2 ^ 32 + d') * 2 ^ 16 + p') q q'
       h.dport h'.dport in
       let e4 = and_block 8 (((s * 2 ^ 32 + d) * 2 ^ 16 + p) * 2 ^ 16 + q)
       (((s' * 2 ^ 32 + d') * 2 ^ 16 + p') * 2 ^ 16 + q') r r' h.proto h'.proto in
-      rw (e4, e3, e2, e1)
+      rw (e4, e3, e2, and_block 32 s s' d d' h.dst h'.dst)
 
   -- `and` of two packed numbers is that of each field
   pub and_packed : bit_and (packed_number s d p q r) (packed_number s' d' p' q' r')
-      ≡ packed_number (bit_and s s')
-      (bit_and d d') (bit_and p p') (bit_and q q') (bit_and r r')
-  and_packed =
-      ap (λ n. bit_and n (packed_number s' d' p' q' r')) (packed_steps s d p q r)
-      ∙ ap (λ n. bit_and (steps s d p q r) n) (packed_steps s' d' p' q' r')
-      ∙ and_steps
-      ∙ sym (packed_steps (bit_and s s') (bit_and d d') (bit_and p p') (bit_and q q')
-      (bit_and r r'))
+      ≡ packed_number (bit_and s s') (bit_and d d') (bit_and p p') (bit_and q q') (bit_and r r')
+  and_packed = ap (λ n. bit_and n (packed_number s' d' p' q' r')) (packed_steps s d p q r)
+      ∙ ap (λ n. bit_and (steps s d p q r) n) (packed_steps s' d' p' q' r') ∙ and_steps ∙ sym
+      (packed_steps (bit_and s s') (bit_and d d') (bit_and p p') (bit_and q q') (bit_and r r'))
 
   -- packed numbers are equal where each field is
   pub same_packed : eqb (packed_number s d p q r) (packed_number s' d' p' q' r')
       ≡ (eqb s s' && eqb d d' && eqb p p' && eqb q q' && eqb r r')
-  same_packed =
-      same_from_decides _ _
+  same_packed = same_from_decides _ _
       (Decides-like _ (λ e. ((((omega arith, omega arith), omega arith), omega arith), omega arith))
       (λ w. omega (arith, w.0.0.0.0, w.0.0.0.1, w.0.0.1, w.0.1, w.1))
-      (Decides-eqb (packed_number s d p q r) (packed_number s' d' p' q' r')))
-      (Decides-and _ _ (Decides-and _ _
-      (Decides-and _ _ (Decides-and _ _ (Decides-eqb s s') (Decides-eqb d d'))
+      (Decides-eqb (packed_number s d p q r) (packed_number s' d' p' q' r'))) (Decides-and _ _
+      (Decides-and _ _ (Decides-and _ _ (Decides-and _ _ (Decides-eqb s s') (Decides-eqb d d'))
       (Decides-eqb p p')) (Decides-eqb q q')) (Decides-eqb r r'))
 
 -- less bits than these
@@ -72,9 +65,8 @@ fewer_bits d p q r d' p' q' r' h = record {
 pub masked_packed : (s d p q r s' d' p' q' r' vs vd vp vq vr : ℕ) → HasBits d p q r
     → HasBits d' p' q' r' → HasBits vd vp vq vr
     → eqb (bit_and (packed_number s d p q r) (packed_number s' d' p' q' r'))
-    (packed_number vs vd vp vq vr)
-    ≡ (eqb (bit_and s s') vs && eqb (bit_and d d') vd && eqb (bit_and p p') vp
-    && eqb (bit_and q q') vq && eqb (bit_and r r') vr)
+    (packed_number vs vd vp vq vr) ≡ (eqb (bit_and s s') vs && eqb (bit_and d d') vd
+    && eqb (bit_and p p') vp && eqb (bit_and q q') vq && eqb (bit_and r r') vr)
 masked_packed s d p q r s' d' p' q' r' vs vd vp vq vr fields masks values =
     ap (λ n. eqb n (packed_number vs vd vp vq vr))
     (and_packed s d p q r s' d' p' q' r' fields masks)

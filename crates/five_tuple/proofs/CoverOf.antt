@@ -18,11 +18,9 @@ record IsLargestUpTo (k first high exponent : ℕ) : Type 0 where
 
 block_from : (first high e : ℕ) → fits_at first high e ≡ true → IsBlock first high e
 block_from first high e h =
-    let parts = and_parts (eqb (first % 2 ^ e) 0) (leb (first + 2 ^ e) (high + 1)) h in
-    record {
+    let parts = and_parts (eqb (first % 2 ^ e) 0) (leb (first + 2 ^ e) (high + 1)) h in record {
       aligned = eqb-true (first % 2 ^ e) 0 parts.0;
-      fits = leb-true (first + 2 ^ e)
-          (high + 1) parts.1;
+      fits = leb-true (first + 2 ^ e) (high + 1) parts.1;
     }
 
 block_test : (first high e : ℕ) → IsBlock first high e → fits_at first high e ≡ true
@@ -33,55 +31,44 @@ larger : (k first high e : ℕ) (b : Bool) → fits_at first high (suc k) ≡ b
     → IsLargestUpTo k first high e → IsLargestUpTo (suc k) first high (cond b (suc k) e)
 larger k first high e true is l =
     record { block = block_from first high (suc k) is; largest = λ other most _. most }
-larger k first high e false is l =
-    record {
-      block = l.block;
-      largest = λ other most block. smaller other most block
-          (cases_lt k other);
-    }
-  where
-    smaller : (other : ℕ) → other ≤ suc k → IsBlock first high other → (k < other) ⊎ (other ≤ k)
-        → other ≤ e
-    smaller other most block (inr less) = l.largest other less block
-    smaller other most block (inl more) =
-        let same : other ≡ suc k = omega arith in
-        let test = block_test first high (suc k) (subst (IsBlock first high) same block) in
-        absurd (cc)
+larger k first high e false is l = record {
+  block = l.block;
+  largest = λ other most block. smaller other most block (cases_lt k other);
+} where
+  smaller : (other : ℕ) → other ≤ suc k → IsBlock first high other → (k < other) ⊎ (other ≤ k)
+      → other ≤ e
+  smaller other most block (inr less) = l.largest other less block
+  smaller other most block (inl more) =
+      let test = block_test first high (suc k) (subst (IsBlock first high) (omega arith) block) in
+      absurd (cc)
 
 largest_is : (k first high : ℕ) → first ≤ high
     → IsLargestUpTo k first high (largest_up_to k first high)
-largest_is zero first high h =
-    record {
-      block = record { aligned = mod-one first; fits = omega arith };
-      largest =
-          λ other most _. most;
-    }
+largest_is zero first high h = record {
+  block = record { aligned = mod-one first; fits = omega arith };
+  largest = λ other most _. most;
+}
 largest_is (suc k) first high h = larger k first high (largest_up_to k first high) _ refl
     (largest_is k first high h)
 
 largest_of_all : (first high : ℕ) → first ≤ high → high < 2 ^ 16
     → IsLargestBlock first high (largest_up_to 16 first high)
-largest_of_all first high h bound =
-    let l = largest_is 16 first high h in
-    record {
-      block = l.block;
-      largest = λ other block. l.largest other
-          (exponent_small first high other block bound) block;
-    }
+largest_of_all first high h bound = let l = largest_is 16 first high h in record {
+  block = l.block;
+  largest = λ other block. l.largest other (exponent_small first high other block bound) block;
+}
 
 covers_from : (most low high : ℕ) → high < 2 ^ 16 → high + 1 ≤ low + most
     → IsCover low high (blocks_from most low high)
 covers_from zero low high bound enough = omega arith
-covers_from (suc most) low high bound enough =
-    let e = largest_up_to 16 low high in
+covers_from (suc most) low high bound enough = let e = largest_up_to 16 low high in
     elim (cases_lt high low) [
       | inl past ↦ rw (lt-ltb high low past) past
       | inr within ↦ rw (le-ltb high low within) (
         e,
         largest_of_all low high within bound,
         refl,
-        covers_from most (low + 2 ^ e) high bound
-            (omega (arith, pow_pos e)),
+        covers_from most (low + 2 ^ e) high bound (omega (arith, pow_pos)),
       )
     ]
 
@@ -107,16 +94,14 @@ some_block low high [] c h = absurd (omega arith)
 some_block low high (b ∷ bs) c h = omega arith
 
 pub is_cover_of : (range : PortRangeValue) → IsPortRange range → IsCoverOf range (cover_of range)
-is_cover_of range sound =
-    let c = greedy range sound in
-    record {
-      exact = exact range.low range.high (cover_of range) c sound.bound;
-      disjoint = disjoint range.low range.high (cover_of range) c sound.bound;
-      ascending = ascending range.low range.high (cover_of range) c;
-      masked = masked range.low range.high (cover_of range) c sound.bound;
-      some = some_block range.low range.high (cover_of range) c sound.ordered;
-      few = few range.low range.high (cover_of range) c sound.bound;
-    }
+is_cover_of range sound = let c = greedy range sound in record {
+  exact = exact range.low range.high (cover_of range) c sound.bound;
+  disjoint = disjoint range.low range.high (cover_of range) c sound.bound;
+  ascending = ascending range.low range.high (cover_of range) c;
+  masked = masked range.low range.high (cover_of range) c sound.bound;
+  some = some_block range.low range.high (cover_of range) c sound.ordered;
+  few = few range.low range.high (cover_of range) c sound.bound;
+}
 
 -- ---- one block after another
 
@@ -148,9 +133,8 @@ low_zeros n (suc e) none =
 bit_of_aligned : (n e : ℕ) → n % 2 ^ suc e ≡ 0 → bit_at n e ≡ 1 → ⊥
 bit_of_aligned n e aligned set =
     let width : suc e ≡ 1 + e = omega arith in
-    let split = ap (λ k. n % 2 ^ k) width ∙ mod-pow-add n 1 e in
     let top = ap (λ d. d * 2 ^ e) set in
-    omega (arith, split, top, pow_pos e)
+    omega (arith, ap (λ k. n % 2 ^ k) width ∙ mod-pow-add n 1 e, top, pow_pos e)
 
 -- at most so many of the low bits are 0, and so the block is at most so large
 largest_of_two : (first high zeros log e : ℕ) → first % 2 ^ zeros ≡ 0
@@ -158,52 +142,43 @@ largest_of_two : (first high zeros log e : ℕ) → first % 2 ^ zeros ≡ 0
     → high + 1 - first < 2 * 2 ^ log → e ≡ min zeros log → IsLargestBlock first high e
 largest_of_two first high zeros log e aligned most fits next is =
     let smaller : 2 ^ e ≤ 2 ^ log = pow-le-pow_right (omega arith) {i = e} {j = log}
-    (omega arith) in
-    record {
+    (omega arith) in record {
       block = record {
         aligned = aligned_down first e zeros (omega arith) aligned;
-        fits =
-            omega (arith, pow_pos log);
+        fits = omega (arith, pow_pos log);
       };
       largest = λ other block. omega (arith, most other block, below other block);
     }
   where
     below : (other : ℕ) → IsBlock first high other → other ≤ log
-    below other block =
-        elim (cases_lt log other) [
-          | inl more ↦
-              let p : 2 ^ suc log ≤ 2 ^ other = pow-le-pow_right (omega arith) {i = suc log}
-              {j = other} (omega arith) in
-              absurd (omega (arith, block.fits, pow-suc 2 log))
-          | inr less ↦ less
-        ]
+    below other block = elim (cases_lt log other) [
+      | inl more ↦ let p : 2 ^ suc log ≤ 2 ^ other =
+          pow-le-pow_right (omega arith) {i = suc log} {j = other} (omega arith) in
+          absurd (omega (arith, block.fits, pow-suc 2 log))
+      | inr less ↦ less
+    ]
 
 -- a number is aligned no further than its lowest 1
 below_lowest : (n zeros other : ℕ) → bit_at n zeros ≡ 1 → n % 2 ^ other ≡ 0 → other ≤ zeros
-below_lowest n zeros other set aligned =
-    elim (cases_lt zeros other) [
-      | inl more ↦ absurd (bit_of_aligned n zeros (aligned_down n (suc zeros) other more aligned)
-          set)
-      | inr less ↦ less
-    ]
+below_lowest n zeros other set aligned = elim (cases_lt zeros other) [
+  | inl more ↦ absurd (bit_of_aligned n zeros (aligned_down n (suc zeros) other more aligned) set)
+  | inr less ↦ less
+]
 
 -- what the code computes
 pub largest_from_code : (first high log e : ℕ) → first ≤ high → high < 2 ^ 16
     → 2 ^ log ≤ high + 1 - first → high + 1 - first < 2 * 2 ^ log
     → e ≡ min (trailing_zeros w32 first) log → IsLargestBlock first high e
 unfolding count_trailing_zeros
-largest_from_code first high log e within bound fits next is =
-    elim (cases_lt 0 first) [
-      | inr zero_port ↦
-          let none : first ≡ 0 = omega arith in
-          let all : trailing_zeros w32 first ≡ 32 = ap (trailing_zeros w32) none in
-          let aligned : first % 2 ^ 32 ≡ 0 = omega arith in
-          largest_of_two first high 32 log e aligned
-          (λ other block. omega (arith, exponent_small first high other block bound)) fits next
-          (is ∙ ap (λ z. min z log) all)
-      | inl some ↦
-          let zeros = trailing_zeros w32 first in
-          let lowest = bit_at-trailing_zeros w32 first some (omega arith) in
-          largest_of_two first high zeros log e (low_zeros first zeros lowest.2)
-          (λ other block. below_lowest first zeros other lowest.1 block.aligned) fits next is
-    ]
+largest_from_code first high log e within bound fits next is = elim (cases_lt 0 first) [
+  | inr zero_port ↦ let none : first ≡ 0 = omega arith in
+      let all : trailing_zeros w32 first ≡ 32 = ap (trailing_zeros w32) none in
+      let aligned : first % 2 ^ 32 ≡ 0 = omega arith in
+      largest_of_two first high 32 log e aligned
+      (λ other block. omega (arith, exponent_small first high other block bound)) fits next
+      (is ∙ ap (λ z. min z log) all)
+  | inl some ↦ let zeros = trailing_zeros w32 first in
+      let lowest = bit_at-trailing_zeros w32 first some (omega arith) in
+      largest_of_two first high zeros log e (low_zeros first zeros lowest.2)
+      (λ other block. below_lowest first zeros other lowest.1 block.aligned) fits next is
+]

@@ -27,22 +27,18 @@ head (first ∷ others) = first
 first_part : (text part next : List ℕ) (others : List (List ℕ))
     → parts_round 46 text ≡ part ∷ next ∷ others → IsUpToDot text part
 unfolding head
-first_part text part next others parts = by_place (position (λ b. b == 46) text) refl
-  where
-    by_place : (o : Option ℕ) → position (λ b. b == 46) text ≡ o → IsUpToDot text part
-    by_place None none = absurd (no_next (sym (parts_none 46 text none) ∙ parts))
-      where
-        no_next : text ∷ [] ≡ part ∷ next ∷ others → ⊥
-        no_next e = let sizes : 1 ≡ length (part ∷ next ∷ others) = ap length e in
-            absurd (omega (arith, sizes))
-    by_place (Some at) found =
-        let there = position-Some (λ b. b == 46) text at 0 found in
-        record {
-          at = at;
-          within = there.0;
-          dot = eqb-true _ _ there.1;
-          is = ap head (sym parts ∙ parts_at 46 text at found);
-        }
+first_part text part next others parts = by_place (position (λ b. b == 46) text) refl where
+  by_place : (o : Option ℕ) → position (λ b. b == 46) text ≡ o → IsUpToDot text part
+  by_place None none = absurd (no_next (sym (parts_none 46 text none) ∙ parts)) where
+    no_next : text ∷ [] ≡ part ∷ next ∷ others → ⊥
+    no_next e = let sizes : 1 ≡ length (part ∷ next ∷ others) = ap length e in
+        absurd (omega (arith, sizes))
+  by_place (Some at) found = let there = position-Some (λ b. b == 46) text at 0 found in record {
+    at = at;
+    within = there.0;
+    dot = eqb-true _ _ there.1;
+    is = ap head (sym parts ∙ parts_at 46 text at found);
+  }
 
 -- the dot stands behind digits, and behind a byte that is none
 past_digits : (text : List ℕ) (place at : ℕ) → list_all is_ascii_digit (take place text) ≡ true
@@ -51,9 +47,8 @@ past_digits text place at digits within dot = elim (cases_lt at place) [
   | inr upto ↦ upto
   | inl before ↦
       let there : at < length (take place text) = omega (arith, length-take place text) in
-      let lacks = digits_lack 46 (take place text) refl digits at 0 there in
       let is = eq-eqb _ _ (get_or-take place text at 0 before ∙ dot) in
-      absurd (both_ways _ lacks is)
+      absurd (both_ways _ (digits_lack 46 (take place text) refl digits at 0 there) is)
 ]
 
 -- ---- where no number stands before the dot
@@ -67,19 +62,14 @@ lacks_other text place within digits no_dot other part next others parts =
     let upto = past_digits text place dot.at digits dot.within dot.dot in
     let before : place < dot.at = elim (cases_lt place dot.at) [
       | inl before ↦ before
-      | inr past ↦
-          let same : dot.at ≡ place = omega arith in
-          absurd (no_dot (sym (ap (λ k. get_or text k 0) same) ∙ dot.dot))
+      | inr past ↦ absurd (no_dot (sym (ap (λ k. get_or text k 0) (omega arith)) ∙ dot.dot))
     ] in
-    let there : place < length part =
-    subst (λ p. place < length p) (sym dot.is) (omega (arith, length-take dot.at text)) in
-    sym (other_byte 255 part place there
-    (ap (λ p. is_ascii_digit (get_or p place 0)) dot.is
+    sym (other_byte 255 part place (subst (λ p. place < length p) (sym dot.is)
+    (omega (arith, length-take dot.at text))) (ap (λ p. is_ascii_digit (get_or p place 0)) dot.is
     ∙ ap is_ascii_digit (get_or-take dot.at text place 0 before) ∙ other))
 
 -- the digits so far write too large a number
-pub lacks_large : (text : List ℕ) (place : ℕ)
-    → list_all is_ascii_digit (take place text) ≡ true
+pub lacks_large : (text : List ℕ) (place : ℕ) → list_all is_ascii_digit (take place text) ≡ true
     → 255 < digits_value 10 (take place text) → LacksByte text
 lacks_large text place digits large part next others parts =
     let dot = first_part text part next others parts in
@@ -101,15 +91,12 @@ lacks_dot text digits part next others parts =
 dotted : (text : List ℕ) (place : ℕ) → place < length text
     → list_all is_ascii_digit (take place text) ≡ true → get_or text place 0 ≡ 46
     → parts_round 46 text ≡ take place text ∷ parts_round 46 (drop (place + 1) text)
-dotted text place within digits dot =
-    ap (parts_round 46) whole
-    ∙ slice_split_at (λ b. b == 46) (take place text) (get_or text place 0)
-    (drop (place + 1) text) (digits_lack 46 (take place text) refl digits) (eq-eqb _ _ dot)
+dotted text place within digits dot = ap (parts_round 46) whole
+    ∙ slice_split_at (λ b. b == 46) (take place text) (get_or text place 0) (drop (place + 1) text)
+    (digits_lack 46 (take place text) refl digits) (eq-eqb _ _ dot)
   where
     whole : text ≡ take place text ++ get_or text place 0 ∷ drop (place + 1) text
-    whole = sym (take-append-drop place text)
-        ∙ ap (λ rest. take place text ++ rest) (drop-cons text place 0 within
-        ∙ ap (λ n. get_or text place 0 ∷ drop n text) (sym (add-one place)))
+    whole = cc (take-append-drop place text, drop-cons text place 0 within, add-one place)
 
 pub lacks_plain : (text : List ℕ) (place : ℕ) → place < length text
     → list_all is_ascii_digit (take place text) ≡ true → get_or text place 0 ≡ 46
@@ -117,17 +104,15 @@ pub lacks_plain : (text : List ℕ) (place : ℕ) → place < length text
     → LacksByte text
 unfolding head
 lacks_plain text place within digits dot other part next others parts =
-    let is : part ≡ take place text =
-    ap head (sym parts ∙ dotted text place within digits dot) in
-    ap (number_up_to 255) is ∙ sym (by_cause (and_cases _ _ other))
+    ap (number_up_to 255) (ap head (sym parts ∙ dotted text place within digits dot))
+    ∙ sym (by_cause (and_cases _ _ other))
   where
     by_cause : (nat_lt 0 (length (take place text)) ≡ false)
         ⊎ (not (has_leading_zero (take place text)) ≡ false)
         → None ≡ number_up_to 255 (take place text)
-    by_cause (inl empty) = no_digit 255 (take place text) (none_of (ltb-false _ _ empty))
-      where
-        none_of : length (take place text) ≤ 0 → length (take place text) ≡ 0
-        none_of few = omega arith
+    by_cause (inl empty) = no_digit 255 (take place text) (none_of (ltb-false _ _ empty)) where
+      none_of : length (take place text) ≤ 0 → length (take place text) ≡ 0
+      none_of few = omega arith
     by_cause (inr zero) = leading_zero 255 (take place text) (not-false _ zero)
 
 pub byte_before : (text : List ℕ) (place number : ℕ) → place < length text
@@ -140,11 +125,10 @@ byte_before text place number within digits dot plain value small = record {
   parts = dotted text place within digits dot;
   number = sym (accepted 255 (take place text) (ltb-true _ _ both.0) (not-true _ both.1) digits
       (subst (λ n. n ≤ 255) value small)) ∙ ap Some (sym value);
-}
-  where
-    both : (nat_lt 0 (length (take place text)) ≡ true)
-        × (not (has_leading_zero (take place text)) ≡ true)
-    both = and_parts _ _ plain
+} where
+  both : (nat_lt 0 (length (take place text)) ≡ true)
+      × (not (has_leading_zero (take place text)) ≡ true)
+  both = and_parts _ _ plain
 
 -- ---- four parts
 
@@ -160,17 +144,14 @@ no_third (Some a) (Some b) w = refl
 -- four parts are no address where one of the first three is no number
 pub lacks_first : (text : List ℕ) → LacksByte text → None ≡ address_of text
 unfolding address_of
-lacks_first text lacks = sym (by_parts (parts_round 46 text) refl)
-  where
-    by_parts : (xs : List (List ℕ)) → parts_round 46 text ≡ xs → address_of_parts xs ≡ None
-    by_parts [] e = refl
-    by_parts (a ∷ []) e = refl
-    by_parts (a ∷ b ∷ []) e = refl
-    by_parts (a ∷ b ∷ c ∷ []) e = refl
-    by_parts (a ∷ b ∷ c ∷ d ∷ []) e =
-        ap (λ n. address_from n (number_up_to 255 b) (number_up_to 255 c) (number_up_to 255 d))
-        (lacks a b (c ∷ d ∷ []) e)
-    by_parts (a ∷ b ∷ c ∷ d ∷ f ∷ others) e = refl
+lacks_first text lacks = sym (by_parts (parts_round 46 text) refl) where
+  by_parts : (xs : List (List ℕ)) → parts_round 46 text ≡ xs → address_of_parts xs ≡ None
+  by_parts [] e = refl
+  by_parts (a ∷ []) e = refl
+  by_parts (a ∷ b ∷ []) e = refl
+  by_parts (a ∷ b ∷ c ∷ []) e = refl
+  by_parts (a ∷ b ∷ c ∷ d ∷ []) e = cc (lacks a b (c ∷ d ∷ []) e)
+  by_parts (a ∷ b ∷ c ∷ d ∷ f ∷ others) e = refl
 
 pub lacks_second : (text rest : List ℕ) (first : ℕ) → IsByteBefore text first rest
     → LacksByte rest → None ≡ address_of text
@@ -183,9 +164,8 @@ lacks_second text rest first before lacks =
     by_parts [] e = refl
     by_parts (b ∷ []) e = refl
     by_parts (b ∷ c ∷ []) e = refl
-    by_parts (b ∷ c ∷ d ∷ []) e =
-        ap (λ n. address_from (number_up_to 255 before.part) n (number_up_to 255 c)
-        (number_up_to 255 d)) (lacks b c (d ∷ []) e)
+    by_parts (b ∷ c ∷ d ∷ []) e = ap (λ n. address_from (number_up_to 255 before.part) n
+        (number_up_to 255 c) (number_up_to 255 d)) (lacks b c (d ∷ []) e)
         ∙ no_second (number_up_to 255 before.part) (number_up_to 255 c) (number_up_to 255 d)
     by_parts (b ∷ c ∷ d ∷ f ∷ others) e = refl
 
@@ -200,22 +180,18 @@ lacks_third text rest left first second before then lacks =
         → address_of_parts (before.part ∷ then.part ∷ xs) ≡ None
     by_parts [] e = refl
     by_parts (c ∷ []) e = refl
-    by_parts (c ∷ d ∷ []) e =
-        ap (λ n. address_from (number_up_to 255 before.part) (number_up_to 255 then.part) n
-        (number_up_to 255 d)) (lacks c d [] e)
-        ∙ no_third (number_up_to 255 before.part) (number_up_to 255 then.part)
-        (number_up_to 255 d)
+    by_parts (c ∷ d ∷ []) e = ap (λ n. address_from (number_up_to 255 before.part)
+        (number_up_to 255 then.part) n (number_up_to 255 d)) (lacks c d [] e)
+        ∙ no_third (number_up_to 255 before.part) (number_up_to 255 then.part) (number_up_to 255 d)
     by_parts (c ∷ d ∷ f ∷ others) e = refl
 
 -- the last part is read as a number
 pub four_parts : (text rest left end : List ℕ) (first second third : ℕ)
     → IsByteBefore text first rest → IsByteBefore rest second left → IsByteBefore left third end
-    → address_of text
-    ≡ address_from (Some first) (Some second) (Some third) (number_up_to 255 end)
+    → address_of text ≡ address_from (Some first) (Some second) (Some third) (number_up_to 255 end)
 four_parts text rest left end first second third a b c =
     address_reads text a.part b.part c.part end rest left a.parts b.parts c.parts
     ∙ ap (λ n. address_from n (number_up_to 255 b.part) (number_up_to 255 c.part)
     (number_up_to 255 end)) a.number
     ∙ ap (λ n. address_from (Some first) n (number_up_to 255 c.part) (number_up_to 255 end))
-    b.number
-    ∙ ap (λ n. address_from (Some first) (Some second) n (number_up_to 255 end)) c.number
+    b.number ∙ ap (λ n. address_from (Some first) (Some second) n (number_up_to 255 end)) c.number

@@ -15,12 +15,11 @@ pub address_reads : (text a b c d r s : List ℕ) → parts_round 46 text ≡ a 
     → address_of text ≡ address_from (number_up_to 255 a) (number_up_to 255 b) (number_up_to 255 c)
     (number_up_to 255 d)
 unfolding address_of
-address_reads text a b c d r s e f g =
-    rw (e, f, g) (elim (last_part 46 255 d refl) [
-      | inl one ↦ rw one
-      | inr w ↦ rw (w.3, w.4) (sym
-          (no_last (number_up_to 255 a) (number_up_to 255 b) (number_up_to 255 c)))
-    ])
+address_reads text a b c d r s e f g = rw (e, f, g) (elim (last_part 46 255 d refl) [
+  | inl one ↦ rw one
+  | inr w ↦ rw (w.3, w.4) (sym
+      (no_last (number_up_to 255 a) (number_up_to 255 b) (number_up_to 255 c)))
+])
 
 no_len : (x : Option ℕ) → block_from x None ≡ None
 no_len None = refl
@@ -28,8 +27,7 @@ no_len (Some a) = refl
 
 pub block_reads : (text a len : List ℕ) → parts_round 47 text ≡ a ∷ parts_round 47 len
     → block_of_parts (parts_round 47 text) ≡ block_from (address_of a) (number_up_to 32 len)
-block_reads text a len e =
-    rw e (elim (last_part 47 32 len refl)
+block_reads text a len e = rw e (elim (last_part 47 32 len refl)
     [ inl one ↦ rw one | inr w ↦ rw (w.3, w.4) (sym (no_len (address_of a))) ])
 
 no_high : (x : Option ℕ) → range_from x None ≡ None
@@ -39,6 +37,5 @@ no_high (Some a) = refl
 pub range_reads : (text low high : List ℕ) → parts_round 45 text ≡ low ∷ parts_round 45 high
     → range_of_parts (parts_round 45 text) ≡ range_from (number_up_to 65535 low)
     (number_up_to 65535 high)
-range_reads text low high e =
-    rw e (elim (last_part 45 65535 high refl)
+range_reads text low high e = rw e (elim (last_part 45 65535 high refl)
     [ inl one ↦ rw one | inr w ↦ rw (w.3, w.4) (sym (no_high (number_up_to 65535 low))) ])

@@ -23,23 +23,19 @@ digit_is_plain c digit = or_left _ _ (or_left _ _ (or_left _ _ (or_left _ _ digi
 pub plain_number : (n : ℕ) → n < 2 ^ 64 → IsPlain (decimal n)
 plain_number n fits =
     All-weaker (λ c. is_ascii_digit c ≡ true) (λ c. is_plain_char c ≡ true) digit_is_plain
-    (decimal n)
-    (AllPass-from_list_all is_ascii_digit (decimal n) (decimal_is_digits n fits))
+    (decimal n) (AllPass-from_list_all is_ascii_digit (decimal n) (decimal_is_digits n fits))
 
 -- two texts and the byte between them
 plain_pair : (byte : ℕ) (xs ys : List ℕ) → is_plain_char byte ≡ true → IsPlain xs → IsPlain ys
     → IsPlain (xs ++ (byte ∷ ys))
-plain_pair byte xs ys between left right =
-    All-append (λ c. is_plain_char c ≡ true) xs (byte ∷ ys) left
-    (All-cons (λ c. is_plain_char c ≡ true) byte ys between right)
+plain_pair byte xs ys between left right = All-append (λ c. is_plain_char c ≡ true) xs
+    (byte ∷ ys) left (All-cons (λ c. is_plain_char c ≡ true) byte ys between right)
 
 pub plain_address : (a : ℕ) → a < 2 ^ 32 → IsPlain (address_text a)
 unfolding address_text
-plain_address a fits =
-    plain_pair 46 _ _ refl (plain_number (a / 2 ^ 24) (omega arith))
-    (plain_pair 46 _ _ refl (plain_number (a / 2 ^ 16 % 2 ^ 8) (omega arith))
-    (plain_pair 46 _ _ refl (plain_number (a / 2 ^ 8 % 2 ^ 8) (omega arith))
-    (plain_number (a % 2 ^ 8) (omega arith))))
+plain_address a fits = plain_pair 46 _ _ refl (plain_number (a / 2 ^ 24) (omega arith))
+    (plain_pair 46 _ _ refl (plain_number (a / 2 ^ 16 % 2 ^ 8) (omega arith)) (plain_pair 46 _ _
+    refl (plain_number (a / 2 ^ 8 % 2 ^ 8) (omega arith)) (plain_number (a % 2 ^ 8) (omega arith))))
 
 pub plain_prefix : (p : AddressBlock) → IsAddressBlock p → IsPlain (prefix_text p)
 unfolding prefix_text
@@ -50,12 +46,10 @@ plain_prefix p sound =
 
 pub plain_range : (r : PortRangeValue) → IsPortRange r → IsPlain (range_text r)
 unfolding range_text
-plain_range r sound =
-    let low = plain_number r.low (omega (arith, sound.ordered, sound.bound)) in
+plain_range r sound = let low = plain_number r.low (omega (arith, sound.ordered, sound.bound)) in
     cond_both (r.low == 0 && r.high == 65535) _ _ IsPlain (λ _. plain_tested (codes "any") refl)
-    (λ _. cond_both (r.low == r.high) _ _ IsPlain (λ _. low)
-    (λ _. plain_pair 45 (decimal r.low) (decimal r.high) refl low
-    (plain_number r.high (omega (arith, sound.bound)))))
+    (λ _. cond_both (r.low == r.high) _ _ IsPlain (λ _. low) (λ _. plain_pair 45 (decimal r.low)
+    (decimal r.high) refl low (plain_number r.high (omega (arith, sound.bound)))))
 
 pub plain_proto_number : (n : ℕ) → n < 2 ^ 8 → IsPlain (proto_number_text n)
 unfolding proto_number_text

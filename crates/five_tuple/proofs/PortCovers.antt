@@ -11,12 +11,10 @@ use Rattle.std.proofs.lemmas.Nat.Bits.{and_high_mask}
 use Rattle.five_tuple.specs.Exports.{AreBlocksApart, IsBlock, IsCover, IsLargestBlock, IsPortBlock, block_holds}
 
 pub exponent_small : (first high e : ℕ) → IsBlock first high e → high < 2 ^ 16 → e ≤ 16
-exponent_small first high e b h =
-    elim (cases_lt 16 e) [
-      | inl more ↦ absurd (omega (arith, pow_below 16 e more, b.fits))
-      | inr most
-          ↦ most
-    ]
+exponent_small first high e b h = elim (cases_lt 16 e) [
+  | inl more ↦ absurd (omega (arith, pow_below 16 e more, b.fits))
+  | inr most ↦ most
+]
 
 -- the ports that the mask keeps at an aligned value are the block's
 in_block : (port first e : ℕ) → first % 2 ^ e ≡ 0
@@ -32,14 +30,12 @@ in_block port first e aligned =
 
 holds_is : (port first e : ℕ) → first % 2 ^ e ≡ 0 → e ≤ 16 → port < 2 ^ 16
     → block_holds port (first, 2 ^ 16 - 2 ^ e) ≡ (leb first port && ltb port (first + 2 ^ e))
-holds_is port first e aligned small bound =
-    let inside = in_block port first e aligned in
+holds_is port first e aligned small bound = let inside = in_block port first e aligned in
     ap (λ n. n == first) (and_high_mask 16 e small port bound)
     ∙ same_from_decides (eqb (port / 2 ^ e * 2 ^ e) first)
     (leb first port && ltb port (first + 2 ^ e))
     (Decides-like _ inside.0 (λ w. inside.1 w.0 w.1) (Decides-eqb (port / 2 ^ e * 2 ^ e) first))
-    (Decides-and _ _ (leb-true first port, le-leb first port)
-    (Decides-ltb port (first + 2 ^ e)))
+    (Decides-and _ _ (leb-true first port, le-leb first port) (Decides-ltb port (first + 2 ^ e)))
 
 join_ranges : (low mid high port : ℕ) → low ≤ mid → mid ≤ high + 1
     → ((leb low port && ltb port mid) || (leb mid port && leb port high))
@@ -62,15 +58,13 @@ exact low high (b ∷ bs) (e, l, same, rest) h port p =
 -- each block begins at the low end or above
 from_low : (low high : ℕ) (xs : List (ℕ × ℕ)) → IsCover low high xs → All (λ b. low ≤ b.0) xs
 from_low low high [] c = λ k d h. absurd (omega arith)
-from_low low high (b ∷ bs) (e, l, same, rest) =
-    All-cons (λ b. low ≤ b.0) b bs (rw same (omega arith))
-    (λ k d h. omega (arith, from_low (low + 2 ^ e) high bs rest k d h))
+from_low low high (b ∷ bs) (e, l, same, rest) = All-cons (λ b. low ≤ b.0) b bs
+    (rw same (omega arith)) (λ k d h. omega (arith, from_low (low + 2 ^ e) high bs rest k d h))
 
 pub ascending : (low high : ℕ) (xs : List (ℕ × ℕ)) → IsCover low high xs
     → AllPairs (λ a b. a.0 < b.0) xs
 ascending low high [] c = λ i j d h k. absurd (omega arith)
-ascending low high (b ∷ bs) (e, l, same, rest) =
-    AllPairs-cons (λ a b. a.0 < b.0) b bs
+ascending low high (b ∷ bs) (e, l, same, rest) = AllPairs-cons (λ a b. a.0 < b.0) b bs
     (λ k d h. rw same (omega (arith, from_low (low + 2 ^ e) high bs rest k d h, pow_pos e)))
     (ascending (low + 2 ^ e) high bs rest)
 
@@ -78,43 +72,34 @@ apart : (first high e : ℕ) → IsBlock first high e → high < 2 ^ 16 → (b :
     → first + 2 ^ e ≤ b.0 → AreBlocksApart (first, 2 ^ 16 - 2 ^ e) b
 apart first high e block h b above port p held other =
     let below = and_parts (leb first port) (ltb port (first + 2 ^ e))
-    (sym (holds_is port first e block.aligned (exponent_small first high e block h) p) ∙ held)
-    in
-    omega (
-      arith,
-      ltb-true port (first + 2 ^ e) below.1,
-      eqb-true (bit_and port b.1) b.0 other,
-      and_le_l port b.1,
-    )
+    (sym (holds_is port first e block.aligned (exponent_small first high e block h) p) ∙ held) in
+    omega (arith, ltb-true, eqb-true (bit_and port b.1) b.0 other, and_le_l port b.1)
 
 pub disjoint : (low high : ℕ) (xs : List (ℕ × ℕ)) → IsCover low high xs → high < 2 ^ 16
     → AllPairs AreBlocksApart xs
 disjoint low high [] c h = λ i j d u k. absurd (omega arith)
-disjoint low high (b ∷ bs) (e, l, same, rest) h =
-    AllPairs-cons AreBlocksApart b bs
-    (λ k d u. rw same (apart low high e l.block h _
-    (from_low (low + 2 ^ e) high bs rest k d u))) (disjoint (low + 2 ^ e) high bs rest h)
+disjoint low high (b ∷ bs) (e, l, same, rest) h = AllPairs-cons AreBlocksApart b bs
+    (λ k d u. rw same (apart low high e l.block h _ (from_low (low + 2 ^ e) high bs rest k d u)))
+    (disjoint (low + 2 ^ e) high bs rest h)
 
 pub masked : (low high : ℕ) (xs : List (ℕ × ℕ)) → IsCover low high xs → high < 2 ^ 16
     → All IsPortBlock xs
 masked low high [] c h = λ k d u. absurd (omega arith)
 masked low high (b ∷ bs) (e, l, same, rest) h =
     let pos = pow_pos e in
-    let small = exponent_small low high e l.block h in
     let first : low < 2 ^ 16 = omega (arith, l.block.fits) in
     All-cons IsPortBlock b bs
     (rw same (record {
       value = first;
       mask = omega arith;
-      inside = and_high_mask 16 e small low
-          first ∙ omega (arith, shr_split low e, l.block.aligned);
+      inside = and_high_mask 16 e (exponent_small low high e l.block h) low first
+          ∙ omega (arith, shr_split low e, l.block.aligned);
     }))
     (masked (low + 2 ^ e) high bs rest h)
 
 -- what is aligned to a power of two is aligned to each smaller one
 pub aligned_down : (n m k : ℕ) → m ≤ k → n % 2 ^ k ≡ 0 → n % 2 ^ m ≡ 0
-aligned_down n m k small h =
-    let e : k ≡ k - m + m = omega arith in
+aligned_down n m k small h = let e : k ≡ k - m + m = omega arith in
     omega (arith, mod-pow-add n (k - m) m, subst (λ i. n % 2 ^ i ≡ 0) e h)
 
 -- the next multiple is aligned as well
@@ -131,14 +116,11 @@ aligned_rise n m h odd =
     let k = q / 2 in
     let double = ap (λ x. k * x) (pow-suc 2 m) in
     elim (cases_eq (q % 2) 0) [
-      | inl even ↦
-          let whole = ap (λ x. x * 2 ^ m) {x = q} {y = k * 2} (omega arith) in
+      | inl even ↦ let whole = ap (λ x. x * 2 ^ m) {x = q} {y = k * 2} (omega arith) in
           let e : n ≡ k * 2 ^ suc m + 0 = omega (arith, shr_split n m, h, double, whole) in
           absurd (odd (ap (λ x. x % 2 ^ suc m) e ∙ mod-mul-add k (2 ^ suc m) 0 (pow_pos (suc m))))
-      | inr half ↦
-          let whole = ap (λ x. x * 2 ^ m) {x = q} {y = k * 2 + 1} (omega arith) in
-          let e : n + 2 ^ m ≡ (k + 1) * 2 ^ suc m + 0 =
-          omega (arith, shr_split n m, h, double, whole, pow-suc 2 m) in
+      | inr half ↦ let whole = ap (λ x. x * 2 ^ m) {x = q} {y = k * 2 + 1} (omega arith) in
+          let e : n + 2 ^ m ≡ (k + 1) * 2 ^ suc m + 0 = omega (arith, shr_split, pow-suc) in
           ap (λ x. x % 2 ^ suc m) e ∙ mod-mul-add (k + 1) (2 ^ suc m) 0 (pow_pos (suc m))
     ]
 
@@ -156,12 +138,10 @@ same_size m low high e l aligned fits ends =
 -- where twice the block would be aligned, it does not fit
 ends_before : (low high e : ℕ) → IsLargestBlock low high e → low % 2 ^ suc e ≡ 0
     → high + 1 < low + 2 ^ suc e
-ends_before low high e l aligned =
-    elim (cases_lt (high + 1) (low + 2 ^ suc e)) [
-      | inl ends ↦ ends
-      | inr fits ↦ absurd
-          (omega (arith, l.largest (suc e) (record { aligned = aligned; fits = fits })))
-    ]
+ends_before low high e l aligned = elim (cases_lt (high + 1) (low + 2 ^ suc e)) [
+  | inl ends ↦ ends
+  | inr fits ↦ absurd (omega (arith, l.largest (suc e) (record { aligned = aligned; fits = fits })))
+]
 
 -- a multiple that is not 0 is at least as large
 multiple_large : (n m : ℕ) → 0 < n → n % 2 ^ m ≡ 0 → 2 ^ m ≤ n
@@ -170,22 +150,19 @@ multiple_large n m pos aligned = elim (cases_lt n (2 ^ m))
 
 exponent_at_even : (low high e : ℕ) → IsBlock low high e → 0 < low → high < 2 ^ 16
     → low % 2 ^ suc e ≡ 0 → e ≤ 14
-exponent_at_even low high e block pos h even =
-    elim (cases_lt 14 e) [
-      | inl more ↦ let p : 2 ^ 16 ≤ 2 ^ suc e = pow-le-pow_right (omega arith) {i = 16} {j = suc e}
-          (omega arith) in absurd (omega
-          (arith, multiple_large low (suc e) pos even, block.fits, pow_pos e))
-      | inr most ↦ most
-    ]
+exponent_at_even low high e block pos h even = elim (cases_lt 14 e) [
+  | inl more ↦ let p : 2 ^ 16 ≤ 2 ^ suc e = pow-le-pow_right (omega arith) {i = 16} {j = suc e}
+      (omega arith) in absurd (omega
+      (arith, multiple_large low (suc e) pos even, block.fits, pow_pos e))
+  | inr most ↦ most
+]
 
 -- a place that is aligned to t and not to twice the block has a block of 2 ^ t or more
 exponent_past : (low e t : ℕ) → low % 2 ^ t ≡ 0 → (low % 2 ^ suc e ≡ 0 → ⊥) → t ≤ e
-exponent_past low e t aligned odd =
-    elim (cases_lt e t) [
-      | inl less ↦ absurd (odd (aligned_down low (suc e) t less aligned))
-      | inr
-          most ↦ most
-    ]
+exponent_past low e t aligned odd = elim (cases_lt e t) [
+  | inl less ↦ absurd (odd (aligned_down low (suc e) t less aligned))
+  | inr most ↦ most
+]
 
 -- what is left is shorter than the alignment: each further block is smaller than the one before it
 falling : (m low high : ℕ) (xs : List (ℕ × ℕ)) → IsCover low high xs → low % 2 ^ m ≡ 0
@@ -197,13 +174,11 @@ falling (suc m) low high (b ∷ bs) (e, l, same, rest) aligned h =
     let here = aligned_down low m (suc m) (omega arith) aligned in
     elim (cases_lt (high + 1) (low + 2 ^ m)) [
       | inl shorter ↦ omega (arith, falling m low high (b ∷ bs) (e, l, same, rest) here shorter)
-      | inr longer ↦
-          let size : e ≡ m = same_size m low high e l here longer h in
-          let tail = subst (λ k. IsCover (low + 2 ^ k) high bs) size rest in
+      | inr longer ↦ let size : e ≡ m = same_size m low high e l here longer h in
           omega (
             arith,
-            falling m (low + 2 ^ m) high bs tail (aligned_next low m here)
-                (omega (arith, pow-suc 2 m)),
+            falling m (low + 2 ^ m) high bs (subst (λ k. IsCover (low + 2 ^ k) high bs) size rest)
+                (aligned_next low m here) (omega (arith, pow-suc 2 m)),
           )
     ]
 
@@ -218,15 +193,13 @@ rising : (xs : List (ℕ × ℕ)) (t low high : ℕ) → IsCover low high xs →
 rising [] t low high c pos h small aligned = omega arith
 rising (b ∷ bs) t low high (e, l, same, rest) pos h small aligned =
     elim (cases_eq (low % 2 ^ suc e) 0) [
-      | inl even ↦
-          let ends : high + 1 < low + 2 ^ suc e = ends_before low high e l even in
+      | inl even ↦ let ends : high + 1 < low + 2 ^ suc e = ends_before low high e l even in
           omega (
             arith,
             falling (suc e) low high (b ∷ bs) (e, l, same, rest) even ends,
             exponent_at_even low high e l.block pos h even,
           )
-      | inr odd ↦
-          let past = exponent_past low e t aligned odd in
+      | inr odd ↦ let past = exponent_past low e t aligned odd in
           elim (cases_lt e 15) [
             | inl less ↦ omega (
               arith,
@@ -252,30 +225,25 @@ few_from_zero (b ∷ bs) low high (e, l, same, rest) zero_low h =
     elim (cases_lt (high + 1) (2 ^ 16)) [
       | inl less ↦ omega (
         arith,
-        falling 16 low high (b ∷ bs) (e, l, same, rest) aligned
-            (omega arith),
+        falling 16 low high (b ∷ bs) (e, l, same, rest) aligned (omega arith),
       )
-      | inr all ↦
-          let p : 2 ^ 16 ≤ 2 ^ e = pow-le-pow_right (omega arith) {i = 16} {j = e}
-          (l.largest 16 (record { aligned = aligned; fits = omega arith })) in
+      | inr all ↦ let p : 2 ^ 16 ≤ 2 ^ e = pow-le-pow_right (omega arith)
+          {i = 16} {j = e} (l.largest 16 (record { aligned = aligned; fits = omega arith })) in
           omega (arith, none_past (low + 2 ^ e) high bs rest (omega arith))
     ]
 
 pub few : (low high : ℕ) (xs : List (ℕ × ℕ)) → IsCover low high xs → high < 2 ^ 16 → length xs ≤ 30
-few low high xs c h =
-    elim (cases_lt 0 low) [
-      | inl pos ↦ omega (arith, rising xs 0 low high c pos h (omega arith) (mod-one low))
-      | inr none ↦ few_from_zero xs low high c (omega arith) h
-    ]
+few low high xs c h = elim (cases_lt 0 low) [
+  | inl pos ↦ omega (arith, rising xs 0 low high c pos h (omega arith) (mod-one low))
+  | inr none ↦ few_from_zero xs low high c (omega arith) h
+]
 
 -- no two lists cover one range
 pub same_cover : (low high : ℕ) (xs ys : List (ℕ × ℕ)) → IsCover low high xs → IsCover low high ys
     → xs ≡ ys
 same_cover low high [] [] c d = refl
-same_cover low high [] (y ∷ ys) c (e, l, same, rest) =
-    absurd (omega (arith, l.block.fits, pow_pos e))
-same_cover low high (x ∷ xs) [] (e, l, same, rest) d =
-    absurd (omega (arith, l.block.fits, pow_pos e))
+same_cover low high [] (y ∷ ys) c (e, l, same, rest) = absurd (omega (arith, l.block.fits, pow_pos))
+same_cover low high (x ∷ xs) [] (e, l, same, rest) d = absurd (omega (arith, l.block.fits, pow_pos))
 same_cover low high (x ∷ xs) (y ∷ ys) (e, l, same, rest) (f, m, also, tail) =
     let size : f ≡ e = omega (arith, l.largest f m.block, m.largest e l.block) in
     let other = subst (λ k. IsCover (low + 2 ^ k) high ys) size tail in
@@ -289,6 +257,5 @@ pub one_more : (low high next e size : ℕ) (blocks pushed more : List (ℕ × �
     → pushed ≡ blocks ++ (next, 2 ^ 16 - size) ∷ [] → IsCover (next + size) high more
     → IsCover low high (pushed ++ more)
 one_more low high next e size blocks pushed more l is completes push tail =
-    let tail' = rw is at tail in
     let head = ap {B = ℕ × ℕ} (λ s. (next, 2 ^ 16 - s)) is in
-    rw (push, append_assoc) (completes ((next, 2 ^ 16 - size) ∷ more) (e, l, head, tail'))
+    rw (push, append_assoc) (completes ((next, 2 ^ 16 - size) ∷ more) (e, l, head, rw is at tail))

@@ -27,27 +27,23 @@ pub decimal_is_digits : (n : ℕ) → n < 2 ^ 64 → list_all is_ascii_digit (de
 decimal_is_digits n h = digits_decimal own n h
 
 no_leading_zero : (n : ℕ) → n < 2 ^ 64 → has_leading_zero (decimal n) ≡ false
-no_leading_zero n h =
-    elim (cases_lt 0 n) [
-      | inl more ↦ and_right _ _
-          (ne_eqb (get_or (decimal n) 0 0) 48 (λ e. omega (arith, first_decimal n more h)))
-      | inr none ↦ let e : n ≡ 0 = omega arith in rw (e, decimal_digit 0 (omega arith)) refl
-    ]
+no_leading_zero n h = elim (cases_lt 0 n) [
+  | inl more ↦ and_right _ _
+      (ne_eqb (get_or (decimal n) 0 0) 48 (λ e. omega (arith, first_decimal n more h)))
+  | inr none ↦ let e : n ≡ 0 = omega arith in rw (e, decimal_digit 0 (omega arith)) refl
+]
 
 -- a printed number is read back
 pub number_back : (most n : ℕ) → n ≤ most → n < 2 ^ 64 → number_up_to most (decimal n) ≡ Some n
-number_back most n l h =
-    let value = digits_value-decimal own n h in
-    let e = accepted most (decimal n) (decimal_nonempty n h) (no_leading_zero n h)
-    (decimal_is_digits n h) (omega arith) in
-    sym e ∙ ap Some value
+number_back most n l h = let value = digits_value-decimal own n h in
+    sym (accepted most (decimal n) (decimal_nonempty n h) (no_leading_zero n h)
+    (decimal_is_digits n h) (omega arith)) ∙ ap Some value
 
 -- a text that begins with a digit is no keyword
 no_keyword : (text keyword : List ℕ) (c : ℕ) → is_ascii_digit (get_or text 0 0) ≡ true
     → is_ascii_digit c ≡ false → bytes_eq text (c ∷ keyword) ≡ false
 no_keyword [] keyword c digit other = refl
-no_keyword (x ∷ text) keyword c digit other =
-    and_left _ _ (false_from_ne_true _
+no_keyword (x ∷ text) keyword c digit other = and_left _ _ (false_from_ne_true _
     (λ same. both_ways _ (ap is_ascii_digit (eqb-true x c same) ∙ other) digit))
 
 digit_first : (text : List ℕ) → 0 < length text → list_all is_ascii_digit text ≡ true
@@ -57,8 +53,7 @@ digit_first text h digits = true_from_ne_false _
 
 first_digit : (n : ℕ) (rest : List ℕ) → n < 2 ^ 64 → is_ascii_digit (get_or (decimal n ++ rest) 0 0)
     ≡ true
-first_digit n rest h =
-    let some = decimal_nonempty n h in
+first_digit n rest h = let some = decimal_nonempty n h in
     ap is_ascii_digit (get_or_append_left (decimal n) rest 0 0 some)
     ∙ digit_first (decimal n) some (decimal_is_digits n h)
 
@@ -84,17 +79,15 @@ four_back a b c d ha hb hc hd =
     rw (
       e,
       number_back 255 a (omega arith) (omega arith),
-      number_back 255 b (omega arith)
-          (omega arith),
+      number_back 255 b (omega arith) (omega arith),
       number_back 255 c (omega arith) (omega arith),
       number_back 255 d (omega arith) (omega arith),
     )
 
 pub address_back : (a : ℕ) → a < 2 ^ 32 → address_of (address_text a) ≡ Some a
 unfolding address_text
-address_back a h =
-    four_back (a / 2 ^ 24) (a / 2 ^ 16 % 2 ^ 8) (a / 2 ^ 8 % 2 ^ 8) (a % 2 ^ 8) (omega arith)
-    (omega arith) (omega arith) (omega arith) ∙ ap Some (omega arith)
+address_back a h = four_back (a / 2 ^ 24) (a / 2 ^ 16 % 2 ^ 8) (a / 2 ^ 8 % 2 ^ 8) (a % 2 ^ 8)
+    (omega arith) (omega arith) (omega arith) (omega arith) ∙ ap Some (omega arith)
 
 keeps_first : (xs ys : List ℕ) → is_ascii_digit (get_or xs 0 0) ≡ true
     → is_ascii_digit (get_or (xs ++ ys) 0 0) ≡ true
@@ -109,20 +102,16 @@ address_first a h = first_digit (a / 2 ^ 24) _ (omega arith)
 joined_lack : (byte a : ℕ) (rest : List ℕ) → is_ascii_digit byte ≡ false → 46 == byte ≡ false
     → a < 2 ^ 64 → All (λ b. (b == byte) ≡ false) rest
     → All (λ b. (b == byte) ≡ false) (decimal a ++ 46 ∷ rest)
-joined_lack byte a rest other dot h lack =
-    All-append (λ b. (b == byte) ≡ false) (decimal a) (46 ∷ rest)
-    (digits_lack byte (decimal a) other (decimal_is_digits a h))
+joined_lack byte a rest other dot h lack = All-append (λ b. (b == byte) ≡ false) (decimal a)
+    (46 ∷ rest) (digits_lack byte (decimal a) other (decimal_is_digits a h))
     (All-cons (λ b. (b == byte) ≡ false) 46 rest dot lack)
 
 address_lacks : (byte a : ℕ) → is_ascii_digit byte ≡ false → 46 == byte ≡ false → a < 2 ^ 32
     → All (λ b. (b == byte) ≡ false) (address_text a)
 unfolding address_text
-address_lacks byte a other dot h =
-    joined_lack byte _ _ other dot (omega arith)
-    (joined_lack byte _ _ other dot (omega arith)
-    (joined_lack byte _ _ other dot (omega arith)
-    (digits_lack byte (decimal (a % 2 ^ 8)) other
-    (decimal_is_digits (a % 2 ^ 8) (omega arith)))))
+address_lacks byte a other dot h = joined_lack byte _ _ other dot (omega arith)
+    (joined_lack byte _ _ other dot (omega arith) (joined_lack byte _ _ other dot (omega arith)
+    (digits_lack byte (decimal (a % 2 ^ 8)) other (decimal_is_digits (a % 2 ^ 8) (omega arith)))))
 
 made_block : (address len : ℕ) (p : AddressBlock) → address ≡ p.address → len ≡ p.len
     → ◌≡◌ {A = AddressBlock} (record { address = address; len = len }) p
@@ -134,32 +123,25 @@ block_same p v = let e : p.address / 2 ^ (32 - p.len) * 2 ^ (32 - p.len) ≡ p.a
 
 block_at_zero : (p : AddressBlock) → IsAddressBlock p → p.len ≡ 0 → block_round 0 0 ≡ p
 block_at_zero p v e =
-    let cleared = rw e at v.cleared in
-    let z : p.address ≡ 0 = omega (arith, cleared) in
-    made_block 0 0 p (sym z) (sym e)
+    let z : p.address ≡ 0 = omega (arith, rw e at v.cleared) in made_block 0 0 p (sym z) (sym e)
 
 pub prefix_back : (p : AddressBlock) → IsAddressBlock p → prefix_of (prefix_text p) ≡ Some p
 unfolding prefix_text prefix_of
-prefix_back p v =
-    elim (cases_Bool (p.len == 0)) [
-      | inl e ↦ rw e (ap Some (block_at_zero p v (eqb-true p.len 0 e)))
-      | inr e ↦
-          let text = address_text p.address ++ 47 ∷ decimal p.len in
-          let keyword = no_keyword text (110 ∷ 121 ∷ []) 97
-          (keeps_first (address_text p.address) (47 ∷ decimal p.len)
-          (address_first p.address v.address)) refl in
-          let parts = slice_split_at (λ b. b == 47) (address_text p.address) 47 (decimal p.len)
-          (address_lacks 47 p.address refl refl v.address) refl in
-          let read = block_reads text (address_text p.address) (decimal p.len) parts in
-          rw (
-            e,
-            keyword,
-            read,
-            address_back p.address v.address,
-            number_back 32 p.len v.len
-                (omega arith),
-          ) (ap Some (block_same p v))
-    ]
+prefix_back p v = elim (cases_Bool (p.len == 0)) [
+  | inl e ↦ rw e (ap Some (block_at_zero p v (eqb-true p.len 0 e)))
+  | inr e ↦ let text = address_text p.address ++ 47 ∷ decimal p.len in
+      let parts = slice_split_at (λ b. b == 47) (address_text p.address) 47 (decimal p.len)
+      (address_lacks 47 p.address refl refl v.address) refl in
+      let read = block_reads text (address_text p.address) (decimal p.len) parts in
+      rw (
+        e,
+        (no_keyword text (110 ∷ 121 ∷ []) 97 (keeps_first (address_text p.address)
+            (47 ∷ decimal p.len) (address_first p.address v.address)) refl),
+        read,
+        address_back p.address v.address,
+        number_back 32 p.len v.len (omega arith),
+      ) (ap Some (block_same p v))
+]
 
 -- a number is no keyword, whatever the keyword
 number_no_keyword : (n c : ℕ) (keyword : List ℕ) → n < 2 ^ 64 → is_ascii_digit c ≡ false
@@ -180,12 +162,11 @@ two_ports_back : (m n : ℕ) → m ≤ n → n < 2 ^ 16 → range_of (decimal m 
     (record { low = m; high = n })
 unfolding range_of
 two_ports_back m n l h =
-    let keyword = no_keyword (decimal m ++ 45 ∷ decimal n) (110 ∷ 121 ∷ []) 97
-    (first_digit m (45 ∷ decimal n) (omega arith)) refl in
     let read = range_reads (decimal m ++ 45 ∷ decimal n) (decimal m) (decimal n)
     (part_off 45 m (decimal n) (omega arith) refl) in
     rw (
-      keyword,
+      (no_keyword (decimal m ++ 45 ∷ decimal n) (110 ∷ 121 ∷ []) 97
+          (first_digit m (45 ∷ decimal n) (omega arith)) refl),
       read,
       number_back 65535 m (omega arith) (omega arith),
       number_back 65535 n (omega arith) (omega arith),
@@ -203,39 +184,36 @@ every_port_back r e f = ap Some (made_ports 0 65535 r (sym e) (sym f))
 
 pub range_back : (r : PortRangeValue) → IsPortRange r → range_of (range_text r) ≡ Some r
 unfolding range_text
-range_back r v =
-    elim (cases_Bool (r.low == 0 && r.high == 65535)) [
-      | inl e ↦ let p = and_parts _ _ e in rw e
-          (every_port_back r (eqb-true r.low 0 p.0) (eqb-true r.high 65535 p.1))
-      | inr e ↦ elim (cases_Bool (r.low == r.high)) [
-        | inl f ↦ rw (e, f) (one_port_back r.low (omega (arith, v.ordered, v.bound))
-            ∙ ap Some (made_ports r.low r.low r refl (eqb-true r.low r.high f)))
-        | inr f ↦ rw (e, f) (two_ports_back r.low r.high v.ordered v.bound)
-      ]
-    ]
+range_back r v = elim (cases_Bool (r.low == 0 && r.high == 65535)) [
+  | inl e ↦ let p = and_parts _ _ e in rw e
+      (every_port_back r (eqb-true r.low 0 p.0) (eqb-true r.high 65535 p.1))
+  | inr e ↦ elim (cases_Bool (r.low == r.high)) [
+    | inl f ↦ rw (e, f) (one_port_back r.low (omega (arith, v.ordered, v.bound))
+        ∙ ap Some (made_ports r.low r.low r refl (eqb-true r.low r.high f)))
+    | inr f ↦ rw (e, f) (two_ports_back r.low r.high v.ordered v.bound)
+  ]
+]
 
 pub proto_number_back : (n : ℕ) → n < 2 ^ 8 → proto_number_of (proto_number_text n) ≡ Some n
 unfolding proto_number_text proto_number_of
-proto_number_back n h =
-    elim (cases_Bool (n == 1)) [
-      | inl e ↦ rw e (ap Some (sym (eqb-true n 1 e)))
-      | inr e ↦ elim (cases_Bool (n == 6)) [
-        | inl f ↦ rw (e, f) (ap Some (sym (eqb-true n 6 f)))
-        | inr f ↦ elim (cases_Bool (n == 17)) [
-          | inl g ↦ rw (e, f, g) (ap Some (sym (eqb-true n 17 g)))
-          | inr g ↦ rw (
-            e,
-            f,
-            g,
-            number_no_keyword n 105 _ (omega arith) refl,
-            number_no_keyword n 116 _
-                (omega arith) refl,
-            number_no_keyword n 117 _ (omega arith) refl,
-          )
-              (number_back 255 n (omega arith) (omega arith))
-        ]
-      ]
+proto_number_back n h = elim (cases_Bool (n == 1)) [
+  | inl e ↦ rw e (ap Some (sym (eqb-true n 1 e)))
+  | inr e ↦ elim (cases_Bool (n == 6)) [
+    | inl f ↦ rw (e, f) (ap Some (sym (eqb-true n 6 f)))
+    | inr f ↦ elim (cases_Bool (n == 17)) [
+      | inl g ↦ rw (e, f, g) (ap Some (sym (eqb-true n 17 g)))
+      | inr g ↦ rw (
+        e,
+        f,
+        g,
+        number_no_keyword n 105 _ (omega arith) refl,
+        number_no_keyword n 116 _ (omega arith) refl,
+        number_no_keyword n 117 _ (omega arith) refl,
+      )
+          (number_back 255 n (omega arith) (omega arith))
     ]
+  ]
+]
 
 -- `any` is no protocol's name
 not_any : (text : List ℕ) (n : ℕ) → proto_number_of text ≡ Some n → bytes_eq text (codes "any")

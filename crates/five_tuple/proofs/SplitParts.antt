@@ -40,17 +40,14 @@ cut_cases_at : (byte : ℕ) (text : List ℕ) (o : Option ℕ) → position (λ 
 cut_cases_at byte text None e = inl (parts_none byte text e)
 cut_cases_at byte text (Some at) e =
     let rest = drop (at + 1) text in
-    let w = parts_nonempty (parts_round byte rest)
-    (omega (arith, length-slice_split (λ b. b == byte) rest)) in
+    let w = parts_nonempty (parts_round byte rest) (omega (arith, length-slice_split)) in
     inr (take at text, w.0, w.1, parts_at byte text at e ∙ ap (λ xs. take at text ∷ xs) w.2)
 
 -- digits have no other byte among them
 pub digits_lack : (byte : ℕ) (text : List ℕ) → is_ascii_digit byte ≡ false
     → list_all is_ascii_digit text ≡ true → All (λ b. (b == byte) ≡ false) text
-digits_lack byte text other digits k d h =
-    false_from_ne_true _ (λ same. both_ways _
-    (list_all_at is_ascii_digit text k d h (ap is_ascii_digit (eqb-true _ _ same) ∙ other))
-    digits)
+digits_lack byte text other digits k d h = false_from_ne_true _ (λ same. both_ways _
+    (list_all_at is_ascii_digit text k d h (ap is_ascii_digit (eqb-true _ _ same) ∙ other)) digits)
 
 pub digits_are_one_part : (byte : ℕ) (text : List ℕ) → is_ascii_digit byte ≡ false
     → list_all is_ascii_digit text ≡ true → parts_round byte text ≡ text ∷ []
@@ -78,7 +75,6 @@ last_part_at byte most text other None e =
 
 -- the last part: one where it is a number, whatever bytes stand in it else
 pub last_part : (byte most : ℕ) (text : List ℕ) → is_ascii_digit byte ≡ false
-    → (parts_round byte text ≡ text ∷ [])
-    ⊎ ((p q : List ℕ) × (more : List (List ℕ)) × (parts_round byte text ≡ p ∷ q ∷ more)
-    × (number_up_to most text ≡ None))
+    → (parts_round byte text ≡ text ∷ []) ⊎ ((p q : List ℕ) × (more : List (List ℕ))
+    × (parts_round byte text ≡ p ∷ q ∷ more) × (number_up_to most text ≡ None))
 last_part byte most text other = last_part_at byte most text other (number_up_to most text) refl

@@ -1,5 +1,5 @@
 -- When a text writes a number, one cause at a time.
-use Rattle.std.proofs.Common.{◌&&◌, ◌*◌, ◌+◌, ◌-◌, ◌<◌, ◌∙◌, ◌≡◌, ◌≤◌, List, None, Some, ap, arith, false, get_or, le-ltb, leb, length, not, take, true, ℕ}
+use Rattle.std.proofs.Common.{◌&&◌, ◌*◌, ◌+◌, ◌-◌, ◌<◌, ◌≡◌, ◌≤◌, List, None, Some, ap, arith, false, get_or, le-ltb, leb, length, not, take, true, ℕ}
 use Rattle.std.proofs.lemmas.Bool.{lt-ltb, le-leb, lt-leb, and_left, and_right}
 use Rattle.std.proofs.lemmas.List.Folds.{list_all_at}
 use Rattle.std.proofs.lemmas.Str.Parse.{digits_value-take-le}
@@ -43,5 +43,4 @@ digit_value_is c h = grind (arith, nat_tests)
 pub next_digit : (text : List ℕ) (i : ℕ) → i < length text → is_ascii_digit (get_or text i 0) ≡ true
     → digits_value 10 (take (i + 1) text) ≡ digits_value 10
     (take i text) * 10 + (get_or text i 0 - 48)
-next_digit text i h d = digits_value_more 10 text i h
-    ∙ ap (λ n. digits_value 10 (take i text) * 10 + n) (digit_value_is (get_or text i 0) d)
+next_digit text i h d = cc (digits_value_more 10 text i h, digit_value_is (get_or text i 0) d)

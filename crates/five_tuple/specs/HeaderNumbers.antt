@@ -19,14 +19,13 @@ header_numbered n = header_of (record {
 
 -- five numbers at the places that the fields have in a header's number
 abbrev pub packed_number : ℕ → ℕ → ℕ → ℕ → ℕ → ℕ
-packed_number src dst sport dport proto =
-    number_of (header_of (record {
-      src = src;
-      dst = dst;
-      sport = sport;
-      dport = dport;
-      proto = proto;
-    }))
+packed_number src dst sport dport proto = number_of (header_of (record {
+  src = src;
+  dst = dst;
+  sport = sport;
+  dport = dport;
+  proto = proto;
+}))
 
 -- the same fields: what `==` and the keys of maps compare
 abbrev pub fields_eq : Fields → Fields → Bool

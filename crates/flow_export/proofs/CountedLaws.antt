@@ -6,11 +6,10 @@ use Rattle.five_tuple.specs.Exports.{header_eq}
 use Rattle.five_tuple.specs.declared.header.Header.{Header}
 use Rattle.base.specs.Exports.{has}
 use Rattle.meters.specs.Exports.{PortLeavings, Seen, flow_records_of, gone_after, gone_records, has_ended, is_ended_within, kept_meters, leaves_with, leaving_records, leavings_of, meter_with, meters_after}
-use Rattle.meters.specs.declared.flows.FlowRecord.{FlowRecord}
 use Rattle.meters.proofs.MetersKept.{kept-append, kept-nothing, kept-one, kept_on}
 use Rattle.policy_rules.specs.declared.packet.Leaving.{Leaving}
 use Rattle.flow_export.specs.Counted.{FlowLaws, IsCounted, IsNewMeter, NoneLeaves, left_with}
-use Rattle.flow_export.specs.Flows.{flows, headers_of, packets_of}
+use Rattle.flow_export.specs.Flows.{headers_of, packets_of}
 
 -- ---- a meter that stays
 
@@ -20,18 +19,15 @@ one_more : (port : ℕ) (h : Header) (one : ℕ × Leaving) (rest : List (ℕ ×
     ≡ cond (here && header_eq one.1.header h) 1 0 + count
 one_more port h one rest count true is =
     sum_by-cons (λ (two : Leaving). cond (header_eq two.header h) 1 0) one.1
-    (map (λ (o : ℕ × Leaving). o.1) rest)
-    ∙ ap (λ n. cond (header_eq one.1.header h) 1 0 + n) is
+    (map (λ (o : ℕ × Leaving). o.1) rest) ∙ ap (λ n. cond (header_eq one.1.header h) 1 0 + n) is
 one_more port h one rest count false is = omega (arith, is)
 
 packets_are : (port : ℕ) (h : Header) (left : PortLeavings)
     → packets_of (leavings_of port left) h ≡ left_with left port h
 packets_are port h [] = refl
-packets_are port h (one ∷ left) =
-    one_more port h one (filter (λ o. o.0 == port) left) (left_with left port h) (one.0 == port)
-    (packets_are port h left)
-    ∙ sym (sum_by-cons (λ (two : ℕ × Leaving). cond ((two.0 == port) && header_eq two.1.header h) 1 0)
-    one left)
+packets_are port h (one ∷ left) = one_more port h one (filter (λ o. o.0 == port) left)
+    (left_with left port h) (one.0 == port) (packets_are port h left) ∙ sym (sum_by-cons
+    (λ (two : ℕ × Leaving). cond ((two.0 == port) && header_eq two.1.header h) 1 0) one left)
 
 all_counted : (port : ℕ) (left : PortLeavings) (headers : List Header)
     → All (IsCounted left) (map (λ h.
@@ -42,11 +38,9 @@ all_counted port left (h ∷ headers) =
 
 told_counted : (most : ℕ) (left : PortLeavings) (meter : Seen) → IsNewMeter most meter
     → All (IsCounted left) (flow_records_of (meter_with (leavings_of meter.port left) meter))
-told_counted most left meter new =
-    let more = leavings_of meter.port left in
-    let is : flow_records_of (meter_with more meter) ≡ flows meter.port more =
-    ap (λ held. meter.recorded (held ++ more)) new.empty ∙ new.kind.recorded more in
-    subst (All (IsCounted left)) (sym is)
+told_counted most left meter new = let more = leavings_of meter.port left in
+    subst (All (IsCounted left))
+    (sym (ap (λ held. meter.recorded (held ++ more)) new.empty ∙ new.kind.recorded more))
     (all_counted meter.port left (headers_of more))
 
 one_counted : (most : ℕ) (left : PortLeavings) (meter : Seen) (over : Bool) → IsNewMeter most meter
@@ -54,8 +48,7 @@ one_counted : (most : ℕ) (left : PortLeavings) (meter : Seen) (over : Bool) �
     (flat_map flow_records_of (cond over [] (meter_with (leavings_of meter.port left) meter ∷ [])))
 one_counted most left meter true new = All-nil (IsCounted left)
 one_counted most left meter false new =
-    subst (All (IsCounted left))
-    (sym (append-nil (flow_records_of (meter_with (leavings_of meter.port left) meter))))
+    rw (append-nil (flow_records_of (meter_with (leavings_of meter.port left) meter)))
     (told_counted most left meter new)
 
 kept_counted : (most : ℕ) (left : PortLeavings) (meters : List Seen) → All (IsNewMeter most) meters
@@ -63,15 +56,13 @@ kept_counted : (most : ℕ) (left : PortLeavings) (meters : List Seen) → All (
 unfolding meters_after
 kept_counted most left [] new = All-nil (IsCounted left)
 kept_counted most left (meter ∷ meters) new =
-    let first = kept-one left meter in
     let over = is_ended_within (leavings_of meter.port left) meter in
     subst (λ (all : List Seen). All (IsCounted left) (flat_map flow_records_of all))
     (sym (kept-append left (meter ∷ []) meters))
-    (subst (All (IsCounted left))
-    (sym (flat_map-append flow_records_of (meters_after left (meter ∷ [])) (meters_after left meters)))
-    (All-append (IsCounted left) _ _
-    (subst (λ (all : List Seen). All (IsCounted left) (flat_map flow_records_of all)) (sym first)
-    (one_counted most left meter over (All-head (IsNewMeter most) meter meters new)))
+    (subst (All (IsCounted left)) (sym (flat_map-append flow_records_of
+    (meters_after left (meter ∷ [])) (meters_after left meters))) (All-append (IsCounted left) _ _
+    (subst (λ (all : List Seen). All (IsCounted left) (flat_map flow_records_of all)) (sym (kept-one
+    left meter)) (one_counted most left meter over (All-head (IsNewMeter most) meter meters new)))
     (kept_counted most left meters (All-tail (IsNewMeter most) meter meters new))))
 
 -- ---- where none leaves
@@ -92,19 +83,17 @@ over_is : (one : ℕ × Leaving) (meter : Seen) (here : Bool)
     → (here && has_ended (meter_with (one.1 ∷ []) meter))
     ≡ is_ended_within (map (λ (o : ℕ × Leaving). o.1) (cond here (one ∷ []) [])) meter
 over_is one meter false = refl
-over_is one meter true = sym (or_false (has_ended (meter_with (one.1 ∷ []) meter)))
-  where
-    or_false : (b : Bool) → (b || false) ≡ b
-    or_false true = refl
-    or_false false = refl
+over_is one meter true = sym (or_false (has_ended (meter_with (one.1 ∷ []) meter))) where
+  or_false : (b : Bool) → (b || false) ≡ b
+  or_false true = refl
+  or_false false = refl
 
 module _ (one : ℕ × Leaving) where
   silent : (meter : Seen) (meters : List Seen) (leaves : Bool) → leaves_with one meter ≡ leaves
       → length (cond leaves [] (meter_with (leavings_of meter.port (one ∷ [])) meter ∷ [])
       ++ meters_after (one ∷ []) meters) ≡ suc (length meters)
       → (leaving_records one meter ≡ []) × (length (meters_after (one ∷ []) meters) ≡ length meters)
-  silent meter meters true is long =
-      absurd (omega (arith, long, few_after (one ∷ []) meters))
+  silent meter meters true is long = absurd (omega (arith, few_after))
   silent meter meters false is long = (
     ap (λ leaves. cond leaves (flow_records_of (meter_with (one.1 ∷ []) meter)) []) is,
     omega (arith, long),
@@ -114,13 +103,11 @@ module _ (one : ℕ × Leaving) where
       → flat_map (leaving_records one) meters ≡ []
   none_told [] long = refl
   none_told (meter ∷ meters) long =
-      let first = ap (λ over. cond over []
-      (meter_with (leavings_of meter.port (one ∷ [])) meter ∷ []))
-      (sym (over_is one meter (one.0 == meter.port))) in
       let now = silent meter meters (leaves_with one meter) refl
       (ap length (sym (kept-append (one ∷ []) (meter ∷ []) meters
-      ∙ ap (λ some. some ++ meters_after (one ∷ []) meters)
-      (kept-one (one ∷ []) meter ∙ first))) ∙ long) in
+      ∙ ap (λ some. some ++ meters_after (one ∷ []) meters) (kept-one (one ∷ []) meter
+      ∙ (ap (λ over. cond over [] (meter_with (leavings_of meter.port (one ∷ [])) meter ∷ []))
+      (sym (over_is one meter (one.0 == meter.port))))))) ∙ long) in
       ap (λ told. told ++ flat_map (leaving_records one) meters) now.0 ∙ none_told meters now.1
 
 none_gone : (left : PortLeavings) (meters : List Seen)
@@ -128,8 +115,7 @@ none_gone : (left : PortLeavings) (meters : List Seen)
 none_gone [] meters long = refl
 none_gone (one ∷ left) meters long =
     let now = meters_after (one ∷ []) meters in
-    let last : length (meters_after left now) ≡ length meters =
-    ap length (sym (kept_on (one ∷ []) left meters)) ∙ long in
+    let last = ap length (sym (kept_on (one ∷ []) left meters)) ∙ long in
     let first = few_after (one ∷ []) meters in
     let more = few_after left now in
     ap (λ told. told ++ gone_after left now) (none_told one meters (omega (arith, last, first, more)))
@@ -143,17 +129,12 @@ module _ (most ports : ℕ) (left : PortLeavings) (meters : List Seen) where
 
   stayed : All (IsNewMeter most) meters
       → All (IsCounted left) (flat_map flow_records_of (kept_meters ports left meters))
-  stayed new =
-      kept_counted most left own
+  stayed new = kept_counted most left own
       (All-filter (λ meter. has ports meter.port) (IsNewMeter most) meters new)
 
-  counted : All (IsNewMeter most) meters → NoneLeaves ports left meters
-      → All (IsCounted left) (gone_records ports left meters
-      ++ flat_map flow_records_of (kept_meters ports left meters))
-  counted new none =
-      subst (λ (gone : List FlowRecord). All (IsCounted left) (gone
-      ++ flat_map flow_records_of (kept_meters ports left meters)))
-      (sym (none_gone left own (none ∙ ap length (kept-nothing own)))) (stayed new)
+  counted : All (IsNewMeter most) meters → NoneLeaves ports left meters → All (IsCounted left)
+      (gone_records ports left meters ++ flat_map flow_records_of (kept_meters ports left meters))
+  counted new none = rw (none_gone left own (none ∙ ap length (kept-nothing own))) (stayed new)
 
 pub laws_hold : FlowLaws
 laws_hold = record { stayed = stayed; counted = counted }

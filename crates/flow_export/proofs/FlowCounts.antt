@@ -33,8 +33,7 @@ same a b is =
     }
 
 itself : (a : Header) → header_eq a a ≡ true
-itself a =
-    let f = a.fields in
+itself a = let f = a.fields in
     and_from (eqb f.src f.src && eqb f.dst f.dst && eqb f.sport f.sport && eqb f.dport f.dport)
     (eqb f.proto f.proto)
     (and_from (eqb f.src f.src && eqb f.dst f.dst && eqb f.sport f.sport) (eqb f.dport f.dport)
@@ -68,16 +67,13 @@ none_first h g rest false is none = ap (λ first. first || is_among h rest) is �
 
 others_lack : (h : Header) (headers : List Header) → is_among h (others h headers) ≡ false
 others_lack h [] = refl
-others_lack h (g ∷ rest) =
-    none_first h g (others h rest) (header_eq h g) refl (others_lack h rest)
+others_lack h (g ∷ rest) = none_first h g (others h rest) (header_eq h g) refl (others_lack h rest)
 
 kept_apart : (h g x : Header) (all rest : List Header) (b : Bool) → header_eq x g ≡ b
     → header_eq h x ≡ false → is_among h rest ≡ is_among h all
     → is_among h (cond (not b) (g ∷ rest) rest) ≡ (header_eq h g || is_among h all)
-kept_apart h g x all rest true is away same_rest =
-    let not_g : header_eq h g ≡ false =
-    subst (λ (k : Header). header_eq h k ≡ false) (same x g is) away in
-    same_rest ∙ ap (λ first. first || is_among h all) (sym not_g)
+kept_apart h g x all rest true is away same_rest = same_rest ∙ ap (λ first. first || is_among h all)
+    (sym (subst (λ (k : Header). header_eq h k ≡ false) (same x g is) away))
 kept_apart h g x all rest false is away same_rest = ap (λ more. header_eq h g || more) same_rest
 
 -- a header is among the others exactly where it is among all
@@ -95,8 +91,7 @@ none_kept h g rest false first none = ap (λ now. now || is_among h rest) first 
 none_of_others : (h x : Header) (headers : List Header) → is_among h headers ≡ false
     → is_among h (others x headers) ≡ false
 none_of_others h x [] none = refl
-none_of_others h x (g ∷ rest) none =
-    let parts = or_parts (header_eq h g) (is_among h rest) none in
+none_of_others h x (g ∷ rest) none = let parts = or_parts (header_eq h g) (is_among h rest) none in
     none_kept h g (others x rest) (header_eq x g) parts.0 (none_of_others h x rest parts.1)
 
 -- no header comes twice
@@ -113,9 +108,8 @@ differ_kept x h rest false none differ = (none, differ)
 others_differ : (x : Header) (headers : List Header) → Differ headers → Differ (others x headers)
 unfolding Differ
 others_differ x [] differ = tt
-others_differ x (h ∷ rest) differ =
-    differ_kept x h (others x rest) (header_eq x h) (none_of_others h x rest differ.0)
-    (others_differ x rest differ.1)
+others_differ x (h ∷ rest) differ = differ_kept x h (others x rest) (header_eq x h)
+    (none_of_others h x rest differ.0) (others_differ x rest differ.1)
 
 headers_differ : (held : List Leaving) → Differ (headers_of held)
 unfolding Differ
@@ -129,29 +123,22 @@ headers_differ (one ∷ more) = (
 
 apart_last : (x h : Header) (rest : List Header) → header_eq x h ≡ false
     → others x (rest ++ h ∷ []) ≡ others x rest ++ h ∷ []
-apart_last x h rest away =
-    filter-append (λ g. not (header_eq x g)) rest (h ∷ [])
-    ∙ ap (λ b. others x rest ++ cond (not b) (h ∷ []) []) away
+apart_last x h rest away = cc (filter-append (λ g. not (header_eq x g)) rest (h ∷ []), away)
 
 same_last : (x h : Header) (rest : List Header) → header_eq x h ≡ true
     → others x (rest ++ h ∷ []) ≡ others x rest
 same_last x h rest is =
-    filter-append (λ g. not (header_eq x g)) rest (h ∷ [])
-    ∙ ap (λ b. others x rest ++ cond (not b) (h ∷ []) []) is ∙ append-nil (others x rest)
+    cc (filter-append (λ g. not (header_eq x g)) rest (h ∷ []), is, append-nil (others x rest))
 
 behind : (x h : Header) (rest : List Header) (first here : Bool) → header_eq h x ≡ first
     → is_among h rest ≡ here → x ∷ others x (cond here rest (rest ++ h ∷ []))
     ≡ cond (first || is_among h (others x rest)) (x ∷ others x rest) ((x ∷ others x rest) ++ h ∷ [])
 behind x h rest true true is there = refl
-behind x h rest true false is there =
-    ap (λ more. x ∷ more) (same_last x h rest (turned h x is))
-behind x h rest false true is there =
-    ap (λ b. cond b (x ∷ others x rest) ((x ∷ others x rest) ++ h ∷ []))
-    (sym (has_others h x rest is ∙ there))
+behind x h rest true false is there = cc (same_last x h rest (turned h x is))
+behind x h rest false true is there = ap (λ b. cond b (x ∷ others x rest)
+    ((x ∷ others x rest) ++ h ∷ [])) (sym (has_others h x rest is ∙ there))
 behind x h rest false false is there =
-    ap (λ more. x ∷ more) (apart_last x h rest (apart h x is))
-    ∙ ap (λ b. cond b (x ∷ others x rest) ((x ∷ others x rest) ++ h ∷ []))
-    (sym (has_others h x rest is ∙ there))
+    cc (apart_last x h rest (apart h x is), has_others h x rest is, there)
 
 headers_on : (held : List Leaving) (one : Leaving)
     → headers_of (held ++ one ∷ []) ≡ with_header (headers_of held) one.header
@@ -171,8 +158,7 @@ module _ (h : Header) (old new : Header → ℕ) (more : new h ≡ old h + 1)
   counted_same : (headers : List Header) → is_among h headers ≡ false
       → counted old headers ≡ counted new headers
   counted_same [] none = refl
-  counted_same (g ∷ rest) none =
-      let parts = or_parts (header_eq h g) (is_among h rest) none in
+  counted_same (g ∷ rest) none = let parts = or_parts (header_eq h g) (is_among h rest) none in
       ap (λ n. (g, n) ∷ counted old rest) (sym (stays g parts.0))
       ∙ ap (λ counts. (g, new g) ∷ counts) (counted_same rest parts.1)
 
@@ -182,31 +168,19 @@ module _ (h : Header) (old new : Header → ℕ) (more : new h ≡ old h + 1)
       → cond b ((g, old h + 1) ∷ counted old rest)
       ((g, old g) ∷ insert_entry header_eq (counted old rest) h (old h + 1))
       ≡ counted new (cond (b || here) (g ∷ rest) ((g ∷ rest) ++ h ∷ []))
-  first_counted g rest true here is there differ on =
-      let g_is : h ≡ g = same h g is in
-      let none : is_among h rest ≡ false =
-      subst (λ (k : Header). is_among k rest ≡ false) (sym g_is) differ in
+  first_counted g rest true here is there differ on = let g_is : h ≡ g = same h g is in
       ap (λ n. (g, n) ∷ counted old rest) (sym more ∙ ap new g_is)
-      ∙ ap (λ counts. (g, new g) ∷ counts) (counted_same rest none)
-  first_counted g rest false true is there differ on =
-      ap (λ n. (g, n) ∷ insert_entry header_eq (counted old rest) h (old h + 1))
-      (sym (stays g is))
-      ∙ ap (λ counts. (g, new g) ∷ counts) (on
-      ∙ ap (λ b. counted new (cond b rest (rest ++ h ∷ []))) there)
-  first_counted g rest false false is there differ on =
-      ap (λ n. (g, n) ∷ insert_entry header_eq (counted old rest) h (old h + 1))
-      (sym (stays g is))
-      ∙ ap (λ counts. (g, new g) ∷ counts) (on
-      ∙ ap (λ b. counted new (cond b rest (rest ++ h ∷ []))) there)
+      ∙ ap (λ counts. (g, new g) ∷ counts) (counted_same rest
+      (subst (λ (k : Header). is_among k rest ≡ false) (sym g_is) differ))
+  first_counted g rest false true is there differ on = cc (stays g is, on, there)
+  first_counted g rest false false is there differ on = cc (stays g is, on, there)
 
-  counted_on : (headers : List Header) → Differ headers
-      → insert_entry header_eq (counted old headers) h (old h + 1)
-      ≡ counted new (with_header headers h)
+  counted_on : (headers : List Header) → Differ headers → insert_entry header_eq
+      (counted old headers) h (old h + 1) ≡ counted new (with_header headers h)
   unfolding Differ
   counted_on [] differ = ap (λ n. (h, n) ∷ []) (sym more)
-  counted_on (g ∷ rest) differ =
-      first_counted g rest (header_eq h g) (is_among h rest) refl refl differ.0
-      (counted_on rest differ.1)
+  counted_on (g ∷ rest) differ = first_counted g rest (header_eq h g) (is_among h rest) refl refl
+      differ.0 (counted_on rest differ.1)
 
 first_found : (h g : Header) (count : Header → ℕ) (rest : Option ℕ) (here b : Bool)
     → header_eq h g ≡ b → unwrap_or rest 0 ≡ cond here (count h) 0
@@ -218,16 +192,14 @@ looked_up : (h : Header) (count : Header → ℕ) (headers : List Header)
     → unwrap_or (lookup (header_eq h) (counted count headers)) 0
     ≡ cond (is_among h headers) (count h) 0
 looked_up h count [] = refl
-looked_up h count (g ∷ rest) =
-    first_found h g count (lookup (header_eq h) (counted count rest)) (is_among h rest)
-    (header_eq h g) refl (looked_up h count rest)
+looked_up h count (g ∷ rest) = first_found h g count (lookup (header_eq h) (counted count rest))
+    (is_among h rest) (header_eq h g) refl (looked_up h count rest)
 
 -- ---- packets
 
 packets_on : (held : List Leaving) (one : Leaving) (h : Header)
     → packets_of (held ++ one ∷ []) h ≡ packets_of held h + cond (header_eq one.header h) 1 0
-packets_on held one h =
-    sum_by_push (λ (two : Leaving). cond (header_eq two.header h) 1 0) held one
+packets_on held one h = sum_by_push (λ (two : Leaving). cond (header_eq two.header h) 1 0) held one
 
 no_packets : (held : List Leaving) (h : Header) → is_among h (headers_of held) ≡ false
     → packets_of held h ≡ 0
@@ -256,14 +228,13 @@ pub counts_on : (held : List Leaving) (one : Leaving)
     ≡ packet_counts (held ++ one ∷ [])
 counts_on held one =
     let h = one.header in
-    let more : packets_of (held ++ one ∷ []) h ≡ packets_of held h + 1 =
-    packets_on held one h ∙ ap (λ b. packets_of held h + cond b 1 0) (itself h) in
     let stays : (g : Header) → header_eq h g ≡ false
     → packets_of (held ++ one ∷ []) g ≡ packets_of held g =
     λ g is. packets_on held one g ∙ ap (λ b. packets_of held g + cond b 1 0) is ∙ omega arith in
     ap (λ n. insert_entry header_eq (counted (packets_of held) (headers_of held)) h (n + 1))
     (count_is h held)
-    ∙ counted_on h (packets_of held) (packets_of (held ++ one ∷ [])) more stays (headers_of held)
+    ∙ counted_on h (packets_of held) (packets_of (held ++ one ∷ [])) (packets_on held one h
+    ∙ ap (λ b. packets_of held h + cond b 1 0) (itself h)) stays (headers_of held)
     (headers_differ held)
     ∙ ap (counted (packets_of (held ++ one ∷ []))) (sym (headers_on held one))
 
@@ -278,9 +249,7 @@ recorded : (port : ℕ) (count : Header → ℕ) (headers : List Header)
     → map (record_at port) (counted count headers)
     ≡ map (λ h. record { port = port; header = h; packets = count h }) headers
 recorded port count [] = refl
-recorded port count (h ∷ rest) =
-    ap (λ more. record { port = port; header = h; packets = count h } ∷ more)
-    (recorded port count rest)
+recorded port count (h ∷ rest) = cc (recorded port count rest)
 
 pub records_are : (port : ℕ) (held : List Leaving)
     → map (record_at port) (packet_counts held) ≡ flows port held
@@ -291,7 +260,4 @@ pub counts_after : (old new : List (Header × ℕ)) (held more : List Leaving) (
     → new ≡ insert_entry header_eq old one.header (count_of_header one.header old + 1)
     → more ≡ held ++ one ∷ [] → new ≡ packet_counts more
 counts_after old new held more one old_is new_is more_is =
-    new_is
-    ∙ ap (λ (counts : List (Header × ℕ)).
-    insert_entry header_eq counts one.header (count_of_header one.header counts + 1)) old_is
-    ∙ counts_on held one ∙ ap packet_counts (sym more_is)
+    cc (new_is, old_is, counts_on held one, more_is)

@@ -13,8 +13,7 @@ pub record IsNewMeter (most : ℕ) (meter : Seen) : Type 0 where
 
 -- how many packets left by the port with the header
 abbrev pub left_with : PortLeavings → ℕ → Header → ℕ
-left_with left port header =
-    count_by (λ one. (one.0 == port) && header_eq one.1.header header) left
+left_with left port header = count_by (λ one. (one.0 == port) && header_eq one.1.header header) left
 
 -- the record counts all packets that left by its port with its header
 abbrev pub IsCounted : PortLeavings → FlowRecord → Type 0
@@ -31,6 +30,5 @@ pub record FlowLaws : Type 0 where
       → All (IsNewMeter most) meters
       → All (IsCounted left) (flat_map flow_records_of (kept_meters ports left meters))
   pub counted : (most ports : ℕ) (left : PortLeavings) (meters : List Seen)
-      → All (IsNewMeter most) meters → NoneLeaves ports left meters
-      → All (IsCounted left) (gone_records ports left meters
-      ++ flat_map flow_records_of (kept_meters ports left meters))
+      → All (IsNewMeter most) meters → NoneLeaves ports left meters → All (IsCounted left)
+      (gone_records ports left meters ++ flat_map flow_records_of (kept_meters ports left meters))

@@ -34,20 +34,17 @@ pub record IsDeliveredIn (setting : Setting) (before after : List Item) (n : ℕ
 
 -- a step of another kind, or of a message that can't be delivered, delivers nothing
 piece_undelivered : (setting : Setting) (at : List Item) (row : ℕ) (step : Step) (n : ℕ)
-    → is_plain step ≡ true
-    → was_delivered (at ++ piece setting at row step) n ≡ was_delivered at n
-piece_undelivered setting at row step n plain =
-    behind_piece setting at row step (λ j. was_delivered j n ≡ was_delivered at n)
-    (plain_undelivered (at ++ item.Row row step ∷ []) _ n
-    (step_plain setting at step (at ++ item.Row row step ∷ []) plain)
-    ∙ delivered_more at (item.Row row step) n)
+    → is_plain step ≡ true → was_delivered (at ++ piece setting at row step) n ≡ was_delivered at n
+piece_undelivered setting at row step n plain = behind_piece setting at row step
+    (λ j. was_delivered j n ≡ was_delivered at n)
+    (plain_undelivered (at ++ item.Row row step ∷ []) _ n (step_plain setting at step
+    (at ++ item.Row row step ∷ []) plain) ∙ delivered_more at (item.Row row step) n)
 
 piece_delivers : (setting : Setting) (at : List Item) (row m n : ℕ)
     → was_delivered (at ++ piece setting at row (Deliver m)) n ≡ true
     → was_delivered at n ≡ false → (m ≡ n) × (is_deliverable at m ≡ true)
 unfolding deliver_items
-piece_delivers setting at row m n =
-    behind_piece setting at row (Deliver m)
+piece_delivers setting at row m n = behind_piece setting at row (Deliver m)
     (λ j. was_delivered j n ≡ true → was_delivered at n ≡ false
     → (m ≡ n) × (is_deliverable at m ≡ true)) (by_test (is_deliverable at m) refl)
   where
@@ -61,25 +58,19 @@ piece_delivers setting at row m n =
         → was_delivered at n ≡ false → m ≡ n
     by_number true e is none = eqb-true m n e
     by_number false e is none =
-        let clash : true ≡ false = sym is ∙ delivered_more at (item.Row row (Deliver m)) n ∙ none in
-        absurd cc
+        absurd (cc (sym is ∙ delivered_more at (item.Row row (Deliver m)) n ∙ none))
 
     by_test : (b : Bool) → is_deliverable at m ≡ b → was_delivered (here ++ elim b [
       | false ↦ nothing
       | true ↦ items_then (item.Delivered m ∷ []) (delivery_items setting at m) here
     ]) n ≡ true → was_delivered at n ≡ false → (m ≡ n) × (is_deliverable at m ≡ true)
-    by_test false e is none =
-        let clash : true ≡ false =
-        sym is ∙ delivered_more here item.Nothing n
-        ∙ delivered_more at (item.Row row (Deliver m)) n ∙ none in
-        absurd cc
+    by_test false e is none = absurd (cc (sym is ∙ delivered_more here item.Nothing n
+        ∙ delivered_more at (item.Row row (Deliver m)) n ∙ none))
     by_test true e is none = (
       by_number (m == n) refl
-          (sym (delivered_more here (item.Delivered m) n)
-          ∙ sym (plain_undelivered now (delivery_items setting at m now) n
-          (delivery_plain setting at m now))
-          ∙ ap (λ j. was_delivered j n) (append_assoc here (item.Delivered m ∷ []) _) ∙ is)
-          none,
+          (sym (delivered_more here (item.Delivered m) n) ∙ sym (plain_undelivered now
+          (delivery_items setting at m now) n (delivery_plain setting at m now))
+          ∙ ap (λ j. was_delivered j n) (append_assoc here (item.Delivered m ∷ []) _) ∙ is) none,
       e,
     )
 
@@ -89,8 +80,7 @@ pub find_delivery : (setting : Setting) (before : List Item) (steps : List StepO
     → IsDeliveredIn setting before (after_steps setting before steps) n
 find_delivery setting before [] n calm none is =
     let clash : true ≡ false = sym is ∙ none in absurd cc
-find_delivery setting before (next ∷ steps) n calm none is =
-    by_now (was_delivered then n) refl
+find_delivery setting before (next ∷ steps) n calm none is = by_now (was_delivered then n) refl
     (λ still. find_delivery setting then steps n calm.1 still is)
   where
     then : List Item
@@ -104,39 +94,31 @@ find_delivery setting before (next ∷ steps) n calm none is =
         → Calmly setting (before ++ piece setting before next.row step) after
         → IsDeliveredIn setting before after n
     here (Deliver m) calm_step now rest =
-        let found = piece_delivers setting before next.row m n now none in
-        record {
+        let found = piece_delivers setting before next.row m n now none in record {
           at = before;
           row = next.row;
           may = subst (λ k. is_deliverable before k ≡ true) found.0 found.1;
           first = record { items = []; is = sym (append-nil before); have = tt };
-          rest = subst (λ k. Calmly setting (before ++ piece setting before next.row (Deliver k))
-              after) found.0 rest;
+          rest = rw found.0 at rest;
         }
     here (Confirm s) calm_step now rest =
-        let clash : true ≡ false =
-        sym now ∙ piece_undelivered setting before next.row (Confirm s) n refl ∙ none in
-        absurd cc
+        absurd (cc (sym now ∙ piece_undelivered setting before next.row (Confirm s) n refl ∙ none))
     here (Resend s) calm_step now rest =
-        let clash : true ≡ false =
-        sym now ∙ piece_undelivered setting before next.row (Resend s) n refl ∙ none in
-        absurd cc
+        absurd (cc (sym now ∙ piece_undelivered setting before next.row (Resend s) n refl ∙ none))
     here step calm_step now rest = absurd calm_step
 
     by_now : (b : Bool) → was_delivered then n ≡ b
         → (was_delivered then n ≡ false → IsDeliveredIn setting then after n)
         → IsDeliveredIn setting before after n
     by_now true e later = here next.step calm.0 e (calm_steps setting then steps calm.1)
-    by_now false e later =
-        let found = later e in
-        record {
-          at = found.at;
-          row = found.row;
-          may = found.may;
-          first = calm_through setting before then found.at
-              (calm_piece setting before next.row next.step calm.0) found.first;
-          rest = found.rest;
-        }
+    by_now false e later = let found = later e in record {
+      at = found.at;
+      row = found.row;
+      may = found.may;
+      first = calm_through setting before then found.at
+          (calm_piece setting before next.row next.step calm.0) found.first;
+      rest = found.rest;
+    }
 
 -- ---- what a switch answers then
 
@@ -151,8 +133,7 @@ answered_calm : (setting : Setting) (since : ℕ) (before after : List Item) (s 
     → IsAnsweredSince since after s body
 answered_calm setting since before after s (OpenAt boot version) calm is =
     (stays setting before after calm).serving s is
-answered_calm setting since before after s body calm is =
-    IfSome_then (answer_of s body) is
+answered_calm setting since before after s body calm is = IfSome_then (answer_of s body) is
     (λ answer sent. since_calm setting since before after (to_controller answer) calm sent)
 
 switch_since : (setting : Setting) (since : ℕ) (before : List Item) (s : ℕ) (body : Body)
@@ -207,10 +188,9 @@ delivered_answered setting before after n s body causes is sent up own =
     said =
         let sent_here = sent_at in
         let same : (s == s) ≡ true = eq-eqb s s refl in
-        let up_here : is_up at s ≡ true = sym (left.up s) ∙ up in
         let for_it : is_for_boot (boot_of at s) body ≡ true =
         ap (λ b. is_for_boot b body) (sym (left.boot s)) ∙ own in
-        rw (sent_here, same, up_here, for_it, body_to_switch) refl
+        rw (sent_here, same, sym (left.up s) ∙ up, for_it, body_to_switch) refl
 
     late : next_message before ≤ next_message now
     late = omega (
@@ -220,14 +200,12 @@ delivered_answered setting before after n s body causes is sent up own =
       next_grows here (item.Delivered n ∷ []),
     )
 
-    by_test : (b : Bool) → b ≡ true
-        → IsAnsweredSince (next_message before) (here ++ elim b [
-          | false ↦ nothing
-          | true ↦ items_then (item.Delivered n ∷ []) (delivery_items setting at n) here
-        ]) s body
+    by_test : (b : Bool) → b ≡ true → IsAnsweredSince (next_message before) (here ++ elim b [
+      | false ↦ nothing
+      | true ↦ items_then (item.Delivered n ∷ []) (delivery_items setting at n) here
+    ]) s body
     by_test false e = absurd cc
-    by_test true e =
-        subst (λ j. IsAnsweredSince (next_message before) j s body)
+    by_test true e = subst (λ j. IsAnsweredSince (next_message before) j s body)
         (append_assoc here (item.Delivered n ∷ []) (delivery_items setting at n now))
         (subst (λ items. IsAnsweredSince (next_message before) (now ++ items) s body)
         (sym (delivery_is setting at n now s body said))

@@ -45,11 +45,10 @@ links_calm setting before journal = sends_calm journal _
 
 pub switch_calm : (setting : Setting) (before : List Item) (s : ℕ) (body : Body) (now : List Item)
     → HaveCauses IsCalm now (switch_items setting before s body now)
-switch_calm setting before s body now =
-    switch_cases (HaveCauses IsCalm now) setting before s body now
-    (λ boot version. sends_calm now _) (λ boot version. sends_calm now _)
-    (λ boot version is. grind (arith, have_first, links_calm))
-    (λ advert is news. sends_calm now _) tt
+switch_calm setting before s body now = switch_cases (HaveCauses IsCalm now) setting before s body
+    now (λ boot version. sends_calm now _) (λ boot version. sends_calm now _)
+    (λ boot version is. grind (arith, have_first, links_calm)) (λ advert is news. sends_calm now _)
+    tt
 
 step_calm : (setting : Setting) (before : List Item) (step : Step) (here : List Item)
     → IsCalmStep step → HaveCauses IsCalm here (step_items setting before step here)
@@ -57,11 +56,9 @@ step_calm setting before (Confirm s) here is =
     have_weaker IsControl IsCalm control_is_calm _ _ (confirm_control setting s here)
 step_calm setting before (Resend s) here is =
     resends_any IsCalm (λ now n message. tt) setting s here tt
-step_calm setting before (Deliver number) here is =
-    deliver_has IsCalm setting before number here tt tt
-    (λ body sent. have_weaker IsControl IsCalm control_is_calm _ _
-    (controller_control setting before body _))
-    (λ s body said. switch_calm setting before s body _)
+step_calm setting before (Deliver number) here is = deliver_has IsCalm setting before number here tt
+    tt (λ body sent. have_weaker IsControl IsCalm control_is_calm _ _
+    (controller_control setting before body _)) (λ s body said. switch_calm setting before s body _)
 step_calm setting before _ here is = absurd is
 
 -- ---- a journal that goes on calmly
@@ -79,8 +76,7 @@ pub calm_through : (setting : Setting) (one two three : List Item) → Calmly se
     → Calmly setting two three → Calmly setting one three
 calm_through setting one two three first later = record {
   items = first.items ++ later.items;
-  is = later.is ∙ ap (λ j. j ++ later.items) first.is
-      ∙ append_assoc one first.items later.items;
+  is = cc (later.is, first.is, append_assoc one first.items later.items);
   have = have_append (Both IsCalm (IsInOrder setting)) one first.items later.items first.have
       (subst (λ j. HaveCauses (Both IsCalm (IsInOrder setting)) j later.items) first.is later.have);
 }
@@ -88,10 +84,8 @@ calm_through setting one two three first later = record {
 pub calm_causes : (setting : Setting) (before after : List Item)
     → HaveCauses (IsInOrder setting) [] before → Calmly setting before after
     → HaveCauses (IsInOrder setting) [] after
-calm_causes setting before after causes calm =
-    subst (HaveCauses (IsInOrder setting) []) (sym calm.is)
-    (have_append (IsInOrder setting) [] before calm.items causes
-    (have_weaker (Both IsCalm (IsInOrder setting)) (IsInOrder setting)
+calm_causes setting before after causes calm = rw calm.is (have_append (IsInOrder setting) [] before
+    calm.items causes (have_weaker (Both IsCalm (IsInOrder setting)) (IsInOrder setting)
     (λ now next both. both.second) before calm.items calm.have))
 
 -- the row of a step, and what it writes behind that
@@ -109,8 +103,7 @@ pub calm_rest : (setting : Setting) (before : List Item) (row : ℕ) (step : Ste
     Calmly setting here (before ++ piece setting before row step)
 unfolding piece
 calm_rest setting before row step is =
-    let here : List Item = before ++ item.Row row step ∷ [] in
-    record {
+    let here : List Item = before ++ item.Row row step ∷ [] in record {
       items = step_items setting before step here;
       is = sym (append_assoc before (item.Row row step ∷ []) (step_items setting before step here));
       have = have_both IsCalm (IsInOrder setting) here _ (step_calm setting before step here is)
@@ -119,10 +112,9 @@ calm_rest setting before row step is =
 
 pub calm_piece : (setting : Setting) (before : List Item) (row : ℕ) (step : Step)
     → IsCalmStep step → Calmly setting before (before ++ piece setting before row step)
-calm_piece setting before row step is =
-    calm_through setting before (before ++ item.Row row step ∷ [])
-    (before ++ piece setting before row step) (calm_row setting before row step is)
-    (calm_rest setting before row step is)
+calm_piece setting before row step is = calm_through setting before
+    (before ++ item.Row row step ∷ []) (before ++ piece setting before row step)
+    (calm_row setting before row step is) (calm_rest setting before row step is)
 
 pub calm_steps : (setting : Setting) (before : List Item) (steps : List StepOfRow)
     → AreOf IsCalmStep steps → Calmly setting before (after_steps setting before steps)
@@ -159,8 +151,7 @@ next_confirmed before (item.OverNow t) s calm none =
         → IsFalse (unwrap_or (if b then Some false else None) (is_waited_for before s))
     by_test true none = refl
     by_test false none = none
-next_confirmed before next s calm none =
-    rw (last_more (gives_waited_for s) before next false) none
+next_confirmed before next s calm none = rw (last_more (gives_waited_for s) before next false) none
 
 next_serving : (before : List Item) (next : Item) (s : ℕ) → IsCalm before next
     → IsTrue (serves before s) → IsTrue (serves (before ++ next ∷ []) s)
@@ -250,18 +241,14 @@ stays_through one two three first later = record {
   numbers = omega (arith, first.numbers, later.numbers);
   opened = λ s boot version opened. later.opened s boot version
       (first.opened s boot version opened);
-  messages = λ n below. later.messages n (omega (arith, below, first.numbers))
-      ∙ first.messages n below;
+  messages = λ n below. later.messages n (omega (arith, first.numbers)) ∙ first.messages n below;
 }
 
 pub stays : (setting : Setting) (before after : List Item) → Calmly setting before after
     → Stays before after
-stays setting before after calm =
-    subst (Stays before) (sym calm.is)
-    (fact_on (Both IsCalm (IsInOrder setting)) (Stays before)
-    (λ now next both so_far. stays_through before now (now ++ next ∷ []) so_far
-    (next_stays setting now next both))
-    before calm.items calm.have (stays_itself before))
+stays setting before after calm = rw calm.is (fact_on (Both IsCalm (IsInOrder setting))
+    (Stays before) (λ now next both so_far. stays_through before now (now ++ next ∷ []) so_far
+    (next_stays setting now next both)) before calm.items calm.have (stays_itself before))
 
 -- ---- while the known boot of a switch stays
 
@@ -273,19 +260,16 @@ record WhileKnown (first : List Item) (s : ℕ) (Holds : List Item → Type 0) (
 -- what one more item keeps while the known boot stays holds where that is the same at the end
 while_known : (setting : Setting) (before after : List Item) (s : ℕ) (Holds : List Item → Type 0)
     → ((now : List Item) (next : Item) → known_boot (now ++ next ∷ []) s ≡ known_boot now s
-    → Holds now → Holds (now ++ next ∷ []))
-    → Calmly setting before after → known_boot after s ≡ known_boot before s → Holds before
-    → Holds after
-while_known setting before after s Holds keeps calm same holds =
-    (subst (WhileKnown before s Holds) (sym calm.is)
-    (fact_on (Both IsCalm (IsInOrder setting)) (WhileKnown before s Holds) on before calm.items
-    calm.have (record { known = omega arith; holds = λ still. holds }))).holds same
+    → Holds now → Holds (now ++ next ∷ [])) → Calmly setting before after
+    → known_boot after s ≡ known_boot before s → Holds before → Holds after
+while_known setting before after s Holds keeps calm same holds = (subst (WhileKnown before s Holds)
+    (sym calm.is) (fact_on (Both IsCalm (IsInOrder setting)) (WhileKnown before s Holds) on before
+    calm.items calm.have (record { known = omega arith; holds = λ still. holds }))).holds same
   where
     on : AreKept (Both IsCalm (IsInOrder setting)) (WhileKnown before s Holds)
     on now next both while = record {
       known = omega (arith, while.known, known_rises now next s);
-      holds = λ same.
-          let still : known_boot (now ++ next ∷ []) s ≡ known_boot now s =
+      holds = λ same. let still : known_boot (now ++ next ∷ []) s ≡ known_boot now s =
           omega (arith, same, while.known, known_rises now next s) in
           keeps now next still (while.holds (omega (arith, same, still)));
     }
@@ -294,11 +278,9 @@ while_known setting before after s Holds keeps calm same holds =
 pub acked_grows : (setting : Setting) (before after : List Item) (s version : ℕ)
     → Calmly setting before after → known_boot after s ≡ known_boot before s
     → IsTrue (has_acked before s version) → IsTrue (has_acked after s version)
-acked_grows setting before after s version =
-    while_known setting before after s (λ now. IsTrue (has_acked now s version))
-    (λ now next still acked.
-    let was : has_acked now s version ≡ true = acked in
-    rw (acked_more now next s version still, was) refl)
+acked_grows setting before after s version = while_known setting before after s
+    (λ now. IsTrue (has_acked now s version))
+    (λ now next still acked. rw (acked_more now next s version still, acked) refl)
 
 -- a switch that was opened is known to stamp with no lower version
 record StampsAbove (s bound version : ℕ) (now : List Item) : Type 0 where
@@ -307,13 +289,10 @@ record StampsAbove (s bound version : ℕ) (now : List Item) : Type 0 where
 
 pub stamp_grows : (setting : Setting) (before after : List Item) (s bound version : ℕ)
     → Calmly setting before after → known_boot after s ≡ known_boot before s
-    → opened_at before s ≡ Some version → bound ≤ acked_stamp before s
-    → bound ≤ acked_stamp after s
+    → opened_at before s ≡ Some version → bound ≤ acked_stamp before s → bound ≤ acked_stamp after s
 stamp_grows setting before after s bound version calm same opened above =
     (while_known setting before after s (StampsAbove s bound version)
-    (λ now next still stamps.
-    let now_opened : opened_at (now ++ next ∷ []) s ≡ Some version =
-    opened_at_more now next s still
+    (λ now next still stamps. let now_opened = opened_at_more now next s still
     ∙ ap (λ o. option_or o (first_number (open_sent s (known_boot now s) next))) stamps.opened in
     record {
       opened = now_opened;

@@ -5,12 +5,12 @@ use Rattle.base.proofs.Exports.{All-cons, All-nil, get_or-map, length-map, optio
 use Rattle.net_file.specs.Exports.{owner_of}
 use Rattle.update_machine.specs.Exports.{AreTargets, BeginsAnswer, Cause, Event, Exit, HasPlan, HaveCauses, IsPlanOf, IsSetting, Item, Leg, Net, Row, Seek, Setting, hosted_in, plan_at, policy_at}
 use Rattle.net_file.proofs.RowPlaces.{ports}
-use Rattle.partition.specs.Plan.{Hosted, IsPlan, sizes_of}
+use Rattle.partition.specs.Plan.{Hosted, IsPlan}
 use Rattle.journal.specs.declared.item.Item.TheVariants as item
 use Rattle.steps.specs.Exports.{HasSwitch}
 use Rattle.control_laws.specs.Exports.{AreEvents}
 use Rattle.control_laws.proofs.Exports.{Behind, Both, have_both, have_weaker}
-use Rattle.packet_laws.specs.Exports.{AllKept, FindsNoRoute, IsBlockedOn, IsExiting, TakesLeg, stage_of, what_is_known}
+use Rattle.packet_laws.specs.Exports.{AllKept, IsBlockedOn, TakesLeg, stage_of, what_is_known}
 use Rattle.packet_laws.proofs.Exports.{IsHere, IsWayItem, Knows, Past, decision_out, exiting_of, here_known, kept_before, known_before, knows, leg_in, port_named, reached, version_planned}
 use Rattle.convergence_laws.proofs.Exports.{in_at}
 use Rattle.forwarding_laws.specs.Exports.{AreCutOff, DropsNothing, IsConnected, IsStuckCutOff, NoneIsStuck, NothingFails}
@@ -29,17 +29,13 @@ targets_planned rows net plan hosted is found =
     let first = λ (other : Hosted). other.0 in
     let second = λ (other : Hosted). other.1 in
     let k = found.0 in
-    let sizes : length (sizes_of (map first plan)) ≡ length plan =
-    length-map (map first plan) (λ part. length part.rules) ∙ length-map plan first in
+    let sizes = length-map (map first plan) (λ part. length part.rules) ∙ length-map plan first in
     let due = is.placement.hosted k (omega (arith, found.1, sizes)) in
-    let at : get_or (map second plan) k [] ≡ (get_or plan k hosted).1 =
-    get_or-map second plan k hosted [] found.1 in
     let own : get_or (map second plan) k [] ≡ hosted.1 =
-    at ∙ ap (λ (other : Hosted). other.1) found.2 in
+    (get_or-map second plan k hosted [] found.1) ∙ ap (λ (other : Hosted). other.1) found.2 in
     record {
       some = omega (arith, due.number, ap length own);
-      there = subst (λ (other : Hosted). All (λ s. s < length net.switches) other.1) found.2
-          (is.targets k hosted found.1);
+      there = rw found.2 at (is.targets k hosted found.1);
     }
 
 -- a plan of a version is sound
@@ -49,16 +45,14 @@ plan_sound : (setting : Setting) (journal : List Item) (version : ℕ) (plan : L
 unfolding policy_at plan_at
 plan_sound setting journal version plan is of =
     let own : policy_at setting journal version ≡ of.0 = ap (λ o. unwrap_or o []) of.1 in
-    let same : plan_at setting journal version ≡ plan =
-    ap (λ o. option_map_or (λ rows. hosted_in (setting.plan rows)) o []) of.1
+    let same = ap (λ o. option_map_or (λ rows. hosted_in (setting.plan rows)) o []) of.1
     ∙ ap hosted_in of.2 in
     let has : HasPlan setting journal version = record {
       policy = of.1 ∙ ap Some (sym own);
       plan = ap setting.plan own ∙ of.2 ∙ ap Ok (sym same);
     } in (
       policy_at setting journal version,
-      subst (IsPlan (policy_at setting journal version) setting.net) same
-          (version_planned setting journal version is has).parts,
+      rw same at (version_planned setting journal version is has).parts,
     )
 
 -- ---- the switch of a port
@@ -70,20 +64,16 @@ exit_there : (setting : Setting) (before : List Item) (i s port : ℕ)
 exit_there setting before i s port knows here (inl takes) =
     let judged = knows.kept.judged here.travelling takes.judged here.under.header
     here.under.entered in
-    let same : Some judged.decision ≡ Some takes.decision =
-    sym (decision_out before i (Some judged.decision) judged.decided) ∙ takes.decided in
-    let own = ap (λ o. option_map_or (λ d. d.action) o judged.decision.action) same in
+    let own = ap (λ o. option_map_or (λ d. d.action) o judged.decision.action)
+    (sym (decision_out before i (Some judged.decision) judged.decided) ∙ takes.decided) in
     (_, port_named setting port judged.decision.action (own ∙ takes.action) judged.named)
 exit_there setting before i s port knows here (inr blocked) =
-    let on : IsExiting setting (what_is_known before i).decision (what_is_known before i).route
-    port =
-    exiting_of setting before (what_is_known before i) port
+    let on = exiting_of setting before (what_is_known before i) port
     (knows.kept.on_way here.travelling (inr blocked.blocked))
     (leg_in before i (Some (Exit port)) blocked.takes) in
     (on.owner, on.has_port)
 
-home_there : (net : Net) (port home : ℕ) (targets : List ℕ)
-    → owner_of net.switches port ≡ Some home
+home_there : (net : Net) (port home : ℕ) (targets : List ℕ) → owner_of net.switches port ≡ Some home
     → option_to_list (owner_of net.switches port) ≡ targets → AreSwitches net targets
 home_there net port home targets owns are =
     subst (AreSwitches net) (sym (ap option_to_list owns) ∙ are) (record {
@@ -113,8 +103,7 @@ IsKeptItem setting = Behind (Past (IsWayItem setting)) (AllKept setting)
 pub are_kept_items : (setting : Setting) (events : List Event) (journal : List Item)
     → IsSetting setting → AreEvents setting events → BeginsAnswer setting events journal
     → HaveCauses (IsKeptItem setting) [] journal
-are_kept_items setting events journal is own begins =
-    kept_before setting journal is
+are_kept_items setting events journal is own begins = kept_before setting journal is
     ((reached (λ setting journal. HaveCauses (IsWayItem setting) [] journal)
     (λ setting journal is have. have)).begun setting events journal own begins is)
 
@@ -128,14 +117,10 @@ pub stuck_among : (setting : Setting) → IsSetting setting → (before : List I
     → IsKeptItem setting before (item.Stuck packet switch cause leg down)
     → AreTargets setting before packet leg targets → IsStuckAmong setting.net switch targets
 stuck_among setting is before packet switch cause leg down targets kept own =
-    let next : Item = item.Stuck packet switch cause leg down in
-    let known : Knows setting before packet (stage_of before packet) =
-    knows setting before packet (known_before setting is before next kept) in
-    let finds : FindsNoRoute setting before packet switch cause leg down =
-    kept.caused.caused.way in
-    let here : IsHere setting before packet switch =
-    here_known setting before packet switch known finds.at in
-    record {
+    let known : Knows setting before packet (stage_of before packet) = knows setting before packet
+    (known_before setting is before (item.Stuck packet switch cause leg down) kept) in
+    let finds = kept.caused.caused.way in
+    let here = here_known setting before packet switch known finds.at in record {
       there = omega (arith, here.at, here.under.now);
       among = targets_there setting before packet switch leg targets known here finds.on own;
     }
@@ -171,13 +156,11 @@ pub none_is_stuck : ((setting : Setting) (events : List Event) (journal : List I
     → IsSetting setting → AreEvents setting events → NothingFails events
     → IsConnected setting.net → BeginsAnswer setting events journal → NoneIsStuck journal
 none_is_stuck drops setting events journal is own nothing connected begins packet switch cause leg
-    down found =
-    (stands_in IsNotStuck [] journal (item.Stuck packet switch cause leg down) none
+    down found = (stands_in IsNotStuck [] journal (item.Stuck packet switch cause leg down) none
     (in_at journal found.0 (item.Stuck packet switch cause leg down) found.1 found.2)).own
   where
     none : HaveCauses IsNotStuck [] journal
     none = have_weaker (Both (DropsNothing setting) (IsKeptItem setting)) IsNotStuck
-        (not_stuck setting is connected) [] journal
-        (have_both (DropsNothing setting) (IsKeptItem setting) [] journal
-        (drops setting events journal is own nothing begins)
+        (not_stuck setting is connected) [] journal (have_both (DropsNothing setting)
+        (IsKeptItem setting) [] journal (drops setting events journal is own nothing begins)
         (are_kept_items setting events journal is own begins))

@@ -43,22 +43,18 @@ told_some {X = X} tells x y (first ∷ items) is told none =
 
 -- what is known of an item
 abbrev IsKnownEnd : Setting → List Item → Item → Type 0
-IsKnownEnd setting =
-    Both (PacketCause setting) (Both (HasCause setting) (DropsNothing setting))
+IsKnownEnd setting = Both (PacketCause setting) (Both (HasCause setting) (DropsNothing setting))
 
-same_number : (packet i : ℕ) → (if packet == i then Some false else None) ≡ Some false
-    → packet ≡ i
-same_number packet i ends = by_test (packet == i) refl ends
-  where
-    by_test : (b : Bool) → (packet == i) ≡ b → (if b then Some false else None) ≡ Some false
-        → packet ≡ i
-    by_test true e ends = eqb-true packet i e
-    by_test false e ends = absurd cc
+same_number : (packet i : ℕ) → (if packet == i then Some false else None) ≡ Some false → packet ≡ i
+same_number packet i ends = by_test (packet == i) refl ends where
+  by_test : (b : Bool) → (packet == i) ≡ b → (if b then Some false else None) ≡ Some false
+      → packet ≡ i
+  by_test true e ends = eqb-true packet i e
+  by_test false e ends = absurd cc
 
 -- by the item that ended it
-ends_so : (setting : Setting) (i : ℕ) (before : List Item) (x : Item)
-    → IsKnownEnd setting before x → gives_travelling i x ≡ Some false
-    → EndsOrIsCutOff setting i before x
+ends_so : (setting : Setting) (i : ℕ) (before : List Item) (x : Item) → IsKnownEnd setting before x
+    → gives_travelling i x ≡ Some false → EndsOrIsCutOff setting i before x
 ends_so setting i before (item.Entered packet switch header) known ends =
     absurd (by_test (packet == i) ends)
   where
@@ -69,13 +65,11 @@ ends_so setting i before (item.Dropped packet) known ends =
     let dropped : IsDroppedHere before packet = known.first in
     let own : IsDroppedRightly before packet =
     record { decision = dropped.decision; decided = dropped.decided; drops = dropped.action } in
-    let same = same_number packet i ends in
-    (same, subst (IsDroppedRightly before) same own)
+    let same = same_number packet i ends in (same, subst (IsDroppedRightly before) same own)
 ends_so setting i before (item.Left packet port leaving) known ends =
     let same = same_number packet i ends in
     (same, subst (λ n. LeavesRightly setting before n port leaving) same known.second.first)
-ends_so setting i before (item.Lost packet) known ends =
-    let same = same_number packet i ends in
+ends_so setting i before (item.Lost packet) known ends = let same = same_number packet i ends in
     (same, subst (λ n. present_step before ≡ Some (Lose n)) same known.second.second)
 ends_so setting i before (item.Stuck packet switch cause leg down) known ends =
     let same = same_number packet i ends in
@@ -100,8 +94,7 @@ entered_ended setting journal i s header known is ended =
     by_last (Some true) e ended = absurd cc
     by_last (Some false) e ended =
         let last = given_by (gives_travelling i) false journal e in
-        let at = stands_in (IsKnownEnd setting) [] journal last.0 known last.1 in
-        record {
+        let at = stands_in (IsKnownEnd setting) [] journal last.0 known last.1 in record {
           before = at.front;
           found = last.0;
           rest = at.rest;
@@ -116,27 +109,24 @@ not_cut_off : (setting : Setting) (i : ℕ) (journal before : List Item) (x : It
 not_cut_off setting i journal before (item.Stuck packet switch cause leg down) rest none stands
     own =
     let stuck : Item = item.Stuck packet switch cause leg down in
-    absurd (none packet switch cause leg down
-    (contains_in stuck journal
+    absurd (none packet switch cause leg down (contains_in stuck journal
     (subst (IsIn stuck) (sym stands) (in_right stuck before (stuck ∷ rest) (inl refl)))))
 not_cut_off setting i journal before x rest none stands own = own
 
 -- ---- behind a drain
 
 none_hops : (journal : List Item) → next_hop journal ≡ None → next_travelling journal ≡ None
-none_hops journal none = by_next (next_travelling journal) none
-  where
-    by_next : (o : Option ℕ) → option_map Hop o ≡ None → o ≡ None
-    by_next None e = refl
-    by_next (Some i) e = absurd cc
+none_hops journal none = by_next (next_travelling journal) none where
+  by_next : (o : Option ℕ) → option_map Hop o ≡ None → o ≡ None
+  by_next None e = refl
+  by_next (Some i) e = absurd cc
 
 none_travels : (journal : List Item) (i s : ℕ) (header : Header) → AreNumbered journal
     → next_travelling journal ≡ None → IsIn (item.Entered i s header) journal
     → travels journal i ≡ false
 unfolding next_travelling
-none_travels journal i s header numbered none is =
-    none_found (travels journal) i (packets_in journal) none
-    (subst (λ numbers. IsIn i numbers) numbered.packets
+none_travels journal i s header numbered none is = none_found (travels journal) i
+    (packets_in journal) none (rw numbered.packets at
     (in_flat_map packet_number (item.Entered i s header) i journal is (inl refl)))
 
 abbrev Reaches : (Setting → List Item → Item → Type 0) → Type 0
@@ -144,22 +134,18 @@ Reaches cause = HoldsReached (λ setting journal.
     IsSetting setting → HaveCauses (cause setting) [] journal)
 
 pub accounted_or_cut_off : ((setting : Setting) (events : List Event) (journal : List Item)
-    → BeginsAnswer setting events journal → AreNumbered journal)
-    → Reaches PacketCause → Reaches HasCause
-    → ((setting : Setting) (events : List Event) (journal : List Item)
+    → BeginsAnswer setting events journal → AreNumbered journal) → Reaches PacketCause
+    → Reaches HasCause → ((setting : Setting) (events : List Event) (journal : List Item)
     → IsSetting setting → AreEvents setting events → NothingFails events
     → BeginsAnswer setting events journal → HaveCauses (DropsNothing setting) [] journal)
-    → (setting : Setting) (events : List Event) (journal : List Item)
-    → IsSetting setting → AreEvents setting (events ++ Drain ∷ [])
-    → NothingFails (events ++ Drain ∷ [])
+    → (setting : Setting) (events : List Event) (journal : List Item) → IsSetting setting
+    → AreEvents setting (events ++ Drain ∷ []) → NothingFails (events ++ Drain ∷ [])
     → Answers setting (events ++ Drain ∷ []) journal → AllAccountedOrCutOff setting journal
 accounted_or_cut_off number packets ends drops setting events journal is own nothing answers i s
-    header found =
-    entered_ended setting journal i s header known there
+    header found = entered_ended setting journal i s header known there
     (none_travels journal i s header (number setting asked journal begins)
-    (none_hops journal (subst (λ j. next_hop j ≡ None) (sym answers.written)
-    (last_ends setting next_hop Drain (λ row before steps are. are) 1 events [] answers.steps
-    answers.allowed))) there)
+    (none_hops journal (rw answers.written (last_ends setting next_hop Drain
+    (λ row before steps are. are) 1 events [] answers.steps answers.allowed))) there)
   where
     asked : List Event
     asked = events ++ Drain ∷ []
@@ -169,29 +155,26 @@ accounted_or_cut_off number packets ends drops setting events journal is own not
 
     known : HaveCauses (IsKnownEnd setting) [] journal
     known = have_both (PacketCause setting) (Both (HasCause setting) (DropsNothing setting)) []
-        journal (packets.begun setting asked journal own begins is)
-        (have_both (HasCause setting) (DropsNothing setting) [] journal
-        (ends.begun setting asked journal own begins is)
+        journal (packets.begun setting asked journal own begins is) (have_both (HasCause setting)
+        (DropsNothing setting) [] journal (ends.begun setting asked journal own begins is)
         (drops setting asked journal is own nothing begins))
 
     there : IsIn (item.Entered i s header) journal
     there = in_at journal found.0 (item.Entered i s header) found.1 found.2
 
 pub all_accounted : ((setting : Setting) (events : List Event) (journal : List Item)
-    → IsSetting setting → AreEvents setting events → NothingFails events
-    → IsConnected setting.net → BeginsAnswer setting events journal → NoneIsStuck journal)
-    → ((setting : Setting) (events : List Event) (journal : List Item)
-    → IsSetting setting → AreEvents setting (events ++ Drain ∷ [])
-    → NothingFails (events ++ Drain ∷ [])
+    → IsSetting setting → AreEvents setting events → NothingFails events → IsConnected setting.net
+    → BeginsAnswer setting events journal → NoneIsStuck journal)
+    → ((setting : Setting) (events : List Event) (journal : List Item) → IsSetting setting
+    → AreEvents setting (events ++ Drain ∷ []) → NothingFails (events ++ Drain ∷ [])
     → Answers setting (events ++ Drain ∷ []) journal → AllAccountedOrCutOff setting journal)
-    → (setting : Setting) (events : List Event) (journal : List Item)
-    → IsSetting setting → AreEvents setting (events ++ Drain ∷ [])
-    → NothingFails (events ++ Drain ∷ []) → IsConnected setting.net
-    → Answers setting (events ++ Drain ∷ []) journal → AllAccounted setting journal
+    → (setting : Setting) (events : List Event) (journal : List Item) → IsSetting setting
+    → AreEvents setting (events ++ Drain ∷ []) → NothingFails (events ++ Drain ∷ [])
+    → IsConnected setting.net → Answers setting (events ++ Drain ∷ []) journal
+    → AllAccounted setting journal
 all_accounted none_stuck account setting events journal is own nothing connected answers i s header
     found =
-    let end = account setting events journal is own nothing answers i s header found in
-    record {
+    let end = account setting events journal is own nothing answers i s header found in record {
       before = end.before;
       found = end.found;
       rest = end.rest;

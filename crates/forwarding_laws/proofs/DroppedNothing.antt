@@ -10,7 +10,6 @@ use Rattle.update_machine.proofs.Exports.{AreOf, HasNexts, IsEventOf, first_step
 use Rattle.control_laws.specs.Exports.{AreEvents, HoldsReached}
 use Rattle.control_laws.proofs.Exports.{AreKept, Behind, Both, HasBothCauses, behind_both, have_both, have_weaker, piece_has, up_more, with_fact}
 use Rattle.packet_laws.proofs.Exports.{IsNoRow, no_rows}
-use Rattle.packet_laws.specs.Exports.{PacketCause}
 use Rattle.forwarding_laws.specs.Exports.{DropsNothing, FailsNothing, NothingFails, fails}
 use Rattle.forwarding_laws.proofs.ConnectedTargets.{IsKeptItem, are_kept_items, stuck_among}
 use Rattle.forwarding_laws.proofs.WholeClaims.{ClaimsAll, are_claimed}
@@ -29,16 +28,14 @@ no_row_safe before _ none = tt
 abbrev IsSafe : Step → Type 0
 IsSafe step = IsFalse (fails step)
 
-steps_safe : (setting : Setting) (before : List Item) (steps : List StepOfRow)
-    → AreOf IsSafe steps → HaveCauses IsSafeRow [] before
-    → HaveCauses IsSafeRow [] (after_steps setting before steps)
+steps_safe : (setting : Setting) (before : List Item) (steps : List StepOfRow) → AreOf IsSafe steps
+    → HaveCauses IsSafeRow [] before → HaveCauses IsSafeRow [] (after_steps setting before steps)
 steps_safe setting before [] safe have = have
-steps_safe setting before (next ∷ steps) safe have =
-    steps_safe setting (before ++ piece setting before next.row next.step) steps safe.1
+steps_safe setting before (next ∷ steps) safe have = steps_safe setting
+    (before ++ piece setting before next.row next.step) steps safe.1
     (have_append IsSafeRow [] before (piece setting before next.row next.step) have
-    (piece_has IsSafeRow setting before next.row next.step safe.0
-    (have_weaker (λ js after. IsNoRow after) IsSafeRow no_row_safe _ _
-    (no_rows setting before next.row next.step))))
+    (piece_has IsSafeRow setting before next.row next.step safe.0 (have_weaker (λ js after. IsNoRow
+    after) IsSafeRow no_row_safe _ _ (no_rows setting before next.row next.step))))
 
 event_safe : (event : Event) → FailsNothing event → IsEventOf IsSafe event
 event_safe (One step) safe = safe
@@ -49,15 +46,11 @@ nexts_safe = record { delivery = λ number. refl; hop = λ packet. refl }
 
 rows_safe : (setting : Setting) (events : List Event) (journal : List Item) → NothingFails events
     → BeginsAnswer setting events journal → HaveCauses IsSafeRow [] journal
-rows_safe setting events journal nothing begins =
-    subst (HaveCauses IsSafeRow []) (sym begins.written)
+rows_safe setting events journal nothing begins = rw begins.written
     (have_take IsSafeRow [] begins.whole begins.length
-    (subst (HaveCauses IsSafeRow []) (sym begins.answers.written)
-    (steps_safe setting [] begins.answers.steps
-    (first_steps_are IsSafe nexts_safe setting 1 events [] begins.answers.steps
-    (λ k d within. event_safe (get_or events k d) (nothing k d within))
-    begins.answers.allowed)
-    tt)))
+    (rw begins.answers.written (steps_safe setting [] begins.answers.steps
+    (first_steps_are IsSafe nexts_safe setting 1 events [] begins.answers.steps (λ k d within.
+    event_safe (get_or events k d) (nothing k d within)) begins.answers.allowed) tt)))
 
 -- ---- items
 
@@ -79,8 +72,7 @@ unfolding present_step
 next_step before (item.Row row now) safe old step is =
     let same : Some now ≡ Some step =
     sym (last_given_append gives_step before (item.Row row now ∷ [])) ∙ is in
-    let is_now : now ≡ step = cc in
-    subst (λ x. IsFalse (fails x)) is_now safe
+    let is_now : now ≡ step = cc in subst (λ x. IsFalse (fails x)) is_now safe
 next_step before next safe old step is =
     old step (sym (last_given_append gives_step before (next ∷ [])) ∙ is)
 
@@ -98,8 +90,7 @@ module _ (setting : Setting) (net : IsNet setting.net) where
   next_unfailing before next caused sound = tt
 
   safe_of : (journal : List Item) → IsSound setting journal → HaveCauses IsUnfailing [] journal
-  safe_of journal sound =
-      have_weaker (Both (HasBothCauses setting) IsUnfailing) IsUnfailing
+  safe_of journal sound = have_weaker (Both (HasBothCauses setting) IsUnfailing) IsUnfailing
       (λ before next both. both.second) [] journal sound.have
 
   next_up : (before : List Item) (next : Item) (s : ℕ) → IsUnfailing before next
@@ -111,24 +102,19 @@ module _ (setting : Setting) (net : IsNet setting.net) where
   -- no packet finds a link down
   next_found : (before : List Item) (next : Item) (i one two : ℕ) → IsCaused setting before next
       → IsSound setting before → finds_down i one two next ≡ false
-  next_found before (item.FoundDown packet x y) i one two caused sound =
-      let down = caused.first in
-      let clash : true ≡ false =
-      sym down.linked ∙ sym (all_usable setting before (safe_of before sound) x y)
-      ∙ down.unusable in
-      absurd cc
+  next_found before (item.FoundDown packet x y) i one two caused sound = let down = caused.first in
+      absurd (cc (sym down.linked ∙ sym (all_usable setting before (safe_of before sound) x y)
+      ∙ down.unusable))
   next_found before next i one two caused sound = refl
 
   sound_kept : AreKept (IsCaused setting) (IsSound setting)
   sound_kept before next caused sound =
-      let safe = next_unfailing before next caused sound in
-      record {
+      let safe = next_unfailing before next caused sound in record {
         step = next_step before next caused.second.second sound.step;
         up = λ s. next_up before next s safe (sound.up s);
         have = have_append (Both (HasBothCauses setting) IsUnfailing) [] before (next ∷ [])
             sound.have (record { first = caused.second.first; second = safe }, tt);
-        found = λ i one two.
-            list_any-append (finds_down i one two) before (next ∷ [])
+        found = λ i one two. list_any-append (finds_down i one two) before (next ∷ [])
             ∙ ap (λ b. b || (finds_down i one two next || false)) (sound.found i one two)
             ∙ ap (λ b. b || false) (next_found before next i one two caused sound);
       }
@@ -145,30 +131,21 @@ module _ (setting : Setting) (net : IsNet setting.net) where
 
   ends_known : (before : List Item) → IsSound setting before → (s one two : ℕ) → two < 64
       → is_end setting before s one two ≡ are_linked setting.net.links one two
-  ends_known before sound s one two small = by_place (cases_eq one s)
-    where
-      by_claim : (o : Option Claim) → claim_of setting before s one ≡ o
-          → ClaimsAll setting.net one o
-          → option_map_or (λ claim. claim.links two) (claim_of setting before s one) false
-          ≡ are_linked setting.net.links one two
-      by_claim None e all = absurd all
-      by_claim (Some claim) e all =
-          ap (λ o. option_map_or (λ (c : Claim). c.links two) o false) e ∙ all two small
+  ends_known before sound s one two small = by_place (cases_eq one s) where
+    by_claim : (o : Option Claim) → claim_of setting before s one ≡ o → ClaimsAll setting.net one o
+        → option_map_or (λ claim. claim.links two) (claim_of setting before s one) false
+        ≡ are_linked setting.net.links one two
+    by_claim None e all = absurd all
+    by_claim (Some claim) e all = cc (e, all two small)
 
-      by_place : (one ≡ s) ⊎ (one ≢ s)
-          → is_end setting before s one two ≡ are_linked setting.net.links one two
-      by_place (inl same) =
-          ap (λ b. if b then can_use setting before s two
-          else option_map_or (λ claim. claim.links two) (claim_of setting before s one) false)
-          (eq-eqb one s same)
-          ∙ all_usable setting before (safe_of before sound) s two
-          ∙ ap (λ x. are_linked setting.net.links x two) (sym same)
-      by_place (inr apart) =
-          ap (λ b. if b then can_use setting before s two
-          else option_map_or (λ claim. claim.links two) (claim_of setting before s one) false)
-          (ne_eqb one s apart)
-          ∙ by_claim (claim_of setting before s one) refl
-          ((are_claimed setting before sound.have).claims s one)
+    by_place : (one ≡ s) ⊎ (one ≢ s)
+        → is_end setting before s one two ≡ are_linked setting.net.links one two
+    by_place (inl same) =
+        cc (eq-eqb one s same, all_usable setting before (safe_of before sound) s two, same)
+    by_place (inr apart) = ap (λ b. if b then can_use setting before s two
+        else option_map_or (λ claim. claim.links two) (claim_of setting before s one) false)
+        (ne_eqb one s apart) ∙ by_claim (claim_of setting before s one) refl
+        ((are_claimed setting before sound.have).claims s one)
 
   -- each link of the network is open to each packet
   link_open : (before : List Item) → IsSound setting before → (packet s one two : ℕ)
@@ -189,8 +166,7 @@ module _ (setting : Setting) (net : IsNet setting.net) where
 
       apart : (one == two) ≡ false
       apart = ne_eqb one two (λ same.
-          let clash : true ≡ false =
-          sym linked ∙ ap (are_linked setting.net.links one) (sym same)
+          let clash = sym linked ∙ ap (are_linked setting.net.links one) (sym same)
           ∙ links.not_itself setting.net one net in
           absurd cc)
 
@@ -219,37 +195,26 @@ module _ (setting : Setting) (net : IsNet setting.net) where
       → DropsNothing setting before next
   drops_nothing is before (item.Stuck packet switch cause leg down) known =
       let stuck : IsStuckRightly setting before packet switch leg = known.first.caused.first in
-      let among = stuck_among setting is before packet switch cause leg down stuck.targets
-      known.second stuck.own_leg in
       record {
         stands = stuck.stands;
         targets = stuck.targets;
         own_leg = stuck.own_leg;
-        has_targets = not_empty stuck.targets among.among.some;
-        cut_off = λ k d within path leads.
-            stuck.no_path k d within path
-            (leads_open before known.first.known packet switch switch path
-            (get_or stuck.targets k d) leads);
+        has_targets = not_empty stuck.targets (stuck_among setting is before packet switch cause leg
+            down stuck.targets known.second stuck.own_leg).among.some;
+        cut_off = λ k d within path leads. stuck.no_path k d within path (leads_open before
+            known.first.known packet switch switch path (get_or stuck.targets k d) leads);
       }
   drops_nothing is before (item.Lost packet) known = elim known.first.caused.first [
     | inl own ↦ own
-    | inr crashed ↦
-        let clash : true ≡ false =
-        known.first.known.step (Crash crashed.switch) crashed.crashes in
-        absurd cc
+    | inr crashed ↦ absurd (cc (known.first.known.step (Crash crashed.switch) crashed.crashes))
   ]
   drops_nothing is before (item.FoundDown packet one two) known =
       let down = known.first.caused.first in
-      let clash : true ≡ false =
-      sym down.linked ∙ sym (all_usable setting before (safe_of before known.first.known) one two)
-      ∙ down.unusable in
-      absurd cc
+      absurd (cc (sym down.linked ∙ sym (all_usable setting before
+      (safe_of before known.first.known) one two) ∙ down.unusable))
   drops_nothing is before (item.Closed packet switch) known =
-      let refused : PacketCause setting before (item.Closed packet switch) =
-      known.second.caused.caused.way in
-      let clash : true ≡ false =
-      sym ((all_up before (safe_of before known.first.known)).serving switch) ∙ refused.1 in
-      absurd cc
+      absurd (cc (sym ((all_up before (safe_of before known.first.known)).serving switch)
+      ∙ known.second.caused.caused.way.1))
   drops_nothing is before next known = tt
 
 pub rollouts : HoldsReached (λ setting journal. IsSetting setting → HaveCauses (HasCause setting) [] journal)
@@ -261,8 +226,7 @@ rollouts ends setting events journal is own nothing begins =
     (DropsNothing setting) (drops_nothing setting is.net is) [] journal
     (have_both (Behind (IsCaused setting) (IsSound setting)) (IsKeptItem setting) [] journal
     (with_fact (IsCaused setting) (IsSound setting) (sound_kept setting is.net) [] journal caused
-    (sound_at_first setting is.net))
-    (are_kept_items setting events journal is own begins))
+    (sound_at_first setting is.net)) (are_kept_items setting events journal is own begins))
   where
     both : HaveCauses (HasBothCauses setting) [] journal
     both = (behind_both (λ setting journal. HaveCauses (HasBothCauses setting) [] journal)
@@ -270,6 +234,5 @@ rollouts ends setting events journal is own nothing begins =
 
     caused : HaveCauses (IsCaused setting) [] journal
     caused = have_both (HasCause setting) (Both (HasBothCauses setting) IsSafeRow) [] journal
-        (ends.begun setting events journal own begins is)
-        (have_both (HasBothCauses setting) IsSafeRow [] journal both
-        (rows_safe setting events journal nothing begins))
+        (ends.begun setting events journal own begins is) (have_both (HasBothCauses setting)
+        IsSafeRow [] journal both (rows_safe setting events journal nothing begins))

@@ -3,17 +3,16 @@
 use Rattle.std.proofs.Common.{[], if◌then◌else◌, ◌++◌, ◌<◌, ◌==◌, ◌∙◌, ◌∷◌, ◌≡◌, ◌⊎◌, All, Bool, IsFalse, IsTrue, List, None, Some, ap, arith, eq-eqb, eqb-true, false, find, inl, inr, ne_eqb, option_map, refl, subst, sym, true, unwrap_or, ℕ}
 use Rattle.base.proofs.Exports.{Contains-append_left, Contains-push, option_or, some_same}
 use Rattle.base.specs.Exports.{has}
-use Rattle.update_machine.specs.Exports.{Action, Cause, Crash, Decision, Exit, Header, IsSetting, Item, Leaving, Leg, Lose, Seek, Setting, Step, decision_of, gives_decision, gives_header, gives_standing, gives_step, gives_travelling, header_in, last_given, next_packet, plan_at, present_step, retired_mark, route_from, standing, targets_of, travels, version_count}
+use Rattle.update_machine.specs.Exports.{Action, Cause, Crash, Decision, Exit, Header, IsSetting, Item, Leaving, Leg, Lose, Seek, Setting, Step, decision_of, gives_decision, gives_header, gives_standing, gives_step, gives_travelling, header_in, next_packet, plan_at, present_step, retired_mark, route_from, standing, targets_of, travels, version_count}
 use Rattle.net_file.specs.Exports.{IsNet}
 use Rattle.policy_rules.specs.Exports.{Hosted, is_in}
 use Rattle.policy_rules.specs.declared.policy.Action.TheVariants as action
 use Rattle.journal.specs.declared.item.Item.TheVariants as item
-use Rattle.steps.specs.Exports.{HasSwitch}
 use Rattle.update_machine.proofs.Exports.{folded_append, last_given_append}
 use Rattle.convergence_laws.proofs.Exports.{AreKept, Behind, Both, StaysSo, moves, reach_more, stays_on}
 use Rattle.convergence_laws.specs.Exports.{AreUnusable, HasConverged, IsUpdated, Reaches}
 use Rattle.packet_laws.specs.Exports.{AllKept, FurtherCause, PacketCause, SeeksRightly, StrongCause, changes_mark, entry_mark}
-use Rattle.packet_laws.proofs.Exports.{Before, IsHere, IsWayItem, Past, here_known, known_before, knows, packet_more, standing_more, stands_known, travels_more}
+use Rattle.packet_laws.proofs.Exports.{Before, IsWayItem, Past, here_known, known_before, knows, packet_more, standing_more, stands_known, travels_more}
 use Rattle.forwarding_laws.specs.Exports.{EndsBy, FindsNoTarget, IsStuckApart}
 use Rattle.forwarding_laws.proofs.PassingSteps.{MarksStay, Passes, marks_stay, passes_walks}
 use Rattle.forwarding_laws.proofs.UsableWalks.{apart_from}
@@ -25,8 +24,7 @@ pub undecided_by : (before : List Item) (next : Item) (i : ℕ) → gives_decisi
     → decision_of (before ++ next ∷ []) i ≡ decision_of before i
 unfolding decision_of
 undecided_by before next i decides =
-    last_given_append (gives_decision i) before (next ∷ [])
-    ∙ ap (λ o. option_or o (last_given (gives_decision i) before)) decides
+    cc (last_given_append (gives_decision i) before (next ∷ []), decides)
 
 pub step_more : (before : List Item) (next : Item)
     → present_step (before ++ next ∷ []) ≡ option_or (gives_step next) (present_step before)
@@ -70,8 +68,7 @@ pub record Follows (setting : Setting) (journal : List Item) (s i : ℕ) (header
 
 -- an item of packets, with its causes behind a journal of which all is known
 abbrev pub IsFollowed : Setting → List Item → Item → Type 0
-IsFollowed setting =
-    Both (Passes setting)
+IsFollowed setting = Both (Passes setting)
     (Both (Behind (Past (IsWayItem setting)) (AllKept setting)) (StrongCause setting))
 
 -- ---- another packet enters
@@ -84,66 +81,54 @@ module _ (setting : Setting) (journal : List Item) (s i : ℕ) (header : Header)
   header_on : (next : Item) → PacketCause setting before next
       → header_in (before ++ next ∷ []) i ≡ Some header
   unfolding header_in
-  header_on next way = last_given_append (gives_header i) before (next ∷ []) ∙ by next way
-    where
-      by : (next : Item) → PacketCause setting before next
-          → option_or (gives_header i next) (header_in before i) ≡ Some header
-      by (item.Entered packet t other) way =
-          ap (λ b. option_or (if b then Some other else None) (header_in before i))
-          (comes_other packet i (next_packet before) way.0.number follows.number)
-          ∙ follows.entered
-      by next way = follows.entered
+  header_on next way = last_given_append (gives_header i) before (next ∷ []) ∙ by next way where
+    by : (next : Item) → PacketCause setting before next
+        → option_or (gives_header i next) (header_in before i) ≡ Some header
+    by (item.Entered packet t other) way = cc
+        (comes_other packet i (next_packet before) way.0.number follows.number, follows.entered)
+    by next way = follows.entered
 
   mark_on : (next : Item) → PacketCause setting before next
       → entry_mark (before ++ next ∷ []) i ≡ retired_mark journal
-  mark_on next way = mark_more before next i ∙ by next way
-    where
-      by : (next : Item) → PacketCause setting before next
-          → changes_mark i before (entry_mark before i) next ≡ retired_mark journal
-      by (item.Entered packet t other) way =
-          ap (λ b. if b then retired_mark before else entry_mark before i)
-          (comes_other packet i (next_packet before) way.0.number follows.number)
-          ∙ follows.mark
-      by next way = follows.mark
+  mark_on next way = mark_more before next i ∙ by next way where
+    by : (next : Item) → PacketCause setting before next
+        → changes_mark i before (entry_mark before i) next ≡ retired_mark journal
+    by (item.Entered packet t other) way =
+        cc (comes_other packet i (next_packet before) way.0.number follows.number, follows.mark)
+    by next way = follows.mark
 
   step_on : (next : Item) → Passes setting before next → (step : Step)
       → present_step (before ++ next ∷ []) ≡ Some step → IsTrue (moves step)
-  step_on next passes step present = by next passes (sym (step_more before next) ∙ present)
-    where
-      by : (next : Item) → Passes setting before next
-          → option_or (gives_step next) (present_step before) ≡ Some step → IsTrue (moves step)
-      by (item.Row row taken) passes is = subst (λ x. IsTrue (moves x)) (cc is) passes
-      by next passes is = follows.step step is
+  step_on next passes step present = by next passes (sym (step_more before next) ∙ present) where
+    by : (next : Item) → Passes setting before next
+        → option_or (gives_step next) (present_step before) ≡ Some step → IsTrue (moves step)
+    by (item.Row row taken) passes is = subst (λ x. IsTrue (moves x)) (cc is) passes
+    by next passes is = follows.step step is
 
   -- ---- where it stands
 
   at_on : Before setting before → (next : Item) → PacketCause setting before next → (t : ℕ)
       → standing (before ++ next ∷ []) i ≡ Some t → Reaches setting journal s t
-  at_on known next way t stands = by next way (sym (standing_more before next i) ∙ stands)
-    where
-      by : (next : Item) → PacketCause setting before next
-          → option_or (gives_standing i next) (standing before i) ≡ Some t
+  at_on known next way t stands = by next way (sym (standing_more before next i) ∙ stands) where
+    by : (next : Item) → PacketCause setting before next
+        → option_or (gives_standing i next) (standing before i) ≡ Some t
+        → Reaches setting journal s t
+    by (item.Entered packet u other) way is = follows.at t
+        (sym (ap (λ b. option_or (if b then Some u else None) (standing before i))
+        (comes_other packet i (next_packet before) way.0.number follows.number)) ∙ is)
+    by (item.Hopped packet u) way is = by_name (packet == i) refl is where
+      by_name : (b : Bool) → (packet == i) ≡ b
+          → option_or (if b then Some u else None) (standing before i) ≡ Some t
           → Reaches setting journal s t
-      by (item.Entered packet u other) way is =
-          follows.at t
-          (sym (ap (λ b. option_or (if b then Some u else None) (standing before i))
-          (comes_other packet i (next_packet before) way.0.number follows.number)) ∙ is)
-      by (item.Hopped packet u) way is = by_name (packet == i) refl is
-        where
-          by_name : (b : Bool) → (packet == i) ≡ b
-              → option_or (if b then Some u else None) (standing before i) ≡ Some t
-              → Reaches setting journal s t
-          by_name false other is = follows.at t is
-          by_name true same is =
-              let from : standing before i ≡ Some way.switch =
-              subst (λ k. standing before k ≡ Some way.switch) (eqb-true packet i same)
-              (stands_known setting before packet way.switch (knows setting before packet known)
-              way.at) in
-              let u_is : u ≡ t = cc is in
-              subst (Reaches setting journal s) u_is
-              (reach_more setting journal s way.switch u (follows.at way.switch from)
-              (ap (λ mask. has mask u) (sym (follows.stays.links way.switch)) ∙ way.usable))
-      by next way is = follows.at t is
+      by_name false other is = follows.at t is
+      by_name true same is =
+          let from = subst (λ k. standing before k ≡ Some way.switch) (eqb-true packet i same)
+          (stands_known setting before packet way.switch (knows setting before packet known)
+          way.at) in
+          subst (Reaches setting journal s) (cc is)
+          (reach_more setting journal s way.switch u (follows.at way.switch from)
+          (ap (λ mask. has mask u) (sym (follows.stays.links way.switch)) ∙ way.usable))
+    by next way is = follows.at t is
 
   -- ---- its version
 
@@ -169,20 +154,17 @@ module _ (setting : Setting) (journal : List Item) (s i : ℕ) (header : Header)
       by : (next : Item) → FurtherCause setting before next
           → option_or (gives_decision i next) (decision_of before i) ≡ Some decision
           → decision.version ≡ version_count journal
-      by (item.Decided packet version rule act how) further is = by_name (packet == i) refl is
-        where
-          new : Decision
-          new = record { version = version; rule = rule; action = act }
+      by (item.Decided packet version rule act how) further is = by_name (packet == i) refl is where
+        new : Decision
+        new = record { version = version; rule = rule; action = act }
 
-          by_name : (b : Bool) → (packet == i) ≡ b
-              → option_or (if b then Some new else None) (decision_of before i) ≡ Some decision
-              → decision.version ≡ version_count journal
-          by_name false other is = follows.version decision is
-          by_name true same is =
-              let made : new ≡ decision = cc is in
-              sym (ap (λ (d : Decision). d.version) made)
-              ∙ newest updated version (subst (λ k. SeeksRightly before k version)
-              (eqb-true packet i same) further.0)
+        by_name : (b : Bool) → (packet == i) ≡ b
+            → option_or (if b then Some new else None) (decision_of before i) ≡ Some decision
+            → decision.version ≡ version_count journal
+        by_name false other is = follows.version decision is
+        by_name true same is = let made : new ≡ decision = cc is in
+            sym (ap (λ (d : Decision). d.version) made)
+            ∙ newest updated version (rw (eqb-true packet i same) at further.0)
       by next further is = follows.version decision is
 
   -- ---- how it ends
@@ -191,62 +173,57 @@ module _ (setting : Setting) (journal : List Item) (s i : ℕ) (header : Header)
   fate_on : (next : Item) → travels (before ++ next ∷ []) i ≡ travels before i
       → decision_of (before ++ next ∷ []) i ≡ decision_of before i
       → Fate setting journal s i header (before ++ next ∷ [])
-  fate_on next same_travels same_decision = by follows.fate
-    where
-      after : List Item
-      after = before ++ next ∷ []
+  fate_on next same_travels same_decision = by follows.fate where
+    after : List Item
+    after = before ++ next ∷ []
 
-      ends_on : (act : Action) → EndsBy setting journal before i s act
-          → EndsBy setting journal after i s act
-      ends_on action.Drop there = Contains-append_left before (next ∷ []) (item.Dropped i) there
-      ends_on (action.Out port) (inl leaves) = inl (record {
-        leaving = leaves.leaving;
-        left = Contains-append_left before (next ∷ []) (item.Left i port leaves.leaving) leaves.left;
-        home = leaves.home;
-        has_port = leaves.has_port;
-        reached = leaves.reached;
-      })
-      ends_on (action.Out port) (inr stuck) = inr (record {
-        switch = stuck.switch;
-        cause = stuck.cause;
-        down = stuck.down;
-        stuck = Contains-append_left before (next ∷ [])
-            (item.Stuck i stuck.switch stuck.cause (Exit port) stuck.down) stuck.stuck;
-        apart = stuck.apart;
-      })
+    ends_on : (act : Action) → EndsBy setting journal before i s act
+        → EndsBy setting journal after i s act
+    ends_on action.Drop there = Contains-append_left before (next ∷ []) (item.Dropped i) there
+    ends_on (action.Out port) (inl leaves) = inl (record {
+      leaving = leaves.leaving;
+      left = Contains-append_left before (next ∷ []) (item.Left i port leaves.leaving) leaves.left;
+      home = leaves.home;
+      has_port = leaves.has_port;
+      reached = leaves.reached;
+    })
+    ends_on (action.Out port) (inr stuck) = inr (record {
+      switch = stuck.switch;
+      cause = stuck.cause;
+      down = stuck.down;
+      stuck = Contains-append_left before (next ∷ [])
+          (item.Stuck i stuck.switch stuck.cause (Exit port) stuck.down) stuck.stuck;
+      apart = stuck.apart;
+    })
 
-      how_on : IsEnded setting journal s i before ⊎ FindsNoTarget setting journal before i s header
-          → IsEnded setting journal s i after ⊎ FindsNoTarget setting journal after i s header
-      how_on (inl ended) = inl (record {
-        decision = ended.decision;
-        decided = same_decision ∙ ended.decided;
-        ends = ends_on ended.decision.action ended.ends;
-      })
-      how_on (inr finds) = inr (record {
-        undecided = same_decision ∙ finds.undecided;
-        partition = finds.partition;
-        own = finds.own;
-        stuck = record {
-          switch = finds.stuck.switch;
-          cause = finds.stuck.cause;
-          down = finds.stuck.down;
-          stuck = Contains-append_left before (next ∷ []) _ finds.stuck.stuck;
-          apart = finds.stuck.apart;
-        };
-      })
+    how_on : IsEnded setting journal s i before ⊎ FindsNoTarget setting journal before i s header
+        → IsEnded setting journal s i after ⊎ FindsNoTarget setting journal after i s header
+    how_on (inl ended) = inl (record {
+      decision = ended.decision;
+      decided = same_decision ∙ ended.decided;
+      ends = ends_on ended.decision.action ended.ends;
+    })
+    how_on (inr finds) = inr (record {
+      undecided = same_decision ∙ finds.undecided;
+      partition = finds.partition;
+      own = finds.own;
+      stuck = record {
+        switch = finds.stuck.switch;
+        cause = finds.stuck.cause;
+        down = finds.stuck.down;
+        stuck = Contains-append_left before (next ∷ []) _ finds.stuck.stuck;
+        apart = finds.stuck.apart;
+      };
+    })
 
-      by : Fate setting journal s i header before → Fate setting journal s i header after
-      by (inl on) = inl (same_travels ∙ on)
-      by (inr ended) = inr (record {
-        ended = same_travels ∙ ended.ended;
-        how = how_on ended.how;
-      })
+    by : Fate setting journal s i header before → Fate setting journal s i header after
+    by (inl on) = inl (same_travels ∙ on)
+    by (inr ended) = inr (record { ended = same_travels ∙ ended.ended; how = how_on ended.how })
 
   -- the decision and the travelling of the packet, as most items leave them
   pass_on : (next : Item) → gives_travelling i next ≡ None → gives_decision i next ≡ None
       → Fate setting journal s i header (before ++ next ∷ [])
-  pass_on next travelling decides =
-      fate_on next
+  pass_on next travelling decides = fate_on next
       (travels_more before next i ∙ ap (λ o. unwrap_or o (travels before i)) travelling)
       (undecided_by before next i decides)
 
@@ -264,22 +241,19 @@ module _ (setting : Setting) (journal : List Item) (s i : ℕ) (header : Header)
 
   dropped : PacketCause setting before (item.Dropped i)
       → Fate setting journal s i header (before ++ item.Dropped i ∷ [])
-  dropped way =
-      let now = ended_by (item.Dropped i) (rw own refl) refl in
+  dropped way = let now = ended_by (item.Dropped i) (rw own refl) refl in
       inr (record {
         ended = now.0;
         how = inl (record {
           decision = way.decision;
           decided = now.1 ∙ way.decided;
-          ends = subst (EndsBy setting journal (before ++ item.Dropped i ∷ []) i s)
-              (sym way.action) (Contains-push before (item.Dropped i));
+          ends = rw way.action (Contains-push before (item.Dropped i));
         });
       })
 
   left : (port : ℕ) (leaving : Leaving) → FurtherCause setting before (item.Left i port leaving)
       → Fate setting journal s i header (before ++ item.Left i port leaving ∷ [])
-  left port leaving leaves =
-      let now = ended_by (item.Left i port leaving) (rw own refl) refl in
+  left port leaving leaves = let now = ended_by (item.Left i port leaving) (rw own refl) refl in
       inr (record {
         ended = now.0;
         how = inl (record {
@@ -303,9 +277,7 @@ module _ (setting : Setting) (journal : List Item) (s i : ℕ) (header : Header)
   not_lost : PacketCause setting before (item.Lost i) → ⊥
   not_lost way = elim way.how [
     | inl row ↦ let moved : moves (Lose i) ≡ true = follows.step (Lose i) row in cc
-    | inr crash ↦
-        let moved : moves (Crash crash.switch) ≡ true =
-        follows.step (Crash crash.switch) crash.crashes in
+    | inr crash ↦ let moved = follows.step (Crash crash.switch) crash.crashes in
         cc
   ]
 
@@ -315,16 +287,13 @@ module _ (setting : Setting) (journal : List Item) (s i : ℕ) (header : Header)
       → StrongCause setting before (item.Stuck i t cause leg down)
       → All (λ target. Reaches setting journal s target → ⊥) (targets_of setting journal leg)
   stuck_apart net converged known t cause leg down strong =
-      let here : IsHere setting before i t =
-      here_known setting before i t (knows setting before i known) strong.0.at in
+      let here = here_known setting before i t (knows setting before i known) strong.0.at in
       let targets : List ℕ = targets_of setting journal leg in
-      let there : HasSwitch setting.net t = omega (arith, here.at, here.under.now) in
       apart_from setting journal net s t targets (follows.at t strong.1.stuck.stands)
-      (converged.stuck t targets down there
+      (converged.stuck t targets down (omega (arith, here.at, here.under.now))
       (subst (AreUnusable setting journal) (sym strong.1.found) follows.stays.found)
-      (sym (follows.stays.routes t targets down)
-      ∙ ap (λ all. route_from setting before t all down) (sym (follows.stays.targets leg))
-      ∙ strong.1.no_route))
+      (sym (follows.stays.routes t targets down) ∙ ap (λ all. route_from setting before t all down)
+      (sym (follows.stays.targets leg)) ∙ strong.1.no_route))
 
   stuck : IsNet setting.net → HasConverged setting journal → IsUpdated setting journal
       → Before setting before → (t : ℕ) (cause : Cause) (leg : Leg) (down : List ℕ)
@@ -334,8 +303,7 @@ module _ (setting : Setting) (journal : List Item) (s i : ℕ) (header : Header)
       let now = ended_by (item.Stuck i t cause leg down) (rw own refl) refl in
       inr (record {
         ended = now.0;
-        how = by_leg leg strong now.1
-            (stuck_apart net converged known t cause leg down strong);
+        how = by_leg leg strong now.1 (stuck_apart net converged known t cause leg down strong);
       })
     where
       by_leg : (leg : Leg) → StrongCause setting before (item.Stuck i t cause leg down)
@@ -362,8 +330,6 @@ module _ (setting : Setting) (journal : List Item) (s i : ℕ) (header : Header)
           let next : Item = item.Stuck i t cause (Seek version partition) down in
           let current : version ≡ version_count journal = newest updated version strong.1.rightly in
           let found = strong.1.stuck.own_leg in
-          let header_is : found.0 ≡ header =
-          some_same (header_in before i) found.0 header found.1 follows.entered in
           inr (record {
             undecided = same ∙ strong.1.rightly.undecided;
             partition = partition;
@@ -373,7 +339,7 @@ module _ (setting : Setting) (journal : List Item) (s i : ℕ) (header : Header)
                 (find (λ (p : Hosted). is_in header p.0) plan)) (sym (follows.marks.plan version))
                 ∙ ap (λ h. option_map (λ (p : Hosted). p.0.number)
                 (find (λ (p : Hosted). is_in h p.0) (plan_at setting before version)))
-                (sym header_is)
+                (sym (some_same (header_in before i) found.0 header found.1 follows.entered))
                 ∙ found.2;
             stuck = subst (λ v. IsStuckApart setting journal (before ++ next ∷ []) i s
                 (Seek v partition)) current (record {
@@ -390,21 +356,18 @@ module _ (setting : Setting) (journal : List Item) (s i : ℕ) (header : Header)
       → ((packet == i) ≡ false → Fate setting journal s i header (before ++ next packet ∷ []))
       → (packet ≡ i → Fate setting journal s i header (before ++ next i ∷ []))
       → Fate setting journal s i header (before ++ next packet ∷ [])
-  of_packet next packet other own = by (packet == i) refl
-    where
-      by : (b : Bool) → (packet == i) ≡ b
-          → Fate setting journal s i header (before ++ next packet ∷ [])
-      by false apart = other apart
-      by true same =
-          let is : packet ≡ i = eqb-true packet i same in
-          subst (λ k. Fate setting journal s i header (before ++ next k ∷ [])) (sym is) (own is)
+  of_packet next packet other own = by (packet == i) refl where
+    by : (b : Bool) → (packet == i) ≡ b
+        → Fate setting journal s i header (before ++ next packet ∷ [])
+    by false apart = other apart
+    by true same = let is : packet ≡ i = eqb-true packet i same in
+        subst (λ k. Fate setting journal s i header (before ++ next k ∷ [])) (sym is) (own is)
 
   fate_next : IsNet setting.net → HasConverged setting journal → IsUpdated setting journal
       → Before setting before → (next : Item) → StrongCause setting before next
       → Fate setting journal s i header (before ++ next ∷ [])
   fate_next net converged updated known (item.Entered packet t other) strong =
-      let apart : (packet == i) ≡ false =
-      comes_other packet i (next_packet before) strong.0.0.number follows.number in
+      let apart = comes_other packet i (next_packet before) strong.0.0.number follows.number in
       pass_on (item.Entered packet t other) (rw apart refl) refl
   fate_next net converged updated known (item.Dropped packet) strong =
       of_packet item.Dropped packet (λ apart. pass_on (item.Dropped packet) (rw apart refl) refl)
@@ -412,16 +375,14 @@ module _ (setting : Setting) (journal : List Item) (s i : ℕ) (header : Header)
   fate_next net converged updated known (item.Left packet port leaving) strong =
       of_packet (λ k. item.Left k port leaving) packet
       (λ apart. pass_on (item.Left packet port leaving) (rw apart refl) refl)
-      (λ is. left port leaving
-      (subst (λ k. FurtherCause setting before (item.Left k port leaving)) is strong.1))
+      (λ is. left port leaving (rw is at strong.1))
   fate_next net converged updated known (item.Lost packet) strong =
       of_packet item.Lost packet (λ apart. pass_on (item.Lost packet) (rw apart refl) refl)
       (λ is. absurd (not_lost (subst (λ k. PacketCause setting before (item.Lost k)) is strong.0)))
   fate_next net converged updated known (item.Stuck packet t cause leg down) strong =
       of_packet (λ k. item.Stuck k t cause leg down) packet
       (λ apart. pass_on (item.Stuck packet t cause leg down) (rw apart refl) refl)
-      (λ is. stuck net converged updated known t cause leg down
-      (subst (λ k. StrongCause setting before (item.Stuck k t cause leg down)) is strong))
+      (λ is. stuck net converged updated known t cause leg down (rw is at strong))
   fate_next net converged updated known (item.Decided packet version rule act how) strong =
       of_packet (λ k. item.Decided k version rule act how) packet
       (λ apart. pass_on (item.Decided packet version rule act how) refl (rw apart refl))
@@ -434,10 +395,8 @@ pub follows_on : (setting : Setting) (journal : List Item) (s i : ℕ) (header :
     → IsSetting setting → HasConverged setting journal → IsUpdated setting journal
     → AreKept (IsFollowed setting) (Follows setting journal s i header)
 follows_on setting journal s i header is converged updated before next cause follows =
-    let known : Before setting before =
-    known_before setting is before next cause.second.first in
-    let strong : StrongCause setting before next = cause.second.second in
-    record {
+    let known = known_before setting is before next cause.second.first in
+    let strong : StrongCause setting before next = cause.second.second in record {
       stays = stays_on setting journal is.net i before next
           (passes_walks setting before next cause.first) follows.stays;
       marks = marks_stay setting journal before next cause.first follows.marks;

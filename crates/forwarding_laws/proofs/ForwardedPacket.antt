@@ -1,9 +1,9 @@
 -- A packet that enters behind a quiet journal is followed over its step and the hops of a drain,
 -- and has ended then.
 use Rattle.std.proofs.Common.{[], ◌++◌, ◌+◌, ◌-◌, ◌<◌, ◌==◌, ◌∙◌, ◌∷◌, ◌≡◌, ◌≤◌, ◌⊎◌, Contains, IsTrue, List, None, Option, Some, ap, append_assoc, arith, eq-eqb, false, find, inl, inr, length, option_map, refl, subst, sym, true, ℕ}
-use Rattle.base.proofs.Exports.{All-contains, find_none, get_or-range_with_len, length-range_with_len, option_or, range_with_len}
+use Rattle.base.proofs.Exports.{All-contains, find_none, get_or-range_with_len, length-range_with_len, range_with_len}
 use Rattle.five_tuple.specs.Exports.{IsHeader}
-use Rattle.update_machine.specs.Exports.{AreAll, Decision, HaveCauses, Header, Hop, IsSetting, Item, Packet, Row, Setting, Step, StepOfRow, after_steps, count_of, decision_of, gives_header, header_in, is_packet, is_up, items_then, last_given, lookup_items, next_hop, next_packet, next_travelling, packet_items, packets_in, piece, policy_at, serves, switches_of, travels, version_count}
+use Rattle.update_machine.specs.Exports.{AreAll, Decision, HaveCauses, Header, Hop, IsSetting, Item, Packet, Row, Setting, Step, StepOfRow, after_steps, count_of, decision_of, gives_header, header_in, is_packet, is_up, items_then, lookup_items, next_hop, next_packet, next_travelling, packet_items, packets_in, piece, policy_at, serves, switches_of, travels, version_count}
 use Rattle.policy_rules.specs.Exports.{IsFirstMatch, scan}
 use Rattle.policy_rules.proofs.CallerLemmas.{first_match-scan}
 use Rattle.journal.specs.declared.item.Item.TheVariants as item
@@ -12,7 +12,7 @@ use Rattle.update_machine.proofs.Exports.{count_of_append, last_given_append, sw
 use Rattle.convergence_laws.proofs.Exports.{Behind, Both, NamesOwn, fact_on, have_both, have_rest, moves, stays_itself, stays_on}
 use Rattle.convergence_laws.specs.Exports.{HasConverged, IsUpdated}
 use Rattle.packet_laws.specs.Exports.{AllKept, IsUnknown, StrongCause, hit_in, what_is_known}
-use Rattle.packet_laws.proofs.Exports.{IsRightly, IsSettled, IsWayItem, Past, all_kept, all_right, decision_out, found_in, kept_before, numbered, packet_more, piece_settled, standing_more, strongly_caused, travels_more, ways_of_all}
+use Rattle.packet_laws.proofs.Exports.{IsSettled, IsWayItem, Past, all_kept, all_right, decision_out, found_in, kept_before, numbered, packet_more, piece_settled, standing_more, strongly_caused, travels_more, ways_of_all}
 use Rattle.forwarding_laws.specs.Exports.{FindsNoTarget, IsForwarded, QuietForwards}
 use Rattle.forwarding_laws.proofs.FollowedPacket.{Fate, Follows, IsEnded, IsFollowed, follows_on, mark_more, step_more, undecided_by}
 use Rattle.forwarding_laws.proofs.PassingSteps.{MarksStay, Passes, hop_passes, marks_stay, packet_passes}
@@ -24,26 +24,22 @@ module _ (setting : Setting) (is : IsSetting setting) where
   are_followed : (before items : List Item) → IsSettled setting (before ++ items)
       → HaveCauses (Passes setting) before items
       → HaveCauses (IsFollowed setting) before items
-  are_followed before items settled passes =
-      have_both (Passes setting)
+  are_followed before items settled passes = have_both (Passes setting)
       (Both (Behind (Past (IsWayItem setting)) (AllKept setting)) (StrongCause setting)) before
       items passes
       (have_both (Behind (Past (IsWayItem setting)) (AllKept setting)) (StrongCause setting) before
-      items
-      (have_rest (Behind (Past (IsWayItem setting)) (AllKept setting)) [] before items
-      (kept_before setting (before ++ items) is settled.causes))
-      (have_rest (StrongCause setting) [] before items
-      (strongly_caused setting (before ++ items) is settled.causes)))
+      items (have_rest (Behind (Past (IsWayItem setting)) (AllKept setting)) [] before items
+      (kept_before setting (before ++ items) is settled.causes)) (have_rest (StrongCause setting) []
+      before items (strongly_caused setting (before ++ items) is settled.causes)))
 
 -- ---- numbers of a range
 
 in_range : (low n x : ℕ) → low ≤ x → x < low + n → Contains (range_with_len low n) x
-in_range low n x above below =
-    let place : low + (x - low) ≡ x = omega (arith, above) in (
-      x - low,
-      omega (arith, length-range_with_len low n, above, below),
-      get_or-range_with_len low n (x - low) x (omega (arith, above, below)) ∙ place,
-    )
+in_range low n x above below = let place : low + (x - low) ≡ x = omega (arith, above) in (
+  x - low,
+  omega (arith, length-range_with_len low n, above, below),
+  get_or-range_with_len low n (x - low) x (omega (arith, above, below)) ∙ place,
+)
 
 unmapped : (o : Option ℕ) → option_map Hop o ≡ None → o ≡ None
 unmapped None none = refl
@@ -53,8 +49,7 @@ unmapped (Some k) none = absurd cc
 none_travels : (now : List Item) (i : ℕ) → next_hop now ≡ None → 1 ≤ i → i < next_packet now
     → travels now i ≡ false
 unfolding next_packet next_travelling
-none_travels now i none above below =
-    All-contains (λ k. travels now k ≡ false) (packets_in now) i
+none_travels now i none above below = All-contains (λ k. travels now k ≡ false) (packets_in now) i
     (find_none (travels now) (packets_in now) (unmapped (find (travels now) (packets_in now)) none))
     (in_range 1 (count_of is_packet now) i above (omega (arith, below)))
 
@@ -62,8 +57,7 @@ header_by : (before : List Item) (next : Item) (i : ℕ) (header : Header)
     → gives_header i next ≡ Some header → header_in (before ++ next ∷ []) i ≡ Some header
 unfolding header_in
 header_by before next i header gives =
-    last_given_append (gives_header i) before (next ∷ [])
-    ∙ ap (λ o. option_or o (last_given (gives_header i) before)) gives
+    cc (last_given_append (gives_header i) before (next ∷ []), gives)
 
 number_more : (before : List Item) (i s : ℕ) (header : Header)
     → next_packet (before ++ item.Entered i s header ∷ []) ≡ next_packet before + 1
@@ -75,8 +69,7 @@ serves_there : (setting : Setting) (journal : List Item) (s : ℕ) → IsUpdated
     → HasSwitch setting.net s → IsTrue (is_up journal s) → IsTrue (serves journal s)
 serves_there setting journal s updated there up =
     All-contains (λ k. IsTrue (is_up journal k) → IsTrue (serves journal k)) (switches_of setting) s
-    updated.serving (in_range 0 (length setting.net.switches) s (omega arith) (omega (arith, there)))
-    up
+    updated.serving (in_range 0 (length setting.net.switches) s (omega arith) (omega arith)) up
 
 -- ---- as it enters
 
@@ -111,29 +104,23 @@ module _ (setting : Setting) (journal : List Item) (row s : ℕ) (header : Heade
     plan = λ v. refl;
   })
 
-  started : IsSetting setting → IsSettled setting journal
-      → Follows setting journal s i header begun
+  started : IsSetting setting → IsSettled setting journal → Follows setting journal s i header begun
   started is settled =
       let new : IsUnknown (what_is_known journal i) =
-      (all_kept setting journal is settled.causes).unknown i (omega arith) in
-      record {
-        stays = stays_on setting journal is.net i here entering tt
-            (stays_on setting journal is.net i journal coming tt
-            (stays_itself setting journal i (found_in journal i ∙ new.found)));
+      (all_kept setting journal is settled.causes).unknown i (omega arith) in record {
+        stays = stays_on setting journal is.net i here entering tt (stays_on setting journal is.net
+            i journal coming tt (stays_itself setting journal i (found_in journal i ∙ new.found)));
         marks = marks_stay setting journal here entering tt marks_here;
-        step = λ step present.
-            let same : Some (Packet s header) ≡ Some step =
+        step = λ step present. let same : Some (Packet s header) ≡ Some step =
             sym (step_more here entering ∙ step_more journal coming) ∙ present in
             let is_packet_row : Packet s header ≡ step = cc in
             subst (λ x. IsTrue (moves x)) is_packet_row refl;
         number = omega (arith, packet_more journal coming, number_more here i s header);
         entered = header_by here entering i header (rw own refl);
         mark = mark_more here entering i ∙ rw own marks_here.retired;
-        at = λ t stands.
-            let same : Some s ≡ Some t =
+        at = λ t stands. let same : Some s ≡ Some t =
             sym (standing_more here entering i ∙ rw own refl) ∙ stands in
-            let at_once : s ≡ t = cc in
-            record { rest = []; leads = at_once };
+            let at_once : s ≡ t = cc in record { rest = []; leads = at_once };
         version = λ decision decided.
             let none : decision_of journal i ≡ None = decision_out journal i None new.decision in
             let same : None ≡ Some decision =
@@ -162,23 +149,16 @@ module _ (setting : Setting) (journal : List Item) (row s : ℕ) (header : Heade
   followed_in : IsSetting setting → HasConverged setting journal → IsUpdated setting journal
       → IsSettled setting journal → HasSwitch setting.net s → IsHeader header
       → IsTrue (is_up journal s)
-      → Follows setting journal s i header
-      (journal ++ piece setting journal row (Packet s header))
+      → Follows setting journal s i header (journal ++ piece setting journal row (Packet s header))
   followed_in is converged updated settled there sound up =
-      let is_written : piece setting journal row (Packet s header) ≡ coming ∷ entering ∷ lookups =
-      written (serves_there setting journal s updated there up) in
-      let whole : begun ++ lookups ≡ journal ++ piece setting journal row (Packet s header) =
-      joined ∙ ap (λ items. journal ++ items) (sym is_written) in
-      let after : IsSettled setting (begun ++ lookups) =
-      subst (IsSettled setting) (sym whole)
+      let is_written = written (serves_there setting journal s updated there up) in
+      let whole = joined ∙ ap (λ items. journal ++ items) (sym is_written) in
+      let after = subst (IsSettled setting) (sym whole)
       (piece_settled setting journal row (Packet s header) is (there, sound) settled) in
-      let passes : HaveCauses (Passes setting) journal (coming ∷ entering ∷ lookups) =
-      subst (HaveCauses (Passes setting) journal) is_written
-      (packet_passes setting journal row s header) in
       subst (Follows setting journal s i header) whole
-      (fact_on (IsFollowed setting) (Follows setting journal s i header)
-      (follows_on setting journal s i header is converged updated) begun lookups
-      (are_followed setting is begun lookups after passes.1.1) (started is settled))
+      (fact_on (IsFollowed setting) (Follows setting journal s i header) (follows_on setting journal
+      s i header is converged updated) begun lookups (are_followed setting is begun lookups after
+      (rw is_written at (packet_passes setting journal row s header)).1.1) (started is settled))
 
 -- ---- hops
 
@@ -210,60 +190,48 @@ drained setting journal s i header later before (first ∷ hops) is converged up
     let taken : Step = first.step in
     let items : List Item = piece setting before first.row taken in
     let hop : IsHop taken = is_hop (next_travelling before) taken all.1 in
-    let after : IsSettled setting (before ++ items) =
-    piece_settled setting before first.row taken is
+    let after = piece_settled setting before first.row taken is
     (subst (NamesOwn setting) (sym hop.hops) tt) settled in
-    let passes : HaveCauses (Passes setting) before items =
-    subst (λ step. HaveCauses (Passes setting) before (piece setting before first.row step))
-    (sym hop.hops) (hop_passes setting before first.row hop.packet) in
     drained setting journal s i header later (before ++ items) hops is converged updated all.2 after
     (fact_on (IsFollowed setting) (Follows setting journal s i header)
-    (follows_on setting journal s i header is converged updated) before items
-    (are_followed setting is before items after passes) follows)
+    (follows_on setting journal s i header is converged updated) before items (are_followed setting
+    is before items after (rw hop.hops (hop_passes setting before first.row hop.packet))) follows)
 
 -- ---- its end
 
 ended_so : (setting : Setting) (journal : List Item) (s i : ℕ) (header : Header)
     (after : List Item) → IsSetting setting → IsDrained setting journal s i header after
     → IsForwarded setting journal after i s header ⊎ FindsNoTarget setting journal after i s header
-ended_so setting journal s i header after is drained = by drained.follows.fate
-  where
-    forwarded : IsEnded setting journal s i after → IsForwarded setting journal after i s header
-    forwarded ended =
-        let decision : Decision = ended.decision in
-        let newest : decision.version ≡ version_count journal =
-        drained.follows.version decision ended.decided in
-        let rows : List Row = policy_at setting journal (version_count journal) in
-        let right : IsRightly setting after header decision =
-        all_right setting after is drained.settled.causes i header decision
-        drained.follows.entered ended.decided in
-        let first : scan rows header ≡ hit_in decision =
-        ap (λ v. scan (policy_at setting journal v) header) (sym newest)
-        ∙ ap (λ these. scan these header) (sym (drained.follows.marks.policy decision.version))
-        ∙ right.first_match in
-        record {
-          act = decision.action;
-          decided = record {
+ended_so setting journal s i header after is drained = by drained.follows.fate where
+  forwarded : IsEnded setting journal s i after → IsForwarded setting journal after i s header
+  forwarded ended =
+      let decision : Decision = ended.decision in
+      let newest = drained.follows.version decision ended.decided in
+      let rows : List Row = policy_at setting journal (version_count journal) in
+      let first : scan rows header ≡ hit_in decision =
+      ap (λ v. scan (policy_at setting journal v) header) (sym newest)
+      ∙ ap (λ these. scan these header) (sym (drained.follows.marks.policy decision.version))
+      ∙ (all_right setting after is drained.settled.causes i header decision
+      drained.follows.entered ended.decided).first_match in record {
+        act = decision.action;
+        decided = record {
+          rule = decision.rule;
+          decided = ended.decided ∙ ap (λ v. Some (record {
+            version = v;
             rule = decision.rule;
-            decided = ended.decided
-                ∙ ap (λ v. Some (record {
-                  version = v;
-                  rule = decision.rule;
-                  action = decision.action;
-                })) newest;
-            first_match = subst (IsFirstMatch rows header) first (first_match-scan rows header);
-          };
-          ends = ended.ends;
-        }
+            action = decision.action;
+          })) newest;
+          first_match = subst (IsFirstMatch rows header) first (first_match-scan rows header);
+        };
+        ends = ended.ends;
+      }
 
-    by : Fate setting journal s i header after
-        → IsForwarded setting journal after i s header
-        ⊎ FindsNoTarget setting journal after i s header
-    by (inl on) =
-        let own = numbered setting after (ways_of_all setting [] after drained.settled.causes) i on in
-        let off : travels after i ≡ false = none_travels after i drained.none own.0 own.1 in
-        absurd cc
-    by (inr ended) = elim ended.how [ inl decided ↦ inl (forwarded decided) | inr finds ↦ inr finds ]
+  by : Fate setting journal s i header after → IsForwarded setting journal after i s header
+      ⊎ FindsNoTarget setting journal after i s header
+  by (inl on) =
+      let own = numbered setting after (ways_of_all setting [] after drained.settled.causes) i on in
+      absurd (cc (none_travels after i drained.none own.0 own.1))
+  by (inr ended) = elim ended.how [ inl decided ↦ inl (forwarded decided) | inr finds ↦ inr finds ]
 
 pub forwards : (setting : Setting) (journal : List Item) → IsSetting setting
     → IsSettled setting journal → HasConverged setting journal → IsUpdated setting journal

@@ -34,8 +34,7 @@ row_behind row [] = row
 row_behind row (step ∷ steps) = row_behind (row + 1) steps
 
 flushed : (setting : Setting) (row : ℕ) (steps : List Step) (before : List Item)
-    (deliveries : List StepOfRow)
-    → AreAll setting next_delivery (row_behind row steps)
+    (deliveries : List StepOfRow) → AreAll setting next_delivery (row_behind row steps)
     (after_steps setting before (numbered row steps)) deliveries
     → AreSteps setting row (map One steps ++ Flush ∷ []) before (numbered row steps ++ deliveries)
 flushed setting row [] before deliveries all =
@@ -72,8 +71,7 @@ all_flushed (suc n) setting row before none =
           ∷ flush n setting row (before ++ piece setting before row (Deliver i))
     ]
 
-    by_next : (o : Option ℕ) → next_waiting before ≡ o
-        → ((behind : List Item)
+    by_next : (o : Option ℕ) → next_waiting before ≡ o → ((behind : List Item)
         → next_delivery (after_steps setting behind (flush n setting row behind)) ≡ None
         → AreAll setting next_delivery row behind (flush n setting row behind))
         → next_delivery (after_steps setting before (steps_of o)) ≡ None
@@ -160,24 +158,22 @@ asks_both step = record {
   only = All-cons is_one (One (step 0)) (One (step 1) ∷ []) (0, refl)
       (All-cons is_one (One (step 1)) [] (1, refl) (All-nil is_one));
   each = λ s there. by_switch s there;
-}
-  where
-    is_one : Event → Type 0
-    is_one row = (s : ℕ) × (row ≡ One (step s))
+} where
+  is_one : Event → Type 0
+  is_one row = (s : ℕ) × (row ≡ One (step s))
 
-    by_switch : (s : ℕ) → HasSwitch open_net.net s
-        → Contains (One (step 0) ∷ One (step 1) ∷ []) (One (step s))
-    by_switch zero there = (0, omega arith, refl)
-    by_switch (suc zero) there = (1, omega arith, refl)
-    by_switch (suc (suc s)) there = absurd (omega (arith, there))
+  by_switch : (s : ℕ) → HasSwitch open_net.net s
+      → Contains (One (step 0) ∷ One (step 1) ∷ []) (One (step s))
+  by_switch zero there = (0, omega arith, refl)
+  by_switch (suc zero) there = (1, omega arith, refl)
+  by_switch (suc (suc s)) there = absurd (omega (arith, there))
 
 -- the rows that bring recovery
 abbrev recipe : List Step
 recipe = Confirm 0 ∷ Confirm 1 ∷ Resend 0 ∷ Resend 1 ∷ []
 
 in_recovery : (front : List Step)
-    → EndsInRecovery open_net.net
-    (map One (front ++ recipe) ++ Flush ∷ [])
+    → EndsInRecovery open_net.net (map One (front ++ recipe) ++ Flush ∷ [])
 in_recovery front = record {
   front = map One front;
   confirms = One (Confirm 0) ∷ One (Confirm 1) ∷ [];
@@ -185,13 +181,12 @@ in_recovery front = record {
   ends = by_front front;
   confirmed = asks_both Confirm;
   resent = asks_both Resend;
-}
-  where
-    by_front : (front : List Step) → map One (front ++ recipe) ++ Flush ∷ []
-        ≡ map One front ++ (One (Confirm 0) ∷ One (Confirm 1) ∷ [])
-        ++ (One (Resend 0) ∷ One (Resend 1) ∷ []) ++ Flush ∷ []
-    by_front [] = refl
-    by_front (step ∷ front) = ap (λ rest. One step ∷ rest) (by_front front)
+} where
+  by_front : (front : List Step) → map One (front ++ recipe) ++ Flush ∷ []
+      ≡ map One front ++ (One (Confirm 0) ∷ One (Confirm 1) ∷ [])
+      ++ (One (Resend 0) ∷ One (Resend 1) ∷ []) ++ Flush ∷ []
+  by_front [] = refl
+  by_front (step ∷ front) = ap (λ rest. One step ∷ rest) (by_front front)
 
 -- nothing that is sent in these items passes the test
 abbrev none_pass : (Message → Bool) → List Item → Bool
@@ -220,15 +215,13 @@ unreceived : (test : Message → Bool) (number : ℕ) (message : Message)
     → ((later : Message) → Replaces later message → IsTrue (test later))
     → (after : List Item) → IsTrue (none_pass test after) → was_delivered after number ≡ false
     → IsReceived number message after → ⊥
-unreceived test number message passes after none lacks (inl came) =
-    true≢false (sym came ∙ lacks)
+unreceived test number message passes after none lacks (inl came) = true≢false (sym came ∙ lacks)
 unreceived test number message passes after none lacks (inr replaced) =
     unreplaced test message passes after none replaced
 
 -- an advert of a was sent to b and lost, and then the only link to b failed
 abbrev advert_lost : List Step
-advert_lost =
-    LinkDown 0 1 ∷ LinkUp 0 1 ∷ Forget 1 ∷ LinkDown 0 1 ∷ recipe
+advert_lost = LinkDown 0 1 ∷ LinkUp 0 1 ∷ Forget 1 ∷ LinkDown 0 1 ∷ recipe
 
 abbrev advert_lost_front : List Item
 advert_lost_front = after_steps open_net [] (numbered 1 advert_lost)
@@ -267,9 +260,8 @@ is_advert_of_a _ = false
 
 advert_passes : (boot seq up : ℕ) (later : Message) → Replaces later (to 1 (advert 0 boot seq up))
     → IsTrue (is_to_b later.to && is_advert_of_a later.body)
-advert_passes boot seq up later replaces =
-    both (is_to_b later.to) (is_advert_of_a later.body) (ap is_to_b replaces.receiver)
-    (by_body later.body replaces.says)
+advert_passes boot seq up later replaces = both (is_to_b later.to) (is_advert_of_a later.body)
+    (ap is_to_b replaces.receiver) (by_body later.body replaces.says)
   where
     by_body : (body : Body) → (body ≡ advert 0 boot seq up)
         ⊎ IsTrue (is_later_body body (advert 0 boot seq up)) → IsTrue (is_advert_of_a body)
@@ -279,9 +271,8 @@ advert_passes boot seq up later replaces =
 
 not_quiet_without_advert : IsQuiet open_net advert_lost_journal → ⊥
 unfolding left_by
-not_quiet_without_advert quiet =
-    unreceived (λ later. is_to_b later.to && is_advert_of_a later.body) 1
-    (to 1 (advert 0 1 3 2)) (advert_passes 1 3 2) (drop 5 advert_lost_journal) refl refl
+not_quiet_without_advert quiet = unreceived (λ later. is_to_b later.to && is_advert_of_a later.body)
+    1 (to 1 (advert 0 1 3 2)) (advert_passes 1 3 2) (drop 5 advert_lost_journal) refl refl
     (quiet.messages.0 1 (omega arith) refl)
 
 -- or a itself went down, which alone could send it again
@@ -313,15 +304,13 @@ recovered_without_origin =
 
 not_quiet_without_origin : IsQuiet open_net origin_gone_journal → ⊥
 unfolding left_by
-not_quiet_without_origin quiet =
-    unreceived (λ later. is_to_b later.to && is_advert_of_a later.body) 1
-    (to 1 (advert 0 1 3 2)) (advert_passes 1 3 2) (drop 5 origin_gone_journal) refl refl
+not_quiet_without_origin quiet = unreceived (λ later. is_to_b later.to && is_advert_of_a later.body)
+    1 (to 1 (advert 0 1 3 2)) (advert_passes 1 3 2) (drop 5 origin_gone_journal) refl refl
     (quiet.messages.0 1 (omega arith) (refl {a = true}))
 
 -- tables were delivered twice, and the second acknowledgement was lost
 abbrev answer_lost : List Step
-answer_lost =
-    Update 2 ∷ Deliver 1 ∷ Deliver 1 ∷ Deliver 3 ∷ Forget 4 ∷ recipe
+answer_lost = Update 2 ∷ Deliver 1 ∷ Deliver 1 ∷ Deliver 3 ∷ Forget 4 ∷ recipe
 
 abbrev answer_lost_front : List Item
 answer_lost_front = after_steps open_net [] (numbered 1 answer_lost)
@@ -379,9 +368,8 @@ not_quiet_without_answer quiet =
 -- one round: a crashes and restarts, gets the tables of both versions while it joins, and its
 -- acknowledgements arrive once the first one is retired
 abbrev joining : List Step
-joining =
-    Crash 0 ∷ Restart 0 ∷ Deliver 1 ∷ Deliver 2 ∷ Update 2 ∷ Deliver 4 ∷ Deliver 5
-    ∷ Deliver 7 ∷ Deliver 8 ∷ Deliver 9 ∷ recipe
+joining = Crash 0 ∷ Restart 0 ∷ Deliver 1 ∷ Deliver 2 ∷ Update 2 ∷ Deliver 4 ∷ Deliver 5 ∷ Deliver 7
+    ∷ Deliver 8 ∷ Deliver 9 ∷ recipe
 
 abbrev joining_front : List Item
 joining_front = after_steps open_net [] (numbered 1 joining)
@@ -456,8 +444,7 @@ with_crash = record {
 
 not_with_crash : HaveCauses (DropsNothing open_net) [] crashed_journal → ⊥
 unfolding left_by
-not_with_crash have =
-    not_lost have.1.1.1.1.1.0
+not_with_crash have = not_lost have.1.1.1.1.1.0
 
 -- and where a link fails a packet may find it down and be stuck
 abbrev link_failed : List Step
@@ -546,9 +533,7 @@ end_there (first ∷ before) found rest is =
 
 not_undrained : AllAccounted open_net undrained_journal → ⊥
 unfolding left_by
-not_undrained all = by_end (all 1 0 one (1, omega arith, refl))
-  where
-    by_end : HasItem (EndsRightly open_net 1) undrained_journal → ⊥
-    by_end ended = true≢false
-        (sym (end_there ended.before ended.found ended.rest
-        (ends_end open_net 1 ended.before ended.found ended.own)) ∙ sym (ap has_end ended.stands))
+not_undrained all = by_end (all 1 0 one (1, omega arith, refl)) where
+  by_end : HasItem (EndsRightly open_net 1) undrained_journal → ⊥
+  by_end ended = true≢false (sym (end_there ended.before ended.found ended.rest
+      (ends_end open_net 1 ended.before ended.found ended.own)) ∙ sym (ap has_end ended.stands))

@@ -30,21 +30,18 @@ comes_passes setting before next both = both.first
 -- the pieces of such steps
 pub packet_passes : (setting : Setting) (before : List Item) (row s : ℕ) (header : Header)
     → HaveCauses (Passes setting) before (piece setting before row (Packet s header))
-packet_passes setting before row s header =
-    piece_has (Passes setting) setting before row (Packet s header) refl
+packet_passes setting before row s header = piece_has (Passes setting) setting before row
+    (Packet s header) refl
     (have_weaker (Both (Comes setting) (λ now other. IsNoRow other)) (Passes setting)
-    (comes_passes setting) _ _
-    (have_both (Comes setting) (λ now other. IsNoRow other) _ _
+    (comes_passes setting) _ _ (have_both (Comes setting) (λ now other. IsNoRow other) _ _
     (packet_works setting (Comes setting) (work_comes setting) (next_packet before) s header _ tt)
     (no_rows setting before row (Packet s header))))
 
 pub hop_passes : (setting : Setting) (before : List Item) (row i : ℕ)
     → HaveCauses (Passes setting) before (piece setting before row (Hop i))
-hop_passes setting before row i =
-    piece_has (Passes setting) setting before row (Hop i) refl
+hop_passes setting before row i = piece_has (Passes setting) setting before row (Hop i) refl
     (have_weaker (Both (Comes setting) (λ now other. IsNoRow other)) (Passes setting)
-    (comes_passes setting) _ _
-    (have_both (Comes setting) (λ now other. IsNoRow other) _ _
+    (comes_passes setting) _ _ (have_both (Comes setting) (λ now other. IsNoRow other) _ _
     (have_weaker (IsWork setting) (Comes setting) (work_comes setting) _ _ (hop_work setting i _))
     (no_rows setting before row (Hop i))))
 
@@ -80,8 +77,7 @@ marks_stay setting journal before next passes stay =
     let controller = controller_keeps before (next ∷ [])
     (passes_controller setting before next passes, tt) in
     let policies = policies_keep before (next ∷ [])
-    (passes_policies setting before next passes, tt) in
-    record {
+    (passes_policies setting before next passes, tt) in record {
       current = controller.current ∙ stay.current;
       retired = controller.retired ∙ stay.retired;
       count = policies.count ∙ stay.count;

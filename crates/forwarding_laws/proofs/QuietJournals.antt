@@ -1,5 +1,5 @@
 -- What holds of quiet journals between steps, by the laws that say it one by one.
-use Rattle.std.proofs.Common.{List, subst, sym, take}
+use Rattle.std.proofs.Common.{List, take}
 use Rattle.update_machine.specs.Exports.{IsQuiet, IsSetting, Item, Setting}
 use Rattle.net_file.specs.Exports.{IsNet}
 use Rattle.convergence_laws.specs.Exports.{GetStuckApart, HasConverged, IsUpdated}
@@ -12,8 +12,7 @@ use Rattle.forwarding_laws.proofs.ForwardedPacket.{forwards}
 -- what holds where steps end holds between them
 ends_between : (Holds : Setting → List Item → Type 0) → HoldsAtEnds Holds → HoldsBetween Holds
 ends_between Holds law = record {
-  reached = λ setting journal at.
-      subst (Holds setting) (sym at.written) (law.stepped setting at.steps);
+  reached = λ setting journal at. rw at.written (law.stepped setting at.steps);
   answered = λ setting events journal own answers. law.answered setting events journal answers;
   so_far = λ setting events journal own answers. law.so_far setting events journal answers;
   played = λ setting events journal full own play n.
@@ -23,8 +22,7 @@ ends_between Holds law = record {
 -- and so does what follows from two of them
 both_between : (One Other Holds : Setting → List Item → Type 0)
     → ((setting : Setting) (journal : List Item) → One setting journal → Other setting journal
-    → Holds setting journal)
-    → HoldsBetween One → HoldsBetween Other → HoldsBetween Holds
+    → Holds setting journal) → HoldsBetween One → HoldsBetween Other → HoldsBetween Holds
 both_between One Other Holds follow one other = record {
   reached = λ setting journal at. follow setting journal (one.reached setting journal at)
       (other.reached setting journal at);
@@ -46,11 +44,9 @@ ForwardsBy setting journal = IsSetting setting → HasConverged setting journal
     → IsUpdated setting journal → QuietForwards setting journal
 
 pub converged_forward : HoldsBetween ForwardsBy
-converged_forward = between
-    (λ setting journal. HasConverged setting journal → IsUpdated setting journal
-    → QuietForwards setting journal)
-    (λ setting journal is settled converged updated. forwards setting journal is settled converged
-    updated)
+converged_forward = between (λ setting journal. HasConverged setting journal
+    → IsUpdated setting journal → QuietForwards setting journal) (λ setting journal is settled
+    converged updated. forwards setting journal is settled converged updated)
 
 -- ---- quiet journals
 
@@ -62,8 +58,7 @@ abbrev Updates : Setting → List Item → Type 0
 Updates setting journal = IsQuiet setting journal → IsUpdated setting journal
 
 abbrev Parts : Setting → List Item → Type 0
-Parts setting journal =
-    IsNet setting.net → IsQuiet setting journal → GetStuckApart setting journal
+Parts setting journal = IsNet setting.net → IsQuiet setting journal → GetStuckApart setting journal
 
 abbrev Forwards : Setting → List Item → Type 0
 Forwards setting journal = IsSetting setting → IsQuiet setting journal → QuietForwards setting journal
@@ -81,8 +76,7 @@ known_between converge update =
 
 pub quiet_forwards : HoldsAtEnds Converges → HoldsAtEnds Updates → HoldsBetween ForwardsBy
     → HoldsBetween Forwards
-quiet_forwards converge update forward =
-    both_between ForwardsBy Known Forwards
+quiet_forwards converge update forward = both_between ForwardsBy Known Forwards
     (λ setting journal forwards known is quiet. forwards is (known.0 is.net quiet) (known.1 quiet))
     forward (known_between converge update)
 

@@ -1,11 +1,11 @@
 -- Behind recovery the controller knows of each switch that is up what it needs.
-use Rattle.std.proofs.Common.{[], ◌<◌, ◌∙◌, ◌≡◌, ◌≤◌, ◌⊎◌, All, Bool, IfSome, IsFalse, IsTrue, List, None, Some, ap, arith, eq-eqb, false, inl, inr, length, refl, subst, sym, true, ℕ}
+use Rattle.std.proofs.Common.{[], ◌<◌, ◌∙◌, ◌≡◌, ◌≤◌, ◌⊎◌, All, Bool, IsFalse, IsTrue, List, None, Some, ap, arith, eq-eqb, false, inl, inr, length, refl, subst, sym, true, ℕ}
 use Rattle.base.proofs.Exports.{cases_lt}
 use Rattle.ctrl_msg.specs.Exports.{body_boot, to_controller}
 use Rattle.update_machine.specs.Exports.{Body, HaveCauses, Hello, Install, Installed, Item, Message, OpenAt, Setting, Stamp, Stamped, Tables, acked_stamp, boot_of, controller_heard, current_mark, has_acked, is_for_boot, is_member, is_over, is_up, known_boot, message_of, next_message, open_version, opened_at, resent_by_controller, resent_by_switch, sendings, serves, switches_of, tables_at, to_switch, touched_by, version_count, was_delivered}
 use Rattle.ternary.specs.Exports.{WordValue}
 use Rattle.update_machine.proofs.Exports.{start_laws}
-use Rattle.control_laws.specs.Exports.{HasItemCause, IsRightStamp, stamp_to}
+use Rattle.control_laws.specs.Exports.{HasItemCause, stamp_to}
 use Rattle.control_laws.proofs.Exports.{AreKept, OpeningsStand, acked_stamp_opened, acknowledged, bounded, by_number, fact_on, member_of, opened_in, opened_is, opened_on, openings_at_first, openings_on}
 use Rattle.convergence_laws.proofs.Exports.{AreReady, IsCaughtUp, IsIn, IsInOrder, IsTraced, TablesSent, caused_recorded, caused_traced, each_in, first_acked, hello_known, in_left, in_right, installed_acked, items_caused, opened_stamps, some_opening, stamped_acked}
 use Rattle.forwarding_laws.proofs.CalmItems.{Calmly, Stays, acked_grows, calm_causes, stamp_grows, stays}
@@ -49,25 +49,21 @@ stamps_follow_on : (setting : Setting) → AreKept (HasItemCause setting) Stamps
 stamps_follow_on setting now next cause follow = record {
   each = λ n s boot version touched is.
       elim (by_number now next n (stamp_to s boot version touched) is) [
-        | inl new ↦
-            let right : IsRightStamp setting now s boot version touched =
-            subst (HasItemCause setting now) new cause in
+        | inl new ↦ let right = subst (HasItemCause setting now) new cause in
             let opening = some_opening now s right.member in (
               opening.0,
               opened_on now next s boot opening.0
                   (ap (opened_in now s) right.to.known ∙ sym (opened_is now s) ∙ opening.1),
             )
-        | inr old ↦
-            let found = follow.each n s boot version touched old in
+        | inr old ↦ let found = follow.each n s boot version touched old in
             (found.0, opened_on now next s boot found.0 found.1)
       ];
 }
 
 stamps_follow : (setting : Setting) (journal : List Item)
     → HaveCauses (HasItemCause setting) [] journal → StampsFollow journal
-stamps_follow setting journal causes =
-    fact_on (HasItemCause setting) StampsFollow (stamps_follow_on setting) [] journal causes
-    (record {
+stamps_follow setting journal causes = fact_on (HasItemCause setting) StampsFollow
+    (stamps_follow_on setting) [] journal causes (record {
       each = λ n s boot version touched is.
           let none : None ≡ Some (stamp_to s boot version touched) =
           rw (start_laws.message n).message at is in absurd cc;
@@ -75,9 +71,8 @@ stamps_follow setting journal causes =
 
 openings_stand : (setting : Setting) (journal : List Item)
     → HaveCauses (HasItemCause setting) [] journal → OpeningsStand journal
-openings_stand setting journal causes =
-    fact_on (HasItemCause setting) OpeningsStand (openings_on setting) [] journal causes
-    openings_at_first
+openings_stand setting journal causes = fact_on (HasItemCause setting) OpeningsStand
+    (openings_on setting) [] journal causes openings_at_first
 
 module _ (setting : Setting) (before journal : List Item)
     (are : IsRecovered setting before journal) where
@@ -92,15 +87,12 @@ module _ (setting : Setting) (before journal : List Item)
   answered : (s : ℕ) (body : Body) → IsTrue (is_up journal s)
       → body_boot body ≡ Some (boot_of journal s) → IsSince since journal (to_switch s body)
       → IsAnsweredSince since journal s body
-  answered s body up of sent =
-      delivered_answered setting before journal sent.number s body are.causes
-      (are.delivers sent.number sent.late
-      (since_delivered setting before journal are.flushed sent.number sent.boot (to_switch s body)
-      sent.late sent.is))
+  answered s body up of sent = delivered_answered setting before journal sent.number s body
+      are.causes (are.delivers sent.number sent.late (since_delivered setting before journal
+      are.flushed sent.number sent.boot (to_switch s body) sent.late sent.is))
       ((each_in (IsTraced journal)
       (record { number = sent.number; message = to_switch s body; boot = sent.boot })
-      (sendings journal) are.flushed.traced.each sent.is).message)
-      up own
+      (sendings journal) are.flushed.traced.each sent.is).message) up own
     where
       own : IsTrue (is_for_boot (boot_of journal s) body)
       own = rw of (eq-eqb (boot_of journal s) (boot_of journal s) refl)
@@ -116,14 +108,11 @@ module _ (setting : Setting) (before journal : List Item)
   known_own s there up =
       let asked = are.asked s there in
       let left = stays setting asked.here journal asked.rest in
-      let sent = asked.sends _ (in_left _ _ _
-      (hello_resent setting asked.here s (sym (left.up s) ∙ up))) in
-      let heard : IsIn (Hello s (boot_of journal s)) (controller_heard journal) =
-      told (Hello s (boot_of journal s))
-      (subst (λ b. IsSince since journal (to_controller (Hello s b))) (sym (left.boot s)) sent) in
-      let above = hello_known journal s (boot_of journal s) heard in
+      let heard = told (Hello s (boot_of journal s))
+      (subst (λ b. IsSince since journal (to_controller (Hello s b))) (sym (left.boot s))
+      (asked.sends _ (in_left _ _ _ (hello_resent setting asked.here s (sym (left.up s) ∙ up))))) in
       let below = are.ready.recorded.known.boots.known s in
-      omega (arith, above, below)
+      omega (arith, hello_known journal s (boot_of journal s) heard, below)
 
   -- ---- acknowledgements
 
@@ -132,11 +121,9 @@ module _ (setting : Setting) (before journal : List Item)
       → IsTrue (is_up journal s)
       → IsSince since journal (to_switch s (Install (known_boot journal s) tables))
       → IsTrue (has_acked journal s tables.version)
-  tables_acked s tables there up sent =
-      installed_acked journal s tables.version
+  tables_acked s tables there up sent = installed_acked journal s tables.version
       (told (Installed s (known_boot journal s) tables.version)
-      (answered s (Install (known_boot journal s) tables) up
-      (ap Some (known_own s there up)) sent))
+      (answered s (Install (known_boot journal s) tables) up (ap Some (known_own s there up)) sent))
 
   -- ---- what was sent in the boot that lasts was sent again, if it was sent before
 
@@ -145,11 +132,10 @@ module _ (setting : Setting) (before journal : List Item)
       → known_boot journal s ≤ known_boot before s → Moment setting before journal s
   moment s there up past =
       let asked = are.asked s there in
-      let first = stays setting before asked.here asked.first in
       let left = stays setting asked.here journal asked.rest in
       let causes = calm_causes setting before asked.here are.causes asked.first in
       let same : known_boot journal s ≡ known_boot asked.here s =
-      omega (arith, past, first.known s, left.known s) in
+      omega (arith, past, (stays setting before asked.here asked.first).known s, left.known s) in
       record {
         asked = asked;
         causes = items_caused setting asked.here causes;
@@ -161,8 +147,7 @@ module _ (setting : Setting) (before journal : List Item)
   -- a message of the known boot that was sent before shows that this boot was known
   known_before : (s n : ℕ) (body : Body) → message_of before n ≡ Some (to_switch s body)
       → body_boot body ≡ Some (known_boot journal s) → known_boot journal s ≤ known_boot before s
-  known_before s n body sent of =
-      subst (λ o. IfSome o (λ boot. boot ≤ known_boot before s)) of
+  known_before s n body sent of = rw of at
       (are.flushed.first.known.boots.sent n (to_switch s body) sent)
 
   -- ---- acknowledgements of each version
@@ -170,49 +155,40 @@ module _ (setting : Setting) (before journal : List Item)
   table_acked : (s version : ℕ) → s < length setting.net.switches → IsTrue (is_up journal s)
       → current_mark journal ≤ version → version ≤ version_count journal
       → Moment setting before journal s → IsTrue (has_acked journal s version)
-  table_acked s version there up above below at = by_acked (has_acked here s version) refl
-    where
-      here : List Item
-      here = at.asked.here
+  table_acked s version there up above below at = by_acked (has_acked here s version) refl where
+    here : List Item
+    here = at.asked.here
 
-      left : Stays here journal
-      left = stays setting here journal at.asked.rest
+    left : Stays here journal
+    left = stays setting here journal at.asked.rest
 
-      -- a member acknowledged the current version
-      later : IsFalse (has_acked here s version) → IsTrue (is_member here s)
-          → current_mark here < version
-      later none member = elim (cases_lt (current_mark here) version) [
-        | inl more ↦ more
-        | inr past ↦
-            let opened = acked_stamp_opened here s in
-            let bounds = bounded setting here at.causes in
-            let clash : false ≡ true = sym none ∙ (acknowledged setting here at.causes).acked s
-            version there member (omega (arith, opened, bounds.known s, left.current, above)) past
-            in
-            absurd cc
-      ]
+    -- a member acknowledged the current version
+    later : IsFalse (has_acked here s version) → IsTrue (is_member here s)
+        → current_mark here < version
+    later none member = elim (cases_lt (current_mark here) version) [
+      | inl more ↦ more
+      | inr past ↦ let bounds = bounded setting here at.causes in
+          absurd (cc (sym none ∙ (acknowledged setting here at.causes).acked s version there member
+          (omega (arith, acked_stamp_opened here s, bounds.known s, left.current, above)) past))
+    ]
 
-      by_acked : (b : Bool) → has_acked here s version ≡ b → IsTrue (has_acked journal s version)
-      by_acked true e = acked_grows setting here journal s version at.asked.rest at.known e
-      by_acked false e =
-          let sent = at.asked.sends _ (in_right _ (resent_by_switch setting here s)
-          (resent_by_controller setting here s)
-          (table_resent setting here s version at.not_over (omega (arith, above, left.current))
-          (omega (arith, below, left.count)) e (later e))) in
-          tables_acked s (tables_at setting here version s) there up
-          (subst (λ b. IsSince since journal (to_switch s (Install b
-          (tables_at setting here version s)))) (sym at.known) sent)
+    by_acked : (b : Bool) → has_acked here s version ≡ b → IsTrue (has_acked journal s version)
+    by_acked true e = acked_grows setting here journal s version at.asked.rest at.known e
+    by_acked false e =
+        let sent = at.asked.sends _ (in_right _ (resent_by_switch setting here s)
+        (resent_by_controller setting here s) (table_resent setting here s version at.not_over
+        (omega (arith, above, left.current)) (omega (arith, below, left.count)) e (later e))) in
+        tables_acked s (tables_at setting here version s) there up
+        (rw at.known sent)
 
   all_acked : (s version : ℕ) → s < length setting.net.switches → IsTrue (is_up journal s)
       → current_mark journal ≤ version → version ≤ version_count journal
       → IsTrue (has_acked journal s version)
-  all_acked s version there up above below =
-      elim (are.ready.installs.each s version there
+  all_acked s version there up above below = elim (are.ready.installs.each s version there
       ((are.ready.recorded.known.serving s).not_over up (known_own s there up)) above below) [
         | inl none ↦ absurd none
         | inr had ↦ elim had [
-          | inl first ↦ subst (λ v. IsTrue (has_acked journal s v)) (sym first.0)
-              (first_acked journal s first.1)
+          | inl first ↦ rw first.0 (first_acked journal s first.1)
           | inr tables ↦ by_sent tables
               (since_or_earlier setting before journal _ calm are.flushed.traced tables.sent)
         ]
@@ -222,8 +198,7 @@ module _ (setting : Setting) (before journal : List Item)
           → IsSince since journal (to_switch s (Install (known_boot journal s) tables.tables))
           ⊎ IsEarlier before (to_switch s (Install (known_boot journal s) tables.tables))
           → IsTrue (has_acked journal s version)
-      by_sent tables (inl late) = subst (λ v. IsTrue (has_acked journal s v)) tables.of
-          (tables_acked s tables.tables there up late)
+      by_sent tables (inl late) = rw tables.of at (tables_acked s tables.tables there up late)
       by_sent tables (inr early) = table_acked s version there up above below
           (moment s there up (known_before s early.number
           (Install (known_boot journal s) tables.tables) early.sent refl))
@@ -236,10 +211,8 @@ module _ (setting : Setting) (before journal : List Item)
       → (opened_at at.asked.here s ≡ Some version) × IsTrue (is_member at.asked.here s)
   member_then s version at opened =
       let here = at.asked.here in
-      let first = stays setting before here at.asked.first in
-      let now : opened_at here s ≡ Some version =
-      opened_is here s ∙ ap (opened_in here s) (sym at.known)
-      ∙ first.opened s (known_boot journal s) version opened in
+      let now = opened_is here s ∙ ap (opened_in here s) (sym at.known)
+      ∙ (stays setting before here at.asked.first).opened s (known_boot journal s) version opened in
       (now, member_of here s at.not_over (rw now refl))
 
   opening_served : (s version : ℕ) → s < length setting.net.switches → IsTrue (is_up journal s)
@@ -250,9 +223,8 @@ module _ (setting : Setting) (before journal : List Item)
 
   member_serves : (s : ℕ) → s < length setting.net.switches → IsTrue (is_up journal s)
       → IsTrue (is_member journal s) → IsTrue (serves journal s)
-  member_serves s there up member =
-      elim (are.ready.recorded.openings s (known_boot journal s) opening.0
-      (sym (opened_is journal s) ∙ opening.1)) [
+  member_serves s there up member = elim (are.ready.recorded.openings s (known_boot journal s)
+      opening.0 (sym (opened_is journal s) ∙ opening.1)) [
         | inl first ↦ are.ready.recorded.first s up (sym (known_own s there up) ∙ first)
         | inr sent ↦ elim (since_or_earlier setting before journal _ calm are.flushed.traced sent) [
           | inl late ↦ opening_served s opening.0 there up late
@@ -269,9 +241,8 @@ module _ (setting : Setting) (before journal : List Item)
           let at = moment s there up (known_before s early.number
           (OpenAt (known_boot journal s) opening.0) early.sent refl) in
           let here = at.asked.here in
-          let then = member_then s opening.0 at (openings_stand setting before
-          (items_caused setting before are.causes) s (known_boot journal s) opening.0 early.number
-          early.sent) in
+          let then = member_then s opening.0 at (openings_stand setting before (items_caused setting
+          before are.causes) s (known_boot journal s) opening.0 early.number early.sent) in
           let sent = at.asked.sends _ (in_right _ (resent_by_switch setting here s)
           (resent_by_controller setting here s)
           (opening_resent setting here s at.not_over then.1)) in
@@ -285,11 +256,9 @@ module _ (setting : Setting) (before journal : List Item)
       → IsTrue (is_up journal s)
       → IsSince since journal (stamp_to s (known_boot journal s) version touched)
       → version ≤ acked_stamp journal s
-  stamp_known s version touched there up sent =
-      stamped_acked journal s version
-      (told (Stamped s (known_boot journal s) version)
-      (answered s (Stamp (known_boot journal s) version touched) up
-      (ap Some (known_own s there up)) sent))
+  stamp_known s version touched there up sent = stamped_acked journal s version
+      (told (Stamped s (known_boot journal s) version) (answered s
+      (Stamp (known_boot journal s) version touched) up (ap Some (known_own s there up)) sent))
 
   stamp_again : (s n : ℕ) (touched : List WordValue) → s < length setting.net.switches
       → IsTrue (is_up journal s)
@@ -354,8 +323,7 @@ module _ (setting : Setting) (before journal : List Item)
         ]
   ]
 
-  pub recovered_caught : All (IsConfirmed before) (switches_of setting)
-      → IsCaughtUp setting journal
+  pub recovered_caught : All (IsConfirmed before) (switches_of setting) → IsCaughtUp setting journal
   recovered_caught confirmed = record {
     switches = all_confirmed_on setting before journal calm confirmed;
     known = known_own;

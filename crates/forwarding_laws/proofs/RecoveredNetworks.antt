@@ -8,7 +8,7 @@ use Rattle.update_machine.proofs.Exports.{AreOf, after_append, start_laws}
 use Rattle.control_laws.specs.Exports.{AreEvents, HoldsAtEnds}
 use Rattle.control_laws.proofs.Exports.{AreKept, by_number, fact_on, steps_have}
 use Rattle.convergence_laws.specs.Exports.{GetStuckApart, HasConverged, IsUpdated, NeighboursAgree}
-use Rattle.convergence_laws.proofs.Exports.{AreReady, AreSpread, AreTraced, IsInOrder, Spread, TellsOwn, all_end, caught_updated, caused_traced, ends_spread, ends_tell, flush_ends, next_first, next_grows, none_waits, pieces_in_order, sent_delivered, steps_ready, steps_spread}
+use Rattle.convergence_laws.proofs.Exports.{AreReady, AreTraced, IsInOrder, all_end, caught_updated, caused_traced, ends_spread, ends_tell, flush_ends, next_first, next_grows, none_waits, pieces_in_order, sent_delivered, steps_ready, steps_spread}
 use Rattle.packet_laws.specs.Exports.{HoldsBetween}
 use Rattle.forwarding_laws.specs.Exports.{AllDelivered, EndsInRecovery, HasRecovered, QuietForwards}
 use Rattle.forwarding_laws.proofs.RecoveredAdverts.{recovered_agree, resends_spread}
@@ -27,11 +27,10 @@ all_calm setting row before [] all = tt
 all_calm setting row before (first ∷ steps) all = (
   by_next (next_waiting before) first.step all.1,
   all_calm setting row (before ++ piece setting before first.row first.step) steps all.2,
-)
-  where
-    by_next : (o : Option ℕ) (step : Step) → option_map Deliver o ≡ Some step → IsCalmStep step
-    by_next None step e = absurd cc
-    by_next (Some n) step e = let same : Deliver n ≡ step = cc in subst IsCalmStep same tt
+) where
+  by_next : (o : Option ℕ) (step : Step) → option_map Deliver o ≡ Some step → IsCalmStep step
+  by_next None step e = absurd cc
+  by_next (Some n) step e = let same : Deliver n ≡ step = cc in subst IsCalmStep same tt
 
 both_calm : (one other : List StepOfRow) → AreOf IsCalmStep one → AreOf IsCalmStep other
     → AreOf IsCalmStep (one ++ other)
@@ -68,21 +67,18 @@ module _ (setting : Setting) (journal : List Item) (ends : EndsCalmly setting jo
   by_all = by_last ∙ sym (after_append setting [] ends.first last)
 
   pub ends_calm : Calmly setting confirmed journal
-  ends_calm = subst (Calmly setting confirmed) (sym by_last)
-      (calm_steps setting confirmed last last_calm)
+  ends_calm = rw by_last (calm_steps setting confirmed last last_calm)
 
   first_causes : HaveCauses (IsInOrder setting) [] confirmed
   first_causes = steps_have (IsInOrder setting) setting (pieces_in_order setting) [] ends.first tt
 
   resent_causes : HaveCauses (IsInOrder setting) [] resent
-  resent_causes =
-      steps_have (IsInOrder setting) setting (pieces_in_order setting) confirmed ends.resends
-      first_causes
+  resent_causes = steps_have (IsInOrder setting) setting (pieces_in_order setting) confirmed
+      ends.resends first_causes
 
   causes : HaveCauses (IsInOrder setting) [] journal
   causes = subst (HaveCauses (IsInOrder setting) []) (sym by_all)
-      (steps_have (IsInOrder setting) setting (pieces_in_order setting) []
-      (ends.first ++ last) tt)
+      (steps_have (IsInOrder setting) setting (pieces_in_order setting) [] (ends.first ++ last) tt)
 
   waiting : next_waiting journal ≡ None
   waiting = none_waits journal (subst (λ j. next_delivery j ≡ None) (sym ends.written)
@@ -99,15 +95,11 @@ module _ (setting : Setting) (journal : List Item) (ends : EndsCalmly setting jo
   -- ---- adverts
 
   pub ends_agree : IsNet setting.net → NeighboursAgree setting journal
-  ends_agree net =
-      recovered_agree setting confirmed journal flushed
-      (subst (AreSpread setting (next_message confirmed)) (sym by_all)
-      (ends_spread setting (ends.first ++ last) net
-      (subst (Spread setting (next_message confirmed)) (sym ends.written ∙ by_all)
-      (steps_spread setting resent ends.flush net late resent_causes
-      (resends_spread setting confirmed ends.resends net ends.asked ends.each
-      (subst (TellsOwn setting) (after_append setting [] ends.first ends.resends)
-      (ends_tell setting (ends.first ++ ends.resends))))))))
+  ends_agree net = recovered_agree setting confirmed journal flushed
+      (rw by_all (ends_spread setting (ends.first ++ last) net (rw (sym ends.written ∙ by_all) at
+      (steps_spread setting resent ends.flush net late resent_causes (resends_spread setting
+      confirmed ends.resends net ends.asked ends.each (rw (after_append setting [] ends.first
+      ends.resends) at (ends_tell setting (ends.first ++ ends.resends))))))))
     where
       late : next_message confirmed ≤ next_message resent
       late = (stays setting confirmed resent
@@ -124,36 +116,27 @@ module _ (setting : Setting) (journal : List Item) (ends : EndsCalmly setting jo
         rest;
     sends = λ message is. since_calm setting (next_message confirmed) then journal message rest
         (piece_resends (next_message confirmed) setting taken.at taken.row s message late is);
-  }
-    where
-      taken : IsTakenIn setting (Resend s) confirmed ends.resends
-      taken = among_taken setting (Resend s) confirmed ends.resends resends_calm (ends.each s there)
+  } where
+    taken : IsTakenIn setting (Resend s) confirmed ends.resends
+    taken = among_taken setting (Resend s) confirmed ends.resends resends_calm (ends.each s there)
 
-      here : List Item
-      here = taken.at ++ item.Row taken.row (Resend s) ∷ []
+    here : List Item
+    here = taken.at ++ item.Row taken.row (Resend s) ∷ []
 
-      then : List Item
-      then = taken.at ++ piece setting taken.at taken.row (Resend s)
+    then : List Item
+    then = taken.at ++ piece setting taken.at taken.row (Resend s)
 
-      rest : Calmly setting then journal
-      rest = calm_through setting then resent journal taken.rest
-          (subst (Calmly setting resent) (sym ends.written)
-          (calm_steps setting resent ends.flush flush_calm))
+    rest : Calmly setting then journal
+    rest = calm_through setting then resent journal taken.rest (subst (Calmly setting resent)
+        (sym ends.written) (calm_steps setting resent ends.flush flush_calm))
 
-      late : next_message confirmed ≤ next_message here
-      late = omega (
-        arith,
-        (stays setting confirmed taken.at taken.first).numbers,
-        next_grows taken.at (item.Row taken.row (Resend s) ∷ []),
-      )
+    late : next_message confirmed ≤ next_message here
+    late = omega (arith, (stays setting confirmed taken.at taken.first).numbers, next_grows)
 
   delivers : (n : ℕ) → next_message confirmed ≤ n → IsTrue (was_delivered journal n)
       → IsDeliveredIn setting confirmed journal n
-  delivers n late is =
-      subst (λ j. IsDeliveredIn setting confirmed j n) (sym by_last)
-      (find_delivery setting confirmed last n last_calm
-      (by_first (was_delivered confirmed n) refl)
-      (subst (λ j. IsTrue (was_delivered j n)) by_last is))
+  delivers n late is = rw by_last (find_delivery setting confirmed last n last_calm
+      (by_first (was_delivered confirmed n) refl) (rw by_last at is))
     where
       by_first : (b : Bool) → was_delivered confirmed n ≡ b → was_delivered confirmed n ≡ false
       by_first false e = e
@@ -170,8 +153,7 @@ module _ (setting : Setting) (journal : List Item) (ends : EndsCalmly setting jo
   }
 
   pub ends_updated : IsUpdated setting journal
-  ends_updated =
-      caught_updated setting journal ends_recovered.ready
+  ends_updated = caught_updated setting journal ends_recovered.ready
       (recovered_caught setting confirmed journal ends_recovered ends.switches)
 
 -- ---- answers
@@ -183,8 +165,7 @@ recovered_neighbours setting events journal net ends answers =
     ends_agree setting journal (ends_calmly setting events journal ends answers) net
 
 pub recovered_updated : (setting : Setting) (events : List Event) (journal : List Item)
-    → EndsInRecovery setting.net events → Answers setting events journal
-    → IsUpdated setting journal
+    → EndsInRecovery setting.net events → Answers setting events journal → IsUpdated setting journal
 recovered_updated setting events journal ends answers =
     ends_updated setting journal (ends_calmly setting events journal ends answers)
 
@@ -213,20 +194,18 @@ pub calm_recovers : HoldsAtEnds (Agrees HasConverged) → HoldsAtEnds (Agrees Ge
     → HoldsBetween ForwardsBy → (setting : Setting) (events : List Event) (journal : List Item)
     → IsSetting setting → AreEvents setting events → Answers setting events journal
     → EndsCalmly setting journal → HasRecovered setting journal
-calm_recovers converge part forward setting events journal is own answers ends =
-    record {
-      converged = converged;
-      apart = part.answered setting events journal answers is.net agree;
-      updated = ends_updated setting journal ends;
-      forwards = forward.answered setting events journal own answers is converged
-          (ends_updated setting journal ends);
-    }
-  where
-    agree : NeighboursAgree setting journal
-    agree = ends_agree setting journal ends is.net
+calm_recovers converge part forward setting events journal is own answers ends = record {
+  converged = converged;
+  apart = part.answered setting events journal answers is.net agree;
+  updated = ends_updated setting journal ends;
+  forwards = forward.answered setting events journal own answers is converged
+      (ends_updated setting journal ends);
+} where
+  agree : NeighboursAgree setting journal
+  agree = ends_agree setting journal ends is.net
 
-    converged : HasConverged setting journal
-    converged = converge.answered setting events journal answers is.net agree
+  converged : HasConverged setting journal
+  converged = converge.answered setting events journal answers is.net agree
 
 pub recovers : HoldsAtEnds (Agrees HasConverged) → HoldsAtEnds (Agrees GetStuckApart)
     → HoldsBetween ForwardsBy → (setting : Setting) (events : List Event) (journal : List Item)
@@ -243,29 +222,22 @@ first_numbers : (setting : Setting) (journal : List Item)
     → HaveCauses (IsInOrder setting) [] journal → (n : ℕ) (message : Message)
     → message_of journal n ≡ Some message → 1 ≤ n
 first_numbers setting journal causes zero message sent =
-    let none : message_of journal 0 ≡ None =
-    fact_on (IsInOrder setting) (λ now. message_of now 0 ≡ None) next_none [] journal causes
-    (start_laws.message 0).message in
-    let clash : None ≡ Some message = sym none ∙ sent in
-    absurd cc
+    absurd (cc (sym (fact_on (IsInOrder setting) (λ now. message_of now 0 ≡ None) next_none []
+    journal causes (start_laws.message 0).message) ∙ sent))
   where
     next_none : AreKept (IsInOrder setting) (λ now. message_of now 0 ≡ None)
     next_none now next both none = elim (cases_none (message_of (now ++ next ∷ []) 0) refl) [
       | inl is ↦ is
       | inr found ↦ elim (by_number now next 0 found.0 found.1) [
-        | inl new ↦
-            let takes : TakesNext now (item.Sent 0 found.0) =
-            subst (TakesNext now) new both.second.first in
-            absurd (omega (arith, takes, next_first now))
+        | inl new ↦ absurd (omega (arith, subst (TakesNext now) new both.second.first, next_first))
         | inr old ↦ let clash : None ≡ Some found.0 = sym none ∙ old in absurd cc
       ]
-    ]
-      where
-        cases_none : (o : Option Message) → message_of (now ++ next ∷ []) 0 ≡ o
-            → (message_of (now ++ next ∷ []) 0 ≡ None)
-            ⊎ ((message : Message) × (message_of (now ++ next ∷ []) 0 ≡ Some message))
-        cases_none None e = inl e
-        cases_none (Some message) e = inr (message, e)
+    ] where
+      cases_none : (o : Option Message) → message_of (now ++ next ∷ []) 0 ≡ o
+          → (message_of (now ++ next ∷ []) 0 ≡ None)
+          ⊎ ((message : Message) × (message_of (now ++ next ∷ []) 0 ≡ Some message))
+      cases_none None e = inl e
+      cases_none (Some message) e = inr (message, e)
 first_numbers setting journal causes (suc n) message sent = omega arith
 
 one_of : (journal : List Item) (n : ℕ) (message : Message) → AreTraced journal

@@ -1,7 +1,7 @@
 -- The steps of a schedule that ends in recovery: those of its first rows and of its confirmations,
 -- behind which no switch is waited for that is down; resends of each switch; and deliveries of all
 -- that waits.
-use Rattle.std.proofs.Common.{[], ◌++◌, ◌+◌, ◌==◌, ◌||◌, ◌∙◌, ◌∷◌, ◌≡◌, ◌⊎◌, All, Bool, Contains, IsFalse, IsTrue, List, ap, append-nil, append_assoc, arith, eq-eqb, false, inl, inr, length, not, refl, subst, sym, true, ℕ}
+use Rattle.std.proofs.Common.{[], ◌++◌, ◌+◌, ◌||◌, ◌∙◌, ◌∷◌, ◌≡◌, ◌⊎◌, All, Bool, Contains, IsFalse, IsTrue, List, ap, append-nil, append_assoc, arith, eq-eqb, false, inl, inr, length, not, refl, subst, sym, true, ℕ}
 use Rattle.base.proofs.Exports.{All-from_recursion, AllByRecursion, recursion_from_All}
 use Rattle.update_machine.specs.Exports.{Answers, AreAll, AreSteps, Confirm, Event, Flush, Item, One, Resend, Setting, Step, StepOfRow, after_steps, confirm_items, gives_waited_for, is_up, is_waited_for, items_then, next_delivery, nothing, piece, settling, switches_of}
 use Rattle.journal.specs.declared.item.Item.TheVariants as item
@@ -41,11 +41,9 @@ steps_part setting row (event ∷ one) other before steps are =
       mine = are.0 ++ parts.mine;
       rest = parts.rest;
       later = parts.later;
-      is = are.2.split ∙ ap (λ xs. are.0 ++ xs) parts.is
-          ∙ sym (append_assoc are.0 parts.mine parts.rest);
+      is = cc (are.2.split, parts.is, append_assoc are.0 parts.mine parts.rest);
       first = (are.0, parts.mine, record { split = refl }, are.3, parts.first);
-      second = subst (λ j. AreSteps setting parts.later other j parts.rest)
-          (sym (after_append setting before are.0 parts.mine)) parts.second;
+      second = rw (after_append setting before are.0 parts.mine) parts.second;
     }
 
 -- ---- rows of single steps
@@ -68,9 +66,8 @@ singles_each : (setting : Setting) (step : ℕ → Step) (row : ℕ) (rows : Lis
     → AreSteps setting row rows before steps → AreEach step steps
 singles_each setting step row [] before steps only are = subst (AreEach step) (sym are) tt
 singles_each setting step row (One first ∷ rows) before steps only are =
-    let same : first ≡ step only.0.0 = one_same first (step only.0.0) only.0.1 in
     subst (AreEach step) (sym (are.2.split ∙ ap (λ mine. mine ++ are.1) are.3)) (
-      (only.0.0, same),
+      (only.0.0, one_same first (step only.0.0) only.0.1),
       singles_each setting step (row + 1) rows (after_steps setting before are.0) are.1 only.1 are.4,
     )
   where
@@ -83,9 +80,8 @@ singles_among : (setting : Setting) (step : Step) (row : ℕ) (rows : List Event
     (before : List Item) (steps : List StepOfRow) → IsIn (One step) rows
     → AreSteps setting row rows before steps → IsAmong step steps
 singles_among setting step row [] before steps is are = absurd is
-singles_among setting step row (One first ∷ rows) before steps is are =
-    subst (IsAmong step) (sym (are.2.split ∙ ap (λ mine. mine ++ are.1) are.3))
-    (elim is [
+singles_among setting step row (One first ∷ rows) before steps is are = subst (IsAmong step)
+    (sym (are.2.split ∙ ap (λ mine. mine ++ are.1) are.3)) (elim is [
       | inl here ↦ inl (one_same first step here)
       | inr later ↦ inr (singles_among setting step (row + 1) rows
           (after_steps setting before are.0) are.1 later are.4)
@@ -95,15 +91,13 @@ singles_among setting step row (One first ∷ rows) before steps is are =
     one_same a b same = cc
 singles_among setting step row (event ∷ rows) before steps is are = elim is [
   | inl here ↦ absurd cc
-  | inr later ↦ subst (IsAmong step) (sym are.2.split) (among_behind step are.0 are.1
-      (singles_among setting step (row + 1) rows (after_steps setting before are.0) are.1 later
-      are.4))
-]
-  where
-    among_behind : (step : Step) (mine rest : List StepOfRow) → IsAmong step rest
-        → IsAmong step (mine ++ rest)
-    among_behind step [] rest is = is
-    among_behind step (next ∷ mine) rest is = inr (among_behind step mine rest is)
+  | inr later ↦ rw are.2.split (among_behind step are.0 are.1 (singles_among setting step
+      (row + 1) rows (after_steps setting before are.0) are.1 later are.4))
+] where
+  among_behind : (step : Step) (mine rest : List StepOfRow) → IsAmong step rest
+      → IsAmong step (mine ++ rest)
+  among_behind step [] rest is = is
+  among_behind step (next ∷ mine) rest is = inr (among_behind step mine rest is)
 
 in_contained : {X : Type 0} (x : X) (xs : List X) → Contains xs x → IsIn x xs
 in_contained x xs found = in_at xs found.0 x found.1 found.2
@@ -136,10 +130,8 @@ among_taken setting step before (next ∷ steps) calm is = elim is [
         (after_steps setting before (next ∷ steps))) here
         (calm_steps setting (before ++ piece setting before next.row next.step) steps calm.1);
   }
-  | inr later ↦
-      let found = among_taken setting step (before ++ piece setting before next.row next.step) steps
-      calm.1 later in
-      record {
+  | inr later ↦ let found = among_taken setting step
+      (before ++ piece setting before next.row next.step) steps calm.1 later in record {
         at = found.at;
         row = found.row;
         first = calm_through setting before (before ++ piece setting before next.row next.step)
@@ -177,9 +169,7 @@ confirm_ends setting at row s =
     now = here ++ next ∷ []
 
     over_now : is_waited_for now s ≡ false
-    over_now =
-        let same : (s == s) ≡ true = eq-eqb s s refl in
-        rw (last_more (gives_waited_for s) here next false, same) refl
+    over_now = rw (last_more (gives_waited_for s) here next false, eq-eqb s s refl) refl
 
     settled : is_waited_for (now ++ settling setting now) s ≡ false
     settled = fact_on IsCalm (λ j. IsFalse (is_waited_for j s))
@@ -197,8 +187,7 @@ confirm_ends setting at row s =
 
 confirmed_on : (before after : List Item) (s : ℕ) → Stays before after → IsConfirmed before s
     → IsConfirmed after s
-confirmed_on before after s left is =
-    by_case (is_up before s) refl (is_waited_for before s) refl is
+confirmed_on before after s left is = by_case (is_up before s) refl (is_waited_for before s) refl is
   where
     by_case : (up : Bool) → is_up before s ≡ up → (waited : Bool) → is_waited_for before s ≡ waited
         → IsTrue (up || not waited) → IsConfirmed after s
@@ -221,27 +210,21 @@ pub record EndsCalmly (setting : Setting) (journal : List Item) : Type 0 where
   pub all : AreAll setting next_delivery row
       (after_steps setting (after_steps setting [] first) resends) flush
 
-pub all_confirmed_on : (setting : Setting) (before after : List Item)
-    → Calmly setting before after → All (IsConfirmed before) (switches_of setting)
-    → All (IsConfirmed after) (switches_of setting)
-all_confirmed_on setting before after calm all =
-    All-from_recursion (IsConfirmed after) (switches_of setting)
-    (each_weaker (IsConfirmed before) (IsConfirmed after)
+pub all_confirmed_on : (setting : Setting) (before after : List Item) → Calmly setting before after
+    → All (IsConfirmed before) (switches_of setting) → All (IsConfirmed after) (switches_of setting)
+all_confirmed_on setting before after calm all = All-from_recursion (IsConfirmed after)
+    (switches_of setting) (each_weaker (IsConfirmed before) (IsConfirmed after)
     (λ s is. confirmed_on before after s (stays setting before after calm) is) (switches_of setting)
     (recursion_from_All (IsConfirmed before) (switches_of setting) all))
 
 all_confirmed : (setting : Setting) (before : List Item) (steps : List StepOfRow)
-    → AreEach Confirm steps
-    → ((s : ℕ) → HasSwitch setting.net s → IsAmong (Confirm s) steps)
+    → AreEach Confirm steps → ((s : ℕ) → HasSwitch setting.net s → IsAmong (Confirm s) steps)
     → All (IsConfirmed (after_steps setting before steps)) (switches_of setting)
 all_confirmed setting before steps are each =
     All-from_recursion (IsConfirmed (after_steps setting before steps)) (switches_of setting)
-    (each_range (IsConfirmed (after_steps setting before steps)) 0
-    (length setting.net.switches)
-    (λ s above below.
-    let taken : IsTakenIn setting (Confirm s) before steps =
-    among_taken setting (Confirm s) before steps (each_calm Confirm (λ t. tt) steps are)
-    (each s (omega (arith, below))) in
+    (each_range (IsConfirmed (after_steps setting before steps)) 0 (length setting.net.switches)
+    (λ s above below. let taken = among_taken setting (Confirm s) before steps
+    (each_calm Confirm (λ t. tt) steps are) (each s (omega (arith, below))) in
     confirmed_on (taken.at ++ piece setting taken.at taken.row (Confirm s))
     (after_steps setting before steps) s
     (stays setting (taken.at ++ piece setting taken.at taken.row (Confirm s))
@@ -250,17 +233,14 @@ all_confirmed setting before steps are each =
 
 -- the steps of a flush alone
 flush_alone : (setting : Setting) (row : ℕ) (before : List Item) (steps : List StepOfRow)
-    → AreSteps setting row (Flush ∷ []) before steps
-    → AreAll setting next_delivery row before steps
-flush_alone setting row before steps are =
-    subst (AreAll setting next_delivery row before)
+    → AreSteps setting row (Flush ∷ []) before steps → AreAll setting next_delivery row before steps
+flush_alone setting row before steps are = subst (AreAll setting next_delivery row before)
     (sym (are.2.split ∙ ap (λ rest. are.0 ++ rest) are.4 ∙ append-nil are.0)) are.3
 
 -- the journal of rows that leave each switch up, or not waited for, then resends of each, then a
 -- flush
 pub ends_by : (setting : Setting) (rows resends : List Event) (journal : List Item)
-    → AskEach setting.net Resend resends
-    → Answers setting (rows ++ resends ++ Flush ∷ []) journal
+    → AskEach setting.net Resend resends → Answers setting (rows ++ resends ++ Flush ∷ []) journal
     → ((steps : List StepOfRow) → AreSteps setting 1 rows [] steps
     → All (IsConfirmed (after_steps setting [] steps)) (switches_of setting))
     → (ends : EndsCalmly setting journal) × AreSteps setting 1 rows [] ends.first
@@ -270,44 +250,37 @@ ends_by setting rows resends journal asks answers confirms = (
     resends = resending.rest;
     flush = flushing.rest;
     row = flushing.later;
-    written = answers.written
-        ∙ ap (after_steps setting []) flushing.is
-        ∙ after_append setting [] flushing.mine flushing.rest
-        ∙ ap (λ j. after_steps setting j flushing.rest) asked;
+    written = cc
+        (answers.written, flushing.is, after_append setting [] flushing.mine flushing.rest, asked);
     switches = confirms resending.mine resending.first;
     asked = singles_each setting Resend resending.later resends _ resending.rest
         (recursion_from_All _ resends asks.only) resending.second;
     each = λ s there. singles_among setting (Resend s) resending.later resends _ resending.rest
         (in_contained (One (Resend s)) resends (asks.each s there)) resending.second;
-    all = subst (λ j. AreAll setting next_delivery flushing.later j flushing.rest) asked
-        (flush_alone setting flushing.later (after_steps setting [] flushing.mine) flushing.rest
-        flushing.second);
+    all = rw asked at (flush_alone setting flushing.later (after_steps setting [] flushing.mine)
+        flushing.rest flushing.second);
   },
   resending.first,
-)
-  where
-    flushing : AreParted setting 1 (rows ++ resends) (Flush ∷ []) [] answers.steps
-    flushing = steps_part setting 1 (rows ++ resends) (Flush ∷ []) [] answers.steps answers.allowed
+) where
+  flushing : AreParted setting 1 (rows ++ resends) (Flush ∷ []) [] answers.steps
+  flushing = steps_part setting 1 (rows ++ resends) (Flush ∷ []) [] answers.steps answers.allowed
 
-    resending : AreParted setting 1 rows resends [] flushing.mine
-    resending = steps_part setting 1 rows resends [] flushing.mine flushing.first
+  resending : AreParted setting 1 rows resends [] flushing.mine
+  resending = steps_part setting 1 rows resends [] flushing.mine flushing.first
 
-    asked : after_steps setting [] flushing.mine
-        ≡ after_steps setting (after_steps setting [] resending.mine) resending.rest
-    asked = ap (after_steps setting []) resending.is
-        ∙ after_append setting [] resending.mine resending.rest
+  asked : after_steps setting [] flushing.mine
+      ≡ after_steps setting (after_steps setting [] resending.mine) resending.rest
+  asked = cc (resending.is, after_append setting [] resending.mine resending.rest)
 
 -- rows that confirm each switch leave it so
 confirms_leave : (setting : Setting) (front confirms : List Event) (steps : List StepOfRow)
     → AskEach setting.net Confirm confirms → AreSteps setting 1 (front ++ confirms) [] steps
     → All (IsConfirmed (after_steps setting [] steps)) (switches_of setting)
 confirms_leave setting front confirms steps asks are =
-    subst (λ j. All (IsConfirmed j) (switches_of setting))
-    (sym (ap (after_steps setting []) parts.is ∙ after_append setting [] parts.mine parts.rest))
-    (all_confirmed setting (after_steps setting [] parts.mine) parts.rest
-    (singles_each setting Confirm parts.later confirms _ parts.rest
-    (recursion_from_All _ confirms asks.only) parts.second)
-    (λ s there. singles_among setting (Confirm s) parts.later confirms _ parts.rest
+    rw (ap (after_steps setting []) parts.is ∙ after_append setting [] parts.mine parts.rest)
+    (all_confirmed setting (after_steps setting [] parts.mine) parts.rest (singles_each setting
+    Confirm parts.later confirms _ parts.rest (recursion_from_All _ confirms asks.only)
+    parts.second) (λ s there. singles_among setting (Confirm s) parts.later confirms _ parts.rest
     (in_contained (One (Confirm s)) confirms (asks.each s there)) parts.second))
   where
     parts : AreParted setting 1 front confirms [] steps
@@ -316,7 +289,6 @@ confirms_leave setting front confirms steps asks are =
 pub ends_calmly : (setting : Setting) (events : List Event) (journal : List Item)
     → EndsInRecovery setting.net events → Answers setting events journal
     → EndsCalmly setting journal
-ends_calmly setting events journal ends answers =
-    (ends_by setting (ends.front ++ ends.confirms) ends.resends journal ends.resent
-    (subst (λ of. Answers setting of journal) ends.ends answers)
+ends_calmly setting events journal ends answers = (ends_by setting
+    (ends.front ++ ends.confirms) ends.resends journal ends.resent (rw ends.ends at answers)
     (λ steps are. confirms_leave setting ends.front ends.confirms steps ends.confirmed are)).0

@@ -17,11 +17,10 @@ sent_by setting here s = hello_of here s
 
 pub hello_resent : (setting : Setting) (here : List Item) (s : ℕ) → IsTrue (is_up here s)
     → IsIn (hello_of here s) (resent_by_switch setting here s)
-hello_resent setting here s up =
-    subst (λ b. IsIn (hello_of here s) (elim b [
-      | false ↦ []
-      | true ↦ sent_by setting here s
-    ])) (sym up) (inl refl)
+hello_resent setting here s up = subst (λ b. IsIn (hello_of here s) (elim b [
+  | false ↦ []
+  | true ↦ sent_by setting here s
+])) (sym up) (inl refl)
 
 pub advert_resent : (setting : Setting) (here : List Item) (s neighbour : ℕ) (advert : Advert)
     → IsTrue (is_up here s) → IsIn neighbour (switches_in setting (near setting here s))
@@ -69,20 +68,16 @@ to_other setting here s message over member is =
 unacked : (setting : Setting) (here : List Item) (s version : ℕ) (versions : List ℕ)
     → IsIn version versions → IsFalse (has_acked here s version)
     → IsIn (install_for setting here version s) (unacked_installs setting here s versions)
-unacked setting here s version versions is acked =
-    let none : has_acked here s version ≡ false = acked in
-    in_map (λ v. install_for setting here v s) version
-    (filter (λ v. not (has_acked here s v)) versions)
-    (in_filter (λ v. not (has_acked here s v)) version versions is (ap not none))
+unacked setting here s version versions is acked = in_map (λ v. install_for setting here v s)
+    version (filter (λ v. not (has_acked here s v)) versions)
+    (in_filter (λ v. not (has_acked here s v)) version versions is (ap not acked))
 
 -- the tables of each version that it didn't acknowledge: of a member above the current one
-pub table_resent : (setting : Setting) (here : List Item) (s version : ℕ)
-    → IsFalse (is_over here s) → current_mark here ≤ version → version ≤ version_count here
-    → IsFalse (has_acked here s version)
-    → (IsTrue (is_member here s) → current_mark here < version)
+pub table_resent : (setting : Setting) (here : List Item) (s version : ℕ) → IsFalse (is_over here s)
+    → current_mark here ≤ version → version ≤ version_count here
+    → IsFalse (has_acked here s version) → (IsTrue (is_member here s) → current_mark here < version)
     → IsIn (install_for setting here version s) (resent_by_controller setting here s)
-table_resent setting here s version over above below acked later =
-    by_member (is_member here s) refl
+table_resent setting here s version over above below acked later = by_member (is_member here s) refl
   where
     stamps : List Message
     stamps = if nat_lt (acked_stamp here s) (current_mark here)
@@ -90,35 +85,29 @@ table_resent setting here s version over above below acked later =
 
     by_member : (b : Bool) → is_member here s ≡ b
         → IsIn (install_for setting here version s) (resent_by_controller setting here s)
-    by_member true e =
-        let more = later e in
+    by_member true e = let more = later e in
         to_member setting here s _ over e
-        (inr (in_left _ (unacked_installs setting here s (later_versions here) ++ stamps) _
-        (in_left _ (unacked_installs setting here s (later_versions here)) stamps
-        (unacked setting here s version (later_versions here)
-        (in_range version (current_mark here + 1) (version_count here - current_mark here)
-        (omega (arith, more)) (omega (arith, more, below))) acked))))
-    by_member false e = to_other setting here s _ over e
-        (unacked setting here s version (versions_from_current here)
-        (in_range version (current_mark here) (version_count here + 1 - current_mark here) above
-        (omega (arith, above, below))) acked)
+        (inr (in_left _ (unacked_installs setting here s (later_versions here) ++ stamps) _ (in_left
+        _ (unacked_installs setting here s (later_versions here)) stamps (unacked setting here s
+        version (later_versions here) (in_range version (current_mark here + 1) (version_count here
+        - current_mark here) (omega (arith, more)) (omega (arith, more, below))) acked))))
+    by_member false e = to_other setting here s _ over e (unacked setting here s version
+        (versions_from_current here) (in_range version (current_mark here)
+        (version_count here + 1 - current_mark here) above (omega (arith, above, below))) acked)
 
 -- to a member its opening
 pub opening_resent : (setting : Setting) (here : List Item) (s : ℕ) → IsFalse (is_over here s)
     → IsTrue (is_member here s)
     → IsIn (open_for here (open_version here s) s) (resent_by_controller setting here s)
-opening_resent setting here s over member =
-    to_member setting here s _ over member (inl refl)
+opening_resent setting here s over member = to_member setting here s _ over member (inl refl)
 
 -- and the current stamp, where it isn't known to stamp with that
 pub stamp_resent : (setting : Setting) (here : List Item) (s : ℕ) → IsFalse (is_over here s)
     → IsTrue (is_member here s) → acked_stamp here s < current_mark here
     → IsIn (stamp_for setting here (current_mark here) s) (resent_by_controller setting here s)
-stamp_resent setting here s over member behind =
-    to_member setting here s _ over member
+stamp_resent setting here s over member behind = to_member setting here s _ over member
     (inr (in_left _ (unacked_installs setting here s (later_versions here) ++ stamps) _
-    (in_right _ (unacked_installs setting here s (later_versions here)) stamps
-    (rw is (inl refl)))))
+    (in_right _ (unacked_installs setting here s (later_versions here)) stamps (rw is (inl refl)))))
   where
     is : nat_lt (acked_stamp here s) (current_mark here) ≡ true
     is = grind (arith, nat_tests)
@@ -131,19 +120,16 @@ stamp_resent setting here s over member behind =
 pub collect_resent : (setting : Setting) (here : List Item) (s : ℕ) → IsFalse (is_over here s)
     → IsTrue (is_member here s) → (retired_mark here == 0) ≡ false
     → IsIn (collect_for here (retired_mark here) s) (resent_by_controller setting here s)
-collect_resent setting here s over member some =
-    to_member setting here s _ over member
+collect_resent setting here s over member some = to_member setting here s _ over member
     (inr (in_right _ (unacked_installs setting here s (later_versions here) ++ stamps) collects
-    (subst (λ b. IsIn (collect_for here (retired_mark here) s)
-    (if b then [] else collect_for here (retired_mark here) s ∷ [])) (sym some) (inl refl))))
+    (rw some (inl refl))))
   where
     stamps : List Message
     stamps = if nat_lt (acked_stamp here s) (current_mark here)
         then stamp_for setting here (current_mark here) s ∷ [] else []
 
     collects : List Message
-    collects = if retired_mark here == 0
-        then [] else collect_for here (retired_mark here) s ∷ []
+    collects = if retired_mark here == 0 then [] else collect_for here (retired_mark here) s ∷ []
 
 -- ---- all of it is sent
 

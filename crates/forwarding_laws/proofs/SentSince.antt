@@ -24,13 +24,11 @@ since_on since journal items message sent = record {
 
 pub since_calm : (setting : Setting) (since : ℕ) (before after : List Item) (message : Message)
     → Calmly setting before after → IsSince since before message → IsSince since after message
-since_calm setting since before after message calm sent =
-    subst (λ j. IsSince since j message) (sym calm.is)
+since_calm setting since before after message calm sent = rw calm.is
     (since_on since before calm.items message sent)
 
-all_since : (since : ℕ) (journal : List Item) (n : ℕ) (messages : List Message)
-    (message : Message) → since ≤ n → IsIn message messages
-    → IsSince since (journal ++ sent_from n messages) message
+all_since : (since : ℕ) (journal : List Item) (n : ℕ) (messages : List Message) (message : Message)
+    → since ≤ n → IsIn message messages → IsSince since (journal ++ sent_from n messages) message
 unfolding sent_from
 all_since since journal n [] message late is = absurd is
 all_since since journal n (first ∷ messages) message late is =
@@ -73,8 +71,7 @@ since_or_earlier setting before journal message calm traced sent =
         number = sent.sending.number;
         sent = sym ((stays setting before journal calm).messages sent.sending.number below)
             ∙ (each_in (IsTraced journal) sent.sending (sendings journal) traced.each
-            sent.is).message
-            ∙ ap Some sent.of;
+            sent.is).message ∙ ap Some sent.of;
       })
       | inr above ↦ inl (record {
         number = sent.sending.number;
@@ -98,9 +95,8 @@ pub record IsFlushed (setting : Setting) (before journal : List Item) : Type 0 w
   pub waiting : next_waiting journal ≡ None
 
 pub since_delivered : (setting : Setting) (before journal : List Item)
-    → IsFlushed setting before journal → (number boot : ℕ) (message : Message)
-    → next_message before ≤ number
-    → IsIn (record { number = number; message = message; boot = boot }) (sendings journal)
+    → IsFlushed setting before journal → (number boot : ℕ) (message : Message) → next_message before
+    ≤ number → IsIn (record { number = number; message = message; boot = boot }) (sendings journal)
     → IsTrue (was_delivered journal number)
 since_delivered setting before journal are number boot message late is =
     one_delivered journal (record { number = number; message = message; boot = boot }) are.waiting
@@ -114,13 +110,10 @@ since_delivered setting before journal are number boot message late is =
     by_forgotten true e = absurd (omega (arith, are.first.forgotten number e, late))
 
 -- so the controller heard what was sent to it
-pub since_told : (setting : Setting) (before journal : List Item)
-    → IsFlushed setting before journal → (body : Body)
-    → IsSince (next_message before) journal (to_controller body)
+pub since_told : (setting : Setting) (before journal : List Item) → IsFlushed setting before journal
+    → (body : Body) → IsSince (next_message before) journal (to_controller body)
     → IsIn body (controller_heard journal)
-since_told setting before journal are body sent =
-    (each_in (IsTraced journal)
+since_told setting before journal are body sent = (each_in (IsTraced journal)
     (record { number = sent.number; message = to_controller body; boot = sent.boot })
-    (sendings journal) are.traced.each sent.is).course
-    (since_delivered setting before journal are sent.number sent.boot (to_controller body)
-    sent.late sent.is)
+    (sendings journal) are.traced.each sent.is).course (since_delivered setting before journal are
+    sent.number sent.boot (to_controller body) sent.late sent.is)

@@ -21,12 +21,10 @@ stands_in is before (y ∷ items) x have there = elim there [
     split = ap (λ z. z ∷ items) here;
     own = subst (λ js. is js x) (sym (append-nil before)) (subst (is before) here have.0);
   }
-  | inr later ↦
-      let at = stands_in is (before ++ y ∷ []) items x have.1 later in
-      record {
-        front = y ∷ at.front;
-        rest = at.rest;
-        split = ap (λ zs. y ∷ zs) at.split;
-        own = subst (λ js. is js x) (append_assoc before (y ∷ []) at.front) at.own;
-      }
+  | inr later ↦ let at = stands_in is (before ++ y ∷ []) items x have.1 later in record {
+    front = y ∷ at.front;
+    rest = at.rest;
+    split = ap (λ zs. y ∷ zs) at.split;
+    own = subst (λ js. is js x) (append_assoc before (y ∷ []) at.front) at.own;
+  }
 ]

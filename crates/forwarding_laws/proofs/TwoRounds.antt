@@ -18,9 +18,8 @@ RulesLaw = HoldsReached (λ setting journal. IsSetting setting → RulesAreRight
 answer_caches : RulesLaw → (setting : Setting) (events : List Event) (journal : List Item)
     → IsSetting setting → AreEvents setting events → Answers setting events journal
     → IsUpdated setting journal → CacheNewestAlone setting journal
-answer_caches rules setting events journal is own answers updated =
-    cache_newest setting journal causes (rules.answered setting events journal own answers is)
-    updated
+answer_caches rules setting events journal is own answers updated = cache_newest setting journal
+    causes (rules.answered setting events journal own answers is) updated
   where
     causes : HaveCauses (HasItemCause setting) [] journal
     causes = subst (HaveCauses (HasItemCause setting) []) (sym answers.written)
@@ -29,9 +28,8 @@ answer_caches rules setting events journal is own answers updated =
 pub recovered_caches : RulesLaw → (setting : Setting) (events : List Event) (journal : List Item)
     → IsSetting setting → AreEvents setting events → EndsInRecovery setting.net events
     → Answers setting events journal → CacheNewestAlone setting journal
-recovered_caches rules setting events journal is own ends answers =
-    answer_caches rules setting events journal is own answers
-    (recovered_updated setting events journal ends answers)
+recovered_caches rules setting events journal is own ends answers = answer_caches rules setting
+    events journal is own answers (recovered_updated setting events journal ends answers)
 
 -- the second round is one that begins behind recovery
 two_calmly : (setting : Setting) (events : List Event) (journal : List Item)
@@ -57,22 +55,19 @@ pub nothing_old : HoldsAtEnds (Agrees HasConverged) → HoldsAtEnds (Agrees GetS
     (journal : List Item) → IsSetting setting → AreEvents setting events
     → EndsInTwoRounds setting.net events → Answers setting events journal
     → LeavesNothingOld setting journal
-nothing_old converge part forward rules setting events journal is own two answers =
-    record {
-      recovered = calm_recovers converge part forward setting events journal is own answers ends;
-      tables = hold_newest setting (after_steps setting [] ends.first) journal
-          (ends_recovered setting journal ends)
-          (recovered_updated setting two.first (after_steps setting [] ends.first) two.recovered
-          found.1) updated;
-      caches = answer_caches rules setting events journal is own answers updated;
-    }
-  where
-    found : (ends : EndsCalmly setting journal)
-        × Answers setting two.first (after_steps setting [] ends.first)
-    found = two_calmly setting events journal two answers
+nothing_old converge part forward rules setting events journal is own two answers = record {
+  recovered = calm_recovers converge part forward setting events journal is own answers ends;
+  tables = hold_newest setting (after_steps setting [] ends.first) journal
+      (ends_recovered setting journal ends) (recovered_updated setting two.first
+      (after_steps setting [] ends.first) two.recovered found.1) updated;
+  caches = answer_caches rules setting events journal is own answers updated;
+} where
+  found : (ends : EndsCalmly setting journal)
+      × Answers setting two.first (after_steps setting [] ends.first)
+  found = two_calmly setting events journal two answers
 
-    ends : EndsCalmly setting journal
-    ends = found.0
+  ends : EndsCalmly setting journal
+  ends = found.0
 
-    updated : IsUpdated setting journal
-    updated = ends_updated setting journal ends
+  updated : IsUpdated setting journal
+  updated = ends_updated setting journal ends

@@ -1,6 +1,6 @@
 -- Items that crash no switch and fail no link: all links of the network can be used, and each
 -- advert names all links of its origin.
-use Rattle.std.proofs.Common.{[], if◌then◌else◌, ◌&&◌, ◌++◌, ◌<◌, ◌==◌, ◌||◌, ◌∙◌, ◌∷◌, ◌≡◌, Bool, IsTrue, List, None, Some, ap, false, max, min, refl, true, unwrap_or, ℕ}
+use Rattle.std.proofs.Common.{[], if◌then◌else◌, ◌&&◌, ◌++◌, ◌<◌, ◌==◌, ◌∙◌, ◌∷◌, ◌≡◌, Bool, IsTrue, List, None, Some, false, max, min, refl, true, unwrap_or, ℕ}
 use Rattle.base.proofs.Exports.{has_mask, list_any, ⊤}
 use Rattle.base.specs.Exports.{has}
 use Rattle.update_machine.specs.Exports.{Advert, HaveCauses, Item, LinkRow, Net, Setting, can_use, gives_link, is_link_up, is_usable, own_advert, serves}
@@ -56,8 +56,7 @@ up_kept before next safe up = record {
 }
 
 pub all_up : (journal : List Item) → HaveCauses IsUnfailing [] journal → AreAllUp journal
-all_up journal safe =
-    fact_on IsUnfailing AreAllUp up_kept [] journal safe
+all_up journal safe = fact_on IsUnfailing AreAllUp up_kept [] journal safe
     (record { serving = start_laws.serving; links = start_laws.links })
 
 any_usable : (journal : List Item) (one two : ℕ) (rows : List LinkRow) → AreAllUp journal
@@ -65,30 +64,22 @@ any_usable : (journal : List Item) (one two : ℕ) (rows : List LinkRow) → Are
     ≡ list_any (joins one two) rows
 any_usable journal one two [] up = refl
 any_usable journal one two (link ∷ rows) up =
-    ap (λ b. (joins one two link && b)
-    || list_any (λ x. joins one two x && is_usable journal x) rows) usable
-    ∙ ap (λ b. b || list_any (λ x. joins one two x && is_usable journal x) rows)
-    (with_true (joins one two link))
-    ∙ ap (λ b. joins one two link || b) (any_usable journal one two rows up)
+    cc (usable, with_true (joins one two link), any_usable journal one two rows up)
   where
     with_true : (b : Bool) → (b && true) ≡ b
     with_true true = refl
     with_true false = refl
 
     usable : is_usable journal link ≡ true
-    usable =
-        let here = up.links link.one link.two in
-        let first = up.serving link.one in
-        let second = up.serving link.two in
-        all_three _ _ _ here first second
+    usable = let second = up.serving link.two in
+        all_three _ _ _ (up.links link.one link.two) (up.serving link.one) second
       where
         all_three : (a b c : Bool) → a ≡ true → b ≡ true → c ≡ true → (a && b && c) ≡ true
         all_three a b c p q r = rw (p, q, r) refl
 
 -- all links of the network can be used, and no others
 pub all_usable : (setting : Setting) (journal : List Item) → HaveCauses IsUnfailing [] journal
-    → (one two : ℕ)
-    → can_use setting journal one two ≡ are_linked setting.net.links one two
+    → (one two : ℕ) → can_use setting journal one two ≡ are_linked setting.net.links one two
 all_usable setting journal safe one two =
     any_usable journal one two setting.net.links (all_up journal safe)
 
@@ -96,8 +87,7 @@ all_usable setting journal safe one two =
 
 -- the advert names the switches to which the network has links of its origin, and no others
 abbrev pub NamesAll : Net → Advert → Type 0
-NamesAll net advert =
-    (k : ℕ) → k < 64 → has advert.up k ≡ are_linked net.links advert.origin k
+NamesAll net advert = (k : ℕ) → k < 64 → has advert.up k ≡ are_linked net.links advert.origin k
 
 own_names_all : (setting : Setting) (journal : List Item) (s : ℕ)
     → HaveCauses IsUnfailing [] journal → NamesAll setting.net (own_advert setting journal s)

@@ -1,6 +1,6 @@
 -- Ways over links that can be used lead back, and what isn't reached from their end isn't reached
 -- from their beginning.
-use Rattle.std.proofs.Common.{[], ◌∷◌, All, List, subst, ℕ}
+use Rattle.std.proofs.Common.{[], ◌∷◌, All, List, ℕ}
 use Rattle.base.proofs.Exports.{All-weaker}
 use Rattle.net_file.specs.Exports.{IsNet}
 use Rattle.update_machine.specs.Exports.{Item, Setting}
@@ -10,8 +10,7 @@ use Rattle.convergence_laws.proofs.Exports.{near_back}
 turn_round : (setting : Setting) (journal : List Item) → IsNet setting.net → (there at target : ℕ)
     (rest : List ℕ) → LeadsOver setting journal there at rest
     → Reaches setting journal at target → Reaches setting journal there target
-turn_round setting journal net there at target [] leads reaches =
-    subst (λ x. Reaches setting journal x target) leads reaches
+turn_round setting journal net there at target [] leads reaches = rw leads at reaches
 turn_round setting journal net there at target (next ∷ rest) leads reaches =
     turn_round setting journal net there next target rest leads.1 (record {
       rest = at ∷ reaches.rest;
@@ -24,6 +23,5 @@ pub apart_from : (setting : Setting) (journal : List Item) → IsNet setting.net
     → All (λ target. Reaches setting journal from target → ⊥) targets
 apart_from setting journal net from at targets reaches apart =
     All-weaker (λ target. Reaches setting journal at target → ⊥)
-    (λ target. Reaches setting journal from target → ⊥)
-    (λ target none there. none
+    (λ target. Reaches setting journal from target → ⊥) (λ target none there. none
     (turn_round setting journal net at from target reaches.rest reaches.leads there)) targets apart

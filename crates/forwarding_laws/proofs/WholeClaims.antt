@@ -53,8 +53,7 @@ claimed_all net s one (receiver.Switch t) (Advertise advert) such =
         → IfClaims net one (if b then Some (said_by advert) else None)
     by_tests false e = tt
     by_tests true e =
-        let of : advert.origin ≡ one = grind (arith, nat_tests) in
-        λ k small. such k small ∙ ap (λ n. are_linked net.links n k) of
+        λ k small. such k small ∙ ap (λ n. are_linked net.links n k) (grind (arith, nat_tests))
 claimed_all net s one to body such = tt
 
 -- what is kept of it, item by item, of a journal in which nothing failed
@@ -68,10 +67,9 @@ claims_on : (setting : Setting) (before : List Item) (next : Item) (s one : ℕ)
     → ClaimsAll setting.net one (changes_claim s one before (claim_of setting before s one) next)
 claims_on setting before (item.Down t) s one safe kept = absurd safe
 claims_on setting before (item.Booted t boot) s one safe kept = absurd safe
-claims_on setting before (item.Delivered number) s one safe kept =
-    newer_all setting.net one (claim_of setting before s one)
-    (option_and_then (claim_in s one) (message_of before number)) (kept.claims s one)
-    (by_message (message_of before number) refl)
+claims_on setting before (item.Delivered number) s one safe kept = newer_all setting.net one
+    (claim_of setting before s one) (option_and_then (claim_in s one) (message_of before number))
+    (kept.claims s one) (by_message (message_of before number) refl)
   where
     by_body : (body : Body) → IfAdvert (NamesAllSafely setting before) body
         → IfAdvert (NamesAll setting.net) body
@@ -91,8 +89,7 @@ claimed_kept setting before next both kept = record {
   such = such_kept setting (NamesAllSafely setting) (all_fact setting) before next both.first
       kept.such;
   safe = have_append IsUnfailing [] before (next ∷ []) kept.safe (both.second, tt);
-  claims = λ s one. subst (ClaimsAll setting.net one)
-      (sym (claim_more setting before next s one))
+  claims = λ s one. subst (ClaimsAll setting.net one) (sym (claim_more setting before next s one))
       (claims_on setting before next s one both.second kept);
 }
 
@@ -106,6 +103,5 @@ claimed_at_first setting = record {
 
 pub are_claimed : (setting : Setting) (journal : List Item)
     → HaveCauses (Both (HasBothCauses setting) IsUnfailing) [] journal → AreClaimed setting journal
-are_claimed setting journal have =
-    fact_on (Both (HasBothCauses setting) IsUnfailing) (AreClaimed setting) (claimed_kept setting)
-    [] journal have (claimed_at_first setting)
+are_claimed setting journal have = fact_on (Both (HasBothCauses setting) IsUnfailing)
+    (AreClaimed setting) (claimed_kept setting) [] journal have (claimed_at_first setting)

@@ -9,12 +9,12 @@ use Rattle.journal.specs.declared.item.Item.TheVariants as item
 use Rattle.update_machine.proofs.Exports.{begins_planned, step_stays}
 use Rattle.control_laws.proofs.Exports.{AreKept, Behind, HasBothCauses, NamesOwn, StampsAreCurrent, current_at_first, current_kept, fact_on, have_weaker, links_there, message_more, said_parts, stamps_touched, versions_planned, with_fact}
 use Rattle.control_laws.specs.Exports.{HasItemCause, stamp_to}
-use Rattle.packet_laws.specs.Exports.{AllKept, Blocked, BringsRight, CameIn, HasKeptFacts, IsRightEntry, IsRightRule, IsRightlyDecided, IsUnknown, Judged, OnWay, PacketCause, SendsRightRule, SendsRule, Stage, facts_after, gives_stage, is_of_packet, stage_of, what_is_known}
+use Rattle.packet_laws.specs.Exports.{AllKept, Blocked, BringsRight, CameIn, HasKeptFacts, IsRightEntry, IsRightRule, IsUnknown, Judged, OnWay, PacketCause, SendsRightRule, SendsRule, Stage, facts_after, gives_stage, is_of_packet, stage_of, what_is_known}
 use Rattle.packet_laws.proofs.PacketFacts.{facts_named, facts_other}
 use Rattle.packet_laws.proofs.CacheRules.{cache_rule_right}
 use Rattle.packet_laws.proofs.CachedEntries.{cache_holds}
 use Rattle.packet_laws.proofs.GrowingFacts.{Grows, grows, kept_on, right_on}
-use Rattle.packet_laws.proofs.PacketsHere.{IsHere, Rules, here_of, rules_of}
+use Rattle.packet_laws.proofs.PacketsHere.{IsHere, here_of, rules_of}
 use Rattle.packet_laws.proofs.KeptFacts.{Knows, decided_after, entered_after, exiting_after, found_after, gone, hopped_after, rerouted_after, seeking_after}
 use Rattle.packet_laws.proofs.HeaderLookups.{deciding}
 use Rattle.packet_laws.proofs.PacketBlocks.{stage_more, stage_stays}
@@ -28,12 +28,10 @@ use Rattle.ternary.specs.Exports.{WordValue}
 -- ---- steps that were asked for
 
 abbrev AreAsked : Setting → List Item → Type 0
-AreAsked setting journal = (step : Step) → present_step journal ≡ Some step
-    → NamesOwn setting step
+AreAsked setting journal = (step : Step) → present_step journal ≡ Some step → NamesOwn setting step
 
 asked_kept : (setting : Setting) → AreKept (IsAsked setting) (AreAsked setting)
-asked_kept setting before (item.Row row step) asked are other present =
-    subst (NamesOwn setting)
+asked_kept setting before (item.Row row step) asked are other present = subst (NamesOwn setting)
     (some_same (present_step (before ++ item.Row row step ∷ [])) step other
     (step_now before row step) present) asked
 asked_kept setting before next asked are step present =
@@ -56,8 +54,7 @@ pub record Before (setting : Setting) (before : List Item) : Type 0 where
 
 both_of_all : (setting : Setting) (before : List Item)
     → HaveCauses (IsWayItem setting) [] before → HaveCauses (HasBothCauses setting) [] before
-both_of_all setting before have =
-    have_weaker (IsWayItem setting) (HasBothCauses setting)
+both_of_all setting before have = have_weaker (IsWayItem setting) (HasBothCauses setting)
     (λ js next is. record { first = is.switches; second = is.links }) [] before have
 
 pub knows : (setting : Setting) (before : List Item) (i : ℕ) → Before setting before
@@ -74,56 +71,44 @@ knows setting before i known = record {
 
 -- the packet that an item names
 named_as : (setting : Setting) (before : List Item) (packet i : ℕ) (next : Item) (stage : Stage)
-    → (packet == i) ≡ true → gives_stage i next ≡ Some stage
-    → HasKeptFacts setting before (facts_after (retired_mark before) next (what_is_known before packet))
-    (Some stage)
+    → (packet == i) ≡ true → gives_stage i next ≡ Some stage → HasKeptFacts setting before
+    (facts_after (retired_mark before) next (what_is_known before packet)) (Some stage)
     → HasKeptFacts setting before (facts_after (retired_mark before) next (what_is_known before i))
     (stage_of (before ++ next ∷ []) i)
 named_as setting before packet i next stage named tells kept =
-    subst (HasKeptFacts setting before (facts_after (retired_mark before) next (what_is_known before i)))
-    (sym (stage_more before next i stage tells))
-    (subst (λ k. HasKeptFacts setting before (facts_after (retired_mark before) next (what_is_known before k))
-    (Some stage)) (eqb-true packet i named) kept)
+    rw (stage_more before next i stage tells) (rw (eqb-true packet i named) at kept)
 
 named_after : (setting : Setting) (before : List Item) (next : Item) (i : ℕ)
     → Before setting before → PacketCause setting before next → is_of_packet i next ≡ true
     → HasKeptFacts setting before (facts_after (retired_mark before) next (what_is_known before i))
     (stage_of (before ++ next ∷ []) i)
 named_after setting before (item.Entered packet s header) i known way named =
-    let own : NamesOwn setting (Packet s header) =
-    present_asked setting before known.have (Packet s header) way.0.row in
-    let none : IsUnknown (what_is_known before packet) =
-    known.kept.unknown packet (omega (arith, way.0.number)) in
+    let own = present_asked setting before known.have (Packet s header) way.0.row in
+    let none = known.kept.unknown packet (omega (arith, way.0.number)) in
     named_as setting before packet i (item.Entered packet s header) CameIn named
     (rw named refl)
     (entered_after setting before packet s header (what_is_known before packet) own.0 own.1
     none.decision none.leg)
 named_after setting before (item.Seeking packet version partition route) i known way named =
     named_as setting before packet i (item.Seeking packet version partition route) OnWay named
-    (rw named refl)
-    (seeking_after setting before packet (retired_mark before) version partition route
-    (knows setting before packet known) way)
-named_after setting before (item.Exiting packet route) i known way named =
-    named_as setting before packet i (item.Exiting packet route) OnWay named (rw named refl)
-    (exiting_after setting before packet (retired_mark before) route
-    (knows setting before packet known) way)
-named_after setting before (item.Rerouted packet route) i known way named =
-    named_as setting before packet i (item.Rerouted packet route) OnWay named (rw named refl)
-    (rerouted_after setting before packet (retired_mark before) route
-    (knows setting before packet known) way)
-named_after setting before (item.Hopped packet next) i known way named =
-    named_as setting before packet i (item.Hopped packet next) OnWay named (rw named refl)
-    (hopped_after setting before packet (retired_mark before) next
-    (knows setting before packet known) way)
-named_after setting before (item.FoundDown packet one two) i known way named =
-    named_as setting before packet i (item.FoundDown packet one two) Blocked named
-    (rw named refl)
+    (rw named refl) (seeking_after setting before packet (retired_mark before) version partition
+    route (knows setting before packet known) way)
+named_after setting before (item.Exiting packet route) i known way named = named_as setting before
+    packet i (item.Exiting packet route) OnWay named (rw named refl) (exiting_after setting before
+    packet (retired_mark before) route (knows setting before packet known) way)
+named_after setting before (item.Rerouted packet route) i known way named = named_as setting before
+    packet i (item.Rerouted packet route) OnWay named (rw named refl) (rerouted_after setting before
+    packet (retired_mark before) route (knows setting before packet known) way)
+named_after setting before (item.Hopped packet next) i known way named = named_as setting before
+    packet i (item.Hopped packet next) OnWay named (rw named refl) (hopped_after setting before
+    packet (retired_mark before) next (knows setting before packet known) way)
+named_after setting before (item.FoundDown packet one two) i known way named = named_as setting
+    before packet i (item.FoundDown packet one two) Blocked named (rw named refl)
     (found_after setting before packet (retired_mark before) one two
     (knows setting before packet known) way)
 named_after setting before (item.Decided packet version rule act by) i known way named =
     named_as setting before packet i (item.Decided packet version rule act by) Judged named
-    (rw named refl)
-    (decided_after setting before packet (retired_mark before) version rule act by
+    (rw named refl) (decided_after setting before packet (retired_mark before) version rule act by
     (knows setting before packet known) known.kept.cached way)
 named_after setting before (item.Left packet port leaving) i known way named =
     gone setting before _ _ refl
@@ -147,35 +132,25 @@ packets_on : (setting : Setting) (before : List Item) (next : Item) → Before s
     → IsWayItem setting before next → Grows setting before (before ++ next ∷ []) → (i : ℕ)
     → HasKeptFacts setting (before ++ next ∷ []) (what_is_known (before ++ next ∷ []) i)
     (stage_of (before ++ next ∷ []) i)
-packets_on setting before next known cause grow i = by_name (is_of_packet i next) refl
-  where
-    by_name : (b : Bool) → is_of_packet i next ≡ b
-        → HasKeptFacts setting (before ++ next ∷ []) (what_is_known (before ++ next ∷ []) i)
-        (stage_of (before ++ next ∷ []) i)
-    by_name true e =
-        subst (λ facts. HasKeptFacts setting (before ++ next ∷ []) facts
-        (stage_of (before ++ next ∷ []) i)) (sym (facts_named i before next e))
-        (kept_on setting before (before ++ next ∷ []) _ _ grow
-        (named_after setting before next i known cause.way e))
-    by_name false e =
-        subst (λ facts. HasKeptFacts setting (before ++ next ∷ []) facts
-        (stage_of (before ++ next ∷ []) i)) (sym (facts_other i before next e))
-        (subst (HasKeptFacts setting (before ++ next ∷ []) (what_is_known before i))
-        (sym (stage_stays before next i (unnamed_stage i next e)))
-        (kept_on setting before (before ++ next ∷ []) _ _ grow (known.kept.packets i)))
+packets_on setting before next known cause grow i = by_name (is_of_packet i next) refl where
+  by_name : (b : Bool) → is_of_packet i next ≡ b → HasKeptFacts setting (before ++ next ∷ [])
+      (what_is_known (before ++ next ∷ []) i) (stage_of (before ++ next ∷ []) i)
+  by_name true e = rw (facts_named i before next e) (kept_on setting before
+      (before ++ next ∷ []) _ _ grow (named_after setting before next i known cause.way e))
+  by_name false e = rw (facts_other i before next e)
+      (rw (stage_stays before next i (unnamed_stage i next e))
+      (kept_on setting before (before ++ next ∷ []) _ _ grow (known.kept.packets i)))
 
 -- ---- packets that didn't enter
 
 -- an item names a packet that travels, or the next one, which enters
 named_travels : (setting : Setting) (before : List Item) (next : Item) (i : ℕ)
-    → PacketCause setting before next → is_of_packet i next ≡ true
-    → IsTrue (travels before i)
+    → PacketCause setting before next → is_of_packet i next ≡ true → IsTrue (travels before i)
     ⊎ ((i ≡ next_packet before) × (next_packet (before ++ next ∷ []) ≡ next_packet before + 1))
-named_travels setting before (item.Entered packet s header) i way named =
-    inr (
-      sym (eqb-true packet i named) ∙ way.0.number,
-      packet_more before (item.Entered packet s header),
-    )
+named_travels setting before (item.Entered packet s header) i way named = inr (
+  sym (eqb-true packet i named) ∙ way.0.number,
+  packet_more before (item.Entered packet s header),
+)
 named_travels setting before (item.Seeking packet version partition route) i way named =
     inl (subst (λ k. IsTrue (travels before k)) (eqb-true packet i named) way.at.travelling)
 named_travels setting before (item.Exiting packet route) i way named =
@@ -201,36 +176,32 @@ named_travels setting before next i way named = absurd cc
 unknown_on : (setting : Setting) (before : List Item) (next : Item) → Before setting before
     → PacketCause setting before next → (i : ℕ) → next_packet (before ++ next ∷ []) ≤ i
     → IsUnknown (what_is_known (before ++ next ∷ []) i)
-unknown_on setting before next known way i past = by_name (is_of_packet i next) refl
-  where
-    not_named : IsTrue (travels before i)
-        ⊎ ((i ≡ next_packet before) × (next_packet (before ++ next ∷ []) ≡ next_packet before + 1))
-        → IsUnknown (what_is_known (before ++ next ∷ []) i)
-    not_named (inl travelling) =
-        let number = numbered setting before (ways_of_all setting [] before known.have) i
-        travelling in
-        absurd (omega (arith, number.1, past, packet_more before next))
-    not_named (inr own) = absurd (omega (arith, own.0, own.1, past))
+unknown_on setting before next known way i past = by_name (is_of_packet i next) refl where
+  not_named : IsTrue (travels before i)
+      ⊎ ((i ≡ next_packet before) × (next_packet (before ++ next ∷ []) ≡ next_packet before + 1))
+      → IsUnknown (what_is_known (before ++ next ∷ []) i)
+  not_named (inl travelling) =
+      let number = numbered setting before (ways_of_all setting [] before known.have) i
+      travelling in
+      absurd (omega (arith, number.1, past, packet_more before next))
+  not_named (inr own) = absurd (omega (arith, own.0, own.1, past))
 
-    by_name : (b : Bool) → is_of_packet i next ≡ b → IsUnknown (what_is_known (before ++ next ∷ []) i)
-    by_name true e = not_named (named_travels setting before next i way e)
-    by_name false e =
-        subst IsUnknown (sym (facts_other i before next e))
-        (known.kept.unknown i (omega (arith, past, packet_more before next)))
+  by_name : (b : Bool) → is_of_packet i next ≡ b → IsUnknown (what_is_known (before ++ next ∷ []) i)
+  by_name true e = not_named (named_travels setting before next i way e)
+  by_name false e = subst IsUnknown (sym (facts_other i before next e))
+      (known.kept.unknown i (omega (arith, past, packet_more before next)))
 
 -- ---- messages
 
-brings_on : (setting : Setting) (before after : List Item) (body : Body)
-    → Grows setting before after → BringsRight setting before body
-    → BringsRight setting after body
+brings_on : (setting : Setting) (before after : List Item) (body : Body) → Grows setting before
+    after → BringsRight setting before body → BringsRight setting after body
 brings_on setting before after (CacheRule version word rule act) grow right =
     right_on setting before after version word rule act grow right
 brings_on setting before after _ grow right = tt
 
 -- the rule that a switch tells is right
-told_right : (setting : Setting) (before : List Item) (message : Message)
-    → Before setting before → SendsRule setting before message
-    → BringsRight setting before message.body
+told_right : (setting : Setting) (before : List Item) (message : Message) → Before setting before
+    → SendsRule setting before message → BringsRight setting before message.body
 told_right setting before message known tells =
     let i : ℕ = tells.packet in
     let s : ℕ = tells.switch in
@@ -238,46 +209,34 @@ told_right setting before message known tells =
     let here : IsHere setting before i s =
     here_of setting before i s (stage_of before i) known.is knows_it.have knows_it.kept tells.at in
     let header : Header = here.under.header in
-    let judged : IsRightlyDecided setting before (what_is_known before i) header =
-    knows_it.kept.judged here.travelling tells.judged header here.under.entered in
-    let rules : Rules setting before (what_is_known before i) header tells.found.version tells.found =
-    rules_of setting before i s tells.found.version tells.found known.is knows_it.have here
-    judged.sought tells.finds in
+    let rules = rules_of setting before i s tells.found.version tells.found known.is knows_it.have
+    here (knows_it.kept.judged here.travelling tells.judged header here.under.entered).sought
+    tells.finds in
     let version : ℕ = tells.found.version in
     let own : AuthorityRule = deciding version rules.finds in
     let right : IsRightRule setting before version
     (widen (number_of header) own.part.region own.part.rules own.place) own.rule.rule
-    own.rule.action =
-    record {
+    own.rule.action = record {
       known = omega (arith, rules.not_retired);
       current = rules.current;
-      decides = λ other sound held.
-          first_match_by_scan (policy_at setting before version) other
-          (record { rule = own.rule.rule; action = own.rule.action })
-          (cache_rule_right setting (policy_at setting before version)
-          (plan_at setting before version) header rules.hosted rules.finds rules.planned
-          here.under.sound other sound held);
+      decides = λ other sound held. first_match_by_scan (policy_at setting before version) other
+          (record { rule = own.rule.rule; action = own.rule.action }) (cache_rule_right setting
+          (policy_at setting before version) (plan_at setting before version) header rules.hosted
+          rules.finds rules.planned here.under.sound other sound held);
     } in
     subst (λ (m : Message). BringsRight setting before m.body) (sym tells.says)
-    (subst (λ h. IsRightRule setting before version
-    (widen (number_of h) tells.found.part.region tells.found.part.rules tells.found.place)
-    tells.found.rule.rule tells.found.rule.action) (sym here.header)
-    (subst (λ (f : AuthorityRule). IsRightRule setting before version
-    (widen (number_of header) f.part.region f.part.rules f.place) f.rule.rule f.rule.action)
-    (sym rules.same) right))
+    (rw here.header (rw rules.same right))
 
 sent_right : (setting : Setting) (before : List Item) (number : ℕ) (message : Message)
     → Before setting before → PacketCause setting before (item.Sent number message)
     → BringsRight setting before message.body
-sent_right setting before number message known way = by_body message.body refl way
-  where
-    by_body : (body : Body) → message.body ≡ body
-        → PacketCause setting before (item.Sent number message)
-        → BringsRight setting before message.body
-    by_body (CacheRule version word rule act) e way =
-        told_right setting before message known
-        (subst (λ b. SendsRightRule setting before message b) e way)
-    by_body _ e way = subst (BringsRight setting before) (sym e) tt
+sent_right setting before number message known way = by_body message.body refl way where
+  by_body : (body : Body) → message.body ≡ body
+      → PacketCause setting before (item.Sent number message)
+      → BringsRight setting before message.body
+  by_body (CacheRule version word rule act) e way = told_right setting before message known
+      (subst (λ b. SendsRightRule setting before message b) e way)
+  by_body _ e way = subst (BringsRight setting before) (sym e) tt
 
 sent_on : (setting : Setting) (before : List Item) (next : Item) → Before setting before
     → IsWayItem setting before next → Grows setting before (before ++ next ∷ [])
@@ -289,14 +248,11 @@ sent_on setting before (item.Sent number sent) known cause grow n message is =
     by_number : (b : Bool) → (number == n) ≡ b
         → BringsRight setting (before ++ item.Sent number sent ∷ []) message.body
     by_number true e =
-        let same : Some sent ≡ Some message =
-        rw (message_more before (item.Sent number sent) n, e) at is in
+        let same = rw (message_more before (item.Sent number sent) n, e) at is in
         let own : sent ≡ message = cc in
         brings_on setting before _ message.body grow
-        (subst (λ (m : Message). BringsRight setting before m.body) own
-        (sent_right setting before number sent known cause.way))
-    by_number false e =
-        brings_on setting before _ message.body grow
+        (rw own at (sent_right setting before number sent known cause.way))
+    by_number false e = brings_on setting before _ message.body grow
         (known.kept.sent n message (rw (message_more before (item.Sent number sent) n, e) at is))
 sent_on setting before next known cause grow n message is =
     brings_on setting before (before ++ next ∷ []) message.body grow
@@ -305,23 +261,17 @@ sent_on setting before next known cause grow n message is =
 -- ---- caches
 
 pub cached_on : (setting : Setting) (before : List Item) (next : Item) → Before setting before
-    → Grows setting before (before ++ next ∷ []) → (s : ℕ)
-    → All (IsRightEntry setting (before ++ next ∷ []))
-    (cache_of setting (before ++ next ∷ []) s).entries
-cached_on setting before next known grow s =
-    All-weaker (IsRightEntry setting before) (IsRightEntry setting (before ++ next ∷ []))
-    (λ entry right. right_on setting before (before ++ next ∷ []) entry.version entry.word
-    entry.rule entry.action grow right) _
+    → Grows setting before (before ++ next ∷ []) → (s : ℕ) → All (IsRightEntry setting
+    (before ++ next ∷ [])) (cache_of setting (before ++ next ∷ []) s).entries
+cached_on setting before next known grow s = All-weaker (IsRightEntry setting before)
+    (IsRightEntry setting (before ++ next ∷ [])) (λ entry right. right_on setting before
+    (before ++ next ∷ []) entry.version entry.word entry.rule entry.action grow right) _
     (cache_holds (IsRightEntry setting before) setting s before next
-    (λ number boot version touched said cache all.
-    carried_right setting before version cache known.is
-    (planned number boot version touched
-    (said_parts before s number _ said).sent)
-    (current number boot version touched
-    (said_parts before s number _ said).sent) all)
-    (λ number version word rule act said.
-    known.kept.sent number _ (said_parts before s number (CacheRule version word rule act) said).sent)
-    (known.kept.cached s))
+    (λ number boot version touched said cache all. carried_right setting before version cache
+    known.is (planned number boot version touched (said_parts before s number _ said).sent)
+    (current number boot version touched (said_parts before s number _ said).sent) all)
+    (λ number version word rule act said. known.kept.sent number _
+    (said_parts before s number (CacheRule version word rule act) said).sent) (known.kept.cached s))
   where
     have : HaveCauses (HasItemCause setting) [] before
     have = switches_of_all setting [] before known.have
@@ -334,8 +284,7 @@ cached_on setting before next known grow s =
     current : (number boot version : ℕ) (touched : List WordValue)
         → message_of before number ≡ Some (stamp_to s boot version touched)
         → version ≤ current_mark before
-    current number boot version touched sent =
-        are.sent number _ sent
+    current number boot version touched sent = are.sent number _ sent
 
     planned : (number boot version : ℕ) (touched : List WordValue)
         → message_of before number ≡ Some (stamp_to s boot version touched)
@@ -351,10 +300,8 @@ pub kept_more : (setting : Setting) → IsSetting setting
     → AreKept (Past (IsWayItem setting)) (AllKept setting)
 kept_more setting is before next cause kept =
     let known : Before setting before = record { is = is; have = cause.past; kept = kept } in
-    let grow : Grows setting before (before ++ next ∷ []) =
-    grows setting before next (switches_of_all setting [] before cause.past)
-    cause.caused.switches in
-    record {
+    let grow = grows setting before next (switches_of_all setting [] before cause.past)
+    cause.caused.switches in record {
       packets = packets_on setting before next known cause.caused grow;
       unknown = unknown_on setting before next known cause.caused.way;
       sent = sent_on setting before next known cause.caused grow;

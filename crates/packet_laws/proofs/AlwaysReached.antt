@@ -9,10 +9,8 @@ use Rattle.packet_laws.specs.Exports.{ChangesLeaveOthers, KeepVersionsWhole, Rul
 -- what always holds, holds where a journal is reached
 pub always_reached : (Holds : Setting → List Item → Type 0) → HoldsAlways Holds → HoldsReached Holds
 always_reached Holds law = record {
-  reached = λ setting journal at.
-      subst (Holds setting) (sym at.written) (law.behind.ends.stepped setting at.steps);
-  within = λ setting journal rest at.
-      subst (Holds setting)
+  reached = λ setting journal at. rw at.written (law.behind.ends.stepped setting at.steps);
+  within = λ setting journal rest at. subst (Holds setting)
       (ap (take (length journal)) (sym at.written) ∙ take-append_seam journal rest)
       (law.behind.items setting at.steps (length journal));
   answered = λ setting events journal own answers.
@@ -30,8 +28,7 @@ pub record Laws : Type 0 where
   pub boots : HoldsAlways (λ setting journal. BootsAreKnown journal)
   pub serving : HoldsAlways (λ setting journal. ServingIsKnown journal)
   pub heard : HoldsAlways (λ setting journal. (s : ℕ) → AcksHold journal s)
-  pub acknowledged : HoldsAlways (λ setting journal.
-      HaveCauses (IsAckedFirst setting) [] journal)
+  pub acknowledged : HoldsAlways (λ setting journal. HaveCauses (IsAckedFirst setting) [] journal)
   pub opened : HoldsAlways (λ setting journal. OpensAtOneVersion journal)
   pub tables : HoldsAlways (λ setting journal. TablesArePlanned setting journal)
   pub members : HoldsAlways (λ setting journal. MembersAcknowledged setting journal)
@@ -65,27 +62,22 @@ module _ (laws : Laws) (setting : Setting) (journal : List Item) where
   }
 
 pub together : Laws → OfReached KeepVersionsWhole
-together laws =
-    let causes : HoldsReached (λ setting journal. HaveCauses (HasItemCause setting) [] journal) =
-    always_reached _ laws.causes in
-    record {
-      reached = λ setting journal at is. whole laws setting journal
-          (causes.reached setting journal at) (laws.rules.reached setting journal at is)
-          (laws.untouched.reached setting journal at is)
-          (laws.alike.reached setting journal at is);
-      within = λ setting journal rest at is. whole laws setting journal
-          (causes.within setting journal rest at)
-          (laws.rules.within setting journal rest at is)
-          (laws.untouched.within setting journal rest at is)
-          (laws.alike.within setting journal rest at is);
-      answered = λ setting events journal own answers is. whole laws setting journal
-          (causes.answered setting events journal own answers)
-          (laws.rules.answered setting events journal own answers is)
-          (laws.untouched.answered setting events journal own answers is)
-          (laws.alike.answered setting events journal own answers is);
-      begun = λ setting events journal own begins is. whole laws setting journal
-          (causes.begun setting events journal own begins)
-          (laws.rules.begun setting events journal own begins is)
-          (laws.untouched.begun setting events journal own begins is)
-          (laws.alike.begun setting events journal own begins is);
-    }
+together laws = let causes = always_reached _ laws.causes in record {
+  reached = λ setting journal at is. whole laws setting journal
+      (causes.reached setting journal at) (laws.rules.reached setting journal at is)
+      (laws.untouched.reached setting journal at is) (laws.alike.reached setting journal at is);
+  within = λ setting journal rest at is. whole laws setting journal
+      (causes.within setting journal rest at) (laws.rules.within setting journal rest at is)
+      (laws.untouched.within setting journal rest at is)
+      (laws.alike.within setting journal rest at is);
+  answered = λ setting events journal own answers is. whole laws setting journal
+      (causes.answered setting events journal own answers)
+      (laws.rules.answered setting events journal own answers is)
+      (laws.untouched.answered setting events journal own answers is)
+      (laws.alike.answered setting events journal own answers is);
+  begun = λ setting events journal own begins is. whole laws setting journal
+      (causes.begun setting events journal own begins)
+      (laws.rules.begun setting events journal own begins is)
+      (laws.untouched.begun setting events journal own begins is)
+      (laws.alike.begun setting events journal own begins is);
+}

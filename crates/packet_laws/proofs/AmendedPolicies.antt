@@ -13,7 +13,7 @@ use Rattle.packet_laws.proofs.AllKept.{Before, kept_before, known_before, knows}
 use Rattle.packet_laws.proofs.GrowingFacts.{Grows, grows}
 use Rattle.packet_laws.proofs.VersionMatches.{first_match_by_scan}
 use Rattle.packet_laws.proofs.PacketsHere.{IsHere, here_of}
-use Rattle.packet_laws.proofs.KeptFacts.{IsDecidedNow, Knows, decided_now}
+use Rattle.packet_laws.proofs.KeptFacts.{Knows, decided_now}
 use Rattle.packet_laws.proofs.RestingPackets.{IsWayItem, Past, switches_of_all}
 
 -- ---- decisions are first matches
@@ -37,8 +37,7 @@ rightly_on : (setting : Setting) (before after : List Item) (header : Header)
 rightly_on setting before after header decision grow right = record {
   known = right.known;
   current = omega (arith, right.current, grow.current);
-  first_match = ap (λ rows. scan rows header)
-      (grow.policy decision.version right.known right.current) ∙ right.first_match;
+  first_match = cc (grow.policy decision.version right.known right.current, right.first_match);
 }
 
 header_more : (before : List Item) (next : Item) (i : ℕ)
@@ -46,8 +45,7 @@ header_more : (before : List Item) (next : Item) (i : ℕ)
 unfolding header_in
 header_more before next i = last_given_append (gives_header i) before (next ∷ [])
 
-decision_more : (before : List Item) (next : Item) (i : ℕ)
-    → decision_of (before ++ next ∷ []) i
+decision_more : (before : List Item) (next : Item) (i : ℕ) → decision_of (before ++ next ∷ []) i
     ≡ option_or (gives_decision i next) (decision_of before i)
 unfolding decision_of
 decision_more before next i = last_given_append (gives_decision i) before (next ∷ [])
@@ -63,23 +61,19 @@ new_undecided setting before packet decision known decided past =
 decides_rightly : (setting : Setting) (before : List Item) (i version : ℕ) (rule : Option ℕ)
     (act : Action) (by : How) (header : Header) → Before setting before
     → IsDecided setting before i version rule act by → header_in before i ≡ Some header
-    → IsRightly setting before header
-    (record { version = version; rule = rule; action = act })
+    → IsRightly setting before header (record { version = version; rule = rule; action = act })
 unfolding what_is_known
 decides_rightly setting before i version rule act by header known way entered =
     let knows_it : Knows setting before i (stage_of before i) = knows setting before i known in
     let s : ℕ = way.switch in
     let here : IsHere setting before i s =
     here_of setting before i s (stage_of before i) known.is knows_it.have knows_it.kept way.at in
-    let now : IsDecidedNow setting before i s version rule act here.under.header =
-    decided_now setting before i s version rule act by knows_it here (known.kept.cached s) way.by
-    in
-    let same : here.under.header ≡ header =
-    some_same (header_in before i) here.under.header header here.under.entered entered in
-    record {
+    let now = decided_now setting before i s version rule act by knows_it here (known.kept.cached s)
+    way.by in record {
       known = omega (arith, now.rightly.not_retired);
       current = now.rightly.current;
-      first_match = ap (scan (policy_at setting before version)) (sym same)
+      first_match = ap (scan (policy_at setting before version))
+          (sym (some_same (header_in before i) here.under.header header here.under.entered entered))
           ∙ now.rightly.first_match;
     }
 
@@ -95,8 +89,7 @@ right_next setting before (item.Entered packet s entering) known way are i heade
     by : (b : Bool) → (packet == i) ≡ b
         → option_or (if b then Some entering else None) (header_in before i) ≡ Some header
         → decision_of before i ≡ Some decision → IsRightly setting before header decision
-    by true same entered decided =
-        absurd (new_undecided setting before i decision known decided
+    by true same entered decided = absurd (new_undecided setting before i decision known decided
         (omega (arith, eqb-true packet i same, way.0.number)))
     by false other entered decided = are i header decision entered decided
 right_next setting before (item.Decided packet version rule act how) known way are i header decision =
@@ -108,10 +101,9 @@ right_next setting before (item.Decided packet version rule act how) known way a
     by : (b : Bool) → (packet == i) ≡ b → header_in before i ≡ Some header
         → option_or (if b then Some new else None) (decision_of before i) ≡ Some decision
         → IsRightly setting before header decision
-    by true same entered decided =
-        subst (IsRightly setting before header) (cc decided)
+    by true same entered decided = subst (IsRightly setting before header) (cc decided)
         (decides_rightly setting before packet version rule act how header known way
-        (subst (λ k. header_in before k ≡ Some header) (sym (eqb-true packet i same)) entered))
+        (rw (eqb-true packet i same) entered))
     by false other entered decided = are i header decision entered decided
 right_next setting before next known way are i header decision = are i header decision
 
@@ -121,8 +113,7 @@ right_kept setting is before next behind are i header decision entered decided =
     let known : Before setting before = known_before setting is before next behind in
     let past : Past (IsWayItem setting) before next = behind.caused in
     rightly_on setting before (before ++ next ∷ []) header decision
-    (grows setting before next (switches_of_all setting [] before known.have)
-    past.caused.switches)
+    (grows setting before next (switches_of_all setting [] before known.have) past.caused.switches)
     (right_next setting before next known past.caused.way are i header decision
     (sym (header_more before next i) ∙ entered) (sym (decision_more before next i) ∙ decided))
 
@@ -132,9 +123,8 @@ right_at_first setting i header decision entered decided = absurd cc
 
 pub all_right : (setting : Setting) (journal : List Item) → IsSetting setting
     → HaveCauses (IsWayItem setting) [] journal → AreRight setting journal
-all_right setting journal is have =
-    fact_on (Behind (Past (IsWayItem setting)) (AllKept setting)) (AreRight setting)
-    (right_kept setting is) [] journal (kept_before setting journal is have)
+all_right setting journal is have = fact_on (Behind (Past (IsWayItem setting)) (AllKept setting))
+    (AreRight setting) (right_kept setting is) [] journal (kept_before setting journal is have)
     (right_at_first setting)
 
 -- ---- the policies of two versions
@@ -152,22 +142,17 @@ module _ (laws : AmendmentLaws) (setting : Setting) (journal : List Item) (is : 
   changes_leave version header leaves =
       let old : List Row = leaves.rows in
       let new : List Row = leaves.changed in
-      let own : policy_at setting journal version ≡ old =
-      own_policy setting journal version old leaves.policy in
-      let next : policy_at setting journal (version + 1) ≡ new =
-      own_policy setting journal (version + 1) new leaves.next in
-      let same : scan new header ≡ scan old header =
-      laws.same old new leaves.change header
+      let own = own_policy setting journal version old leaves.policy in
+      let same : scan new header ≡ scan old header = laws.same old new leaves.change header
       (subst IsPolicy own (versions_own setting journal version is).0) leaves.makes leaves.apart in
       let either : (v : ℕ) → (v ≡ version) ⊎ (v ≡ version + 1)
-      → scan (policy_at setting journal v) header ≡ scan old header =
-      λ v under. elim under [
+      → scan (policy_at setting journal v) header ≡ scan old header = λ v under. elim under [
         | inl this ↦ ap (λ n. scan (policy_at setting journal n) header) this
             ∙ ap (λ rows. scan rows header) own
         | inr later ↦ ap (λ n. scan (policy_at setting journal n) header) later
-            ∙ ap (λ rows. scan rows header) next ∙ same
-      ] in
-      record {
+            ∙ ap (λ rows. scan rows header)
+            (own_policy setting journal (version + 1) new leaves.next) ∙ same
+      ] in record {
         hit = scan old header;
         before = record {
           rows = old;

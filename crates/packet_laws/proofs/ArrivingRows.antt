@@ -23,8 +23,7 @@ at_end = search rules
 
 -- in the midst of a hop: it found the link down, and switch 0 is another target
 abbrev rerouted : List Item
-rerouted =
-    item.Entered 1 0 one ∷ item.Seeking 1 1 0 (0 ∷ 1 ∷ []) ∷ item.FoundDown 1 0 1
+rerouted = item.Entered 1 0 one ∷ item.Seeking 1 1 0 (0 ∷ 1 ∷ []) ∷ item.FoundDown 1 0 1
     ∷ item.Rerouted 1 (0 ∷ []) ∷ []
 
 at_another_target : IsAtEnd rerouted 1 0 one (Seek 1 0)

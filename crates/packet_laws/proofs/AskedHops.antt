@@ -1,6 +1,6 @@
 -- Whether a travelling packet was asked to hop, and its switch has yet to do so: what each item
 -- makes of that.
-use Rattle.std.proofs.Common.{[], if◌then◌else◌, ◌&&◌, ◌++◌, ◌==◌, ◌∙◌, ◌∷◌, ◌≡◌, Bool, IsTrue, List, ap, append_assoc, false, refl, subst, true, ℕ}
+use Rattle.std.proofs.Common.{[], if◌then◌else◌, ◌&&◌, ◌++◌, ◌==◌, ◌∙◌, ◌∷◌, ◌≡◌, Bool, IsTrue, List, append_assoc, false, refl, true, ℕ}
 use Rattle.update_machine.specs.Exports.{HaveCauses, Hop, Item, folded_value, travels}
 use Rattle.journal.specs.declared.item.Item.TheVariants as item
 use Rattle.update_machine.proofs.Exports.{folded_append}
@@ -31,17 +31,14 @@ still_off i before (item.Row row step) none = absurd none
 still_off i before next none = either_false (is_of_packet i next)
 
 off_kept : (i : ℕ) → AreKept (λ js next. IsNoRow next) (λ journal. is_asked journal i ≡ false)
-off_kept i before next none off =
-    asked_more before next i ∙ ap (λ b. changes_asked i before b next) off
-    ∙ still_off i before next none
+off_kept i before next none off = cc (asked_more before next i, off, still_off i before next none)
 
 -- items that begin no step tell it to hop no more
 pub stays_off : (i : ℕ) (before items : List Item)
     → HaveCauses (λ js next. IsNoRow next) before items
     → is_asked before i ≡ false → is_asked (before ++ items) i ≡ false
-stays_off i before items none off =
-    fact_on (λ js next. IsNoRow next) (λ journal. is_asked journal i ≡ false) (off_kept i) before
-    items none off
+stays_off i before items none off = fact_on (λ js next. IsNoRow next)
+    (λ journal. is_asked journal i ≡ false) (off_kept i) before items none off
 
 -- the first of the items names the packet
 abbrev pub NamesFirst : ℕ → List Item → Type 0
@@ -62,7 +59,6 @@ pub turns_off : (i : ℕ) (before items : List Item)
     → HaveCauses (λ js next. IsNoRow next) before items
     → NamesFirst i items → is_asked (before ++ items) i ≡ false
 turns_off i before [] none first = absurd first
-turns_off i before (next ∷ items) none first =
-    subst (λ js. is_asked js i ≡ false) (append_assoc before (next ∷ []) items)
+turns_off i before (next ∷ items) none first = rw (append_assoc before (next ∷ []) items) at
     (stays_off i (before ++ next ∷ []) items none.1
     (asked_more before next i ∙ named_off i before (is_asked before i) next none.0 first))

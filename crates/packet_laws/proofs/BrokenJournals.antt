@@ -45,17 +45,14 @@ none_left journal two down is = grind (arith, nat_tests)
 stays_there : (journal : List Item) → IsFalse (is_link_up journal 0 1) → (one two : ℕ)
     → IsTrue (one == 0) → IsTrue (is_open open_net journal 1 0 one two) → IsTrue (two == 0)
 stays_there journal down one two at is =
-    absurd (none_left journal two down
-    (subst (λ x. IsTrue (is_open open_net journal 1 0 x two)) (eqb-true one 0 at) is))
+    absurd (none_left journal two down (rw (eqb-true one 0 at) at is))
 
 abbrev no_way_to : List Item → ℕ → Type 0
 no_way_to journal target = (path : List ℕ) → ¬ Leads (is_open open_net journal 1 0) 0 path target
 
 no_way : (journal : List Item) → IsFalse (is_link_up journal 0 1) → no_way_to journal 1
-no_way journal down path leads =
-    let there : false ≡ true = ends_within (is_open open_net journal 1 0) (λ s. s == 0)
-    (stays_there journal down) 0 path 1 refl leads in
-    absurd cc
+no_way journal down path leads = absurd (cc (ends_within (is_open open_net journal 1 0)
+    (λ s. s == 0) (stays_there journal down) 0 path 1 refl leads))
 
 -- the plan of the version has one partition, on b
 own_targets : (journal : List Item) (version : ℕ) (rules : List Rule)
@@ -91,14 +88,11 @@ stuck_at journal version stands serving down own = record {
 abbrev lets_out : List Rule
 lets_out = rule any_word 0 (Some 100) (Out 2) ∷ rule any_word 1 None Drop ∷ []
 
-stuck_have_causes : HasCause open_net retired (seeking 1)
-    × HasCause open_net to_come (seeking 2)
+stuck_have_causes : HasCause open_net retired (seeking 1) × HasCause open_net to_come (seeking 2)
 unfolding standing serves is_link_up header_in decision_of
 stuck_have_causes = (
-  stuck_at retired 1 refl refl refl
-      (own_targets retired 1 lets_out refl refl (of_first retired)),
-  stuck_at to_come 2 refl refl refl
-      (own_targets to_come 2 all_dropped refl refl
+  stuck_at retired 1 refl refl refl (own_targets retired 1 lets_out refl refl (of_first retired)),
+  stuck_at to_come 2 refl refl refl (own_targets to_come 2 all_dropped refl refl
       (of_second (cut (item.Row 2 (Update 2) ∷ [])) came_in (refl, (refl, (refl, tt))))),
 )
 
@@ -129,16 +123,14 @@ not_stuck_on_another_leg cause =
     let is : Some own ≡ Some decision = cause.1.stuck.own_leg.1 in
     let same : own ≡ decision = cc in
     let by : Out 2 ≡ decision.action = ap (λ (d : Decision). d.action) same in
-    let out : decision.action ≡ Out 1 = cause.1.stuck.own_leg.2 in
-    absurd cc
+    let out : decision.action ≡ Out 1 = cause.1.stuck.own_leg.2 in absurd cc
 
 -- ---- packets that are stuck, though their switch knows a way: no cause of either sort
 
 abbrev entered : List Item
 entered = item.Row 1 (Packet 0 one) ∷ item.Entered 1 0 one ∷ []
 
-its_part : (k : ℕ) (hosted : Hosted) → k < 1 → get_or plan_p k hosted ≡ hosted
-    → hosted.1 ≡ 1 ∷ []
+its_part : (k : ℕ) (hosted : Hosted) → k < 1 → get_or plan_p k hosted ≡ hosted → hosted.1 ≡ 1 ∷ []
 its_part zero hosted within e = ap (λ (p : Hosted). p.1) (sym e)
 its_part (suc k) hosted within e = absurd (omega (arith, within))
 
@@ -148,9 +140,8 @@ not_stuck_where_a_way_is_known cause =
     let own = cause.own_leg in
     let plan : own.3 ≡ plan_p = first_alone entered own.3 own.4 in
     let there : Contains plan_p own.5 = subst (λ all. Contains all own.5) plan own.6 in
-    let targets : cause.targets ≡ 1 ∷ [] =
-    sym own.9 ∙ its_part there.0 own.5 there.1 there.2 in
-    subst (All (no_way_to entered)) targets cause.no_path 0 0 (omega arith) (1 ∷ []) (refl, refl)
+    subst (All (no_way_to entered)) (sym own.9 ∙ its_part there.0 own.5 there.1 there.2)
+    cause.no_path 0 0 (omega arith) (1 ∷ []) (refl, refl)
 
 -- ---- packets that enter
 
@@ -161,8 +152,7 @@ unfolding present_step
 not_with_another_header cause =
     let row : Some (Packet 0 one) ≡ Some (Packet 0 other) = cause.0.0.row in
     let same : one ≡ other = cc in
-    let apart : number_of one ≡ number_of other = ap number_of same in
-    absurd (omega (arith, apart))
+    let apart : number_of one ≡ number_of other = ap number_of same in absurd (omega (arith, apart))
 
 -- at another switch than its row's
 not_at_another_switch : StrongCause open_net (item.Row 1 (Packet 0 one) ∷ [])
@@ -171,15 +161,13 @@ unfolding present_step
 not_at_another_switch cause = let row = cause.0.0.row in absurd cc
 
 -- in the row of no packet
-not_in_another_row : StrongCause open_net (item.Row 1 (Deliver 7) ∷ [])
-    (item.Entered 1 0 one) → ⊥
+not_in_another_row : StrongCause open_net (item.Row 1 (Deliver 7) ∷ []) (item.Entered 1 0 one) → ⊥
 unfolding present_step
 not_in_another_row cause = let row = cause.0.0.row in absurd cc
 
 -- at a switch that is down
 not_at_one_that_is_down : StrongCause open_net
-    (item.Row 1 (Crash 0) ∷ item.Down 0 ∷ item.Row 2 (Packet 0 one) ∷ [])
-    (item.Entered 1 0 one) → ⊥
+    (item.Row 1 (Crash 0) ∷ item.Down 0 ∷ item.Row 2 (Packet 0 one) ∷ []) (item.Entered 1 0 one) → ⊥
 unfolding serves
 not_at_one_that_is_down cause = let served : false ≡ true = cause.0.1 in absurd cc
 
@@ -199,18 +187,15 @@ leap = item.Row 1 (Packet 0 one) ∷ item.Entered 1 0 one ∷ item.Seeking 1 1 0
 hops_over_usable : (setting : Setting) (before : List Item) (packet s next : ℕ)
     (moves : MovesOver setting before packet next) → s ≡ moves.switch
     → IsTrue (has (near setting before s) next)
-hops_over_usable setting before packet s next moves at =
-    subst (λ k. IsTrue (has (near setting before k) next)) (sym at) moves.usable
+hops_over_usable setting before packet s next moves at = rw at moves.usable
 
 not_hopped_where_no_link_leads : StrongCause line_of_three leap (item.Hopped 1 2) → ⊥
 unfolding near standing has mask_of mask_where switches is_link_up serves
 not_hopped_where_no_link_leads cause =
-    let usable : false ≡ true = hops_over_usable line_of_three leap 1 0 2 cause.0 cause.0.at.stands in
-    absurd cc
+    absurd (cc (hops_over_usable line_of_three leap 1 0 2 cause.0 cause.0.at.stands))
 
 not_found_down_where_no_link_is : HasCause line_of_three leap (item.FoundDown 1 0 2) → ⊥
-not_found_down_where_no_link_is cause =
-    let linked : false ≡ true = cause.linked in absurd cc
+not_found_down_where_no_link_is cause = let linked : false ≡ true = cause.linked in absurd cc
 
 -- over a link that failed
 abbrev failing : List Item
@@ -220,8 +205,7 @@ failing = item.Row 1 (Packet 0 one) ∷ item.Entered 1 0 one ∷ item.Seeking 1 
 not_hopped_over_a_failed_link : StrongCause open_net failing (item.Hopped 1 1) → ⊥
 unfolding near standing has mask_of mask_where switches is_link_up serves
 not_hopped_over_a_failed_link cause =
-    let usable : false ≡ true = hops_over_usable open_net failing 1 0 1 cause.0 cause.0.at.stands in
-    absurd cc
+    absurd (cc (hops_over_usable open_net failing 1 0 1 cause.0 cause.0.at.stands))
 
 -- ---- what fails
 
@@ -239,8 +223,7 @@ unfolding serves
 not_booted_while_it_serves cause = let closed : true ≡ false = cause.1 in absurd cc
 
 -- nor is a policy submitted that no row updates to
-not_submitted_for_nothing : HasCause open_net (item.Row 1 (Deliver 7) ∷ [])
-    (item.Submitted 2 2) → ⊥
+not_submitted_for_nothing : HasCause open_net (item.Row 1 (Deliver 7) ∷ []) (item.Submitted 2 2) → ⊥
 unfolding present_step
 not_submitted_for_nothing updates = absurd cc
 
@@ -255,10 +238,8 @@ unfolding present_step
 failed_by_its_row = inr refl
 
 -- by another way than its route
-not_hopped_off_its_route : StrongCause ring
-    (item.Row 1 (Packet 0 one) ∷ item.Entered 1 0 one ∷ item.Seeking 1 1 0 (0 ∷ 1 ∷ 3 ∷ [])
-    ∷ item.Row 2 (Hop 1) ∷ [])
-    (item.Hopped 1 2) → ⊥
+not_hopped_off_its_route : StrongCause ring (item.Row 1 (Packet 0 one) ∷ item.Entered 1 0 one
+    ∷ item.Seeking 1 1 0 (0 ∷ 1 ∷ 3 ∷ []) ∷ item.Row 2 (Hop 1) ∷ []) (item.Hopped 1 2) → ⊥
 unfolding next_switch route_in route_place
 not_hopped_off_its_route cause =
     let next : ◌≡◌ {A = Option ℕ} (Some 1) (Some 2) = cause.0.goes_on in absurd cc
@@ -281,15 +262,13 @@ lost_has_cause = inr (record { switch = 0; crashes = refl; stands = refl })
 
 not_lost_without_a_crash : StrongCause open_net uncrashed (item.Lost 1) → ⊥
 unfolding present_step is_up standing
-not_lost_without_a_crash cause = by_how cause.0.how
-  where
-    by_how : (present_step uncrashed ≡ Some (Lose 1)) ⊎ IsLostInCrash uncrashed 1 → ⊥
-    by_how (inl row) = absurd cc
-    by_how (inr crash) =
-        let at : Some 0 ≡ Some crash.switch = crash.stands in
-        let same : 0 ≡ crash.switch = cc in
-        let up : true ≡ false = subst (λ s. IsFalse (is_up uncrashed s)) (sym same) crash.down in
-        absurd cc
+not_lost_without_a_crash cause = by_how cause.0.how where
+  by_how : (present_step uncrashed ≡ Some (Lose 1)) ⊎ IsLostInCrash uncrashed 1 → ⊥
+  by_how (inl row) = absurd cc
+  by_how (inr crash) =
+      let at : Some 0 ≡ Some crash.switch = crash.stands in
+      let same : 0 ≡ crash.switch = cc in
+      absurd (cc (subst (λ s. IsFalse (is_up uncrashed s)) (sym same) crash.down))
 
 -- ---- the controller's items
 
@@ -301,8 +280,7 @@ not_submitted_without_a_file cause = cc cause.1.policy
 
 -- a mark that isn't below the stamp that each member acknowledged
 not_retired_while_stamped : StrongCause open_net
-    (item.Row 1 (Update 2) ∷ item.Submitted 2 2 ∷ item.Current 2 ∷ [])
-    (item.Retired 1) → ⊥
+    (item.Row 1 (Update 2) ∷ item.Submitted 2 2 ∷ item.Current 2 ∷ []) (item.Retired 1) → ⊥
 unfolding next_retired acked_stamp is_member is_over known_boot opened_at controller_heard
     current_mark
 not_retired_while_stamped cause = let least : 1 ≡ 0 = cause.1.least in absurd (omega (arith, least))

@@ -27,10 +27,8 @@ first_found (first ∷ rules) zero rule word number at covered earlier held =
     ap (λ b. cond b (Some first) (find (is_held number) rules))
     (ap (is_held number) (sym same) ∙ here) ∙ ap Some (sym same)
 first_found (first ∷ rules) (suc index) rule word number at covered earlier held =
-    let apart : holds first.word number ≡ false =
-    sym (ap (λ b. b && holds first.word number) held)
-    ∙ meet_disjoint word first.word number
-    (none_from_not_some (meet_of word first.word) (earlier 0 first (omega arith))) in
+    let apart = sym (ap (λ b. b && holds first.word number) held) ∙ meet_disjoint word first.word
+    number (none_from_not_some (meet_of word first.word) (earlier 0 first (omega arith))) in
     ap (λ b. cond b (Some first) (find (is_held number) rules)) apart
     ∙ first_found rules index rule word number at covered
     (All-tail (λ later. IsNone (meet_of word later.word)) first (take index rules) earlier) held
@@ -50,34 +48,29 @@ number_bound header sound =
 -- ---- headers of a partition
 
 -- the first rule of a partition of a plan decides each header of its region
-region_decides : (setting : Setting) (rows : List Row) (plan : List Hosted) (number : ℕ)
-    (hosted : Hosted) (header : Header) → IsPlanned setting rows plan → IsHeader header → slice_get plan number ≡ Some hosted
-    → IsTrue (is_in header (part_of hosted)) →
-    option_map hit_of_rule (first_rule hosted.0.rules header) ≡ Some
-    (scan rows header)
+region_decides : (setting : Setting) (rows : List Row) (plan : List Hosted)
+    (number : ℕ) (hosted : Hosted) (header : Header) → IsPlanned setting rows plan → IsHeader header
+    → slice_get plan number ≡ Some hosted → IsTrue (is_in header (part_of hosted))
+    → option_map hit_of_rule (first_rule hosted.0.rules header) ≡ Some (scan rows header)
 region_decides setting rows plan number hosted header is sound at =
     let parts : List Partition = map part_of plan in
-    let there : slice_get parts number ≡ Some (part_of hosted) =
-    slice_get-map part_of plan number ∙ ap (option_map part_of) at in
+    let there = slice_get-map part_of plan number ∙ ap (option_map part_of) at in
     subst (λ (p : Partition). IsTrue (is_in header p)
-    → option_map hit_of_rule (first_rule p.rules header) ≡ Some
-    (scan rows header))
+    → option_map hit_of_rule (first_rule p.rules header) ≡ Some (scan rows header))
     (get_or_from_slice_get parts number (part_of hosted) (part_of hosted) there)
     (is.parts.sound.decides header sound number (part_of hosted)
     (slice_get_within parts number (part_of hosted) there))
 
 -- the policy decides each header of the word by this rule
 abbrev Settles : List Row → Rule → WordValue → Type 0
-Settles rows rule word =
-    (header : Header) → IsHeader header → IsTrue (holds word (number_of header))
-    → scan rows header ≡ hit_of_rule rule
+Settles rows rule word = (header : Header) → IsHeader header
+    → IsTrue (holds word (number_of header)) → scan rows header ≡ hit_of_rule rule
 
 exact_settles : (setting : Setting) (rows : List Row) (plan : List Hosted) (header : Header)
     (hosted : Hosted) (finds : Finds rows plan header hosted) → IsPlanned setting rows plan → IsHeader header
     → Settles rows finds.rule (exact_word (number_of header))
 exact_settles setting rows plan header hosted finds is sound other fits held =
-    let same : number_of other ≡ number_of header =
-    exact_number (number_of header) (number_of other) (number_bound header sound)
+    let same = exact_number (number_of header) (number_of other) (number_bound header sound)
     (number_bound other fits) held in
     same_Some _ _ (sym (region_decides setting rows plan hosted.0.number hosted other is fits finds.at
     (subst (λ n. IsTrue (holds hosted.0.region n)) (sym same) finds.holds))
@@ -90,12 +83,9 @@ independent_settles : (setting : Setting) (rows : List Row) (plan : List Hosted)
     → IsIndependent hosted.0.region hosted.0.rules finds.place word →
     Settles rows finds.rule word
 independent_settles setting rows plan header hosted finds word is apart other fits held =
-    let covered : IsTrue (covers_of finds.rule.word word) =
-    subst (λ o. IsSomeAnd o (λ (rule : Rule). IsTrue (covers_of rule.word word))) finds.ruled
-    apart.in_rule in
-    let first : find (is_held (number_of other)) hosted.0.rules ≡ Some finds.rule =
-    first_found hosted.0.rules finds.place finds.rule word (number_of other) finds.ruled covered
-    apart.earlier held in
+    let first = first_found hosted.0.rules finds.place finds.rule word (number_of other) finds.ruled
+    (subst (λ o. IsSomeAnd o (λ (rule : Rule). IsTrue (covers_of rule.word word))) finds.ruled
+    apart.in_rule) apart.earlier held in
     same_Some _ _ (sym (region_decides setting rows plan hosted.0.number hosted other is fits finds.at
     (covers_held hosted.0.region word (number_of other) apart.in_region held))
     ∙ ap (option_map hit_of_rule) first)
@@ -115,10 +105,9 @@ widened_settles setting rows plan header hosted finds (suc n) is sound =
     before : WordValue
     before = widening_of (number_of header) hosted.0.region hosted.0.rules finds.place n
 
-    by_test : (b : Bool)
-        → is_independent hosted.0.region hosted.0.rules finds.place (free_of before n) ≡ b
-        → Settles rows finds.rule before →
-        Settles rows finds.rule (if b then free_of before n else before)
+    by_test : (b : Bool) → is_independent hosted.0.region hosted.0.rules finds.place
+        (free_of before n) ≡ b → Settles rows finds.rule before
+        → Settles rows finds.rule (if b then free_of before n else before)
     by_test true independent settled =
         independent_settles setting rows plan header hosted finds (free_of before n) is
         (test_true hosted.0.region hosted.0.rules finds.place (free_of before n) independent)
@@ -129,8 +118,7 @@ widened_settles setting rows plan header hosted finds (suc n) is sound =
 pub cache_rule_right : (setting : Setting) (rows : List Row) (plan : List Hosted)
     (header : Header) (hosted : Hosted) (finds : Finds rows plan header hosted)
     → IsPlanned setting rows plan → IsHeader header
-    → Settles rows finds.rule
-    (widen (number_of header) hosted.0.region hosted.0.rules finds.place)
+    → Settles rows finds.rule (widen (number_of header) hosted.0.region hosted.0.rules finds.place)
 unfolding widen
 cache_rule_right setting rows plan header hosted finds is sound =
     widened_settles setting rows plan header hosted finds 104 is sound

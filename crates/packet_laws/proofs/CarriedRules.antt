@@ -25,36 +25,28 @@ module _ (setting : Setting) (before : List Item) (version : ℕ) (cache : Cache
       → IsRightEntry setting before entry
   over entry went =
       let old = went.old in
-      let right = there old went.there in
       let next : suc old.version ≡ version = omega (arith, went.before) in
-      let policy : policy_in setting before (suc old.version)
-      ≡ Some (policy_at setting before (suc old.version)) =
-      subst (λ v. policy_in setting before v ≡ Some (policy_at setting before v)) (sym next)
-      has.policy in
       let apart = subst (λ v. meets_any (touched_by setting before v) old.word ≡ false) (sym next)
       went.apart in
       subst (IsRightEntry setting before) (sym went.is) (record {
         known = omega (arith, went.before);
         current = current;
-        decides = λ header sound held.
-            first_match_by_scan (policy_at setting before version) header
+        decides = λ header sound held. first_match_by_scan (policy_at setting before version) header
             (record { rule = old.rule; action = old.action })
-            (subst (λ v. scan (policy_at setting before v) header
-            ≡ scan (policy_at setting before old.version) header) next
-            (touched_apart setting before old.version old.word header is policy apart sound held)
-            ∙ scan_of_version setting before old.version header
+            (subst (λ v. scan (policy_at setting before v) header ≡ scan (policy_at setting before
+            old.version) header) next (touched_apart setting before old.version old.word header is
+            (subst (λ v. policy_in setting before v ≡ Some (policy_at setting before v)) (sym next)
+            has.policy) apart sound held) ∙ scan_of_version setting before old.version header
             (record { rule = old.rule; action = old.action }) is
-            (right.decides header sound held));
+            ((there old went.there).decides header sound held));
       })
 
-  each : (entry : CacheEntry)
-      → ((version ≤ entry.version) × Contains cache.entries entry)
+  each : (entry : CacheEntry) → ((version ≤ entry.version) × Contains cache.entries entry)
       ⊎ WasCarried version touched cache entry → IsRightEntry setting before entry
   each entry (inl stays) = there entry stays.1
   each entry (inr went) = over entry went
 
   pub carried_right : All (IsRightEntry setting before) (after_carry version touched cache).entries
-  carried_right =
-      All-weaker (λ entry. ((version ≤ entry.version) × Contains cache.entries entry)
+  carried_right = All-weaker (λ entry. ((version ≤ entry.version) × Contains cache.entries entry)
       ⊎ WasCarried version touched cache entry) (IsRightEntry setting before) each _
       (only_carried version touched cache)

@@ -33,8 +33,7 @@ looked_up_once (inr misses) = let moving = misses.arrives.moving in cc
 not_decided_twice : PacketCause open_net decided (item.Decided 1 1 None Drop (Cached 1)) → ⊥
 unfolding standing
 not_decided_twice way =
-    let at : 0 ≡ way.switch = way.at.stands in
-    looked_up_once (subst (IsLookedUp decided 1) (sym at) way.by.looked_up)
+    looked_up_once (subst (IsLookedUp decided 1) (sym way.at.stands) way.by.looked_up)
 
 -- ---- packets that are stuck
 
@@ -42,21 +41,19 @@ not_decided_twice way =
 not_stuck_by_another_version : PacketCause open_net in_at_0
     (item.Stuck 1 0 NoRoute (Seek 7 0) no_links) → ⊥
 unfolding stamp_of heard is_up boot_of stage_of
-not_stuck_by_another_version way = by_leg way.on
-  where
-    by_leg : TakesLeg open_net in_at_0 1 0 (Seek 7 0) ⊎ IsBlockedOn in_at_0 1 (Seek 7 0) → ⊥
-    by_leg (inl takes) = omega (arith, takes.stamp)
-    by_leg (inr blocked) = let stage = blocked.blocked in cc
+not_stuck_by_another_version way = by_leg way.on where
+  by_leg : TakesLeg open_net in_at_0 1 0 (Seek 7 0) ⊎ IsBlockedOn in_at_0 1 (Seek 7 0) → ⊥
+  by_leg (inl takes) = omega (arith, takes.stamp)
+  by_leg (inr blocked) = let stage = blocked.blocked in cc
 
 -- on its way to an authority once it was decided
 not_stuck_seeking_when_decided : PacketCause open_net decided
     (item.Stuck 1 0 NoRoute (Seek 1 0) no_links) → ⊥
 unfolding stage_of
-not_stuck_seeking_when_decided way = by_leg way.on
-  where
-    by_leg : TakesLeg open_net decided 1 0 (Seek 1 0) ⊎ IsBlockedOn decided 1 (Seek 1 0) → ⊥
-    by_leg (inl takes) = looked_up_once takes.looked_up
-    by_leg (inr blocked) = let stage = blocked.blocked in cc
+not_stuck_seeking_when_decided way = by_leg way.on where
+  by_leg : TakesLeg open_net decided 1 0 (Seek 1 0) ⊎ IsBlockedOn decided 1 (Seek 1 0) → ⊥
+  by_leg (inl takes) = looked_up_once takes.looked_up
+  by_leg (inr blocked) = let stage = blocked.blocked in cc
 
 -- for want of an authority on its way out
 not_without_authority_on_its_way_out : PacketCause open_net decided
@@ -67,11 +64,8 @@ not_without_authority_on_its_way_out way = let why = way.why in cc
 
 not_sought_by_another_version : PacketCause open_net in_at_0 (item.Seeking 1 2 0 (0 ∷ 1 ∷ [])) → ⊥
 unfolding standing stamp_of heard is_up boot_of
-not_sought_by_another_version way =
-    let at : 0 ≡ way.switch = way.at.stands in
-    let stamp : 2 ≡ stamp_of in_at_0 way.switch = way.takes.stamp in
-    let own : stamp_of in_at_0 way.switch ≡ 1 = subst (λ s. stamp_of in_at_0 s ≡ 1) at refl in
-    omega (arith, stamp, own)
+not_sought_by_another_version way = let at : 0 ≡ way.switch = way.at.stands in
+    omega (arith, way.takes.stamp, subst (λ s. stamp_of in_at_0 s ≡ 1) at refl)
 
 not_rerouted_unless_blocked : PacketCause open_net in_at_0 (item.Rerouted 1 (0 ∷ [])) → ⊥
 unfolding stage_of
@@ -91,24 +85,21 @@ none_survives rests =
     let here = rests.served 1 refl in
     let at : Some 0 ≡ Some here.switch = here.stands in
     let same : 0 ≡ here.switch = cc in
-    let serving : false ≡ true =
-    subst (λ s. IsTrue (serves (item.Row 1 (Packet 0 one) ∷ item.Entered 1 0 one
-    ∷ item.Row 2 (Crash 0) ∷ item.Down 0 ∷ []) s)) (sym same) here.serving in
+    let serving : false ≡ true = subst (λ s. IsTrue (serves (item.Row 1 (Packet 0 one)
+    ∷ item.Entered 1 0 one ∷ item.Row 2 (Crash 0) ∷ item.Down 0 ∷ []) s)) (sym same) here.serving in
     cc
 
 -- ---- strong causes
 
 -- a lookup on the way by an older version
-not_looked_up_by_an_older_version : StrongCause open_net
-    (item.Entered 1 0 one ∷ item.Seeking 1 2 0 (0 ∷ 1 ∷ []) ∷ item.Hopped 1 1 ∷ [])
-    (item.Seeking 1 1 0 (1 ∷ 0 ∷ [])) → ⊥
+not_looked_up_by_an_older_version : StrongCause open_net (item.Entered 1 0 one
+    ∷ item.Seeking 1 2 0 (0 ∷ 1 ∷ []) ∷ item.Hopped 1 1 ∷ []) (item.Seeking 1 1 0 (1 ∷ 0 ∷ [])) → ⊥
 unfolding leg_of
 not_looked_up_by_an_older_version causes = omega (arith, causes.1.0 2 0 refl)
 
 -- a new route over a link that was found down
-not_rerouted_over_a_link_found_down : StrongCause open_net
-    (item.Entered 1 0 one ∷ item.Seeking 1 1 0 (0 ∷ 1 ∷ []) ∷ item.FoundDown 1 0 1 ∷ [])
-    (item.Rerouted 1 (0 ∷ 1 ∷ [])) → ⊥
+not_rerouted_over_a_link_found_down : StrongCause open_net (item.Entered 1 0 one ∷ item.Seeking 1 1
+    0 (0 ∷ 1 ∷ []) ∷ item.FoundDown 1 0 1 ∷ []) (item.Rerouted 1 (0 ∷ 1 ∷ [])) → ⊥
 unfolding found_down with_link has_link has
 not_rerouted_over_a_link_found_down causes =
     let up : true ≡ false = causes.1.by.avoids 0 0 1 refl refl in cc

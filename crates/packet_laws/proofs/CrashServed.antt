@@ -14,12 +14,10 @@ sent_served : (messages : List Message) (journal : List Item) (n : ℕ) → AreS
     → AreServed (journal ++ sent_from n messages)
 unfolding sent_from
 sent_served [] journal n served = subst AreServed (sym (append-nil journal)) served
-sent_served (message ∷ messages) journal n served =
-    let next : Item = item.Sent n message in
+sent_served (message ∷ messages) journal n served = let next : Item = item.Sent n message in
     subst AreServed (append_assoc journal (next ∷ []) (sent_from (n + 1) messages))
-    (sent_served messages (journal ++ next ∷ []) (n + 1)
-    (λ i. stays_served journal next i refl (inl refl)
-    (λ s. still_serves journal next s refl) (served i)))
+    (sent_served messages (journal ++ next ∷ []) (n + 1) (λ i. stays_served journal next i refl
+    (inl refl) (λ s. still_serves journal next s refl) (served i)))
 
 changes_served : (setting : Setting) (before journal : List Item) → AreServed journal
     → AreServed (journal ++ link_changes setting before journal)
@@ -42,18 +40,15 @@ spared_by : (packets : List ℕ) (journal : List Item) (i : ℕ)
 unfolding among
 spared_by [] journal i travelling =
     record { travelling = subst (λ js. IsTrue (travels js i)) (append-nil journal) travelling; apart = refl }
-spared_by (k ∷ packets) journal i travelling =
-    by_same (k == i) refl
+spared_by (k ∷ packets) journal i travelling = by_same (k == i) refl
     (spared_by packets (journal ++ item.Lost k ∷ []) i
-    (subst (λ js. IsTrue (travels js i))
-    (sym (append_assoc journal (item.Lost k ∷ []) (map item.Lost packets))) travelling))
+    (rw (append_assoc journal (item.Lost k ∷ []) (map item.Lost packets)) travelling))
   where
     lost : Item
     lost = item.Lost k
 
-    by_same : (b : Bool) → (k == i) ≡ b
-        → IsSpared (journal ++ lost ∷ []) ((journal ++ lost ∷ []) ++ map item.Lost packets)
-        packets i
+    by_same : (b : Bool) → (k == i) ≡ b → IsSpared (journal ++ lost ∷ [])
+        ((journal ++ lost ∷ []) ++ map item.Lost packets) packets i
         → IsSpared journal (journal ++ lost ∷ map item.Lost packets) (k ∷ packets) i
     by_same true e rest =
         let clash : false ≡ true =
@@ -82,16 +77,12 @@ left_elsewhere : (before : List Item) (s i t : ℕ) → IsTrue (travels before i
     → standing before i ≡ Some t → 1 ≤ i → i < 1 + count_of is_packet before
     → IsFalse (among i (packets_at before s)) → (s == t) ≡ false
 unfolding among
-left_elsewhere before s i t travelling stands first last apart =
-    by_switch (t == s) refl
-  where
-    by_switch : (b : Bool) → (t == s) ≡ b → (s == t) ≡ false
-    by_switch false e = grind (arith, nat_tests)
-    by_switch true e =
-        let here : travels_at before s i ≡ true = rw (travelling, stands, e) refl in
-        let there : among i (packets_at before s) ≡ true =
-        any_picked (travels_at before s) i 1 (count_of is_packet before) first last ∙ here in
-        absurd cc
+left_elsewhere before s i t travelling stands first last apart = by_switch (t == s) refl where
+  by_switch : (b : Bool) → (t == s) ≡ b → (s == t) ≡ false
+  by_switch false e = grind (arith, nat_tests)
+  by_switch true e = let here : travels_at before s i ≡ true = rw (travelling, stands, e) refl in
+      absurd (cc (any_picked (travels_at before s) i 1 (count_of is_packet before) first last
+      ∙ here))
 
 fallen_served : (before journal : List Item) (s : ℕ) → AreNumbered before → AreServed journal
     → ((i : ℕ) → (travels journal i ≡ travels before i) × (standing journal i ≡ standing before i))
@@ -100,22 +91,16 @@ unfolding next_packet among
 fallen_served before journal s numbered served same i travelling =
     let down : Item = item.Down s in
     let packets : List ℕ = packets_at before s in
-    let whole : (journal ++ down ∷ []) ++ map item.Lost packets
-    ≡ journal ++ down ∷ map item.Lost packets =
-    append_assoc journal (down ∷ []) (map item.Lost packets) in
-    let spared : IsSpared (journal ++ down ∷ []) ((journal ++ down ∷ []) ++ map item.Lost packets)
-    packets i =
-    spared_by packets (journal ++ down ∷ []) i
+    let whole = append_assoc journal (down ∷ []) (map item.Lost packets) in
+    let spared = spared_by packets (journal ++ down ∷ []) i
     (subst (λ js. IsTrue (travels js i)) (sym whole) travelling) in
-    let here_travels : IsTrue (travels journal i) =
-    rw (travels_more journal down i) at spared.travelling in
+    let here_travels = rw (travels_more journal down i) at spared.travelling in
     let here : IsServed journal i = served i here_travels in
     let own : IsTrue (travels before i) = sym (same i).0 ∙ here_travels in
     let stands : standing before i ≡ Some here.switch = sym (same i).1 ∙ here.stands in
     let number = numbered i own in
-    let elsewhere : (s == here.switch) ≡ false =
-    left_elsewhere before s i here.switch own stands number.0 (omega (arith, number.1))
-    spared.apart in
+    let elsewhere = left_elsewhere before s i here.switch own stands number.0
+    (omega (arith, number.1)) spared.apart in
     subst (λ js. IsServed js i) whole (record {
       switch = here.switch;
       stands = lost_standing packets (journal ++ down ∷ []) i ∙ standing_more journal down i
@@ -129,19 +114,16 @@ pub crash_served : (setting : Setting) (before : List Item) (s : ℕ) (journal :
     → ((i : ℕ) → (travels journal i ≡ travels before i) × (standing journal i ≡ standing before i))
     → AreServed (journal ++ crash_items setting before s journal)
 unfolding crash_items
-crash_served setting before s journal numbered served same = by_up (is_up before s)
-  where
-    by_up : (b : Bool) → AreServed (journal ++ elim b [
-      | false ↦ nothing
-      | true ↦ items_then (item.Down s ∷ map item.Lost (packets_at before s))
-          (link_changes setting before) journal
-    ])
-    by_up false = λ i.
-        stays_served journal item.Nothing i refl (inl refl)
-        (λ other. still_serves journal item.Nothing other refl) (served i)
-    by_up true =
-        let fallen : List Item = item.Down s ∷ map item.Lost (packets_at before s) in
-        subst AreServed
-        (append_assoc journal fallen (link_changes setting before (journal ++ fallen)))
-        (changes_served setting before (journal ++ fallen)
-        (fallen_served before journal s numbered served same))
+crash_served setting before s journal numbered served same = by_up (is_up before s) where
+  by_up : (b : Bool) → AreServed (journal ++ elim b [
+    | false ↦ nothing
+    | true ↦ items_then (item.Down s ∷ map item.Lost (packets_at before s))
+        (link_changes setting before) journal
+  ])
+  by_up false = λ i. stays_served journal item.Nothing i refl (inl refl)
+      (λ other. still_serves journal item.Nothing other refl) (served i)
+  by_up true = let fallen : List Item = item.Down s ∷ map item.Lost (packets_at before s) in
+      subst AreServed
+      (append_assoc journal fallen (link_changes setting before (journal ++ fallen)))
+      (changes_served setting before (journal ++ fallen)
+      (fallen_served before journal s numbered served same))

@@ -24,8 +24,7 @@ not_taken j n before next none = refl
 
 taken_stays : (j n : ℕ) → AreKept (λ js next. IsNoRow next) (λ js. hops_taken js j ≡ n)
 taken_stays j n before next none same =
-    hops_more before next j ∙ ap (λ t. changes_taken j before t next) same
-    ∙ not_taken j n before next none
+    cc (hops_more before next j, same, not_taken j n before next none)
 
 -- a step that brings no packet in
 record IsHopping (i count : ℕ) (journal : List Item) : Type 0 where
@@ -68,8 +67,7 @@ unfolding present_step
 row_present journal row i = last_given_append gives_step journal (item.Row row (Hop i) ∷ [])
 
 hop_is : (setting : Setting) (journal : List Item) (row i : ℕ) → IsReady setting journal
-    → travels journal i ≡ true
-    → IsHopped i journal (journal ++ piece setting journal row (Hop i))
+    → travels journal i ≡ true → IsHopped i journal (journal ++ piece setting journal row (Hop i))
 unfolding piece
 hop_is setting journal row i ready on =
     subst (IsHopped i journal) (append_assoc journal (item.Row row (Hop i) ∷ []) items) (record {
@@ -88,18 +86,15 @@ hop_is setting journal row i ready on =
     items = step_items setting journal (Hop i) here
 
     behind : (j n : ℕ) → hops_taken here j ≡ n → hops_taken (here ++ items) j ≡ n
-    behind j n is =
-        fact_on (λ js next. IsNoRow next) (λ js. hops_taken js j ≡ n) (taken_stays j n) here items
-        (no_rows setting journal row (Hop i)) is
+    behind j n is = fact_on (λ js next. IsNoRow next) (λ js. hops_taken js j ≡ n) (taken_stays j n)
+        here items (no_rows setting journal row (Hop i)) is
 
     hopping : IsHopping i (count_of is_packet journal) (here ++ items)
-    hopping =
-        fact_on (Both (PacketCause setting) (λ js next. IsNoRow next))
+    hopping = fact_on (Both (PacketCause setting) (λ js next. IsNoRow next))
         (IsHopping i (count_of is_packet journal))
         (hopping_kept setting i (count_of is_packet journal)) here items
         (have_both _ _ here items (piece_ways setting journal row (Hop i) ready.settled.rests).1
-        (no_rows setting journal row (Hop i)))
-        (record {
+        (no_rows setting journal row (Hop i))) (record {
           present = row_present journal row i;
           packets = count_more is_packet journal (item.Row row (Hop i));
         })
@@ -124,14 +119,10 @@ sum_falls f g test i less falls (x ∷ xs) is =
     by_test (test x) (sum_falls f g test i less falls xs) is
   where
     by_test : (b : Bool) → (find test xs ≡ Some i → sum_by g xs < sum_by f xs)
-        → (if b then Some x else find test xs) ≡ Some i
-        → sum_by g (x ∷ xs) < sum_by f (x ∷ xs)
-    by_test true rest is =
-        let same : x ≡ i = cc in
-        let here : g x < f x = subst (λ k. g k < f k) (sym same) falls in
+        → (if b then Some x else find test xs) ≡ Some i → sum_by g (x ∷ xs) < sum_by f (x ∷ xs)
+    by_test true rest is = let here : g x < f x = subst (λ k. g k < f k) (sym cc) falls in
         omega (arith, sum_by-cons g x xs, sum_by-cons f x xs, here, sum_stays f g less xs)
-    by_test false rest is =
-        omega (arith, sum_by-cons g x xs, sum_by-cons f x xs, less x, rest is)
+    by_test false rest is = omega (arith, sum_by-cons g x xs, sum_by-cons f x xs, less x, rest is)
 
 next_travels : (journal : List Item) (i : ℕ) → next_travelling journal ≡ Some i
     → travels journal i ≡ true
@@ -144,10 +135,8 @@ fewer_left : (journal after : List Item) (i : ℕ) → IsHopped i journal after
 unfolding drain_left next_travelling
 fewer_left journal after i hopped few is =
     subst (λ xs. sum_by (hops_left after) xs < drain_left journal) (sym hopped.packets)
-    (sum_falls (hops_left journal) (hops_left after) (travels journal) i
-    (λ j. elim (cases_eq j i) [
-      | inl same ↦ subst (λ k. hops_left after k ≤ hops_left journal k) (sym same)
-          (omega (arith, hopped.own))
+    (sum_falls (hops_left journal) (hops_left after) (travels journal) i (λ j. elim (cases_eq j i) [
+      | inl same ↦ rw same (omega (arith, hopped.own))
       | inr apart ↦ omega (arith, hopped.others j apart)
     ])
     (omega (arith, hopped.own, few)) (packets_in journal) is)
@@ -167,27 +156,23 @@ drain_falls setting journal row i is ready least =
 by_next : (next : Option ℕ) (acts : ℕ → Step) (step : Step) (P : Step → Type 0)
     → ((n : ℕ) → next ≡ Some n → P (acts n)) → option_map acts next ≡ Some step → P step
 by_next None acts step P each is = absurd cc
-by_next (Some n) acts step P each is =
-    let same : acts n ≡ step = cc in subst P same (each n refl)
+by_next (Some n) acts step P each is = let same : acts n ≡ step = cc in subst P same (each n refl)
 
 pub drain_nears : (setting : Setting) (row : ℕ) → IsSetting setting
     → Nears setting next_hop row (IsReady setting) drain_left
 drain_nears setting row is = record {
-  kept = λ journal step ready next.
-      by_next (next_travelling journal) Hop step
+  kept = λ journal step ready next. by_next (next_travelling journal) Hop step
       (λ s. IsReady setting (journal ++ piece setting journal row s))
       (λ i least. piece_ready setting journal row (Hop i) is tt ready) next;
-  nearer = λ journal step ready next.
-      by_next (next_travelling journal) Hop step
+  nearer = λ journal step ready next. by_next (next_travelling journal) Hop step
       (λ s. drain_left (journal ++ piece setting journal row s) < drain_left journal)
       (λ i least. drain_falls setting journal row i is ready least) next;
 }
 
 pub drain_ends : (setting : Setting) (journal : List Item) (row : ℕ) → IsSetting setting
     → IsReady setting journal → (steps : List StepOfRow) × AreAll setting next_hop row journal steps
-drain_ends setting journal row is ready =
-    loop_ends setting next_hop row (IsReady setting) drain_left (drain_nears setting row is)
-    journal ready
+drain_ends setting journal row is ready = loop_ends setting next_hop row (IsReady setting)
+    drain_left (drain_nears setting row is) journal ready
 
 -- ---- how many hops
 
@@ -199,36 +184,25 @@ few_steps : (setting : Setting) (next : List Item → Option Step) (row : ℕ)
 few_steps setting next row holds left nears journal [] here are = omega arith
 few_steps setting next row holds left nears journal (first ∷ steps) here are =
     let after : ℕ → List Item = λ k. journal ++ piece setting journal k first.step in
-    let nearer : left (after first.row) < left journal =
-    subst (λ k. left (after k) < left journal) (sym are.0)
+    let nearer = subst (λ k. left (after k) < left journal) (sym are.0)
     (nears.nearer journal first.step here are.1) in
-    let rest : length steps ≤ left (after first.row) =
-    few_steps setting next row holds left nears (after first.row) steps
+    let rest = few_steps setting next row holds left nears (after first.row) steps
     (subst (λ k. holds (after k)) (sym are.0) (nears.kept journal first.step here are.1)) are.2 in
     omega (arith, nearer, rest)
 
 sum_few : (journal : List Item) (xs : List ℕ)
     → sum_by (hops_left journal) xs ≤ most_hops * length xs
 sum_few journal [] = omega arith
-sum_few journal (x ∷ xs) = omega (
-  arith,
-  sum_by-cons (hops_left journal) x xs,
-  sum_few journal xs,
-)
+sum_few journal (x ∷ xs) = omega (arith, sum_by-cons (hops_left journal) x xs, sum_few journal xs)
 
 few_left : (journal : List Item) → drain_left journal ≤ most_hops * (next_packet journal - 1)
 unfolding drain_left next_packet
-few_left journal = omega (
-  arith,
-  sum_few journal (packets_in journal),
-  length-range_with_len 1 (count_of is_packet journal),
-)
+few_left journal = omega (arith, sum_few, length-range_with_len)
 
 pub drain_short : (setting : Setting) (journal : List Item) (row : ℕ) (steps : List StepOfRow)
     → IsSetting setting → IsReady setting journal → AreSome setting next_hop row journal steps
     → length steps ≤ most_hops * (next_packet journal - 1)
 drain_short setting journal row steps is ready are =
-    let most : length steps ≤ drain_left journal =
-    few_steps setting next_hop row (IsReady setting) drain_left (drain_nears setting row is)
-    journal steps ready are in
+    let most = few_steps setting next_hop row (IsReady setting) drain_left
+    (drain_nears setting row is) journal steps ready are in
     omega (arith, most, few_left journal)

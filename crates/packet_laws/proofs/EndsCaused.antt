@@ -11,8 +11,7 @@ pub ends_caused : (setting : Setting) (journal : List Item) → IsSetting settin
     → HaveCauses (IsWayItem setting) [] journal → HaveCauses (HasCause setting) [] journal
 ends_caused setting journal is have =
     have_weaker (Behind (Past (IsWayItem setting)) (AllKept setting)) (HasCause setting)
-    (λ before next behind.
-    end_caused setting before next
+    (λ before next behind. end_caused setting before next
     (λ i. knows setting before i (known_before setting is before next behind))
     (caused_known setting before (switches_of_all setting [] before behind.caused.past))
     behind.caused.caused.switches behind.caused.caused.way) [] journal

@@ -11,9 +11,8 @@ nothing_is_no_answer s header entered =
     let none : step_rows 1 (One (Packet s header) ∷ []) ≡ [] = cc in absurd cc
 
 -- a loss or a crash that no row asks for
-no_such_loss : (header : Header) → AreEntered (step_rows 1 (One (Packet 0 header) ∷ []))
-    (item.Row 1 (Packet 0 header) ∷ item.Entered 1 0 header ∷ item.Row 1 (Lose 1) ∷ item.Lost 1
-    ∷ []) → ⊥
+no_such_loss : (header : Header) → AreEntered (step_rows 1 (One (Packet 0 header) ∷ [])) (item.Row 1
+    (Packet 0 header) ∷ item.Entered 1 0 header ∷ item.Row 1 (Lose 1) ∷ item.Lost 1 ∷ []) → ⊥
 no_such_loss header entered = let rows = entered.in_order in absurd cc
 
 no_such_crash : AreEntered (step_rows 1 []) (item.Row 1 (Crash 0) ∷ item.Down 0 ∷ []) → ⊥

@@ -7,7 +7,7 @@ use Rattle.update_machine.specs.Exports.{Decision, HaveCauses, IsSetting, Item, 
 use Rattle.journal.specs.declared.item.Item.TheVariants as item
 use Rattle.control_laws.specs.Exports.{HasItemCause}
 use Rattle.control_laws.proofs.Exports.{Behind, Both, bounded, current_rises, fact_on, have_both, versions_planned}
-use Rattle.packet_laws.specs.Exports.{AllKept, Blocked, FindsLinkDown, FurtherCause, IsLookedUp, IsOnLeg, IsOnWay, Judged, MeetsDown, PacketCause, PacketFacts, Stage, StrongCause, TakesRoute, detour_count, exit_count, facts_after, finding_count, gives_stage, is_detour, is_exit, is_finding, is_of_packet, is_search, most_routes, routes_taken, search_count, stage_of, what_is_known}
+use Rattle.packet_laws.specs.Exports.{AllKept, Blocked, FindsLinkDown, FurtherCause, IsLookedUp, IsOnWay, Judged, MeetsDown, PacketCause, PacketFacts, Stage, StrongCause, TakesRoute, detour_count, exit_count, facts_after, finding_count, gives_stage, is_detour, is_exit, is_finding, is_of_packet, is_search, most_routes, routes_taken, search_count, stage_of, what_is_known}
 use Rattle.packet_laws.proofs.PacketFacts.{facts_grow}
 use Rattle.packet_laws.proofs.AllKept.{Before, kept_before, known_before, knows}
 use Rattle.packet_laws.proofs.PacketsHere.{IsHere, decision_in, here_of, leg_in, next_in, seeking_of}
@@ -56,9 +56,8 @@ IsFew setting current held stage search_count exit_count detour_count finds = re
 }
 
 abbrev pub IsFewOf : Setting → List Item → ℕ → Type 0
-IsFewOf setting journal i =
-    IsFew setting (current_mark journal) (what_is_known journal i) (stage_of journal i)
-    (search_count journal i) (exit_count journal i) (detour_count journal i)
+IsFewOf setting journal i = IsFew setting (current_mark journal) (what_is_known journal i)
+    (stage_of journal i) (search_count journal i) (exit_count journal i) (detour_count journal i)
     (finding_count journal i)
 
 -- ---- lookups
@@ -75,18 +74,14 @@ is_raised : (setting : Setting) (before : List Item) (i version partition : ℕ)
     → IsRaised setting before i version
 is_raised setting before i version partition route known few takes raises =
     let knows_it : Knows setting before i (stage_of before i) = knows setting before i known in
-    let here : IsHere setting before i takes.switch =
-    here_of setting before i takes.switch (stage_of before i) knows_it.is knows_it.have
+    let here = here_of setting before i takes.switch (stage_of before i) knows_it.is knows_it.have
     knows_it.kept takes.at in
-    let after : PacketFacts =
-    facts_after 0 (item.Seeking i version partition route) (what_is_known before i) in
+    let after = facts_after 0 (item.Seeking i version partition route) (what_is_known before i) in
     let way : IsOnWay setting before after =
     (seeking_after setting before i 0 version partition route knows_it takes).on_way
     here.travelling (inl refl) in
-    let on : IsOnLeg setting before after here.under.header (Seek version partition) =
-    seeking_of setting before after here.under.header version partition way here.under.entered
-    refl in
-    record {
+    let on = seeking_of setting before after here.under.header version partition way
+    here.under.entered refl in record {
       raised = by_lookup here (omega (arith, on.not_retired)) takes.takes.looked_up;
       current = on.current;
     }
@@ -114,17 +109,13 @@ finds : (setting : Setting) (before : List Item) (i one two : ℕ) → Before se
 finds setting before i one two known few meets down =
     let knows_it : Knows setting before i (stage_of before i) = knows setting before i known in
     let held : PacketFacts = what_is_known before i in
-    let here : IsHere setting before i one =
-    here_of setting before i one (stage_of before i) knows_it.is knows_it.have knows_it.kept
-    meets.at in
-    let way : IsOnWay setting before held =
-    knows_it.kept.on_way here.travelling (inl meets.moving) in
-    let there : way.under_way.switch ≡ one =
-    some_same held.stands way.under_way.switch here.under.switch way.under_way.stands
-    here.under.stands ∙ sym here.at in
+    let here = here_of setting before i one (stage_of before i) knows_it.is knows_it.have
+    knows_it.kept meets.at in
+    let way = knows_it.kept.on_way here.travelling (inl meets.moving) in
     finds_one setting.net held.found one two known.is.net few.turning.set down.linked
     (knows_it.kept.avoids here.travelling meets.moving held.hops one two
-    (way.stands ∙ ap Some there) (sym (next_in before i) ∙ meets.goes_on))
+    (way.stands ∙ ap Some (some_same held.stands way.under_way.switch here.under.switch
+    way.under_way.stands here.under.stands ∙ sym here.at)) (sym (next_in before i) ∙ meets.goes_on))
 
 -- ---- items
 
@@ -144,12 +135,10 @@ risen more few = record {
 
 -- an item that leaves the leg, the decision, the links found and the counts as they were
 kept_few : (setting : Setting) (before : List Item) (i current : ℕ) (stage : Option Stage)
-    → current_mark before ≤ current → IsFewOf setting before i
-    → HasRoom setting (what_is_known before i).found (exit_count before i) (detour_count before i)
-    stage
+    → current_mark before ≤ current → IsFewOf setting before i → HasRoom setting
+    (what_is_known before i).found (exit_count before i) (detour_count before i) stage
     → IsFew setting current (what_is_known before i) stage (search_count before i)
-    (exit_count before i)
-    (detour_count before i) (finding_count before i)
+    (exit_count before i) (detour_count before i) (finding_count before i)
 kept_few setting before i current stage more few room = record {
   seeking = risen more few.seeking;
   leaving = few.leaving;
@@ -158,30 +147,26 @@ kept_few setting before i current stage more few room = record {
 }
 
 -- and the stage too
-still_few : (setting : Setting) (before : List Item) (i current : ℕ)
-    → current_mark before ≤ current → IsFewOf setting before i
-    → IsFew setting current (what_is_known before i) (stage_of before i) (search_count before i)
-    (exit_count before i) (detour_count before i) (finding_count before i)
+still_few : (setting : Setting) (before : List Item) (i current : ℕ) → current_mark before ≤ current
+    → IsFewOf setting before i → IsFew setting current (what_is_known before i) (stage_of before i)
+    (search_count before i) (exit_count before i) (detour_count before i) (finding_count before i)
 still_few setting before i current more few =
     kept_few setting before i current (stage_of before i) more few few.room
 
 named_few : (setting : Setting) (before : List Item) (next : Item) (i current : ℕ)
     → Premises setting before next → current_mark before ≤ current → (b : Bool)
-    → is_of_packet i next ≡ b → IsFewOf setting before i
-    → IsFew setting current
-    (if b then facts_after (retired_mark before) next (what_is_known before i) else what_is_known before i)
-    (option_or (gives_stage i next) (stage_of before i))
-    (one_more (is_search i next) (search_count before i))
-    (one_more (is_exit i next) (exit_count before i))
-    (one_more (is_detour i next) (detour_count before i))
+    → is_of_packet i next ≡ b → IsFewOf setting before i → IsFew setting current
+    (if b then facts_after (retired_mark before) next (what_is_known before i)
+    else what_is_known before i) (option_or (gives_stage i next) (stage_of before i))
+    (one_more (is_search i next) (search_count before i)) (one_more (is_exit i next)
+    (exit_count before i)) (one_more (is_detour i next) (detour_count before i))
     (one_more (is_finding i next) (finding_count before i))
 named_few setting before (item.Entered packet s header) i current facts more true e few =
     rw e (kept_few setting before i current None more few tt)
 named_few setting before (item.Seeking packet v p route) i current facts more true e few =
     let same : packet ≡ i = eqb-true packet i e in
-    let raised : IsRaised setting before packet v =
-    is_raised setting before packet v p route facts.known
-    (subst (IsFewOf setting before) (sym same) few) facts.way facts.further.0 in
+    let raised : IsRaised setting before packet v = is_raised setting before packet v p route
+    facts.known (subst (IsFewOf setting before) (sym same) few) facts.way facts.further.0 in
     let above : search_count before i + 1 ≤ v =
     subst (λ k. search_count before k + 1 ≤ v) same raised.raised in
     rw e (record {
@@ -196,12 +181,10 @@ named_few setting before (item.Seeking packet v p route) i current facts more tr
     })
 named_few setting before (item.Exiting packet route) i current facts more true e few =
     let same : packet ≡ i = eqb-true packet i e in
-    let judged : stage_of before i ≡ Some Judged =
-    subst (λ k. stage_of before k ≡ Some Judged) same facts.way.by.takes.judged in
+    let judged = subst (λ k. stage_of before k ≡ Some Judged) same facts.way.by.takes.judged in
     let first : exit_count before i ≡ 0 = rw judged at few.room in
     let decision : Decision = facts.way.by.takes.decision in
-    let decided : (what_is_known before i).decision ≡ Some decision =
-    decision_in before i (Some decision)
+    let decided = decision_in before i (Some decision)
     (subst (λ k. decision_of before k ≡ Some decision) same facts.way.by.takes.decided) in
     rw e (record {
       seeking = record {
@@ -215,10 +198,8 @@ named_few setting before (item.Exiting packet route) i current facts more true e
     })
 named_few setting before (item.Rerouted packet route) i current facts more true e few =
     let blocked : stage_of before i ≡ Some Blocked =
-    subst (λ k. stage_of before k ≡ Some Blocked) (eqb-true packet i e)
-    facts.way.blocked.blocked in
-    let room : detour_count before i + unfound setting.net.links (what_is_known before i).found
-    < length setting.net.links = rw blocked at few.room in
+    subst (λ k. stage_of before k ≡ Some Blocked) (eqb-true packet i e) facts.way.blocked.blocked in
+    let room = rw blocked at few.room in
     rw e (record {
       seeking = risen more few.seeking;
       leaving = few.leaving;
@@ -244,8 +225,7 @@ named_few setting before (item.FoundDown packet one two) i current facts more tr
       room = omega (arith, few.turning.detoured, one_less.fewer);
     })
 named_few setting before (item.Decided packet v rule act by) i current facts more true e few =
-    let undecided : (what_is_known before i).decision ≡ None =
-    decision_in before i None
+    let undecided : (what_is_known before i).decision ≡ None = decision_in before i None
     (subst (λ k. decision_of before k ≡ None) (eqb-true packet i e) facts.further.0.undecided) in
     rw e (record {
       seeking = risen more few.seeking;
@@ -285,15 +265,14 @@ few_more : (setting : Setting) (before : List Item) (next : Item) (i : ℕ)
     → Premises setting before next → HasItemCause setting before next
     → IsFewOf setting before i → IsFewOf setting (before ++ next ∷ []) i
 unfolding search_count exit_count detour_count finding_count
-few_more setting before next i facts cause few =
-    rw (
-      facts_grow i before next,
-      stage_next before next i,
-      count_more (is_search i) before next,
-      count_more (is_exit i) before next,
-      count_more (is_detour i) before next,
-      count_more (is_finding i) before next,
-    )
+few_more setting before next i facts cause few = rw (
+  facts_grow i before next,
+  stage_next before next i,
+  count_more (is_search i) before next,
+  count_more (is_exit i) before next,
+  count_more (is_detour i) before next,
+  count_more (is_finding i) before next,
+)
     (named_few setting before next i (current_mark (before ++ next ∷ [])) facts
     (current_rises setting before next cause) (is_of_packet i next) refl few)
 
@@ -333,8 +312,7 @@ few_at_first setting i = record {
 
 pub routes_few : (setting : Setting) (journal : List Item) → IsSetting setting
     → HaveCauses (IsWayItem setting) [] journal → RoutesAreFew setting journal
-routes_few setting journal is have =
-    fact_on (IsKnown setting) (RoutesAreFew setting)
+routes_few setting journal is have = fact_on (IsKnown setting) (RoutesAreFew setting)
     (λ before next both few i. few_more setting before next i
     (premises_of setting before next is both) both.first.caused.caused.switches (few i)) [] journal
     (have_both _ _ [] journal (kept_before setting journal is have)
@@ -344,9 +322,7 @@ routes_few setting journal is have =
 
 pub searched_few : (setting : Setting) (journal : List Item) → IsSetting setting
     → HaveCauses (IsWayItem setting) [] journal → (i : ℕ) → search_count journal i ≤ most_versions
-searched_few setting journal is have i =
-    let switches : HaveCauses (HasItemCause setting) [] journal =
-    switches_of_all setting [] journal have in
+searched_few setting journal is have i = let switches = switches_of_all setting [] journal have in
     omega (
       arith,
       (routes_few setting journal is have i).seeking.searched,
@@ -367,8 +343,7 @@ finds_few setting journal is have i =
     omega (arith, (routes_few setting journal is have i).turning.once)
 
 pub taken_few : (setting : Setting) (journal : List Item) → IsSetting setting
-    → HaveCauses (IsWayItem setting) [] journal → (i : ℕ)
-    → routes_taken journal i ≤ most_routes
+    → HaveCauses (IsWayItem setting) [] journal → (i : ℕ) → routes_taken journal i ≤ most_routes
 taken_few setting journal is have i = omega (
   arith,
   searched_few setting journal is have i,

@@ -1,5 +1,5 @@
 -- The first link of a route that a switch knows is one that it can use.
-use Rattle.std.proofs.Common.{[], ◌<◌, ◌∙◌, ◌∷◌, ◌≡◌, IsTrue, List, Some, arith, false, get_or, get_or-set_same, inl, inr, length, length-set, map, set, slice_get, subst, sym, true, ℕ}
+use Rattle.std.proofs.Common.{[], ◌<◌, ◌∙◌, ◌∷◌, ◌≡◌, IsTrue, List, Some, arith, get_or, get_or-set_same, inl, inr, length, length-set, map, set, slice_get, subst, sym, ℕ}
 use Rattle.base.proofs.Exports.{cases_lt, get_or_past, has-zero}
 use Rattle.failover.specs.Exports.{AreJoined, IsPath, IsRoute, is_link, named_links, neighbours_named}
 use Rattle.base.specs.Exports.{has}
@@ -11,14 +11,9 @@ use Rattle.control_laws.proofs.Exports.{second}
 own_row : (rows : List ℕ) (at own other : ℕ) → IsTrue (has (get_or (set rows at own) at 0) other)
     → IsTrue (has own other)
 own_row rows at own other is = elim (cases_lt at (length rows)) [
-  | inl within ↦
-      subst (λ mask. IsTrue (has mask other)) (get_or-set_same rows at own 0 within) is
-  | inr past ↦
-      let none : get_or (set rows at own) at 0 ≡ 0 =
-      get_or_past (set rows at own) at 0 (omega (arith, past, length-set rows at own)) in
-      let clash : false ≡ true =
-      sym (has-zero other) ∙ subst (λ mask. IsTrue (has mask other)) none is in
-      absurd cc
+  | inl within ↦ rw (get_or-set_same rows at own 0 within) at is
+  | inr past ↦ absurd (cc (sym (has-zero other) ∙ subst (λ mask. IsTrue (has mask other))
+      (get_or_past (set rows at own) at 0 (omega (arith, past, length-set rows at own))) is))
 ]
 
 joined_sees : (setting : Setting) (journal : List Item) (s next : ℕ) (down : List ℕ) → s < 64
@@ -27,8 +22,7 @@ joined_sees : (setting : Setting) (journal : List Item) (s next : ℕ) (down : L
 unfolding is_link named_links
 joined_sees setting journal s next down small fits joined =
     own_row (map neighbours_named (adverts_known setting journal s)) s (near setting journal s) next
-    (second _ _ _ _
-    (sym (has_known_link setting journal s down s next small fits) ∙ joined))
+    (second _ _ _ _ (sym (has_known_link setting journal s down s next small fits) ∙ joined))
 
 path_begins : (links : List ℕ) (from target next : ℕ) (route : List ℕ)
     → IsPath links from target route → slice_get route 1 ≡ Some next
@@ -41,8 +35,7 @@ path_begins links from target next (first ∷ second ∷ rest) path is =
     let begins : first ≡ from = path.0 in (
       subst (λ x. x < 64) begins path.1,
       subst (λ x. x < 64) same path.2.0,
-      subst (λ x. AreJoined links from x) same
-          (subst (λ x. AreJoined links x second) begins path.2.1),
+      rw same at (rw begins at path.2.1),
     )
 
 route_begins : (links : List ℕ) (from next : ℕ) (targets route : List ℕ)

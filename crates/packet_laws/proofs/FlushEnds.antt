@@ -3,7 +3,7 @@ use Rattle.std.proofs.Common.{[], ◌++◌, ◌+◌, ◌<◌, ◌∷◌, ◌≡�
 use Rattle.base.proofs.Exports.{cases_lt}
 use Rattle.update_machine.specs.Exports.{Deliver, IsFull, Item, Setting, StepOfRow, full_at, next_delivery, next_message, next_waiting, piece}
 use Rattle.packet_laws.specs.Exports.{GoesOrStops}
-use Rattle.packet_laws.proofs.WaitingMessages.{IsNext, next_is, numbers_rise}
+use Rattle.packet_laws.proofs.WaitingMessages.{next_is, numbers_rise}
 
 -- the next message that waits is among the last of those that a journal with room may number
 abbrev IsAmong : ℕ → List Item → Type 0
@@ -17,9 +17,8 @@ none_left setting row before none = record {
   how = inl (ap (option_map Deliver) none);
 }
 
-stops_here : (setting : Setting) (row : ℕ) (before : List Item) (n : ℕ)
-    → next_waiting before ≡ Some n → IsFull before
-    → GoesOrStops setting next_delivery row before
+stops_here : (setting : Setting) (row : ℕ) (before : List Item) (n : ℕ) → next_waiting before
+    ≡ Some n → IsFull before → GoesOrStops setting next_delivery row before
 stops_here setting row before n is full = record {
   steps = [];
   room = tt;
@@ -36,8 +35,7 @@ one_more : (setting : Setting) (row : ℕ) (before : List Item) (n : ℕ)
     → GoesOrStops setting next_delivery row before
 one_more setting row before n is room rest =
     let first : StepOfRow = record { row = row; step = Deliver n } in
-    let goes = ap (option_map Deliver) is in
-    record {
+    let goes = ap (option_map Deliver) is in record {
       steps = first ∷ rest.steps;
       room = (room, rest.room);
       how = elim rest.how [
@@ -52,28 +50,23 @@ one_more setting row before n is room rest =
 
 flush_within : (setting : Setting) (row most : ℕ) (before : List Item) → IsAmong most before
     → GoesOrStops setting next_delivery row before
-flush_within setting row zero before among = by_next (next_waiting before) refl
-  where
-    by_next : (o : Option ℕ) → next_waiting before ≡ o
-        → GoesOrStops setting next_delivery row before
-    by_next None e = none_left setting row before e
-    by_next (Some n) e =
-        let next : IsNext before n = next_is before n e in
-        stops_here setting row before n e (omega (arith, among n e, next.sent))
+flush_within setting row zero before among = by_next (next_waiting before) refl where
+  by_next : (o : Option ℕ) → next_waiting before ≡ o → GoesOrStops setting next_delivery row before
+  by_next None e = none_left setting row before e
+  by_next (Some n) e =
+      stops_here setting row before n e (omega (arith, among n e, (next_is before n e).sent))
 flush_within setting row (suc most) before among =
     by_next (next_waiting before) refl (flush_within setting row most)
   where
-    by_next : (o : Option ℕ) → next_waiting before ≡ o
-        → ((journal : List Item) → IsAmong most journal
-        → GoesOrStops setting next_delivery row journal)
+    by_next : (o : Option ℕ) → next_waiting before ≡ o → ((journal : List Item)
+        → IsAmong most journal → GoesOrStops setting next_delivery row journal)
         → GoesOrStops setting next_delivery row before
     by_next None e rest = none_left setting row before e
     by_next (Some n) e rest = elim (cases_lt full_at (next_message before)) [
       | inl full ↦ stops_here setting row before n e full
       | inr room ↦ one_more setting row before n e room
           (rest (before ++ piece setting before row (Deliver n)) (λ m later.
-          let rises : n < m = numbers_rise setting before row n m e later in
-          omega (arith, among n e, rises)))
+          omega (arith, among n e, numbers_rise setting before row n m e later)))
     ]
 
 pub flush_goes : (setting : Setting) (journal : List Item) (row : ℕ)

@@ -1,7 +1,7 @@
 -- What is known of packets and of cache rules is known behind one more item, too.
-use Rattle.std.proofs.Common.{[], ◌++◌, ◌∙◌, ◌∷◌, ◌≡◌, ◌≤◌, List, Option, ap, arith, subst, sym, ℕ}
+use Rattle.std.proofs.Common.{[], ◌++◌, ◌∙◌, ◌∷◌, ◌≡◌, ◌≤◌, List, Option, ap, arith, ℕ}
 use Rattle.update_machine.specs.Exports.{Action, Exit, HaveCauses, Header, Item, Leg, Seek, Setting, VersionsAreNumbered, current_mark, plan_at, policy_at, retired_mark, version_count}
-use Rattle.policy_rules.specs.Exports.{IsFirstMatch, scan}
+use Rattle.policy_rules.specs.Exports.{scan}
 use Rattle.switch_table.specs.Exports.{Hosted}
 use Rattle.ternary.specs.Exports.{WordValue}
 use Rattle.update_machine.proofs.Exports.{plan_stays, policy_stays}
@@ -26,13 +26,12 @@ grows setting before next have cause = record {
   current = current_rises setting before next cause;
   policy = λ v above below. policy_stays setting before (next ∷ []) v numbers (there v below);
   plan = λ v above below. plan_stays setting before (next ∷ []) v numbers (there v below);
-}
-  where
-    numbers : VersionsAreNumbered before
-    numbers = caused_numbered setting before have
+} where
+  numbers : VersionsAreNumbered before
+  numbers = caused_numbered setting before have
 
-    there : (v : ℕ) → v ≤ current_mark before → v ≤ version_count before
-    there v below = omega (arith, below, (bounded setting before have).there)
+  there : (v : ℕ) → v ≤ current_mark before → v ≤ version_count before
+  there v below = omega (arith, below, (bounded setting before have).there)
 
 pub right_on : (setting : Setting) (before after : List Item) (version : ℕ) (word : WordValue)
     (rule : Option ℕ) (action : Action) → Grows setting before after
@@ -41,9 +40,8 @@ pub right_on : (setting : Setting) (before after : List Item) (version : ℕ) (w
 right_on setting before after version word rule action grow right = record {
   known = right.known;
   current = omega (arith, right.current, grow.current);
-  decides = λ header sound held.
-      subst (λ rows. IsFirstMatch rows header (record { rule = rule; action = action }))
-      (sym (grow.policy version right.known right.current)) (right.decides header sound held);
+  decides = λ header sound held. rw (grow.policy version right.known right.current)
+      (right.decides header sound held);
 }
 
 part_on : (setting : Setting) (before after : List Item) (header : Header)
@@ -81,9 +79,8 @@ leg_on setting before after facts header (Seek version partition) grow on = reco
 }
 leg_on setting before after facts header (Exit port) grow on = on
 
-under_on : (setting : Setting) (before after : List Item) (facts : PacketFacts)
-    → Grows setting before after → IsUnderWay setting before facts
-    → IsUnderWay setting after facts
+under_on : (setting : Setting) (before after : List Item) (facts : PacketFacts) → Grows setting
+    before after → IsUnderWay setting before facts → IsUnderWay setting after facts
 under_on setting before after facts grow under = record {
   entry = under.entry;
   place = under.place;
@@ -113,9 +110,8 @@ judged_on setting before after facts header grow judged = record {
       (grow.policy judged.decision.version (omega (arith, judged.not_retired)) judged.current)
       ∙ judged.first_match;
   named = judged.named;
-  sought = λ version partition takes.
-      sought_on setting before after facts.mark header version partition grow
-      (judged.sought version partition takes);
+  sought = λ version partition takes. sought_on setting before after facts.mark header version
+      partition grow (judged.sought version partition takes);
 }
 
 pub kept_on : (setting : Setting) (before after : List Item) (facts : PacketFacts)

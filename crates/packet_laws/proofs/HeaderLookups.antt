@@ -1,9 +1,8 @@
 -- What a serving switch says of a header, by the plan of the version of its stamp.
-use Rattle.std.proofs.Common.{[], if◌then◌else◌, ◌<◌, ◌∙◌, ◌≡◌, ◌≤◌, Bool, IsTrue, List, None, Option, Some, ap, arith, false, length, option_map, position, refl, slice_get, sym, true, unwrap_or, ℕ}
+use Rattle.std.proofs.Common.{[], if◌then◌else◌, ◌<◌, ◌∙◌, ◌≡◌, ◌≤◌, Bool, IsTrue, List, None, Option, Some, ap, arith, false, length, option_map, position, refl, slice_get, sym, true, ℕ}
 use Rattle.base.proofs.Exports.{option_map_or}
 use Rattle.five_tuple.specs.Exports.{IsHeader, number_of}
 use Rattle.update_machine.specs.Exports.{AuthorityRule, CacheEntry, Found, HaveCauses, Header, IsSetting, Item, Row, Rule, Setting, authority_rule, cache_of, current_mark, lookup_at, plan_at, policy_at, retired_mark, serves, stamp_of, tables_at}
-use Rattle.policy_rules.specs.Exports.{is_held}
 use Rattle.switch_table.specs.Exports.{Hosted, authority_of, first_entry, has_target, lookup_in, part_of, table_lookup}
 use Rattle.switch_table.specs.declared.search.Found.TheVariants as found
 use Rattle.update_machine.proofs.Exports.{begins_planned}
@@ -15,13 +14,11 @@ use Rattle.packet_laws.proofs.PlanLookups.{Finds, IsPlanned, LooksUp, looks_up, 
 
 -- each version up to the current one has a policy and its plan
 pub current_planned : (setting : Setting) (journal : List Item) (version : ℕ) → IsSetting setting
-    → HaveCauses (HasItemCause setting) [] journal → 1 ≤ version
-    → version ≤ current_mark journal
+    → HaveCauses (HasItemCause setting) [] journal → 1 ≤ version → version ≤ current_mark journal
     → IsPlanned setting (policy_at setting journal version) (plan_at setting journal version)
-current_planned setting journal version is have above below =
-    version_planned setting journal version is
-    ((versions_planned setting journal have).planned (begins_planned setting is) version above
-    (omega (arith, below, (bounded setting journal have).there)))
+current_planned setting journal version is have above below = version_planned setting journal
+    version is ((versions_planned setting journal have).planned (begins_planned setting is) version
+    above (omega (arith, below, (bounded setting journal have).there)))
 
 -- the stamp of a serving switch is such a version, and isn't retired
 pub record IsStamped (setting : Setting) (journal : List Item) (s : ℕ) : Type 0 where
@@ -34,8 +31,7 @@ pub stamped : (setting : Setting) (journal : List Item) (s : ℕ) → IsSetting 
     → HaveCauses (HasItemCause setting) [] journal → s < length setting.net.switches
     → IsTrue (serves journal s) → IsStamped setting journal s
 stamped setting journal s is have there serving =
-    let holds : HoldsStamp journal s = serving_hold setting journal have s there serving in
-    record {
+    let holds : HoldsStamp journal s = serving_hold setting journal have s there serving in record {
       retired = holds.retired;
       current = holds.current;
       planned = current_planned setting journal (stamp_of journal s) is have
@@ -52,9 +48,8 @@ pub record FindsPart (setting : Setting) (journal : List Item) (s : ℕ) (header
       (plan_at setting journal (stamp_of journal s)) header hosted
   pub number : hosted.0.number ≡ partition
 
-by_tables : (entries : Option CacheEntry) (said other : Found)
-    → option_map_or found.Cached entries said ≡ other
-    → ((entry : CacheEntry) → found.Cached entry ≡ other → ⊥) → said ≡ other
+by_tables : (entries : Option CacheEntry) (said other : Found) → option_map_or found.Cached entries
+    said ≡ other → ((entry : CacheEntry) → found.Cached entry ≡ other → ⊥) → said ≡ other
 by_tables None said other e none = e
 by_tables (Some entry) said other e none = absurd (none entry e)
 
@@ -63,15 +58,13 @@ table_says : (setting : Setting) (journal : List Item) (s : ℕ) (header : Heade
     → ((entry : CacheEntry) → found.Cached entry ≡ other → ⊥)
     → table_lookup (tables_at setting journal (stamp_of journal s) s) header ≡ other
 unfolding lookup_at
-table_says setting journal s header other answer none =
-    by_tables (first_entry (stamp_of journal s) (number_of header)
-    (cache_of setting journal s).entries)
+table_says setting journal s header other answer none = by_tables (first_entry (stamp_of journal s)
+    (number_of header) (cache_of setting journal s).entries)
     (table_lookup (tables_at setting journal (stamp_of journal s) s) header) other answer none
 
 -- what a lookup says that no cached rule answers, by a partition of the plan of the stamp
 abbrev LooksUpAt : Setting → List Item → ℕ → Header → Type 0
-LooksUpAt setting journal s header =
-    LooksUp (policy_at setting journal (stamp_of journal s))
+LooksUpAt setting journal s header = LooksUp (policy_at setting journal (stamp_of journal s))
     (plan_at setting journal (stamp_of journal s)) (stamp_of journal s) s header
 
 record SaysOf (setting : Setting) (journal : List Item) (s : ℕ) (header : Header) (what : Found)
@@ -81,13 +74,11 @@ record SaysOf (setting : Setting) (journal : List Item) (s : ℕ) (header : Head
 
 says_of : (setting : Setting) (journal : List Item) (s : ℕ) (header : Header) (what : Found)
     → IsStamped setting journal s → IsHeader header → lookup_at setting journal s header ≡ what
-    → ((entry : CacheEntry) → found.Cached entry ≡ what → ⊥)
-    → SaysOf setting journal s header what
+    → ((entry : CacheEntry) → found.Cached entry ≡ what → ⊥) → SaysOf setting journal s header what
 says_of setting journal s header what stamped sound answer none =
     let looks = looks_up setting (policy_at setting journal (stamp_of journal s))
     (plan_at setting journal (stamp_of journal s)) (stamp_of journal s) s header stamped.planned
-    sound in
-    record {
+    sound in record {
       looks = looks;
       is = sym looks.says ∙ table_says setting journal s header what answer none;
     }
@@ -110,14 +101,11 @@ authority_found setting journal s header partition at stamped sound answer =
         → has_target s looks.hosted ≡ b → (if b then authority_of header (part_of looks.hosted)
         else found.Redirect looks.hosted.0.number looks.hosted.1) ≡ found.Authority partition at
         → FindsRule setting journal s header partition at
-    by_target looks true is e =
-        let place : unwrap_or (position (is_held (number_of header)) looks.hosted.0.rules) 0 ≡ at =
-        cc in
-        record {
-          part = record { hosted = looks.hosted; finds = looks.finds; number = cc };
-          found_at = sym looks.finds.position ∙ place;
-          target = is;
-        }
+    by_target looks true is e = record {
+      part = record { hosted = looks.hosted; finds = looks.finds; number = cc };
+      found_at = sym looks.finds.position ∙ cc;
+      target = is;
+    }
     by_target looks false is e = absurd cc
 
 pub record FindsTargets (setting : Setting) (journal : List Item) (s : ℕ) (header : Header)
@@ -135,8 +123,7 @@ redirect_found setting journal s header partition targets stamped sound answer =
   where
     by_target : (looks : LooksUpAt setting journal s header) (b : Bool)
         → (if b then authority_of header (part_of looks.hosted)
-        else found.Redirect looks.hosted.0.number looks.hosted.1)
-        ≡ found.Redirect partition targets
+        else found.Redirect looks.hosted.0.number looks.hosted.1) ≡ found.Redirect partition targets
         → FindsTargets setting journal s header partition targets
     by_target looks true e = absurd cc
     by_target looks false e = record {
@@ -156,10 +143,8 @@ deciding {hosted = hosted} version finds = record {
 }
 
 pub rule_there : (setting : Setting) (journal : List Item) (header : Header) (hosted : Hosted)
-    (version partition : ℕ)
-    (finds : Finds (policy_at setting journal version) (plan_at setting journal version) header
-    hosted)
-    → hosted.0.number ≡ partition
+    (version partition : ℕ) (finds : Finds (policy_at setting journal version)
+    (plan_at setting journal version) header hosted) → hosted.0.number ≡ partition
     → authority_rule setting journal version partition finds.place ≡ Some (deciding version finds)
 rule_there setting journal header hosted version partition finds number =
     let rule_of : Hosted → Rule → AuthorityRule = λ p rule.

@@ -7,11 +7,11 @@ use Rattle.switch_table.specs.Exports.{Hosted}
 use Rattle.switch_table.specs.declared.search.Found.TheVariants as found
 use Rattle.control_laws.specs.Exports.{HasItemCause}
 use Rattle.control_laws.proofs.Exports.{own}
-use Rattle.packet_laws.specs.Exports.{AllKept, AreResting, IsAt, IsOnLeg, IsOnWay, PacketFacts, stage_of, what_is_known}
+use Rattle.packet_laws.specs.Exports.{AllKept, AreResting, IsAt, IsOnWay, PacketFacts, stage_of, what_is_known}
 use Rattle.packet_laws.proofs.AllKept.{all_kept}
 use Rattle.packet_laws.proofs.PacketsHere.{IsHere, here_of, leg_in, seeking_of}
 use Rattle.packet_laws.proofs.HeaderLookups.{FindsRule, authority_found, current_planned, rule_there}
-use Rattle.packet_laws.proofs.PlanLookups.{Finds, IsPlanned, in_plan}
+use Rattle.packet_laws.proofs.PlanLookups.{in_plan}
 use Rattle.packet_laws.proofs.RestingPackets.{IsWayItem, switches_of_all}
 use Rattle.packet_laws.proofs.AskedHops.{NamesFirst}
 
@@ -52,11 +52,10 @@ rules_there setting journal i s moved partition place answer =
     let finds : FindsRule setting journal s moved.here.under.header partition place =
     authority_found setting journal s moved.here.under.header partition place moved.here.stamped
     moved.here.under.sound (ap (lookup_at setting journal s) (sym moved.here.header) ∙ answer) in
-    let rule = rule_there setting journal moved.here.under.header finds.part.hosted
-    (stamp_of journal s) partition finds.part.finds finds.part.number in
     subst
     (λ p. IsTrue (is_some (authority_rule setting journal (stamp_of journal s) partition p)))
-    finds.found_at (rw rule refl)
+    finds.found_at (rw (rule_there setting journal moved.here.under.header finds.part.hosted
+    (stamp_of journal s) partition finds.part.finds finds.part.number) refl)
 
 sought_there : (setting : Setting) (journal : List Item) (i s version partition : ℕ)
     → IsMoved setting journal i s → leg_of journal i ≡ Some (Seek version partition)
@@ -64,28 +63,19 @@ sought_there : (setting : Setting) (journal : List Item) (i s version partition 
     (first_place setting journal version partition (header_at journal i))))
 sought_there setting journal i s version partition moved seeks =
     let facts : PacketFacts = what_is_known journal i in
-    let on : IsOnLeg setting journal facts moved.here.under.header (Seek version partition) =
-    seeking_of setting journal facts moved.here.under.header version partition moved.way
+    let on = seeking_of setting journal facts moved.here.under.header version partition moved.way
     moved.here.under.entered (leg_in journal i (Some (Seek version partition)) seeks) in
-    let planned : IsPlanned setting (policy_at setting journal version)
-    (plan_at setting journal version) =
-    current_planned setting journal version moved.is moved.have
-    (omega (arith, on.not_retired)) on.current in
-    let finds : Finds (policy_at setting journal version) (plan_at setting journal version)
-    moved.here.under.header on.hosted =
-    in_plan setting (policy_at setting journal version) (plan_at setting journal version)
-    moved.here.under.header on.hosted planned moved.here.under.sound on.own.first in
-    let place : first_place setting journal version partition (header_at journal i)
-    ≡ finds.place =
-    ap (first_place setting journal version partition) moved.here.header
-    ∙ ap (λ (o : Option Hosted). unwrap_or (option_and_then
-    (λ (p : Hosted). position (is_held (number_of moved.here.under.header)) p.0.rules) o) 0)
-    on.own.found ∙ finds.position in
-    let rule = rule_there setting journal moved.here.under.header on.hosted version partition finds
-    on.own.number in
+    let finds = in_plan setting (policy_at setting journal version)
+    (plan_at setting journal version) moved.here.under.header on.hosted (current_planned setting
+    journal version moved.is moved.have (omega (arith, on.not_retired)) on.current)
+    moved.here.under.sound on.own.first in
+    let place = ap (first_place setting journal version partition) moved.here.header
+    ∙ ap (λ (o : Option Hosted). unwrap_or (option_and_then (λ (p : Hosted). position
+    (is_held (number_of moved.here.under.header)) p.0.rules) o) 0) on.own.found ∙ finds.position in
     subst
     (λ p. IsTrue (is_some (authority_rule setting journal version partition p)))
-    (sym place) (rw rule refl)
+    (sym place) (rw (rule_there setting journal moved.here.under.header on.hosted version partition
+    finds on.own.number) refl)
 
 leg_out : (journal : List Item) (i : ℕ) (leg : Option Leg) → (what_is_known journal i).leg ≡ leg
     → leg_of journal i ≡ leg
@@ -96,25 +86,21 @@ arrive_names : (setting : Setting) (i s : ℕ) (journal : List Item) → IsMoved
     → NamesFirst i (arrive_items setting i s journal)
 unfolding arrive_items
 arrive_names setting i s journal moved =
-    let leg : leg_of journal i ≡ Some moved.way.leg =
-    leg_out journal i (Some moved.way.leg) moved.way.takes in
+    let leg = leg_out journal i (Some moved.way.leg) moved.way.takes in
     subst (λ o. NamesFirst i (arrive_by setting i s o journal)) (sym leg)
     (by_leg moved.way.leg leg)
   where
     by_held : (version partition : ℕ) (b : Bool)
         → leg_of journal i ≡ Some (Seek version partition) → NamesFirst i (elim b [
           | false ↦ lookup_items setting i s journal
-          | true ↦ authority_items setting i s
-              (authority_rule setting journal version partition
+          | true ↦ authority_items setting i s (authority_rule setting journal version partition
               (first_place setting journal version partition (header_at journal i))) journal
         ])
     by_held version partition false e =
         lookup_names setting i s journal (rules_there setting journal i s moved)
-    by_held version partition true e =
-        authority_names setting i s
-        (authority_rule setting journal version partition
-        (first_place setting journal version partition (header_at journal i))) journal
-        (sought_there setting journal i s version partition moved e)
+    by_held version partition true e = authority_names setting i s (authority_rule setting journal
+        version partition (first_place setting journal version partition (header_at journal i)))
+        journal (sought_there setting journal i s version partition moved e)
 
     by_leg : (leg : Leg) → leg_of journal i ≡ Some leg
         → NamesFirst i (arrive_by setting i s (Some leg) journal)
@@ -136,8 +122,7 @@ unfolding hop_items
 hop_names setting i journal is have rests travelling =
     let served = rests.served i travelling in
     let kept : AllKept setting journal = all_kept setting journal is have in
-    let switches : HaveCauses (HasItemCause setting) [] journal =
-    switches_of_all setting [] journal have in
+    let switches = switches_of_all setting [] journal have in
     let s : ℕ = unwrap_or (standing journal i) 0 in
     let there : served.switch ≡ s = sym (ap (λ o. unwrap_or o 0) served.stands) in
     let at : IsAt journal i s = record {
@@ -145,8 +130,7 @@ hop_names setting i journal is have rests travelling =
       stands = refl;
       serving = subst (λ k. IsTrue (serves journal k)) there served.serving;
     } in
-    let here : IsHere setting journal i s =
-    here_of setting journal i s (stage_of journal i) is switches (kept.packets i) at in
+    let here = here_of setting journal i s (stage_of journal i) is switches (kept.packets i) at in
     rw (travelling, hop_items) (move_names setting i s journal (record {
       is = is;
       have = switches;

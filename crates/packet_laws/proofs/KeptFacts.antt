@@ -1,5 +1,5 @@
 -- Items that have their causes keep each packet on its way.
-use Rattle.std.proofs.Common.{[], ◌&&◌, ◌<◌, ◌==◌, ◌∙◌, ◌∷◌, ◌≡◌, ◌≤◌, ◌⊎◌, All, Any, Contains, IsTrue, List, None, Option, Some, ap, arith, eqb-true, false, find, inl, inr, is_some, length, option_map, refl, rules, slice_get, subst, sym, true, unwrap_or, ℕ}
+use Rattle.std.proofs.Common.{[], ◌&&◌, ◌<◌, ◌==◌, ◌∙◌, ◌∷◌, ◌≡◌, ◌≤◌, ◌⊎◌, All, Any, Contains, IsTrue, List, None, Option, Some, ap, arith, eqb-true, false, find, inl, inr, is_some, length, refl, rules, subst, sym, true, unwrap_or, ℕ}
 use Rattle.base.proofs.Exports.{All-contains, Any-from_list_any, and_parts, find-there, option_map_or, some_same}
 use Rattle.five_tuple.specs.Exports.{IsHeader, number_of}
 use Rattle.update_machine.specs.Exports.{Action, AuthorityRule, CacheEntry, Decision, Exit, HaveCauses, Header, How, IsSetting, Item, Leg, NamesOwnPort, Partition, Seek, Setting, Tables, cache_of, current_mark, found_down, header_at, lookup_at, no_switch, owner, plan_at, policy_at, retired_mark, route_from, stamp_of, tables_at, targets_of}
@@ -15,7 +15,7 @@ use Rattle.journal.specs.declared.item.Item.TheVariants as item
 use Rattle.control_laws.specs.Exports.{HasItemCause, LinksAreThere}
 use Rattle.control_laws.proofs.Exports.{HasBothCauses}
 use Rattle.packet_laws.specs.Exports.{AuthorityDecides, Avoids, Blocked, CacheDecides, CameIn, DecidesBy, HasKeptFacts, IsAt, IsDecided, IsLookedUp, IsOnLeg, IsOnWay, IsPartitionOf, IsRedirected, IsRightEntry, IsRightlyDecided, IsSought, IsUnderWay, Judged, LeadsTo, MeetsDown, MovesOver, OnWay, PacketFacts, Stage, TakesDetour, TakesExit, TakesRoute, facts_after, stage_of, what_is_known}
-use Rattle.packet_laws.proofs.PacketsHere.{IsHere, Rules, found_in, here_of, leg_in, next_in, decision_in, rules_of, seeking_of}
+use Rattle.packet_laws.proofs.PacketsHere.{IsHere, found_in, here_of, leg_in, next_in, decision_in, rules_of, seeking_of}
 use Rattle.packet_laws.proofs.HeaderLookups.{FindsTargets, redirect_found}
 use Rattle.packet_laws.proofs.PacketBlocks.{WhenDecided}
 use Rattle.packet_laws.proofs.PlanLookups.{scan_named}
@@ -38,9 +38,8 @@ here_known setting before i s knows at =
     here_of setting before i s (stage_of before i) knows.is knows.have knows.kept at
 
 -- a packet that moves on
-moving_on : (setting : Setting) (before : List Item) (facts : PacketFacts)
-    → IsOnWay setting before facts → Avoids facts.found facts.route
-    → HasKeptFacts setting before facts (Some OnWay)
+moving_on : (setting : Setting) (before : List Item) (facts : PacketFacts) → IsOnWay setting before
+    facts → Avoids facts.found facts.route → HasKeptFacts setting before facts (Some OnWay)
 moving_on setting before facts on avoids = record {
   under_way = λ travels. on.under_way;
   came_in = λ travels is. absurd cc;
@@ -67,10 +66,8 @@ linked_there setting one two net linked =
   where
     by_link : Any (λ link. joins one two link ≡ true) setting.net.links
         → two < length setting.net.switches
-    by_link any =
-        let is : IsLink (length setting.net.switches) any.1 =
-        subst (IsLink (length setting.net.switches)) any.3 (net.links any.0 any.1 any.2) in
-        joined_below (length setting.net.switches) one two any.1 is any.4
+    by_link any = joined_below (length setting.net.switches) one two any.1
+        (subst (IsLink (length setting.net.switches)) any.3 (net.links any.0 any.1 any.2)) any.4
 
 -- ---- undecided packets
 
@@ -79,12 +76,10 @@ pub undecided_of : (setting : Setting) (before : List Item) (i s : ℕ) (stage :
     → (here : IsHere setting before i s) → (stage ≡ Some CameIn) ⊎ ((stage ≡ Some OnWay)
     × ((v : ℕ) × (p : ℕ) × ((what_is_known before i).leg ≡ Some (Seek v p))))
     → (what_is_known before i).decision ≡ None
-undecided_of setting before i s stage kept here (inl came) =
-    (kept.came_in here.travelling came).0
+undecided_of setting before i s stage kept here (inl came) = (kept.came_in here.travelling came).0
 undecided_of setting before i s stage kept here (inr moving) =
-    (seeking_of setting before (what_is_known before i) here.under.header moving.1.0
-    moving.1.1 (kept.on_way here.travelling (inl moving.0)) here.under.entered
-    moving.1.2).undecided
+    (seeking_of setting before (what_is_known before i) here.under.header moving.1.0 moving.1.1
+    (kept.on_way here.travelling (inl moving.0)) here.under.entered moving.1.2).undecided
 
 sought_of : (setting : Setting) (before : List Item) (i s : ℕ) (stage : Option Stage)
     → HasKeptFacts setting before (what_is_known before i) stage
@@ -92,8 +87,7 @@ sought_of : (setting : Setting) (before : List Item) (i s : ℕ) (stage : Option
     → (v p : ℕ) → (what_is_known before i).leg ≡ Some (Seek v p)
     → IsSought setting before (what_is_known before i).mark here.under.header v p
 sought_of setting before i s stage kept here (inl came) v p seeks =
-    let none : (what_is_known before i).leg ≡ None = (kept.came_in here.travelling came).1 in
-    absurd cc
+    absurd (cc ((kept.came_in here.travelling came).1))
 sought_of setting before i s stage kept here (inr moving) v p seeks =
     (seeking_of setting before (what_is_known before i) here.under.header v p
     (kept.on_way here.travelling (inl moving)) here.under.entered seeks).sought
@@ -103,29 +97,27 @@ pub stage_looked : (before : List Item) (i s : ℕ) → IsLookedUp before i s
     → (stage_of before i ≡ Some CameIn) ⊎ ((stage_of before i ≡ Some OnWay)
     × ((v : ℕ) × (p : ℕ) × ((what_is_known before i).leg ≡ Some (Seek v p))))
 stage_looked before i s (inl came) = inl came
-stage_looked before i s (inr misses) =
-    inr (
-      misses.arrives.moving,
-      (
-        misses.version,
-        misses.partition,
-        leg_in before i (Some (Seek misses.version misses.partition)) misses.seeks,
-      ),
-    )
+stage_looked before i s (inr misses) = inr (
+  misses.arrives.moving,
+  (
+    misses.version,
+    misses.partition,
+    leg_in before i (Some (Seek misses.version misses.partition)) misses.seeks,
+  ),
+)
 
 pub stage_when : (before : List Item) (i s version : ℕ) → WhenDecided before i s version
     → (stage_of before i ≡ Some CameIn) ⊎ ((stage_of before i ≡ Some OnWay)
     × ((v : ℕ) × (p : ℕ) × ((what_is_known before i).leg ≡ Some (Seek v p))))
 stage_when before i s version (inl looked) = stage_looked before i s looked.0
-stage_when before i s version (inr reaches) =
-    inr (
-      reaches.arrives.moving,
-      (
-        version,
-        reaches.partition,
-        leg_in before i (Some (Seek version reaches.partition)) reaches.seeks,
-      ),
-    )
+stage_when before i s version (inr reaches) = inr (
+  reaches.arrives.moving,
+  (
+    version,
+    reaches.partition,
+    leg_in before i (Some (Seek version reaches.partition)) reaches.seeks,
+  ),
+)
 
 stage_alone : {one two three : Type 0} → one ⊎ (two × three) → one ⊎ two
 stage_alone (inl x) = inl x
@@ -136,8 +128,7 @@ stage_alone (inr x) = inr x.0
 -- the partition to which a lookup sends it
 pub redirected_to : (setting : Setting) (before : List Item) (i s version partition : ℕ)
     → (here : IsHere setting before i s) → IsRedirected setting before i s version partition
-    → (hosted : Hosted)
-    × IsPartitionOf setting before here.under.header version partition hosted
+    → (hosted : Hosted) × IsPartitionOf setting before here.under.header version partition hosted
 redirected_to setting before i s version partition here takes =
     let leads : FindsTargets setting before s here.under.header partition takes.targets =
     redirect_found setting before s here.under.header partition takes.targets here.stamped
@@ -146,8 +137,7 @@ redirected_to setting before i s version partition here takes =
       hosted,
       subst (λ v. IsPartitionOf setting before here.under.header v partition hosted)
           (sym takes.stamp) (record {
-            found = ap (slice_get (plan_at setting before (stamp_of before s)))
-                (sym leads.part.number) ∙ leads.part.finds.at;
+            found = cc (leads.part.number, leads.part.finds.at);
             number = leads.part.number;
             first = leads.part.finds.first;
             holds = leads.part.finds.holds;
@@ -155,12 +145,10 @@ redirected_to setting before i s version partition here takes =
     )
 
 -- whose targets the leg to it has
-seek_targets : (setting : Setting) (before : List Item) (header : Header)
-    (version partition : ℕ) (hosted : Hosted)
-    → IsPartitionOf setting before header version partition hosted
+seek_targets : (setting : Setting) (before : List Item) (header : Header) (version partition : ℕ)
+    (hosted : Hosted) → IsPartitionOf setting before header version partition hosted
     → targets_of setting before (Seek version partition) ≡ hosted.1
-seek_targets setting before header version partition hosted own =
-    ap (λ o. unwrap_or (option_map (λ (p : Hosted). p.1) o) []) own.found
+seek_targets setting before header version partition hosted own = cc own.found
 
 -- a packet that takes a route where it stands
 sets_out : (setting : Setting) (before : List Item) (i s : ℕ) (taken : Option Leg) (leg : Leg)
@@ -192,13 +180,10 @@ seeking_after setting before i mark version partition route knows takes =
     let here : IsHere setting before i s = here_known setting before i s knows takes.at in
     let part = redirected_to setting before i s version partition here takes.takes in
     let hosted : Hosted = part.0 in
-    let targets : targets_of setting before (Seek version partition) ≡ hosted.1 =
-    seek_targets setting before here.under.header version partition hosted part.1 in
-    let way : IsWay setting s hosted.1 facts.found route =
-    route_way setting before s hosted.1 facts.found route knows.links
+    let way = route_way setting before s hosted.1 facts.found route knows.links
     (subst (λ down. route_from setting before s hosted.1 down ≡ Some route) (found_in before i)
-    (ap (λ all. route_from setting before s all (found_down before i)) (sym targets)
-    ∙ takes.leads)) in
+    (ap (λ all. route_from setting before s all (found_down before i)) (sym (seek_targets setting
+    before here.under.header version partition hosted part.1)) ∙ takes.leads)) in
     sets_out setting before i s _ (Seek version partition) hosted.1 route here refl way (record {
       undecided = undecided_of setting before i s (stage_of before i) knows.kept here
           (stage_looked before i s takes.takes.looked_up);
@@ -216,10 +201,8 @@ is_home None e = absurd cc
 is_home (Some x) e = refl
 
 pub port_named : (setting : Setting) (port : ℕ) (act : Action) → act ≡ action.Out port
-    → NamesOwnPort setting act
-    → owner_of setting.net.switches port ≡ Some (owner setting port)
-port_named setting port act is named =
-    is_home (owner_of setting.net.switches port) (subst (NamesOwnPort setting) is named)
+    → NamesOwnPort setting act → owner_of setting.net.switches port ≡ Some (owner setting port)
+port_named setting port act is named = is_home (owner_of setting.net.switches port) (rw is at named)
 
 pub exiting_after : (setting : Setting) (before : List Item) (i mark : ℕ) (route : List ℕ)
     → Knows setting before i (stage_of before i) → TakesExit setting before i route
@@ -231,15 +214,11 @@ exiting_after setting before i mark route knows exits =
     let here : IsHere setting before i s = here_known setting before i s knows exits.by.at in
     let judged : IsRightlyDecided setting before facts here.under.header =
     knows.kept.judged here.travelling out.judged here.under.header here.under.entered in
-    let decided : facts.decision ≡ Some out.decision =
-    decision_in before i (Some out.decision) out.decided in
-    let same : judged.decision ≡ out.decision =
-    some_same facts.decision judged.decision out.decision judged.decided decided in
+    let decided = decision_in before i (Some out.decision) out.decided in
     let home : List ℕ = owner setting exits.port ∷ [] in
-    let way : IsWay setting s home facts.found route =
-    route_way setting before s home facts.found route knows.links
-    (subst (λ down. route_from setting before s home down ≡ Some route) (found_in before i)
-    exits.by.leads) in
+    let way : IsWay setting s home facts.found route = route_way setting before s home facts.found
+    route knows.links (subst (λ down. route_from setting before s home down ≡ Some route)
+    (found_in before i) exits.by.leads) in
     sets_out setting before i s _ (Exit exits.port) home route here (rw (decided, out.action) refl)
     way (record {
       decision = out.decision;
@@ -247,7 +226,8 @@ exiting_after setting before i mark route knows exits =
       action = out.action;
       owner = owner setting exits.port;
       has_port = port_named setting exits.port judged.decision.action
-          (ap (λ (d : Decision). d.action) same ∙ out.action) judged.named;
+          (ap (λ (d : Decision). d.action) (some_same facts.decision judged.decision out.decision
+          judged.decided decided) ∙ out.action) judged.named;
       leads = way.leads;
     })
 
@@ -259,8 +239,7 @@ leg_by : (setting : Setting) (before : List Item) (facts : PacketFacts) (route :
 leg_by setting before facts route header (Seek version partition) on leads = record {
   undecided = on.undecided;
   sought = on.sought;
-  leads = subst (λ targets. LeadsTo setting targets route)
-      (seek_targets setting before header version partition on.hosted on.own) leads;
+  leads = rw (seek_targets setting before header version partition on.hosted on.own) at leads;
 }
 leg_by setting before facts route header (Exit port) on leads = record {
   decision = on.decision;
@@ -268,8 +247,7 @@ leg_by setting before facts route header (Exit port) on leads = record {
   action = on.action;
   owner = on.owner;
   has_port = on.has_port;
-  leads = subst (λ home. LeadsTo setting (home ∷ []) route)
-      (ap (λ o. unwrap_or o no_switch) on.has_port) leads;
+  leads = rw (ap (λ o. unwrap_or o no_switch) on.has_port) at leads;
 }
 
 pub rerouted_after : (setting : Setting) (before : List Item) (i mark : ℕ) (route : List ℕ)
@@ -279,23 +257,17 @@ rerouted_after setting before i mark route knows turns =
     let facts : PacketFacts = what_is_known before i in
     let s : ℕ = turns.switch in
     let here : IsHere setting before i s = here_known setting before i s knows turns.at in
-    let was : IsOnWay setting before facts =
-    knows.kept.on_way here.travelling (inr turns.blocked.blocked) in
-    let leg : was.leg ≡ turns.leg =
-    some_same facts.leg was.leg turns.leg was.takes
+    let was = knows.kept.on_way here.travelling (inr turns.blocked.blocked) in
+    let leg = some_same facts.leg was.leg turns.leg was.takes
     (leg_in before i (Some turns.leg) turns.blocked.takes) in
-    let header : was.under_way.header ≡ here.under.header =
-    some_same facts.header was.under_way.header here.under.header was.under_way.entered
-    here.under.entered in
     let targets : List ℕ = targets_of setting before turns.leg in
-    let way : IsWay setting s targets facts.found route =
-    route_way setting before s targets facts.found route knows.links
+    let way = route_way setting before s targets facts.found route knows.links
     (subst (λ down. route_from setting before s targets down ≡ Some route) (found_in before i)
     turns.leads) in
     sets_out setting before i s facts.leg turns.leg targets route here (was.takes ∙ ap Some leg)
     way (leg_by setting before facts route here.under.header turns.leg
-    (subst (λ l. IsOnLeg setting before facts here.under.header l) leg
-    (subst (λ h. IsOnLeg setting before facts h was.leg) header was.on_leg)) way.leads)
+    (rw leg at (rw (some_same facts.header was.under_way.header here.under.header
+    was.under_way.entered here.under.entered) at was.on_leg)) way.leads)
 
 pub hopped_after : (setting : Setting) (before : List Item) (i mark next : ℕ)
     → Knows setting before i (stage_of before i) → MovesOver setting before i next
@@ -320,10 +292,9 @@ hopped_after setting before i mark next knows moves =
       stands = sym (next_in before i) ∙ moves.goes_on;
     }) (knows.kept.avoids here.travelling moves.moving)
 
-pub found_after : (setting : Setting) (before : List Item) (i mark one two : ℕ)
-    → Knows setting before i (stage_of before i) → MeetsDown setting before i one two
-    → HasKeptFacts setting before (facts_after mark (item.FoundDown i one two) (what_is_known before i))
-    (Some Blocked)
+pub found_after : (setting : Setting) (before : List Item) (i mark one two : ℕ) → Knows setting
+    before i (stage_of before i) → MeetsDown setting before i one two → HasKeptFacts setting before
+    (facts_after mark (item.FoundDown i one two) (what_is_known before i)) (Some Blocked)
 found_after setting before i mark one two knows meets = record {
   under_way = λ travels. under;
   came_in = λ travels is. absurd cc;
@@ -336,27 +307,25 @@ found_after setting before i mark one two knows meets = record {
     stands = was.stands;
   };
   avoids = λ travels is. absurd cc;
-}
-  where
-    here : IsHere setting before i one
-    here = here_known setting before i one knows meets.at
+} where
+  here : IsHere setting before i one
+  here = here_known setting before i one knows meets.at
 
-    was : IsOnWay setting before (what_is_known before i)
-    was = knows.kept.on_way here.travelling (inl meets.moving)
+  was : IsOnWay setting before (what_is_known before i)
+  was = knows.kept.on_way here.travelling (inl meets.moving)
 
-    under : IsUnderWay setting before
-        (facts_after mark (item.FoundDown i one two) (what_is_known before i))
-    under = record {
-      entry = was.under_way.entry;
-      place = was.under_way.place;
-      mark = was.under_way.mark;
-    }
+  under : IsUnderWay setting before
+      (facts_after mark (item.FoundDown i one two) (what_is_known before i))
+  under = record {
+    entry = was.under_way.entry;
+    place = was.under_way.place;
+    mark = was.under_way.mark;
+  }
 
-pub entered_after : (setting : Setting) (before : List Item) (i s : ℕ) (header : Header)
-    (facts : PacketFacts) → s < length setting.net.switches → IsHeader header
-    → facts.decision ≡ None → facts.leg ≡ None
-    → HasKeptFacts setting before (facts_after (retired_mark before) (item.Entered i s header) facts)
-    (Some CameIn)
+pub entered_after : (setting : Setting) (before : List Item)
+    (i s : ℕ) (header : Header) (facts : PacketFacts) → s < length setting.net.switches
+    → IsHeader header → facts.decision ≡ None → facts.leg ≡ None → HasKeptFacts setting before
+    (facts_after (retired_mark before) (item.Entered i s header) facts) (Some CameIn)
 entered_after setting before i s header facts there sound undecided no_leg = record {
   under_way = λ travels. record {
     entry = search (rules, sound, there);
@@ -373,25 +342,22 @@ entered_after setting before i s header facts there sound undecided no_leg = rec
 
 table_not_cached : (tables : Tables) (header : Header) (entry : CacheEntry)
     → table_lookup tables header ≡ found.Cached entry → ⊥
-table_not_cached tables header entry = by_part (find (is_in header) tables.auth)
-  where
-    by_part : (o : Option Partition)
-        → option_map_or (authority_of header) o (redirect_of header tables.parts)
-        ≡ found.Cached entry → ⊥
-    by_part None e = cc
-    by_part (Some part) e = cc
+table_not_cached tables header entry = by_part (find (is_in header) tables.auth) where
+  by_part : (o : Option Partition)
+      → option_map_or (authority_of header) o (redirect_of header tables.parts)
+      ≡ found.Cached entry → ⊥
+  by_part None e = cc
+  by_part (Some part) e = cc
 
 cached_found : (setting : Setting) (journal : List Item) (s : ℕ) (header : Header)
     (entry : CacheEntry) → lookup_at setting journal s header ≡ found.Cached entry
     → first_entry (stamp_of journal s) (number_of header) (cache_of setting journal s).entries
     ≡ Some entry
 unfolding lookup_at
-cached_found setting journal s header entry answer =
-    by_entry (first_entry (stamp_of journal s) (number_of header)
-    (cache_of setting journal s).entries) answer
+cached_found setting journal s header entry answer = by_entry (first_entry (stamp_of journal s)
+    (number_of header) (cache_of setting journal s).entries) answer
   where
-    by_entry : (o : Option CacheEntry)
-        → option_map_or found.Cached o
+    by_entry : (o : Option CacheEntry) → option_map_or found.Cached o
         (table_lookup (tables_at setting journal (stamp_of journal s) s) header)
         ≡ found.Cached entry → o ≡ Some entry
     by_entry None e =
@@ -418,12 +384,9 @@ has_cached : (setting : Setting) (before : List Item) (s : ℕ) (header : Header
     (entry : CacheEntry) → lookup_at setting before s header ≡ found.Cached entry
     → HasCached setting before s header entry
 has_cached setting before s header entry answer =
-    let found : Contains (cache_of setting before s).entries entry
-    × (((entry.version == stamp_of before s) && holds entry.word (number_of header)) ≡ true) =
-    find-there (λ (x : CacheEntry). (x.version == stamp_of before s)
+    let found = find-there (λ (x : CacheEntry). (x.version == stamp_of before s)
     && holds x.word (number_of header)) (cache_of setting before s).entries entry
-    (cached_found setting before s header entry answer) in
-    record {
+    (cached_found setting before s header entry answer) in record {
       there = found.0;
       stamp = eqb-true entry.version (stamp_of before s) (and_parts _ _ found.1).0;
       held = (and_parts _ _ found.1).1;
@@ -437,22 +400,17 @@ cache_decides : (setting : Setting) (before : List Item) (i s version : ℕ) (ru
 cache_decides setting before i s version rule act message is here right by =
     let entry : CacheEntry = by.entry in
     let header : Header = here.under.header in
-    let cached : HasCached setting before s header entry =
-    has_cached setting before s header entry
+    let cached = has_cached setting before s header entry
     (ap (lookup_at setting before s) (sym here.header) ∙ by.answer) in
-    let own : IsRightEntry setting before entry =
-    All-contains (IsRightEntry setting before) (cache_of setting before s).entries entry right
-    cached.there in
+    let own = All-contains (IsRightEntry setting before) (cache_of setting before s).entries entry
+    right cached.there in
     let stamp : entry.version ≡ stamp_of before s = cached.stamp in
-    let match : scan (policy_at setting before version) header
-    ≡ record { rule = rule; action = act } =
-    ap (λ v. scan (policy_at setting before v) header) by.of_version
+    let match = ap (λ v. scan (policy_at setting before v) header) by.of_version
     ∙ scan_of_version setting before entry.version header
     (record { rule = entry.rule; action = entry.action }) is
     (own.decides header here.under.sound cached.held)
     ∙ ap (λ r. record { rule = r; action = entry.action }) (sym by.by_rule)
-    ∙ ap (λ a. record { rule = rule; action = a }) (sym by.says) in
-    record {
+    ∙ ap (λ a. record { rule = rule; action = a }) (sym by.says) in record {
       not_retired = omega (
         arith,
         by.of_version,
@@ -462,9 +420,8 @@ cache_decides setting before i s version rule act message is here right by =
       );
       current = omega (arith, by.of_version, own.current);
       first_match = match;
-      named = subst (λ hit. NamesOwnPort setting hit.action)
-          (ap (λ v. scan (policy_at setting before v) header) (sym (by.of_version ∙ stamp)) ∙ match)
-          (scan_named setting (policy_at setting before (stamp_of before s))
+      named = rw (ap (λ v. scan (policy_at setting before v) header) (sym (by.of_version ∙ stamp))
+          ∙ match) at (scan_named setting (policy_at setting before (stamp_of before s))
           (plan_at setting before (stamp_of before s)) header here.stamped.planned);
     }
 
@@ -474,25 +431,18 @@ authority_decides : (setting : Setting) (before : List Item) (i s version : ℕ)
     → AuthorityDecides setting before i s version rule act partition
     → DecidesRightly setting before (what_is_known before i) here.under.header version rule act
 authority_decides setting before i s version rule act partition knows here by =
-    let header : Header = here.under.header in
-    let rules : Rules setting before (what_is_known before i) header version by.found =
-    rules_of setting before i s version by.found knows.is knows.have here
+    let rules = rules_of setting before i s version by.found knows.is knows.have here
     (sought_of setting before i s (stage_of before i) knows.kept here
     (stage_alone (stage_when before i s version by.when))) by.finds in
-    let match : scan (policy_at setting before version) header
-    ≡ record { rule = rule; action = act } =
-    sym rules.finds.decides
+    let match = sym rules.finds.decides
     ∙ ap (λ (f : AuthorityRule). record { rule = f.rule.rule; action = f.rule.action })
-    (sym rules.same)
-    ∙ ap (λ r. record { rule = r; action = by.found.rule.action }) (sym by.by_rule)
-    ∙ ap (λ a. record { rule = rule; action = a }) (sym by.says) in
-    record {
+    (sym rules.same) ∙ ap (λ r. record { rule = r; action = by.found.rule.action }) (sym by.by_rule)
+    ∙ ap (λ a. record { rule = rule; action = a }) (sym by.says) in record {
       not_retired = rules.not_retired;
       current = rules.current;
       first_match = match;
-      named = subst (λ hit. NamesOwnPort setting hit.action) match
-          (scan_named setting (policy_at setting before version) (plan_at setting before version)
-          header rules.planned);
+      named = rw match at (scan_named setting (policy_at setting before version)
+          (plan_at setting before version) here.under.header rules.planned);
     }
 
 -- when the packet was decided, and by what
@@ -518,8 +468,7 @@ decided_now setting before i s version rule act (how.Cached message) knows here 
           decides;
     }
 decided_now setting before i s version rule act (how.Authority home partition) knows here right
-    decides =
-    record {
+    decides = record {
       when = decides.1.when;
       rightly = authority_decides setting before i s version rule act partition knows here
           decides.1;
@@ -528,16 +477,14 @@ decided_now setting before i s version rule act (how.Authority home partition) k
 pub decided_after : (setting : Setting) (before : List Item) (i mark version : ℕ) (rule : Option ℕ)
     (act : Action) (by : How) → Knows setting before i (stage_of before i)
     → ((s : ℕ) → All (IsRightEntry setting before) (cache_of setting before s).entries)
-    → IsDecided setting before i version rule act by
-    → HasKeptFacts setting before (facts_after mark (item.Decided i version rule act by) (what_is_known before i))
-    (Some Judged)
+    → IsDecided setting before i version rule act by → HasKeptFacts setting before
+    (facts_after mark (item.Decided i version rule act by) (what_is_known before i)) (Some Judged)
 decided_after setting before i mark version rule act by knows right decided =
     let facts : PacketFacts = what_is_known before i in
     let after : PacketFacts = facts_after mark (item.Decided i version rule act by) facts in
     let s : ℕ = decided.switch in
     let here : IsHere setting before i s = here_known setting before i s knows decided.at in
-    let now : IsDecidedNow setting before i s version rule act here.under.header =
-    decided_now setting before i s version rule act by knows here (right s) decided.by in
+    let now = decided_now setting before i s version rule act by knows here (right s) decided.by in
     let judged : IsRightlyDecided setting before after here.under.header = record {
       decision = record { version = version; rule = rule; action = act };
       decided = refl;
@@ -547,16 +494,14 @@ decided_after setting before i mark version rule act by knows right decided =
       named = now.rightly.named;
       sought = sought_of setting before i s (stage_of before i) knows.kept here
           (stage_alone (stage_when before i s version now.when));
-    } in
-    record {
+    } in record {
       under_way = λ travels. record {
         entry = here.under.entry;
         place = here.under.place;
         mark = here.under.mark;
       };
       came_in = λ travels is. absurd cc;
-      judged = λ travels is header entered.
-          subst (IsRightlyDecided setting before after)
+      judged = λ travels is header entered. subst (IsRightlyDecided setting before after)
           (some_same facts.header here.under.header header here.under.entered entered) judged;
       on_way = λ travels is. grind arith;
       avoids = λ travels is. absurd cc;

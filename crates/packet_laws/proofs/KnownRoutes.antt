@@ -35,16 +35,12 @@ good_link : (setting : Setting) (journal : List Item) (at one two : ℕ) (down :
     → LinksAreThere setting journal → one < 64 → two < 64
     → AreJoined (links_known setting journal at down) one two → IsGoodLink setting down one two
 unfolding has
-good_link setting journal at one two down there one_small two_small joined =
-    let known : is_link (named_links (adverts_known setting journal at) at (near setting journal at))
-    down one two ≡ true =
-    sym (has_known_link setting journal at down one two one_small two_small) ∙ joined in
-    record {
-      linked = in_mask_of (are_linked setting.net.links one) two two_small
-          ∙ there.known at one two down one_small two_small joined;
-      up = not_down (named_links (adverts_known setting journal at) at (near setting journal at)) down one
-          two known;
-    }
+good_link setting journal at one two down there one_small two_small joined = record {
+  linked = in_mask_of (are_linked setting.net.links one) two two_small
+      ∙ there.known at one two down one_small two_small joined;
+  up = not_down (named_links (adverts_known setting journal at) at (near setting journal at)) down
+      one two (sym (has_known_link setting journal at down one two one_small two_small) ∙ joined);
+}
 
 last_of : (first : ℕ) (rest : List ℕ) → length (first ∷ rest) - 1 ≡ length rest
 last_of first rest = omega arith
@@ -55,9 +51,8 @@ leads_last links target at [] leads = ap Some leads
 leads_last links target at (next ∷ rest) leads = leads_last links target next rest leads.2
 
 leads_at : (links : List ℕ) (target at : ℕ) (rest : List ℕ) (k one two : ℕ) → at < 64
-    → LinksLead links target at rest →
-    slice_get (at ∷ rest) k ≡ Some one → slice_get (at ∷ rest) (suc k) ≡ Some two → (one < 64)
-    × (two < 64) × AreJoined links one two
+    → LinksLead links target at rest → slice_get (at ∷ rest) k ≡ Some one
+    → slice_get (at ∷ rest) (suc k) ≡ Some two → (one < 64) × (two < 64) × AreJoined links one two
 leads_at links target at [] zero one two fits way here there = absurd cc
 leads_at links target at (next ∷ more) zero one two fits way here there =
     let a : at ≡ one = cc in
@@ -86,12 +81,10 @@ path_way setting journal at target targets down (first ∷ rest) there own path 
     let links : List ℕ = links_known setting journal at down in
     let good : (k one two : ℕ) → slice_get (first ∷ rest) k ≡ Some one
     → slice_get (first ∷ rest) (k + 1) ≡ Some two → IsGoodLink setting down one two =
-    λ k one two here next.
-    let more : k + 1 ≡ suc k = omega arith in
+    λ k one two here next. let more : k + 1 ≡ suc k = omega arith in
     let joined = leads_at links target first rest k one two path.1 path.2 here
     (subst (λ n. slice_get (first ∷ rest) n ≡ Some two) more next) in
-    good_link setting journal at one two down there joined.0 joined.1 joined.2 in
-    record {
+    good_link setting journal at one two down there joined.0 joined.1 joined.2 in record {
       leads = record {
         list = path_is_route_list links at target (first ∷ rest) path;
         joined = λ k one two here next. (good k one two here next).linked;
@@ -130,14 +123,11 @@ is_way setting journal at [] down route there is = absurd cc
 is_way setting journal at (target ∷ targets) down route there (inl least) =
     path_way setting journal at target (target ∷ targets) down route there
     (or_left (nat_eq target target) _ (eq-eqb target target refl)) least.path
-is_way setting journal at (target ∷ targets) down route there (inr later) =
-    widen setting at target targets down route
-    (is_way setting journal at targets down route there later.1)
+is_way setting journal at (target ∷ targets) down route there (inr later) = widen setting at target
+    targets down route (is_way setting journal at targets down route there later.1)
 
 pub route_way : (setting : Setting) (journal : List Item) (at : ℕ) (targets down route : List ℕ)
     → LinksAreThere setting journal → route_from setting journal at targets down ≡ Some route
     → IsWay setting at targets down route
-route_way setting journal at targets down route there is =
-    is_way setting journal at targets down route there
-    (subst (IsRoute (links_known setting journal at down) at targets) is
-    (known_link_laws.route setting journal at targets down))
+route_way setting journal at targets down route there is = is_way setting journal at targets down
+    route there (rw is at (known_link_laws.route setting journal at targets down))

@@ -14,11 +14,9 @@ at_target : (setting : Setting) (journal : List Item) (i s : ℕ) (header : Head
     → IsTrue (list_any (nat_eq s) targets)
 at_target setting journal i s header leg targets way at ends =
     let facts : PacketFacts = what_is_known journal i in
-    let last : way.under_way.switch ≡ ends.target =
-    last_here facts.route facts.hops way.under_way.switch ends.target way.stands
+    let last = last_here facts.route facts.hops way.under_way.switch ends.target way.stands
     (sym (next_in journal i) ∙ at.arrives.last) ends.last in
-    let there : way.under_way.switch ≡ s =
-    some_same (standing journal i) way.under_way.switch s
+    let there = some_same (standing journal i) way.under_way.switch s
     (stands_in journal i way.under_way.switch way.under_way.stands) at.stands in
     subst (λ k. IsTrue (list_any (nat_eq k) targets)) (sym last ∙ there) ends.own
 
@@ -44,11 +42,8 @@ packets_arrive setting journal kept i s header leg at =
     let facts : PacketFacts = what_is_known journal i in
     let way : IsOnWay setting journal facts =
     (kept.packets i).on_way (travels_in journal i at.travelling) (inl at.arrives.moving) in
-    let same : way.leg ≡ leg =
-    some_same facts.leg way.leg leg way.takes (leg_in journal i (Some leg) at.takes) in
-    let own : way.under_way.header ≡ header =
-    some_same (header_in journal i) way.under_way.header header
-    (header_in_facts journal i way.under_way.header way.under_way.entered) at.with_header in
+    let own : way.under_way.header ≡ header = some_same (header_in journal i) way.under_way.header
+    header (header_in_facts journal i way.under_way.header way.under_way.entered) at.with_header in
     by_leg setting journal i s header leg way at
-    (subst (λ h. IsOnLeg setting journal facts h leg) own
-    (subst (λ l. IsOnLeg setting journal facts way.under_way.header l) same way.on_leg))
+    (rw own at (rw (some_same facts.leg way.leg leg way.takes
+    (leg_in journal i (Some leg) at.takes)) at way.on_leg))

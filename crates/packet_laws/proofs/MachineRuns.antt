@@ -2,11 +2,11 @@
 use Rattle.std.proofs.Common.{[], if◌then◌else◌, ◌++◌, ◌<◌, ◌∙◌, ◌∷◌, ◌≡◌, ◌≢◌, ◌≤◌, Bool, IsTrue, List, None, Option, Some, ap, arith, eq-eqb, false, inl, inr, ne_eqb, option_map, refl, subst, sym, true, ℕ}
 use Rattle.base.proofs.Exports.{cases_eq, some_same, ⊤}
 use Rattle.update_machine.specs.Exports.{Action, Decision, Dropped, End, Ends, HaveCauses, Header, Hit, How, IsRun, IsSetting, Item, Leaving, LeftBy, Lost, Machine, MayEnd, PoliciesKeep, Row, Runs, Setting, Stuck, Takes, first_machine, gives_retired, header_in, is_submission, next_packet, policy_at, retired_mark, travels, version_count, with_packet}
-use Rattle.policy_rules.specs.Exports.{IsFirstMatch, scan}
+use Rattle.policy_rules.specs.Exports.{scan}
 use Rattle.policy_rules.proofs.CallerLemmas.{first_match-scan}
 use Rattle.journal.specs.declared.item.Item.TheVariants as item
 use Rattle.update_machine.specs.Machine.{Packet}
-use Rattle.update_machine.proofs.Exports.{ArePolicies, TakesVersion, have_append, policies_begin, policies_keep, policies_stay, policy_there, start_laws, takes_version}
+use Rattle.update_machine.proofs.Exports.{ArePolicies, have_append, policies_begin, policies_keep, policies_stay, policy_there, start_laws, takes_version}
 use Rattle.control_laws.specs.Exports.{HasItemCause, RetiresRightly, SubmitsRightly}
 use Rattle.control_laws.proofs.Exports.{Behind, bounded, caused_numbered, retired_more}
 use Rattle.packet_laws.specs.Exports.{AllKept, IsDecided, IsUnknown, PacketCause, PacketFacts, facts_after, is_of_packet, stage_of, what_is_known}
@@ -14,7 +14,7 @@ use Rattle.packet_laws.proofs.PacketFacts.{other_number, facts_named, facts_othe
 use Rattle.packet_laws.proofs.AllKept.{Before, kept_before, known_before, knows}
 use Rattle.packet_laws.proofs.PacketsHere.{IsHere, decision_in, here_of, travels_in}
 use Rattle.packet_laws.proofs.PacketEnds.{leaves_rightly}
-use Rattle.packet_laws.proofs.KeptFacts.{IsDecidedNow, Knows, decided_now, stage_when, undecided_of}
+use Rattle.packet_laws.proofs.KeptFacts.{Knows, decided_now, stage_when, undecided_of}
 use Rattle.packet_laws.proofs.RestingPackets.{IsWayItem, Past, switches_of_all}
 
 -- ---- what the machine knows of a packet, by its facts
@@ -85,9 +85,8 @@ unseen_facts mark (item.Dropped packet) facts o is seen = absurd is
 unseen_facts mark (item.Left packet port leaving) facts o is seen = absurd is
 unseen_facts mark (item.Lost packet) facts o is seen = absurd is
 unseen_facts mark (item.Stuck packet switch cause leg down) facts o is seen = absurd is
-unseen_facts mark (item.Seeking packet version partition route) facts o is seen =
-    seen_same o facts (facts_after mark (item.Seeking packet version partition route) facts) refl refl
-    refl refl seen
+unseen_facts mark (item.Seeking packet version partition route) facts o is seen = seen_same o facts
+    (facts_after mark (item.Seeking packet version partition route) facts) refl refl refl refl seen
 unseen_facts mark (item.Exiting packet route) facts o is seen =
     seen_same o facts (facts_after mark (item.Exiting packet route) facts) refl refl refl refl seen
 unseen_facts mark (item.Rerouted packet route) facts o is seen =
@@ -113,19 +112,17 @@ unseen_matches setting machine journal next is matches = record {
   policies = policies_stay setting machine.policies journal (journal ++ next ∷ []) keep
       matches.policies;
   mark = matches.mark ∙ sym (rw (retired_more journal next, no_retirement next is) refl);
-  packets = λ i. subst (SeenAs (machine.packets i)) (sym (facts_grow i journal next))
-      (by_name i (is_of_packet i next));
-}
-  where
-    keep : PoliciesKeep journal (journal ++ next ∷ [])
-    keep = policies_keep journal (next ∷ []) (no_submission next is, tt)
+  packets = λ i. rw (facts_grow i journal next) (by_name i (is_of_packet i next));
+} where
+  keep : PoliciesKeep journal (journal ++ next ∷ [])
+  keep = policies_keep journal (next ∷ []) (no_submission next is, tt)
 
-    by_name : (i : ℕ) (b : Bool)
-        → SeenAs (machine.packets i)
-        (if b then facts_after (retired_mark journal) next (what_is_known journal i) else what_is_known journal i)
-    by_name i true = unseen_facts (retired_mark journal) next (what_is_known journal i)
-        (machine.packets i) is (matches.packets i)
-    by_name i false = matches.packets i
+  by_name : (i : ℕ) (b : Bool)
+      → SeenAs (machine.packets i)
+      (if b then facts_after (retired_mark journal) next (what_is_known journal i) else what_is_known journal i)
+  by_name i true = unseen_facts (retired_mark journal) next (what_is_known journal i)
+      (machine.packets i) is (matches.packets i)
+  by_name i false = matches.packets i
 
 -- ---- items that change a packet
 
@@ -134,34 +131,26 @@ record KeepsMarks (setting : Setting) (journal after : List Item) : Type 0 where
   keep : PoliciesKeep journal after
   mark : retired_mark after ≡ retired_mark journal
 
-keeps_marks : (setting : Setting) (journal : List Item) (next : Item)
-    → is_submission next ≡ false → gives_retired next ≡ None
-    → KeepsMarks setting journal (journal ++ next ∷ [])
+keeps_marks : (setting : Setting) (journal : List Item) (next : Item) → is_submission next ≡ false
+    → gives_retired next ≡ None → KeepsMarks setting journal (journal ++ next ∷ [])
 keeps_marks setting journal next submits retires = record {
   keep = policies_keep journal (next ∷ []) (submits, tt);
   mark = rw (retired_more journal next, retires) refl;
 }
 
-changed_matches : (setting : Setting) (machine : Machine) (journal : List Item) (next : Item)
-    (i : ℕ) (packet : Packet) → Matches setting machine journal
-    → KeepsMarks setting journal (journal ++ next ∷ [])
-    → ((j : ℕ) → j ≢ i → is_of_packet j next ≡ false) →
-    IsSeen packet (what_is_known (journal ++ next ∷ []) i)
+changed_matches : (setting : Setting) (machine : Machine) (journal : List Item)
+    (next : Item) (i : ℕ) (packet : Packet) → Matches setting machine journal → KeepsMarks setting
+    journal (journal ++ next ∷ []) → ((j : ℕ) → j ≢ i → is_of_packet j next ≡ false) → IsSeen packet
+    (what_is_known (journal ++ next ∷ []) i)
     → Matches setting (with_packet machine i packet) (journal ++ next ∷ [])
 changed_matches setting machine journal next i packet matches keeps others seen = record {
   policies = policies_stay setting machine.policies journal (journal ++ next ∷ []) keeps.keep
       matches.policies;
   mark = matches.mark ∙ sym keeps.mark;
   packets = λ j. elim (cases_eq j i) [
-    | inl same ↦
-        subst (λ b. SeenAs (if b then Some packet else machine.packets j)
-        (what_is_known (journal ++ next ∷ []) j)) (sym (eq-eqb j i same))
-        (subst (λ k. IsSeen packet (what_is_known (journal ++ next ∷ []) k)) (sym same) seen)
-    | inr apart ↦
-        subst (λ b. SeenAs (if b then Some packet else machine.packets j)
-        (what_is_known (journal ++ next ∷ []) j)) (sym (ne_eqb j i apart))
-        (subst (SeenAs (machine.packets j)) (sym (facts_other j journal next (others j apart)))
-        (matches.packets j))
+    | inl same ↦ rw (eq-eqb j i same) (rw same seen)
+    | inr apart ↦ rw (ne_eqb j i apart) (subst (SeenAs (machine.packets j))
+        (sym (facts_other j journal next (others j apart))) (matches.packets j))
   ];
 }
 
@@ -203,10 +192,8 @@ goes_end : (setting : Setting) (machine : Machine) (journal : List Item) (next :
 goes_end setting machine journal next i end before matches travelling may after others keeps takes =
     let on : IsTrue (what_is_known journal i).travels = travels_in journal i travelling in
     let under = (before.kept.packets i).under_way on in
-    let at : (packet : Packet) × (machine.packets i ≡ Some packet)
-    × IsSeen packet (what_is_known journal i) =
-    known (machine.packets i) (what_is_known journal i) under.header (matches.packets i) under.entered in
-    record {
+    let at = known (machine.packets i) (what_is_known journal i) under.header (matches.packets i)
+    under.entered in record {
       new = with_packet machine i (record at.0 { end = Some end });
       takes = takes (with_packet machine i (record at.0 { end = Some end })) (record {
         packet = at.0;
@@ -233,10 +220,7 @@ goes_in setting machine journal i s header before matches number =
       end = None;
     } in
     let none : IsUnknown (what_is_known journal i) = before.kept.unknown i (omega (arith, number)) in
-    let after : what_is_known (journal ++ entered ∷ []) i
-    ≡ facts_after (retired_mark journal) entered (what_is_known journal i) =
-    facts_named i journal entered (eq-eqb i i refl) in
-    record {
+    let after = facts_named i journal entered (eq-eqb i i refl) in record {
       new = with_packet machine i packet;
       takes = record {
         unknown = not_known (machine.packets i) (what_is_known journal i) (matches.packets i)
@@ -245,8 +229,7 @@ goes_in setting machine journal i s header before matches number =
       };
       matches = changed_matches setting machine journal entered i packet matches
           (keeps_marks setting journal entered refl refl) (λ j apart. other_number i j apart)
-          (subst (IsSeen packet) (sym after)
-          (record {
+          (subst (IsSeen packet) (sym after) (record {
             header = refl;
             mark = matches.mark;
             decision = ap (option_map hit_in) (sym none.decision);
@@ -266,24 +249,16 @@ goes_decided setting machine journal i version rule act by before matches way =
     let here : IsHere setting journal i s =
     here_of setting journal i s (stage_of journal i) before.is knows_it.have knows_it.kept way.at in
     let header : Header = here.under.header in
-    let now : IsDecidedNow setting journal i s version rule act header =
-    decided_now setting journal i s version rule act by knows_it here (before.kept.cached s)
-    way.by in
-    let none : facts.decision ≡ None =
-    undecided_of setting journal i s (stage_of journal i) knows_it.kept here
-    (stage_when journal i s version now.when) in
-    let at : (packet : Packet) × (machine.packets i ≡ Some packet) × IsSeen packet facts =
-    known (machine.packets i) facts header (matches.packets i) here.under.entered in
-    let same : header ≡ at.0.header =
-    some_same facts.header header at.0.header here.under.entered at.2.header in
+    let now = decided_now setting journal i s version rule act by knows_it here
+    (before.kept.cached s) way.by in
+    let at = known (machine.packets i) facts header (matches.packets i) here.under.entered in
     let there : version ≤ version_count journal =
     omega (arith, now.rightly.current, (bounded setting journal knows_it.have).there) in
     let policy : List Row = policy_at setting journal version in
-    let hit : scan policy at.0.header ≡ record { rule = rule; action = act } =
-    ap (scan policy) (sym same) ∙ now.rightly.first_match in
-    let after : what_is_known (journal ++ decided ∷ []) i
-    ≡ facts_after (retired_mark journal) decided facts =
-    facts_named i journal decided (eq-eqb i i refl) in
+    let hit : scan policy at.0.header ≡ record { rule = rule; action = act } = ap (scan policy)
+    (sym (some_same facts.header header at.0.header here.under.entered at.2.header))
+    ∙ now.rightly.first_match in
+    let after = facts_named i journal decided (eq-eqb i i refl) in
     let new : Packet = record at.0 { decision = Some (record { rule = rule; action = act }) } in
     record {
       new = with_packet machine i new;
@@ -291,13 +266,13 @@ goes_decided setting machine journal i version rule act by before matches way =
         packet = at.0;
         policy = policy;
         entered = at.1;
-        undecided = at.2.decision ∙ ap (option_map hit_in) none;
+        undecided = at.2.decision ∙ ap (option_map hit_in) (undecided_of setting journal i s
+            (stage_of journal i) knows_it.kept here (stage_when journal i s version now.when));
         not_ended = at.2.end here.travelling;
         not_retired = subst (λ m. m < version) (sym at.2.mark) now.rightly.not_retired;
         submitted = policy_there setting machine.policies journal version matches.policies
             (omega (arith, now.rightly.not_retired)) there;
-        first_match = subst (IsFirstMatch policy at.0.header) hit
-            (first_match-scan policy at.0.header);
+        first_match = rw hit at (first_match-scan policy at.0.header);
         after = refl;
       };
       matches = changed_matches setting machine journal decided i new matches
@@ -313,17 +288,14 @@ packets_same : (machine : Machine) (journal : List Item) (next : Item)
     → ((i : ℕ) → is_of_packet i next ≡ false)
     → ((i : ℕ) → SeenAs (machine.packets i) (what_is_known journal i))
     → (i : ℕ) → SeenAs (machine.packets i) (what_is_known (journal ++ next ∷ []) i)
-packets_same machine journal next none seen i =
-    subst (SeenAs (machine.packets i)) (sym (facts_other i journal next (none i))) (seen i)
+packets_same machine journal next none seen i = rw (facts_other i journal next (none i)) (seen i)
 
 goes_retired : (setting : Setting) (machine : Machine) (journal : List Item) (version : ℕ)
     → HaveCauses (HasItemCause setting) [] journal → Matches setting machine journal
-    → RetiresRightly setting journal version
-    → Goes setting machine journal (item.Retired version)
+    → RetiresRightly setting journal version → Goes setting machine journal (item.Retired version)
 goes_retired setting machine journal version have matches retires =
     let next : Item = item.Retired version in
-    let keep : PoliciesKeep journal (journal ++ next ∷ []) =
-    policies_keep journal (next ∷ []) (refl, tt) in
+    let keep = policies_keep journal (next ∷ []) (refl, tt) in
     let marks = bounded setting (journal ++ next ∷ [])
     (have_append (HasItemCause setting) [] journal (next ∷ []) have (retires, tt)) in
     let mark : retired_mark (journal ++ next ∷ []) ≡ version = rw (retired_more journal next) refl in
@@ -355,10 +327,8 @@ goes_submitted : (setting : Setting) (machine : Machine) (journal : List Item)
     → Goes setting machine journal (item.Submitted file version)
 goes_submitted setting machine journal file version have matches submits =
     let next : Item = item.Submitted file version in
-    let gained : TakesVersion setting machine journal file version submits.rows =
-    takes_version setting machine journal file version submits.rows
-    (caused_numbered setting journal have) matches.policies submits.next submits.policy in
-    record {
+    let gained = takes_version setting machine journal file version submits.rows
+    (caused_numbered setting journal have) matches.policies submits.next submits.policy in record {
       new = record machine { policies = machine.policies ++ submits.rows ∷ [] };
       takes = gained.takes;
       matches = record {
@@ -388,9 +358,8 @@ goes : (setting : Setting) (machine : Machine) (journal : List Item) (next : Ite
 goes setting machine journal (item.Submitted file version) before cause matches =
     goes_submitted setting machine journal file version
     (switches_of_all setting [] journal before.have) matches cause.switches
-goes setting machine journal (item.Retired version) before cause matches =
-    goes_retired setting machine journal version (switches_of_all setting [] journal before.have)
-    matches cause.switches
+goes setting machine journal (item.Retired version) before cause matches = goes_retired setting
+    machine journal version (switches_of_all setting [] journal before.have) matches cause.switches
 goes setting machine journal (item.Entered i s header) before cause matches =
     goes_in setting machine journal i s header before matches cause.way.0.number
 goes setting machine journal (item.Decided i version rule act by) before cause matches =
@@ -406,12 +375,10 @@ goes setting machine journal (item.Dropped i) before cause matches =
     let next : Item = item.Dropped i in
     goes_end setting machine journal next i Dropped before matches cause.way.at.travelling
     (λ packet seen. action_of packet (what_is_known journal i) cause.way.decision seen
-    (decision_in journal i (Some cause.way.decision) cause.way.decided)
-    ∙ ap Some cause.way.action)
+    (decision_in journal i (Some cause.way.decision) cause.way.decided) ∙ ap Some cause.way.action)
     (facts_named i journal next (eq-eqb i i refl)) (λ j apart. other_number i j apart)
     (keeps_marks setting journal next refl refl) (λ new ends. ends)
-goes setting machine journal (item.Lost i) before cause matches =
-    let next : Item = item.Lost i in
+goes setting machine journal (item.Lost i) before cause matches = let next : Item = item.Lost i in
     goes_end setting machine journal next i Lost before matches cause.way.travelling
     (λ packet seen. tt)
     (facts_named i journal next (eq-eqb i i refl)) (λ j apart. other_number i j apart)
@@ -430,11 +397,9 @@ runs_from : (setting : Setting) (machine : Machine) (before items : List Item) �
     → (new : Machine) × Runs setting machine items new
 runs_from setting machine before [] is have matches = (machine, refl)
 runs_from setting machine before (next ∷ items) is have matches =
-    let step : Goes setting machine before next =
-    goes setting machine before next (known_before setting is before next have.0)
+    let step = goes setting machine before next (known_before setting is before next have.0)
     have.0.caused.caused matches in
-    let rest : (new : Machine) × Runs setting step.new items new =
-    runs_from setting step.new (before ++ next ∷ []) items is have.1 step.matches in
+    let rest = runs_from setting step.new (before ++ next ∷ []) items is have.1 step.matches in
     (rest.0, (step.new, step.takes, rest.1))
 
 matches_at_first : (setting : Setting) → IsSetting setting
@@ -448,6 +413,5 @@ matches_at_first setting is = record {
 
 pub caused_is_run : (setting : Setting) (journal : List Item) → IsSetting setting
     → HaveCauses (IsWayItem setting) [] journal → IsRun setting journal
-caused_is_run setting journal is have =
-    runs_from setting (first_machine setting) [] journal is (kept_before setting journal is have)
-    (matches_at_first setting is)
+caused_is_run setting journal is have = runs_from setting (first_machine setting) [] journal is
+    (kept_before setting journal is have) (matches_at_first setting is)

@@ -83,16 +83,14 @@ kept_behind travel settle = record {
 fewer_begin : (setting : Setting) (events : List Event) (journal : List Item) (n : ℕ)
     → BeginsAnswer setting events journal → BeginsAnswer setting events (take n journal)
 fewer_begin setting events journal n begins =
-    let less = fewer n begins.length begins.whole in
-    record {
+    let less = fewer n begins.length begins.whole in record {
       whole = begins.whole;
       answers = begins.answers;
       length = less.0;
       written = ap (take n) begins.written ∙ less.1;
     }
   where
-    fewer : (n m : ℕ) (items : List Item)
-        → (l : ℕ) × (take n (take m items) ≡ take l items)
+    fewer : (n m : ℕ) (items : List Item) → (l : ℕ) × (take n (take m items) ≡ take l items)
     fewer zero m items = (0, refl)
     fewer (suc n) zero items = (0, refl)
     fewer (suc n) (suc m) [] = (0, refl)
@@ -111,8 +109,7 @@ pub held_on_the_way : OfReached HoldsSoFar → OfSteps IsKeptBehind
     → HeldOnTheWay setting journal
 held_on_the_way so_far behind setting events journal full is own play =
     let steps : List StepOfRow = steps_played setting events journal full play in
-    let written = written_of setting events journal full play in
-    record {
+    let written = written_of setting events journal full play in record {
       so_far = λ n. so_far.begun setting events (take n journal) own
           (fewer_begin setting events journal n (play_begins setting events journal full play)) is;
       kept = λ n ends.

@@ -49,48 +49,41 @@ end_has : (setting : Setting) (before : List Item) (s one two : ℕ) → Sees se
     → IsNamed one two (IsTrue (has (claimed_mask setting before s one) two))
 unfolding named_links names_neighbour
 end_has setting before s one two sees is = elim (cases_eq one s) [
-  | inl same ↦ own same
-      (own_end setting before sees.net s two
-      (subst (λ x. IsTrue (is_end setting before s x two)) same is))
+  | inl same ↦ own same (own_end setting before sees.net s two (rw same at is))
   | inr apart ↦ told apart
       (names_end setting before sees.have sees.net s one two apart sees.serving is)
-]
-  where
-    adverts : List (Option Advert)
-    adverts = adverts_of_others setting before s
+] where
+  adverts : List (Option Advert)
+  adverts = adverts_of_others setting before s
 
-    places : length (adverts_of_others setting before s) ≡ 64
-    places = (heard_by_origin setting before s).places
+  places : length (adverts_of_others setting before s) ≡ 64
+  places = (heard_by_origin setting before s).places
 
-    rows : List ℕ
-    rows = map neighbours_named adverts
+  rows : List ℕ
+  rows = map neighbours_named adverts
 
-    own : one ≡ s → IsNamed s two (IsTrue (has (near setting before s) two))
-        → IsNamed one two (IsTrue (has (get_or (set rows s (near setting before s)) one 0) two))
-    own same named =
-        let row : get_or (set rows s (near setting before s)) s 0 ≡ near setting before s =
-        get_or-set_same rows s (near setting before s) 0
-        (omega (arith, named.one_small, places, length-map adverts neighbours_named)) in
-        subst (λ x. IsNamed x two (IsTrue (has (get_or (set rows s (near setting before s)) x 0)
-        two))) (sym same) (record {
-          one_small = named.one_small;
-          two_small = named.two_small;
-          named = subst (λ mask. IsTrue (has mask two)) (sym row) named.named;
-        })
+  own : one ≡ s → IsNamed s two (IsTrue (has (near setting before s) two))
+      → IsNamed one two (IsTrue (has (get_or (set rows s (near setting before s)) one 0) two))
+  own same named =
+      let row = get_or-set_same rows s (near setting before s) 0
+      (omega (arith, named.one_small, places, length-map adverts neighbours_named)) in
+      subst (λ x. IsNamed x two (IsTrue (has (get_or (set rows s (near setting before s)) x 0)
+      two))) (sym same) (record {
+        one_small = named.one_small;
+        two_small = named.two_small;
+        named = subst (λ mask. IsTrue (has mask two)) (sym row) named.named;
+      })
 
-    told : one ≢ s
-        → IsNamed one two (IsTrue (has (neighbours_named (held_advert adverts one)) two))
-        → IsNamed one two (IsTrue (has (get_or (set rows s (near setting before s)) one 0) two))
-    told apart named =
-        let row : get_or (set rows s (near setting before s)) one 0
-        ≡ neighbours_named (held_advert adverts one) =
-        get_or-set_other rows s one (near setting before s) 0 apart
-        ∙ get_or-map neighbours_named adverts one None 0 (omega (arith, named.one_small, places)) in
-        record {
-          one_small = named.one_small;
-          two_small = named.two_small;
-          named = subst (λ mask. IsTrue (has mask two)) (sym row) named.named;
-        }
+  told : one ≢ s → IsNamed one two (IsTrue (has (neighbours_named (held_advert adverts one)) two))
+      → IsNamed one two (IsTrue (has (get_or (set rows s (near setting before s)) one 0) two))
+  told apart named =
+      let row = get_or-set_other rows s one (near setting before s) 0 apart
+      ∙ get_or-map neighbours_named adverts one None 0 (omega (arith, named.one_small, places)) in
+      record {
+        one_small = named.one_small;
+        two_small = named.two_small;
+        named = subst (λ mask. IsTrue (has mask two)) (sym row) named.named;
+      }
 
 all_parts : (a b c d : Bool) → ((a && b && c) && not d) ≡ true
     → (a ≡ true) × (b ≡ true) × (c ≡ true) × (d ≡ false)
@@ -112,15 +105,13 @@ unfolding is_link
 open_joined setting before i s sees one two is =
     let parts = all_parts (not (one == two)) (is_end setting before s one two)
     (is_end setting before s two one) (list_any (finds_down i one two) before) is in
-    let there : IsNamed one two (IsTrue (has (claimed_mask setting before s one) two)) =
-    end_has setting before s one two sees parts.1 in
-    let back : IsNamed two one (IsTrue (has (claimed_mask setting before s two) one)) =
-    end_has setting before s two one sees parts.2 in
+    let there = end_has setting before s one two sees parts.1 in
     let down : List ℕ = found_down before i in (
       there.two_small,
       has_known (adverts_of_others setting before s) s (near setting before s) down one two
           there.one_small there.two_small
           ∙ all_four (not (one == two)) (has (claimed_mask setting before s one) two)
-          (has (claimed_mask setting before s two) one) (has_link down one two) parts.0
-          there.named back.named (link_not_found before i one two parts.3),
+          (has (claimed_mask setting before s two) one) (has_link down one two) parts.0 there.named
+          (end_has setting before s two one sees parts.2).named
+          (link_not_found before i one two parts.3),
     )

@@ -37,12 +37,11 @@ AreAside journal items = HaveCauses IsAside journal items
 
 aside_way : (setting : Setting) (before : List Item) (next : Item) → IsAside before next
     → PacketCause setting before next
-aside_way setting before (item.Sent number message) aside = by_body message.body aside
-  where
-    by_body : (body : Body) → IsOther body
-        → PacketCause setting before (item.Sent number (record { to = message.to; body = body }))
-    by_body (CacheRule version word rule action) other = absurd other
-    by_body _ other = tt
+aside_way setting before (item.Sent number message) aside = by_body message.body aside where
+  by_body : (body : Body) → IsOther body
+      → PacketCause setting before (item.Sent number (record { to = message.to; body = body }))
+  by_body (CacheRule version word rule action) other = absurd other
+  by_body _ other = tt
 aside_way setting before (item.Delivered number) aside = tt
 aside_way setting before (item.Forgotten number) aside = tt
 aside_way setting before (item.Expired s place number) aside = tt
@@ -76,13 +75,10 @@ sends_aside = sends_each IsAside TellsOther (λ before n message is. is)
 
 each_other : {X : Type 0} (to : X → Message) → ((x : X) → IsOther (to x).body) → (xs : List X)
     → AreOther (map to xs)
-each_other to other xs =
-    each_map TellsOther to xs
-    (each_always (λ x. IsOther (to x).body) other xs)
+each_other to other xs = each_map TellsOther to xs (each_always (λ x. IsOther (to x).body) other xs)
 
-to_each : {X : Type 0} (journal : List Item) (to : X → Message)
-    → ((x : X) → IsOther (to x).body) → (xs : List X)
-    → AreAside journal (send_items journal (map to xs))
+to_each : {X : Type 0} (journal : List Item) (to : X → Message) → ((x : X) → IsOther (to x).body)
+    → (xs : List X) → AreAside journal (send_items journal (map to xs))
 to_each journal to other xs = sends_aside journal (map to xs) (each_other to other xs)
 
 -- ---- the controller
@@ -113,24 +109,21 @@ update_aside setting file journal is =
 
 over_other : (setting : Setting) (before journal : List Item) (s neighbour : ℕ)
     → AreOther (messages_over setting before journal s neighbour)
-over_other setting before journal s neighbour = by_old (has (near setting before s) neighbour)
-  where
-    by_old : (b : Bool) → AreOther (elim b [
-      | true ↦ advert_to neighbour (own_advert setting journal s) ∷ []
-      | false ↦ map (advert_to neighbour) (held_adverts setting journal s)
-    ])
-    by_old true = (tt, tt)
-    by_old false = each_other (advert_to neighbour) (λ advert. tt) _
+over_other setting before journal s neighbour = by_old (has (near setting before s) neighbour) where
+  by_old : (b : Bool) → AreOther (elim b [
+    | true ↦ advert_to neighbour (own_advert setting journal s) ∷ []
+    | false ↦ map (advert_to neighbour) (held_adverts setting journal s)
+  ])
+  by_old true = (tt, tt)
+  by_old false = each_other (advert_to neighbour) (λ advert. tt) _
 
 pub changes_aside : (setting : Setting) (before journal : List Item)
     → AreAside journal (link_changes setting before journal)
 unfolding link_changes
-changes_aside setting before journal =
-    sends_aside journal _
+changes_aside setting before journal = sends_aside journal _
     (each_flat_map TellsOther (messages_of setting before journal)
-    (λ s. each_flat_map TellsOther (messages_over setting before journal s)
-    (λ neighbour. over_other setting before journal s neighbour)
-    (switches_in setting (near setting journal s)))
+    (λ s. each_flat_map TellsOther (messages_over setting before journal s) (λ neighbour. over_other
+    setting before journal s neighbour) (switches_in setting (near setting journal s)))
     (filter (has_changed setting before journal) (switches_of setting)))
 
 -- the row that brings a link back, or fails it
@@ -140,27 +133,25 @@ link_step one two false = LinkDown one two
 
 link_named : (step : Option Step) (one two : ℕ) (up : Bool) → step ≡ Some (link_step one two up)
     → IsLinkStep step (min one two) (max one two) up
-link_named step one two up is = by_order up (least one two) is
-  where
-    least : (one two : ℕ) → ((min one two ≡ one) × (max one two ≡ two))
-        ⊎ ((min one two ≡ two) × (max one two ≡ one))
-    least one two = grind arith
+link_named step one two up is = by_order up (least one two) is where
+  least : (one two : ℕ) → ((min one two ≡ one) × (max one two ≡ two))
+      ⊎ ((min one two ≡ two) × (max one two ≡ one))
+  least one two = grind arith
 
-    by_order : (up : Bool) → ((min one two ≡ one) × (max one two ≡ two))
-        ⊎ ((min one two ≡ two) × (max one two ≡ one))
-        → step ≡ Some (link_step one two up) → IsLinkStep step (min one two) (max one two) up
-    by_order true (inl same) is = rw (same.0, same.1) (inl is)
-    by_order true (inr turned) is = rw (turned.0, turned.1) (inr is)
-    by_order false (inl same) is = rw (same.0, same.1) (inl is)
-    by_order false (inr turned) is = rw (turned.0, turned.1) (inr is)
+  by_order : (up : Bool) → ((min one two ≡ one) × (max one two ≡ two))
+      ⊎ ((min one two ≡ two) × (max one two ≡ one))
+      → step ≡ Some (link_step one two up) → IsLinkStep step (min one two) (max one two) up
+  by_order true (inl same) is = rw (same.0, same.1) (inl is)
+  by_order true (inr turned) is = rw (turned.0, turned.1) (inr is)
+  by_order false (inl same) is = rw (same.0, same.1) (inl is)
+  by_order false (inr turned) is = rw (turned.0, turned.1) (inr is)
 
 pub link_aside : (setting : Setting) (before : List Item) (one two : ℕ) (up : Bool)
     (journal : List Item) → present_step journal ≡ Some (link_step one two up)
     → AreAside journal (link_items setting before one two up journal)
 unfolding link_items
 link_aside setting before one two up journal is =
-    let own = link_named (present_step journal) one two up is in
-    grind (arith, have_first, changes_aside, own)
+    grind (arith, have_first, changes_aside, link_named (present_step journal) one two up is)
 
 pub restart_aside : (s : ℕ) (journal : List Item) → present_step journal ≡ Some (Restart s)
     → AreAside journal (restart_items s journal)
@@ -181,19 +172,16 @@ expire_aside setting s place journal = grind arith
 
 switch_aside : (setting : Setting) (before : List Item) (s : ℕ) (body : Body)
     (journal : List Item) → AreAside journal (switch_items setting before s body journal)
-switch_aside setting before s body journal =
-    switch_cases (AreAside journal) setting before s body journal
+switch_aside setting before s body journal = switch_cases (AreAside journal) setting before s body
+    journal (λ boot version. sends_aside journal _ (tt, tt))
     (λ boot version. sends_aside journal _ (tt, tt))
-    (λ boot version. sends_aside journal _ (tt, tt))
-    (λ boot version is. grind (arith, have_first, changes_aside))
-    (λ advert is news. to_each journal (λ neighbour. advert_to neighbour advert)
-    (λ neighbour. tt) _) tt
+    (λ boot version is. grind (arith, have_first, changes_aside)) (λ advert is news. to_each journal
+    (λ neighbour. advert_to neighbour advert) (λ neighbour. tt) _) tt
 
 pub deliver_aside : (setting : Setting) (before : List Item) (number : ℕ) (journal : List Item)
     → AreAside journal (deliver_items setting before number journal)
-deliver_aside setting before number journal =
-    deliver_has IsAside setting before number journal tt tt
-    (λ body sent. control_aside _ _ (controller_control setting before body _))
+deliver_aside setting before number journal = deliver_has IsAside setting before number journal tt
+    tt (λ body sent. control_aside _ _ (controller_control setting before body _))
     (λ s body said. switch_aside setting before s body _)
 
 -- ---- sending again
@@ -205,14 +193,11 @@ unacked_other setting journal s versions =
 
 pub resend_aside : (setting : Setting) (s : ℕ) (journal : List Item)
     → AreAside journal (resend_items setting s journal)
-resend_aside setting s journal =
-    resent_has IsAside TellsOther setting s journal tt (sends_aside journal)
-    (each_by_switch TellsOther setting journal s (λ up. tt)
-    (each_flat_map TellsOther
-    (λ neighbour. map (advert_to neighbour) (held_adverts setting journal s))
-    (λ neighbour. each_other (advert_to neighbour) (λ advert. tt) _)
-    (switches_in setting (near setting journal s))))
-    (each_by_controller TellsOther setting journal s
-    (λ none member. each_to_member TellsOther setting journal s tt
-    (unacked_other setting journal s (later_versions journal)) tt (λ some. tt))
+resend_aside setting s journal = resent_has IsAside TellsOther setting s journal tt
+    (sends_aside journal)
+    (each_by_switch TellsOther setting journal s (λ up. tt) (each_flat_map TellsOther (λ neighbour.
+    map (advert_to neighbour) (held_adverts setting journal s)) (λ neighbour. each_other
+    (advert_to neighbour) (λ advert. tt) _) (switches_in setting (near setting journal s))))
+    (each_by_controller TellsOther setting journal s (λ none member. each_to_member TellsOther
+    setting journal s tt (unacked_other setting journal s (later_versions journal)) tt (λ some. tt))
     (λ none. unacked_other setting journal s (versions_from_current journal)))

@@ -5,14 +5,14 @@ use Rattle.failover.specs.Exports.{IsReachable}
 use Rattle.failover.proofs.RouteSearch.{length-known_links}
 use Rattle.base.specs.Exports.{has}
 use Rattle.net_file.specs.Exports.{are_linked, owner_of}
-use Rattle.update_machine.specs.Exports.{Action, AreTargets, Cause, Decision, Exit, FindsDown, FindsNoPath, HasCause, IsLostRightly, IsStuckRightly, Item, Leads, LeavesRightly, Leaving, Leg, Seek, SeeksOwn, Setting, adverts_of_others, can_use, decision_of, found_down, header_at, header_in, is_end, is_open, is_up, links_known, near, no_switch, owner, plan_at, serves, standing, targets_of}
+use Rattle.update_machine.specs.Exports.{Action, AreTargets, Cause, Decision, Exit, FindsDown, FindsNoPath, HasCause, IsLostRightly, IsStuckRightly, Item, Leads, LeavesRightly, Leaving, Leg, Seek, SeeksOwn, Setting, adverts_of_others, can_use, decision_of, found_down, header_at, header_in, is_open, is_up, links_known, near, no_switch, owner, plan_at, serves, standing, targets_of}
 use Rattle.policy_rules.specs.declared.policy.Action.TheVariants as action
 use Rattle.switch_table.specs.Exports.{Hosted}
 use Rattle.journal.specs.declared.item.Item.TheVariants as item
 use Rattle.update_machine.proofs.Exports.{plan_is, unreached}
 use Rattle.control_laws.specs.Exports.{HasItemCause}
 use Rattle.control_laws.proofs.Exports.{IsKnown, linked_by_mask, own_end}
-use Rattle.packet_laws.specs.Exports.{FindsNoRoute, FollowsLinks, IsAt, IsAtPort, IsBlockedOn, IsLostHere, IsOnLeg, IsOnWay, IsPartitionOf, IsRightlyDecided, LeavesHere, MeetsDown, PacketCause, PacketFacts, SeeksRightly, TakesLeg, entry_mark, stage_of, what_is_known}
+use Rattle.packet_laws.specs.Exports.{FindsNoRoute, FollowsLinks, IsAt, IsAtPort, IsBlockedOn, IsLostHere, IsOnLeg, IsOnWay, IsPartitionOf, LeavesHere, MeetsDown, PacketCause, PacketFacts, SeeksRightly, TakesLeg, entry_mark, stage_of, what_is_known}
 use Rattle.packet_laws.proofs.PacketsHere.{IsHere, decision_in, exiting_of, header_in_facts, leg_in, next_in, stands_in, seeking_of}
 use Rattle.packet_laws.proofs.KeptFacts.{Knows, here_known, port_named, redirected_to, stage_looked, undecided_of}
 use Rattle.packet_laws.proofs.OpenWays.{Sees, none_leads, open_joined}
@@ -34,19 +34,17 @@ stands_known setting before i s knows at =
 
 entered_as : (setting : Setting) (before : List Item) (i s : ℕ)
     → (here : IsHere setting before i s) → header_in before i ≡ Some here.under.header
-entered_as setting before i s here =
-    header_in_facts before i here.under.header here.under.entered
+entered_as setting before i s here = header_in_facts before i here.under.header here.under.entered
 
 -- ---- links found down
 
 follows : (setting : Setting) (journal : List Item) (facts : PacketFacts) (way : IsOnWay setting journal facts)
     → FollowsLinks setting facts.route
-follows setting journal facts way = by_leg way.leg way.on_leg
-  where
-    by_leg : (leg : Leg) → IsOnLeg setting journal facts way.under_way.header leg
-        → FollowsLinks setting facts.route
-    by_leg (Seek version partition) on = on.leads.joined
-    by_leg (Exit port) on = on.leads.joined
+follows setting journal facts way = by_leg way.leg way.on_leg where
+  by_leg : (leg : Leg) → IsOnLeg setting journal facts way.under_way.header leg
+      → FollowsLinks setting facts.route
+  by_leg (Seek version partition) on = on.leads.joined
+  by_leg (Exit port) on = on.leads.joined
 
 -- a link that a packet finds down is one of the network, since its route follows links
 pub meets_link : (setting : Setting) (before : List Item) (i one two : ℕ)
@@ -54,16 +52,12 @@ pub meets_link : (setting : Setting) (before : List Item) (i one two : ℕ)
     → IsTrue (are_linked setting.net.links one two)
 meets_link setting before i one two knows meets =
     let facts : PacketFacts = what_is_known before i in
-    let here : IsHere setting before i one =
-    here_known setting before i one knows meets.at in
-    let way : IsOnWay setting before facts =
-    knows.kept.on_way here.travelling (inl meets.moving) in
-    let there : way.under_way.switch ≡ one =
-    some_same facts.stands way.under_way.switch here.under.switch way.under_way.stands
-    here.under.stands ∙ sym here.at in
+    let here = here_known setting before i one knows meets.at in
+    let way = knows.kept.on_way here.travelling (inl meets.moving) in
     linked_by_mask setting.net.links one two
-    (follows setting before facts way facts.hops one two (way.stands ∙ ap Some there)
-    (sym (next_in before i) ∙ meets.goes_on))
+    (follows setting before facts way facts.hops one two
+    (way.stands ∙ ap Some (some_same facts.stands way.under_way.switch here.under.switch
+    way.under_way.stands here.under.stands ∙ sym here.at)) (sym (next_in before i) ∙ meets.goes_on))
 
 -- ---- losses
 
@@ -84,8 +78,7 @@ seeks_part : (setting : Setting) (before : List Item) (i s version partition : �
     → Knows setting before i (stage_of before i) → (here : IsHere setting before i s)
     → TakesLeg setting before i s (Seek version partition)
     ⊎ IsBlockedOn before i (Seek version partition)
-    → (hosted : Hosted)
-    × IsPartitionOf setting before here.under.header version partition hosted
+    → (hosted : Hosted) × IsPartitionOf setting before here.under.header version partition hosted
 seeks_part setting before i s version partition knows here (inl takes) =
     redirected_to setting before i s version partition here takes
 seeks_part setting before i s version partition knows here (inr blocked) =
@@ -127,12 +120,10 @@ mark_in journal i = refl
 pub seeks_rightly : (setting : Setting) (before : List Item) (i s : ℕ) (version partition : ℕ)
     → Knows setting before i (stage_of before i) → IsHere setting before i s
     → TakesLeg setting before i s (Seek version partition)
-    ⊎ IsBlockedOn before i (Seek version partition)
-    → SeeksRightly before i version
+    ⊎ IsBlockedOn before i (Seek version partition) → SeeksRightly before i version
 seeks_rightly setting before i s version partition knows here (inl takes) = record {
-  undecided = decision_out before i None
-      (undecided_of setting before i s (stage_of before i) knows.kept here
-      (stage_looked before i s takes.looked_up));
+  undecided = decision_out before i None (undecided_of setting before i s (stage_of before i)
+      knows.kept here (stage_looked before i s takes.looked_up));
   not_retired = omega (
     arith,
     sym (mark_in before i),
@@ -145,8 +136,7 @@ seeks_rightly setting before i s version partition knows here (inl takes) = reco
 seeks_rightly setting before i s version partition knows here (inr blocked) =
     let on = seeking_of setting before (what_is_known before i) here.under.header version partition
     (knows.kept.on_way here.travelling (inr blocked.blocked)) here.under.entered
-    (leg_in before i (Some (Seek version partition)) blocked.takes) in
-    record {
+    (leg_in before i (Some (Seek version partition)) blocked.takes) in record {
       undecided = decision_out before i None on.undecided;
       not_retired = subst (λ m. m < version) (mark_in before i) on.not_retired;
       current = on.current;
@@ -157,12 +147,10 @@ pub stuck_rightly : (setting : Setting) (before : List Item) (i s : ℕ) (cause 
     → FindsNoRoute setting before i s cause leg down
     → FindsNoPath setting before i s leg
 stuck_rightly setting before i s cause leg down knows finds =
-    let here : IsHere setting before i s = here_known setting before i s knows finds.at in
-    record {
+    let here : IsHere setting before i s = here_known setting before i s knows finds.at in record {
       stands = stands_at setting before i s here;
       own_leg = own_leg setting before i s leg knows here finds.on;
-      no_path =
-          let down : List ℕ = found_down before i in
+      no_path = let down : List ℕ = found_down before i in
           All-from_recursion
           (λ target. ¬ IsReachable (links_known setting before s down) s target)
           (targets_of setting before leg)
@@ -171,24 +159,19 @@ stuck_rightly setting before i s cause leg down knows finds =
 
 -- ---- by what the switch knows of links, as relations
 
-pub finds_down : (setting : Setting) (before : List Item) (i one two : ℕ)
-    → Knows setting before i (stage_of before i) → MeetsDown setting before i one two
-    → FindsDown setting before i one two
-finds_down setting before i one two knows meets =
-    record {
-      stands = stands_known setting before i one knows meets.at;
-      linked = meets_link setting before i one two knows meets;
-      unusable = unusable (can_use setting before one two) refl;
-    }
-  where
-    unusable : (b : Bool) → can_use setting before one two ≡ b → IsFalse b
-    unusable false e = refl
-    unusable true e =
-        let own : IsTrue (is_end setting before one one two) = rw (eq-eqb one one refl) e in
-        let usable : has (near setting before one) two ≡ true =
-        (own_end setting before knows.is.net one two own).named in
-        let unused : has (near setting before one) two ≡ false = meets.unusable in
-        absurd cc
+pub finds_down : (setting : Setting) (before : List Item) (i one two : ℕ) → Knows setting before i
+    (stage_of before i) → MeetsDown setting before i one two → FindsDown setting before i one two
+finds_down setting before i one two knows meets = record {
+  stands = stands_known setting before i one knows meets.at;
+  linked = meets_link setting before i one two knows meets;
+  unusable = unusable (can_use setting before one two) refl;
+} where
+  unusable : (b : Bool) → can_use setting before one two ≡ b → IsFalse b
+  unusable false e = refl
+  unusable true e =
+      let usable : has (near setting before one) two ≡ true =
+      (own_end setting before knows.is.net one two (rw (eq-eqb one one refl) e)).named in
+      absurd (cc meets.unusable)
 
 -- a partition of a plan stands in it
 part_in : (plan : List Hosted) (k : ℕ) (hosted : Hosted) → slice_get plan k ≡ Some hosted
@@ -224,8 +207,7 @@ targets_cut_off : (setting : Setting) (before : List Item) (i s : ℕ) (leg : Le
 targets_cut_off setting before i s (Seek version partition) knows here on cut =
     let part = seeks_part setting before i s version partition knows here on in
     let hosted : Hosted = part.0 in
-    let plan : List Hosted = plan_at setting before version in
-    record {
+    let plan : List Hosted = plan_at setting before version in record {
       targets = hosted.1;
       own_leg = (
         (seeks_rightly setting before i s version partition knows here on).undecided,
@@ -243,8 +225,7 @@ targets_cut_off setting before i s (Seek version partition) knows here on cut =
           (ap (λ o. unwrap_or (option_map (λ (p : Hosted). p.1) o) []) part.1.found) cut;
     }
 targets_cut_off setting before i s (Exit port) knows here on cut =
-    let by = exits_by setting before i s port knows here on in
-    record {
+    let by = exits_by setting before i s port knows here on in record {
       targets = option_to_list (owner_of setting.net.switches port);
       own_leg = (by.0, by.1, by.2, refl);
       cut_off = home_cut_off setting before i s (owner_of setting.net.switches port) cut;
@@ -255,24 +236,19 @@ pub stuck_by_claims : (setting : Setting) (before : List Item) (i s : ℕ) (caus
     → FindsNoRoute setting before i s cause leg down → IsStuckRightly setting before i s leg
 stuck_by_claims setting before i s cause leg down knows finds =
     let here : IsHere setting before i s = here_known setting before i s knows finds.at in
-    let exact : FindsNoPath setting before i s leg =
-    stuck_rightly setting before i s cause leg down knows finds in
+    let exact = stuck_rightly setting before i s cause leg down knows finds in
     let links : List ℕ = links_known setting before s (found_down before i) in
     let sees : Sees setting before s =
     record { net = knows.is.net; have = knows.both; serving = finds.at.serving } in
-    let small : s < 64 = omega (arith, here.at, here.under.now, knows.is.net.few_switches) in
     let cut : AreCutOff setting before i s (targets_of setting before leg) =
     All-weaker (λ target. ¬ IsReachable links s target)
     (λ target. (path : List ℕ) → ¬ Leads (is_open setting before i s) s path target)
-    (λ target unreached.
-    none_leads (is_open setting before i s) links s target
+    (λ target unreached. none_leads (is_open setting before i s) links s target
     (length-known_links (adverts_of_others setting before s) s (near setting before s)
-    (found_down before i))
-    (open_joined setting before i s sees) small unreached) (targets_of setting before leg)
-    exact.no_path in
-    let own : HasTargets setting before i s leg =
-    targets_cut_off setting before i s leg knows here finds.on cut in
-    record {
+    (found_down before i)) (open_joined setting before i s sees)
+    (omega (arith, here.at, here.under.now, knows.is.net.few_switches)) unreached)
+    (targets_of setting before leg) exact.no_path in
+    let own = targets_cut_off setting before i s leg knows here finds.on cut in record {
       stands = exact.stands;
       serving = finds.at.serving;
       targets = own.targets;
@@ -310,51 +286,39 @@ record LeavesBy (setting : Setting) (before : List Item) (i s port : ℕ) : Type
   action : decision.action ≡ action.Out port
 
 leaves_by : (setting : Setting) (before : List Item) (i port : ℕ) (leaving : Leaving)
-    → Knows setting before i (stage_of before i)
-    → (way : LeavesHere setting before i port leaving)
+    → Knows setting before i (stage_of before i) → (way : LeavesHere setting before i port leaving)
     → IsHere setting before i way.switch → LeavesBy setting before i way.switch port
-leaves_by setting before i port leaving knows way here = by_port way.at_port
-  where
-    facts : PacketFacts
-    facts = what_is_known before i
+leaves_by setting before i port leaving knows way here = by_port way.at_port where
+  facts : PacketFacts
+  facts = what_is_known before i
 
-    by_port : IsAtPort setting before i way.switch port
-        → LeavesBy setting before i way.switch port
-    by_port (inl now) =
-        let decision : Decision = now.2.0 in
-        let judged : IsRightlyDecided setting before facts here.under.header =
-        knows.kept.judged here.travelling now.0 here.under.header here.under.entered in
-        let same : judged.decision ≡ decision =
-        some_same facts.decision judged.decision decision judged.decided
-        (decision_in before i (Some decision) now.2.1) in
-        let home : owner_of setting.net.switches port ≡ Some (owner setting port) =
-        port_named setting port judged.decision.action
-        (ap (λ (d : Decision). d.action) same ∙ now.2.2) judged.named in
-        record {
-          has_port = home ∙ ap Some (eqb-true (owner setting port) way.switch now.1);
-          decision = decision;
-          decided = now.2.1;
-          action = now.2.2;
-        }
-    by_port (inr arrived) =
-        let was : IsOnWay setting before facts =
-        knows.kept.on_way here.travelling (inl arrived.0.moving) in
-        let on = exiting_of setting before facts port was (leg_in before i (Some (Exit port)) arrived.1) in
-        let ends : was.under_way.switch ≡ on.leads.ends.target =
-        last_here facts.route facts.hops was.under_way.switch on.leads.ends.target was.stands
-        (sym (next_in before i) ∙ arrived.0.last) on.leads.ends.last in
-        let there : was.under_way.switch ≡ here.under.switch =
-        some_same facts.stands was.under_way.switch here.under.switch was.under_way.stands
-        here.under.stands in
-        let home : on.owner ≡ way.switch =
-        sym (one_target on.leads.ends.target on.owner on.leads.ends.own) ∙ sym ends ∙ there
-        ∙ sym here.at in
-        record {
-          has_port = on.has_port ∙ ap Some home;
-          decision = on.decision;
-          decided = decision_out before i (Some on.decision) on.decided;
-          action = on.action;
-        }
+  by_port : IsAtPort setting before i way.switch port → LeavesBy setting before i way.switch port
+  by_port (inl now) =
+      let decision : Decision = now.2.0 in
+      let judged = knows.kept.judged here.travelling now.0 here.under.header here.under.entered in
+      let home = port_named setting port judged.decision.action
+      (ap (λ (d : Decision). d.action) (some_same facts.decision judged.decision decision
+      judged.decided (decision_in before i (Some decision) now.2.1)) ∙ now.2.2) judged.named in
+      record {
+        has_port = home ∙ ap Some (eqb-true (owner setting port) way.switch now.1);
+        decision = decision;
+        decided = now.2.1;
+        action = now.2.2;
+      }
+  by_port (inr arrived) =
+      let was = knows.kept.on_way here.travelling (inl arrived.0.moving) in
+      let on = exiting_of setting before facts port was (leg_in before i (Some (Exit port)) arrived.1) in
+      let there : was.under_way.switch ≡ here.under.switch = some_same facts.stands
+      was.under_way.switch here.under.switch was.under_way.stands here.under.stands in
+      let home = sym (one_target on.leads.ends.target on.owner on.leads.ends.own)
+      ∙ sym (last_here facts.route facts.hops was.under_way.switch on.leads.ends.target was.stands
+      (sym (next_in before i) ∙ arrived.0.last) on.leads.ends.last) ∙ there ∙ sym here.at in
+      record {
+        has_port = on.has_port ∙ ap Some home;
+        decision = on.decision;
+        decided = decision_out before i (Some on.decision) on.decided;
+        action = on.action;
+      }
 
 -- the packet leaves with its own header, version and rule
 abbrev leaving_of : List Item → ℕ → Leaving
@@ -375,8 +339,7 @@ pub leaves_rightly : (setting : Setting) (before : List Item) (i port : ℕ) (le
 leaves_rightly setting before i port leaving knows way =
     let s : ℕ = way.switch in
     let here : IsHere setting before i s = here_known setting before i s knows way.at in
-    let by : LeavesBy setting before i s port =
-    leaves_by setting before i port leaving knows way here in
+    let by = leaves_by setting before i port leaving knows way here in
     let decision : Decision = by.decision in
     let whole : decision ≡ record {
       version = decision.version;
@@ -392,12 +355,11 @@ leaves_rightly setting before i port leaving knows way =
       has_port = by.has_port;
       number = refl;
       header = entered_as setting before i s here ∙ ap Some (sym here.header);
-      decided = by.decided ∙ ap Some whole
-          ∙ ap (λ (o : Option Decision). Some (record {
-            version = unwrap_or (option_map (λ (d : Decision). d.version) o) 0;
-            rule = unwrap_or (option_map (λ (d : Decision). d.rule) o) None;
-            action = action.Out port;
-          })) (sym by.decided);
+      decided = by.decided ∙ ap Some whole ∙ ap (λ (o : Option Decision). Some (record {
+        version = unwrap_or (option_map (λ (d : Decision). d.version) o) 0;
+        rule = unwrap_or (option_map (λ (d : Decision). d.rule) o) None;
+        action = action.Out port;
+      })) (sym by.decided);
     })
 
 -- ---- all ends
@@ -405,11 +367,10 @@ leaves_rightly setting before i port leaving knows way =
 -- a switch that is down doesn't serve
 not_serving : (before : List Item) (s : ℕ) → IsKnown before → IsFalse (is_up before s)
     → IsFalse (serves before s)
-not_serving before s known down = by_serving (serves before s) refl
-  where
-    by_serving : (b : Bool) → serves before s ≡ b → IsFalse b
-    by_serving false e = refl
-    by_serving true e = let clash : true ≡ false = sym ((known.serving s).up e) ∙ down in absurd cc
+not_serving before s known down = by_serving (serves before s) refl where
+  by_serving : (b : Bool) → serves before s ≡ b → IsFalse b
+  by_serving false e = refl
+  by_serving true e = let clash : true ≡ false = sym ((known.serving s).up e) ∙ down in absurd cc
 
 pub end_caused : (setting : Setting) (before : List Item) (next : Item)
     → ((i : ℕ) → Knows setting before i (stage_of before i)) → IsKnown before

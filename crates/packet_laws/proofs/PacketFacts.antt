@@ -1,5 +1,5 @@
 -- What each item makes of the facts of a packet.
-use Rattle.std.proofs.Common.{[], if◌then◌else◌, ◌++◌, ◌==◌, ◌∙◌, ◌∷◌, ◌≡◌, ◌≢◌, Bool, List, None, ap, arith, false, refl, true, unwrap_or, ℕ}
+use Rattle.std.proofs.Common.{[], if◌then◌else◌, ◌++◌, ◌==◌, ◌∙◌, ◌∷◌, ◌≡◌, ◌≢◌, Bool, List, None, arith, false, refl, true, unwrap_or, ℕ}
 use Rattle.base.proofs.Exports.{nat_tests, option_or}
 use Rattle.failover.specs.Exports.{no_links}
 use Rattle.update_machine.specs.Exports.{Item, changes_found, changes_hops, changes_leg, decision_of, found_down, gives_decision, gives_header, gives_ingress, gives_route, gives_standing, gives_travelling, header_in, ingress_of, last_given, leg_of, retired_mark, route_in, route_place, standing, travels}
@@ -13,8 +13,7 @@ told_facts before i item = record {
   header = option_or (gives_header i item) (header_in before i);
   ingress = option_or (gives_ingress i item) (ingress_of before i);
   stands = option_or (gives_standing i item) (standing before i);
-  travels = unwrap_or (option_or (gives_travelling i item)
-      (last_given (gives_travelling i) before))
+  travels = unwrap_or (option_or (gives_travelling i item) (last_given (gives_travelling i) before))
       false;
   decision = option_or (gives_decision i item) (decision_of before i);
   leg = changes_leg i before (leg_of before i) item;
@@ -28,19 +27,18 @@ facts_more : (before : List Item) (i : ℕ) (item : Item)
     → what_is_known (before ++ item ∷ []) i ≡ told_facts before i item
 unfolding what_is_known header_in ingress_of standing travels decision_of leg_of route_in route_place
     found_down entry_mark
-facts_more before i item =
-    rw (
-      last_given_append (gives_header i) before (item ∷ []),
-      last_given_append (gives_ingress i) before (item ∷ []),
-      last_given_append (gives_standing i) before (item ∷ []),
-      last_given_append (gives_travelling i) before (item ∷ []),
-      last_given_append (gives_decision i) before (item ∷ []),
-      folded_append (changes_leg i) None before (item ∷ []),
-      last_given_append (gives_route i) before (item ∷ []),
-      folded_append (changes_hops i) 0 before (item ∷ []),
-      folded_append (changes_found i) no_links before (item ∷ []),
-      folded_append (changes_mark i) 0 before (item ∷ []),
-    ) refl
+facts_more before i item = rw (
+  last_given_append (gives_header i) before (item ∷ []),
+  last_given_append (gives_ingress i) before (item ∷ []),
+  last_given_append (gives_standing i) before (item ∷ []),
+  last_given_append (gives_travelling i) before (item ∷ []),
+  last_given_append (gives_decision i) before (item ∷ []),
+  folded_append (changes_leg i) None before (item ∷ []),
+  last_given_append (gives_route i) before (item ∷ []),
+  folded_append (changes_hops i) 0 before (item ∷ []),
+  folded_append (changes_found i) no_links before (item ∷ []),
+  folded_append (changes_mark i) 0 before (item ∷ []),
+) refl
 
 by_name : (before : List Item) (i : ℕ) (item : Item) (b : Bool) → is_of_packet i item ≡ b
     → told_facts before i item
@@ -72,24 +70,19 @@ by_name before i (item.Stuck packet switch cause leg down) false e = rw e refl
 by_name before i other true e = absurd cc
 by_name before i other false e = refl
 
-pub facts_grow : (i : ℕ) (before : List Item) (item : Item) →
-    what_is_known (before ++ item ∷ []) i
-    ≡ (if is_of_packet i item then facts_after (retired_mark before) item (what_is_known before i) else what_is_known
-    before i)
+pub facts_grow : (i : ℕ) (before : List Item) (item : Item) → what_is_known (before ++ item ∷ []) i
+    ≡ (if is_of_packet i item then facts_after (retired_mark before) item (what_is_known before i)
+    else what_is_known before i)
 facts_grow i before item =
     facts_more before i item ∙ by_name before i item (is_of_packet i item) refl
 
 pub facts_named : (i : ℕ) (before : List Item) (item : Item) → is_of_packet i item ≡ true
     → what_is_known (before ++ item ∷ []) i ≡ facts_after (retired_mark before) item (what_is_known before i)
-facts_named i before item named = facts_grow i before item
-    ∙ ap (λ b. if b then facts_after (retired_mark before) item (what_is_known before i) else what_is_known before
-    i) named
+facts_named i before item named = cc (facts_grow i before item, named)
 
 pub facts_other : (i : ℕ) (before : List Item) (item : Item) → is_of_packet i item ≡ false
     → what_is_known (before ++ item ∷ []) i ≡ what_is_known before i
-facts_other i before item other = facts_grow i before item
-    ∙ ap (λ b. if b then facts_after (retired_mark before) item (what_is_known before i) else what_is_known before
-    i) other
+facts_other i before item other = cc (facts_grow i before item, other)
 
 pub other_number : (i j : ℕ) → j ≢ i → (i == j) ≡ false
 other_number i j apart = grind (arith, nat_tests)

@@ -26,12 +26,10 @@ at_switch : (s : ℕ) (at : Option ℕ) → is_at s at ≡ true → at ≡ Some 
 at_switch s None is = absurd cc
 at_switch s (Some at) is = ap Some (eqb-true at s is)
 
-fallen_more : (journal : List Item) (next : Item)
-    → fallen_switch (journal ++ next ∷ [])
+fallen_more : (journal : List Item) (next : Item) → fallen_switch (journal ++ next ∷ [])
     ≡ unwrap_or (option_or (gives_fall next) (last_given gives_fall journal)) None
 unfolding fallen_switch
-fallen_more journal next =
-    ap (λ o. unwrap_or o None) (last_given_append gives_fall journal (next ∷ []))
+fallen_more journal next = cc (last_given_append gives_fall journal (next ∷ []))
 
 fallen_stays : (journal : List Item) (next : Item) → gives_fall next ≡ None
     → fallen_switch (journal ++ next ∷ []) ≡ fallen_switch journal
@@ -51,19 +49,16 @@ lost_on journal s k went = record {
 
 losts_ways : (setting : Setting) (before : List Item) (s k n : ℕ) (journal : List Item)
     → WentDown journal s → AsBefore before journal k
-    → Ways setting journal
-    (map item.Lost (filter (travels_at before s) (range_with_len k n)))
+    → Ways setting journal (map item.Lost (filter (travels_at before s) (range_with_len k n)))
 losts_ways setting before s k zero journal went same = tt
-losts_ways setting before s k (suc n) journal went same =
-    by_test (travels_at before s k) refl
+losts_ways setting before s k (suc n) journal went same = by_test (travels_at before s k) refl
     (λ now down equal. losts_ways setting before s (k + 1) n now down equal)
   where
     rest : List ℕ
     rest = filter (travels_at before s) (range_with_len (k + 1) n)
 
-    by_test : (b : Bool) → travels_at before s k ≡ b
-        → ((now : List Item) → WentDown now s → AsBefore before now (k + 1)
-        → Ways setting now (map item.Lost rest))
+    by_test : (b : Bool) → travels_at before s k ≡ b → ((now : List Item) → WentDown now s
+        → AsBefore before now (k + 1) → Ways setting now (map item.Lost rest))
         → Ways setting journal (map item.Lost (if b then k ∷ rest else rest))
     by_test false e later = later journal went (λ j above. same j (omega (arith, above)))
     by_test true e later =
@@ -78,11 +73,9 @@ losts_ways setting before s k (suc n) journal went same =
               stands = (same k (omega arith)).1 ∙ at_switch s (standing before k) both.1;
             });
           },
-          later (journal ++ item.Lost k ∷ []) (lost_on journal s k went)
-              (λ j above.
-              let keeps : PacketKeeps j journal (journal ++ item.Lost k ∷ []) =
-              packet_keeps j journal (item.Lost k ∷ [])
-              (ne_eqb k j (λ equal. omega (arith, equal, above)), tt) in (
+          later (journal ++ item.Lost k ∷ []) (lost_on journal s k went) (λ j above. let
+              keeps : PacketKeeps j journal (journal ++ item.Lost k ∷ []) = packet_keeps j journal
+              (item.Lost k ∷ []) (ne_eqb k j (λ equal. omega (arith, equal, above)), tt) in (
                 keeps.travels ∙ (same j (omega (arith, above))).0,
                 keeps.stands ∙ (same j (omega (arith, above))).1,
               )),
@@ -100,28 +93,25 @@ crash_ways : (setting : Setting) (before : List Item) (s : ℕ) (journal : List 
     → present_step journal ≡ Some (Crash s) → AsBefore before journal 0
     → Ways setting journal (crash_items setting before s journal)
 unfolding crash_items
-crash_ways setting before s journal crashes same = by_up (is_up before s)
-  where
-    by_up : (b : Bool) → Ways setting journal (elim b [
-      | false ↦ nothing
-      | true ↦ items_then (item.Down s ∷ map item.Lost (packets_at before s))
-          (link_changes setting before) journal
-    ])
-    by_up false = (tt, tt)
-    by_up true =
-        have_put (PacketCause setting) (item.Down s ∷ map item.Lost (packets_at before s))
-        (link_changes setting before) journal (
-          crashes,
-          losts_ways setting before s 1 (count_of is_packet before)
-              (journal ++ item.Down s ∷ []) (down_now journal s crashes)
-              (λ j above.
-              let keeps : PacketKeeps j journal (journal ++ item.Down s ∷ []) =
-              packet_keeps j journal (item.Down s ∷ []) (refl, tt) in (
-                keeps.travels ∙ (same j (omega arith)).0,
-                keeps.stands ∙ (same j (omega arith)).1,
-              )),
-        )
-        (aside_ways setting _ _ (changes_aside setting before _))
+crash_ways setting before s journal crashes same = by_up (is_up before s) where
+  by_up : (b : Bool) → Ways setting journal (elim b [
+    | false ↦ nothing
+    | true ↦ items_then (item.Down s ∷ map item.Lost (packets_at before s))
+        (link_changes setting before) journal
+  ])
+  by_up false = (tt, tt)
+  by_up true = have_put (PacketCause setting) (item.Down s ∷ map item.Lost (packets_at before s))
+      (link_changes setting before) journal (
+        crashes,
+        losts_ways setting before s 1 (count_of is_packet before)
+            (journal ++ item.Down s ∷ []) (down_now journal s crashes)
+            (λ j above. let keeps : PacketKeeps j journal (journal ++ item.Down s ∷ []) =
+            packet_keeps j journal (item.Down s ∷ []) (refl, tt) in (
+              keeps.travels ∙ (same j (omega arith)).0,
+              keeps.stands ∙ (same j (omega arith)).1,
+            )),
+      )
+      (aside_ways setting _ _ (changes_aside setting before _))
 
 -- ---- all steps
 
@@ -133,27 +123,23 @@ step_now before row step = last_given_append gives_step before (item.Row row ste
 row_now : (before : List Item) (row : ℕ) (step : Step)
     → ends_with_row (before ++ item.Row row step ∷ []) ≡ true
 unfolding ends_with_row
-row_now before row step =
-    ap (λ o. unwrap_or o false) (last_given_append gives_row_test before (item.Row row step ∷ []))
+row_now before row step = cc (last_given_append gives_row_test before (item.Row row step ∷ []))
 
 -- the row leaves packets and switches as they are
 pub row_rests : (before : List Item) (row : ℕ) (step : Step) → AreResting before
     → AreResting (before ++ item.Row row step ∷ [])
 row_rests before row step rests = record {
   served = λ i travelling.
-      let here : IsServed before i = rests.served i (sym (keeps i).travels ∙ travelling) in
-      record {
+      let here : IsServed before i = rests.served i (sym (keeps i).travels ∙ travelling) in record {
         switch = here.switch;
         stands = (keeps i).stands ∙ here.stands;
         serving = rw (serving_more before (item.Row row step) here.switch) here.serving;
       };
-  moving = λ i travelling.
-      stage_stays before (item.Row row step) i refl
+  moving = λ i travelling. stage_stays before (item.Row row step) i refl
       ∙ rests.moving i (sym (keeps i).travels ∙ travelling);
-}
-  where
-    keeps : (i : ℕ) → PacketKeeps i before (before ++ item.Row row step ∷ [])
-    keeps i = packet_keeps i before (item.Row row step ∷ []) (refl, tt)
+} where
+  keeps : (i : ℕ) → PacketKeeps i before (before ++ item.Row row step ∷ [])
+  keeps i = packet_keeps i before (item.Row row step ∷ []) (refl, tt)
 
 -- the steps that move no packet
 abbrev pub MovesNone : Step → Type 0
@@ -175,10 +161,8 @@ step_aside setting before row (LinkDown one two) none =
     link_aside setting before one two false _ (step_now before row (LinkDown one two))
 step_aside setting before row (LinkUp one two) none =
     link_aside setting before one two true _ (step_now before row (LinkUp one two))
-step_aside setting before row (Restart s) none =
-    restart_aside s _ (step_now before row (Restart s))
-step_aside setting before row (Confirm s) none =
-    control_aside _ _ (confirm_control setting s _)
+step_aside setting before row (Restart s) none = restart_aside s _ (step_now before row (Restart s))
+step_aside setting before row (Confirm s) none = control_aside _ _ (confirm_control setting s _)
 step_aside setting before row (Resend s) none = resend_aside setting s _
 step_aside setting before row step none = absurd none
 
@@ -193,13 +177,10 @@ step_ways setting before row (Packet s header) rests =
     })
 step_ways setting before row (Hop i) rests =
     hop_ways setting _ i (row_rests before row (Hop i) rests)
-step_ways setting before row (Lose i) rests =
-    lose_ways setting _ i (step_now before row (Lose i))
-step_ways setting before row (Crash s) rests =
-    crash_ways setting before s _ (step_now before row (Crash s))
-    (λ j above.
-    let keeps : PacketKeeps j before (before ++ item.Row row (Crash s) ∷ []) =
-    packet_keeps j before (item.Row row (Crash s) ∷ []) (refl, tt) in
+step_ways setting before row (Lose i) rests = lose_ways setting _ i (step_now before row (Lose i))
+step_ways setting before row (Crash s) rests = crash_ways setting before s _
+    (step_now before row (Crash s))
+    (λ j above. let keeps = packet_keeps j before (item.Row row (Crash s) ∷ []) (refl, tt) in
     (keeps.travels, keeps.stands))
 step_ways setting before row step rests =
     aside_ways setting _ _ (step_aside setting before row step tt)
@@ -207,6 +188,5 @@ step_ways setting before row step rests =
 pub piece_ways : (setting : Setting) (before : List Item) (row : ℕ) (step : Step)
     → AreResting before → Ways setting before (piece setting before row step)
 unfolding piece
-piece_ways setting before row step rests =
-    have_first (PacketCause setting) (item.Row row step) (step_items setting before step) before tt
-    (step_ways setting before row step rests)
+piece_ways setting before row step rests = have_first (PacketCause setting) (item.Row row step)
+    (step_items setting before step) before tt (step_ways setting before row step rests)

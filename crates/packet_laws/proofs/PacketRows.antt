@@ -9,8 +9,7 @@ use Rattle.packet_laws.proofs.RowPieces.{rows_of}
 pub rows_append : (one two : List StepOfRow) → rows_of (one ++ two) ≡ rows_of one ++ rows_of two
 rows_append [] two = refl
 rows_append (next ∷ one) two =
-    ap (λ rows. step_row next.row next.step ++ rows) (rows_append one two)
-    ∙ sym (append_assoc (step_row next.row next.step) (rows_of one) (rows_of two))
+    cc (rows_append one two, append_assoc (step_row next.row next.step) (rows_of one) (rows_of two))
 
 -- ---- deliveries and hops bring no packet in
 
@@ -22,16 +21,14 @@ nexts_bring_none = record { delivery = λ number row. refl; hop = λ packet row.
 
 none_rows : (steps : List StepOfRow) → AreOf BringsNone steps → rows_of steps ≡ []
 none_rows [] none = refl
-none_rows (next ∷ steps) none =
-    ap (λ rows. rows ++ rows_of steps) (none.0 next.row) ∙ none_rows steps none.1
+none_rows (next ∷ steps) none = cc (none.0 next.row, none_rows steps none.1)
 
 -- ---- one event
 
 event_rows : (setting : Setting) (row : ℕ) (event : Event) (before : List Item)
     (steps : List StepOfRow) → AreStepsOf setting row event before steps
     → rows_of steps ≡ event_row row event
-event_rows setting row (One step) before steps all =
-    ap rows_of all ∙ append-nil (step_row row step)
+event_rows setting row (One step) before steps all = cc (all, append-nil (step_row row step))
 event_rows setting row Flush before steps all = none_rows steps
     (event_steps_are BringsNone nexts_bring_none setting row Flush before steps tt all)
 event_rows setting row Drain before steps all = none_rows steps
@@ -44,11 +41,10 @@ record Front (row : ℕ) (steps : List StepOfRow) (last : StepOfRow) : Type 0 wh
 
 one_front : (row : ℕ) (one : StepOfRow) (steps : List StepOfRow) (last : StepOfRow)
     → one.row ≡ row → steps ++ last ∷ [] ≡ one ∷ [] → Front row steps last
-one_front row one [] last is e = record { none = refl; of_row = ap (λ xs. row_in xs) e ∙ is }
-  where
-    row_in : List StepOfRow → ℕ
-    row_in [] = 0
-    row_in (first ∷ others) = first.row
+one_front row one [] last is e = record { none = refl; of_row = ap (λ xs. row_in xs) e ∙ is } where
+  row_in : List StepOfRow → ℕ
+  row_in [] = 0
+  row_in (first ∷ others) = first.row
 one_front row one (first ∷ steps) last is e = absurd (append_not_nil steps last (ap tail_of e))
   where
     tail_of : List StepOfRow → List StepOfRow
@@ -59,9 +55,8 @@ some_last : (setting : Setting) (next : List Item → Option Step) (row : ℕ) (
     (steps : List StepOfRow) (last : StepOfRow)
     → AreSome setting next row before (steps ++ last ∷ []) → last.row ≡ row
 some_last setting next row before [] last some = some.0
-some_last setting next row before (first ∷ steps) last some =
-    some_last setting next row (before ++ piece setting before first.row first.step) steps last
-    some.2
+some_last setting next row before (first ∷ steps) last some = some_last setting next row
+    (before ++ piece setting before first.row first.step) steps last some.2
 
 none_front : (row : ℕ) (steps : List StepOfRow) (last : StepOfRow)
     → AreOf BringsNone (steps ++ last ∷ []) → last.row ≡ row → Front row steps last
@@ -69,11 +64,10 @@ none_front row steps last none is = record {
   none = first_empty (rows_of steps) (rows_of (last ∷ []))
       (sym (rows_append steps (last ∷ [])) ∙ none_rows (steps ++ last ∷ []) none);
   of_row = is;
-}
-  where
-    first_empty : (xs ys : List StepRow) → xs ++ ys ≡ [] → xs ≡ []
-    first_empty [] ys e = refl
-    first_empty (x ∷ xs) ys e = absurd cc
+} where
+  first_empty : (xs ys : List StepRow) → xs ++ ys ≡ [] → xs ≡ []
+  first_empty [] ys e = refl
+  first_empty (x ∷ xs) ys e = absurd cc
 
 event_front : (setting : Setting) (row : ℕ) (event : Event) (before : List Item)
     (steps : List StepOfRow) (last : StepOfRow)
@@ -81,12 +75,10 @@ event_front : (setting : Setting) (row : ℕ) (event : Event) (before : List Ite
 event_front setting row (One step) before steps last (inl e) = absurd (append_not_nil steps last e)
 event_front setting row (One step) before steps last (inr e) =
     one_front row (record { row = row; step = step }) steps last refl e
-event_front setting row Flush before steps last some =
-    none_front row steps last
+event_front setting row Flush before steps last some = none_front row steps last
     (firsts_are BringsNone nexts_bring_none setting row Flush before (steps ++ last ∷ []) tt some)
     (some_last setting next_delivery row before steps last some)
-event_front setting row Drain before steps last some =
-    none_front row steps last
+event_front setting row Drain before steps last some = none_front row steps last
     (firsts_are BringsNone nexts_bring_none setting row Drain before (steps ++ last ∷ []) tt some)
     (some_last setting next_hop row before steps last some)
 
@@ -106,26 +98,22 @@ all_steps_rows setting row (event ∷ events) before steps (mine, rest, split, a
 
 -- the last of the steps is the last of the others, where there are others
 abbrev EndsOthers : List StepOfRow → StepOfRow → List StepOfRow → List StepOfRow → Type 0
-EndsOthers steps last mine rest =
-    (mine ≡ steps ++ last ∷ [])
+EndsOthers steps last mine rest = (mine ≡ steps ++ last ∷ [])
     ⊎ ((others : List StepOfRow) × (rest ≡ others ++ last ∷ []) × (steps ≡ mine ++ others))
 
 where_ends : (steps : List StepOfRow) (last : StepOfRow) (mine rest : List StepOfRow)
     → steps ++ last ∷ [] ≡ mine ++ rest → EndsOthers steps last mine rest
 where_ends steps last [] rest e = inr (steps, sym e, refl)
-where_ends [] last (one ∷ mine) rest e = inl (only mine (ap tail_of e))
-  where
-    tail_of : List StepOfRow → List StepOfRow
-    tail_of [] = []
-    tail_of (x ∷ xs) = xs
+where_ends [] last (one ∷ mine) rest e = inl (only mine (ap tail_of e)) where
+  tail_of : List StepOfRow → List StepOfRow
+  tail_of [] = []
+  tail_of (x ∷ xs) = xs
 
-    only : (more : List StepOfRow) → [] ≡ more ++ rest → one ∷ more ≡ last ∷ []
-    only [] none = let same : one ≡ last = cc in ap (λ x. x ∷ []) same
-    only (x ∷ more) none = absurd cc
+  only : (more : List StepOfRow) → [] ≡ more ++ rest → one ∷ more ≡ last ∷ []
+  only [] none = let same : one ≡ last = cc in ap (λ x. x ∷ []) same
+  only (x ∷ more) none = absurd cc
 where_ends (first ∷ steps) last (one ∷ mine) rest e =
-    let same : first ≡ one = cc in
-    let others : steps ++ last ∷ [] ≡ mine ++ rest = cc in
-    later same (where_ends steps last mine rest others)
+    let same : first ≡ one = cc in later same (where_ends steps last mine rest cc)
   where
     later : first ≡ one → EndsOthers steps last mine rest
         → EndsOthers (first ∷ steps) last (one ∷ mine) rest
@@ -142,8 +130,7 @@ pub record PlayedTo (row : ℕ) (events : List Event) (steps : List StepOfRow) (
 of_front : (row : ℕ) (events : List Event) (steps : List StepOfRow) (last : StepOfRow)
     → Front row steps last → PlayedTo row events steps last
 of_front row events steps last front =
-    let none : last.row - row ≡ 0 = omega (arith, front.of_row) in
-    record {
+    let none : last.row - row ≡ 0 = omega (arith, front.of_row) in record {
       from = omega (arith, front.of_row);
       rows = front.none ∙ ap (λ n. step_rows row (take n events)) (sym none);
     }
@@ -154,17 +141,14 @@ front_played : (setting : Setting) (row : ℕ) (event : Event) (events : List Ev
     → AreStepsOf setting row event before mine
     → ((front : List StepOfRow) → rest ≡ front ++ last ∷ [] → PlayedTo (row + 1) events front last)
     → EndsOthers steps last mine rest → PlayedTo row (event ∷ events) steps last
-front_played setting row event events before steps last mine rest all others (inl is) =
-    of_front row (event ∷ events) steps last
-    (event_front setting row event before steps last
-    (subst (AreFirstStepsOf setting row event before) is
-    (all_first setting row event before mine all)))
+front_played setting row event events before steps last mine rest all others (inl is) = of_front row
+    (event ∷ events) steps last (event_front setting row event before steps last (subst
+    (AreFirstStepsOf setting row event before) is (all_first setting row event before mine all)))
 front_played setting row event events before steps last mine rest all others
     (inr (front, is, first)) =
     let more = others front is in
     let above : row + 1 ≤ last.row = more.from in
-    let one : suc (last.row - (row + 1)) ≡ last.row - row = omega (arith, above) in
-    record {
+    let one : suc (last.row - (row + 1)) ≡ last.row - row = omega (arith, above) in record {
       from = omega (arith, above);
       rows = ap rows_of first ∙ rows_append mine front
           ∙ ap (λ rows. rows ++ rows_of front) (event_rows setting row event before mine all)
@@ -173,17 +157,14 @@ front_played setting row event events before steps last mine rest all others
     }
 
 pub steps_in_front : (setting : Setting) (row : ℕ) (events : List Event) (before : List Item)
-    (steps : List StepOfRow) (last : StepOfRow)
-    → AreFirstSteps setting row events before (steps ++ last ∷ [])
-    → PlayedTo row events steps last
+    (steps : List StepOfRow) (last : StepOfRow) → AreFirstSteps setting row events before
+    (steps ++ last ∷ []) → PlayedTo row events steps last
 steps_in_front setting row [] before steps last first = absurd (append_not_nil steps last first)
-steps_in_front setting row (event ∷ events) before steps last (inl first) =
-    of_front row (event ∷ events) steps last
-    (event_front setting row event before steps last first)
+steps_in_front setting row (event ∷ events) before steps last (inl first) = of_front row
+    (event ∷ events) steps last (event_front setting row event before steps last first)
 steps_in_front setting row (event ∷ events) before steps last
     (inr (mine, rest, split, all, others)) =
     let after : List Item = after_steps setting before mine in
     front_played setting row event events before steps last mine rest all
-    (λ front is. steps_in_front setting (row + 1) events after front last
-    (subst (AreFirstSteps setting (row + 1) events after) is others))
+    (λ front is. steps_in_front setting (row + 1) events after front last (rw is at others))
     (where_ends steps last mine rest split.split)

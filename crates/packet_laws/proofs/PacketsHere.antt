@@ -1,5 +1,5 @@
 -- What is known of a packet at its switch, where something is kept of each packet.
-use Rattle.std.proofs.Common.{[], ◌+◌, ◌<◌, ◌∙◌, ◌≡◌, ◌≤◌, IsTrue, List, Option, Some, ap, arith, inl, inr, length, option_and_then, position, refl, slice_get, subst, sym, unwrap_or, ℕ}
+use Rattle.std.proofs.Common.{[], ◌+◌, ◌<◌, ◌∙◌, ◌≡◌, ◌≤◌, IsTrue, List, Option, Some, ap, arith, inl, inr, option_and_then, position, refl, slice_get, subst, sym, unwrap_or, ℕ}
 use Rattle.base.proofs.Exports.{some_same}
 use Rattle.five_tuple.specs.Exports.{number_of}
 use Rattle.update_machine.specs.Exports.{AuthorityRule, Decision, Exit, HaveCauses, Header, IsSetting, Item, Leg, Seek, Setting, authority_rule, current_mark, decision_of, first_place, found_down, header_at, header_in, leg_of, lookup_at, next_switch, plan_at, policy_at, stamp_of, standing, travels}
@@ -70,8 +70,7 @@ here_of setting before i s stage is have kept at =
       under = under;
       at = same;
       header = rw (header_in_facts before i under.header under.entered) refl;
-      stamped = stamped setting before s is have
-          (subst (λ x. x < length setting.net.switches) (sym same) under.now) at.serving;
+      stamped = stamped setting before s is have (rw same under.now) at.serving;
     }
 
 -- ---- legs
@@ -85,12 +84,9 @@ pub seeking_of : (setting : Setting) (journal : List Item) (facts : PacketFacts)
     → facts.leg ≡ Some (Seek version partition)
     → IsOnLeg setting journal facts header (Seek version partition)
 seeking_of setting journal facts header version partition way entered seeks =
-    let same : way.leg ≡ Seek version partition =
-    leg_is way.leg (Seek version partition) facts way.takes seeks in
-    let own : way.under_way.header ≡ header =
-    some_same facts.header way.under_way.header header way.under_way.entered entered in
-    subst (λ h. IsOnLeg setting journal facts h (Seek version partition)) own
-    (subst (λ leg. IsOnLeg setting journal facts way.under_way.header leg) same way.on_leg)
+    subst (λ h. IsOnLeg setting journal facts h (Seek version partition))
+    (some_same facts.header way.under_way.header header way.under_way.entered entered)
+    (rw (leg_is way.leg (Seek version partition) facts way.takes seeks) at way.on_leg)
 
 pub exiting_of : (setting : Setting) (journal : List Item) (facts : PacketFacts) (port : ℕ)
     (way : IsOnWay setting journal facts) → facts.leg ≡ Some (Exit port)
@@ -125,14 +121,11 @@ pub rules_of : (setting : Setting) (before : List Item) (i s version : ℕ) (fou
     → AuthorityFinds setting before i s version found
     → Rules setting before (what_is_known before i) here.under.header version found
 rules_of setting before i s version found is have here sought finds = elim finds.says [
-  | inl says ↦
-      let stamp : ℕ = stamp_of before s in
+  | inl says ↦ let stamp : ℕ = stamp_of before s in
       let own : FindsRule setting before s here.under.header finds.partition finds.place =
       authority_found setting before s here.under.header finds.partition finds.place here.stamped
       here.under.sound (ap (lookup_at setting before s) (sym here.header) ∙ says.answer) in
-      let rule : authority_rule setting before stamp finds.partition own.part.finds.place
-      ≡ Some found =
-      ap (authority_rule setting before stamp finds.partition) own.found_at
+      let rule = ap (authority_rule setting before stamp finds.partition) own.found_at
       ∙ subst (λ v. authority_rule setting before v finds.partition finds.place ≡ Some found)
       says.stamp finds.rule in
       subst (λ v. Rules setting before (what_is_known before i) here.under.header v found)
@@ -142,28 +135,19 @@ rules_of setting before i s version found is have here sought finds = elim finds
         planned = here.stamped.planned;
         hosted = own.part.hosted;
         finds = own.part.finds;
-        same = rule_is (authority_rule setting before stamp finds.partition
-            own.part.finds.place) found (deciding stamp own.part.finds) rule
-            (rule_there setting before here.under.header own.part.hosted stamp finds.partition
-            own.part.finds own.part.number);
+        same = rule_is (authority_rule setting before stamp finds.partition own.part.finds.place)
+            found (deciding stamp own.part.finds) rule (rule_there setting before here.under.header
+            own.part.hosted stamp finds.partition own.part.finds own.part.number);
       })
-  | inr by ↦
-      let leg : IsSought setting before (what_is_known before i).mark here.under.header version
-      finds.partition =
-      sought version finds.partition (leg_in before i (Some (Seek version finds.partition)) by.seeks)
-      in
-      let planned : IsPlanned setting (policy_at setting before version)
-      (plan_at setting before version) =
-      current_planned setting before version is have (omega (arith, leg.not_retired)) leg.current in
-      let own : Finds (policy_at setting before version) (plan_at setting before version)
-      here.under.header leg.hosted =
-      in_plan setting (policy_at setting before version) (plan_at setting before version)
+  | inr by ↦ let leg = sought version finds.partition
+      (leg_in before i (Some (Seek version finds.partition)) by.seeks) in
+      let planned = current_planned setting before version is have (omega (arith, leg.not_retired))
+      leg.current in
+      let own = in_plan setting (policy_at setting before version) (plan_at setting before version)
       here.under.header leg.hosted planned here.under.sound leg.own.first in
-      let place : finds.place ≡ own.place =
-      by.first ∙ ap (first_place setting before version finds.partition) here.header
-      ∙ ap (λ (o : Option Hosted). unwrap_or (option_and_then
-      (λ (p : Hosted). position (is_held (number_of here.under.header)) p.0.rules) o) 0)
-      leg.own.found ∙ own.position in
+      let place = by.first ∙ ap (first_place setting before version finds.partition) here.header
+      ∙ ap (λ (o : Option Hosted). unwrap_or (option_and_then (λ (p : Hosted). position
+      (is_held (number_of here.under.header)) p.0.rules) o) 0) leg.own.found ∙ own.position in
       record {
         not_retired = leg.not_retired;
         current = leg.current;

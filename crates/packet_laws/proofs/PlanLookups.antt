@@ -1,12 +1,12 @@
 -- What the plan of a version says of a header: the partition whose region holds it, and the rule
 -- there that decides it as the version's policy does.
-use Rattle.std.proofs.Common.{◌<◌, ◌∙◌, ◌≡◌, All, Contains, IsTrue, List, None, Option, Some, ap, arith, filter, find, get_or, length, map, option_map, position, refl, slice_get, subst, sym, true, unwrap_or, ℕ}
+use Rattle.std.proofs.Common.{◌<◌, ◌∙◌, ◌≡◌, All, Contains, IsTrue, List, None, Option, Some, ap, arith, filter, find, length, map, option_map, position, refl, slice_get, subst, sym, unwrap_or, ℕ}
 use Rattle.base.proofs.Exports.{All-filter, find-position, find-there, get_or-map, length-map, slice_get-get_or, some_of_map, some_of_then}
 use Rattle.five_tuple.specs.Exports.{IsHeader, fields_of, number_of}
 use Rattle.update_machine.specs.Exports.{HasPlan, Header, IsSetting, Item, NamesOwnPort, Partition, Row, Rule, Setting, plan_at, policy_at}
 use Rattle.partition.specs.Plan.{IsPlan}
 use Rattle.policy_rules.specs.Exports.{first_rule, highest_row, hit_of, hit_of_rule, is_held, is_highest, is_in, row_matches, scan}
-use Rattle.switch_table.specs.Exports.{Hosted, lookup_in, part_of, plan_lookup, table_lookup, tables_of}
+use Rattle.switch_table.specs.Exports.{Hosted, lookup_in, part_of, table_lookup, tables_of}
 use Rattle.switch_table.proofs.TableLemmas.{tables_planned}
 use Rattle.update_machine.proofs.Exports.{version_is_planned, versions_own}
 
@@ -60,51 +60,37 @@ pub record Finds (rows : List Row) (plan : List Hosted) (header : Header) (hoste
   pub ruled : slice_get hosted.0.rules place ≡ Some rule
   pub decides : hit_of_rule rule ≡ scan rows header
 
--- a partition of a plan that holds the header
-abbrev pub OfPlan : List Hosted → Header → Hosted → Type 0
-OfPlan plan header hosted = Contains plan hosted
-    × IsTrue (is_in header (part_of hosted))
-
-pub in_plan : (setting : Setting) (rows : List Row) (plan : List Hosted) (header : Header)
-    (hosted : Hosted) → IsPlanned setting rows plan
-    → IsHeader header →
-    find (λ other. is_in header (part_of other)) plan ≡ Some hosted
+pub in_plan : (setting : Setting) (rows : List Row) (plan : List Hosted)
+    (header : Header) (hosted : Hosted) → IsPlanned setting rows plan → IsHeader header
+    → find (λ other. is_in header (part_of other)) plan ≡ Some hosted
     → Finds rows plan header hosted
 in_plan setting rows plan header hosted is sound found =
-    let there : Contains plan hosted × (is_in header (part_of hosted) ≡ true) =
-    find-there (λ other. is_in header (part_of other)) plan hosted found in
+    let there = find-there (λ other. is_in header (part_of other)) plan hosted found in
     let k : ℕ = there.0.0 in
-    let long : length (map part_of plan) ≡ length plan =
-    length-map plan part_of in
-    let within : k < length (map part_of plan) = omega (arith, long, there.0.1) in
-    let mapped : get_or (map part_of plan) k (part_of hosted) ≡ part_of hosted =
-    get_or-map part_of plan k hosted (part_of hosted) there.0.1
+    let within : k < length (map part_of plan) =
+    omega (arith, length-map plan part_of, there.0.1) in
+    let mapped = get_or-map part_of plan k hosted (part_of hosted) there.0.1
     ∙ ap part_of there.0.2 in
-    let number : hosted.0.number ≡ k = sym (ap (λ (p : Partition). p.number) mapped)
-    ∙ is.parts.sound.numbers k (part_of hosted) within in
     let got : slice_get plan k ≡ Some hosted = slice_get-get_or plan
     k hosted there.0.1 ∙ ap Some there.0.2 in
-    let decided : option_map hit_of_rule (first_rule hosted.0.rules header) ≡ Some
-    (scan rows header) =
-    subst (λ (p : Partition). IsTrue (is_in header p)
-    → option_map hit_of_rule (first_rule p.rules header) ≡ Some
-    (scan rows header)) mapped
+    let decided : option_map hit_of_rule (first_rule hosted.0.rules header)
+    ≡ Some (scan rows header) = subst (λ (p : Partition). IsTrue (is_in header p)
+    → option_map hit_of_rule (first_rule p.rules header) ≡ Some (scan rows header)) mapped
     (is.parts.sound.decides header sound k (part_of hosted) within) there.1 in
     let rule : (rule : Rule) × (first_rule hosted.0.rules header ≡ Some rule)
     × (hit_of_rule rule ≡ scan rows header) =
-    some_of_map hit_of_rule (first_rule hosted.0.rules header) (scan rows header)
-    decided in
+    some_of_map hit_of_rule (first_rule hosted.0.rules header) (scan rows header) decided in
     let position_of : (place : ℕ)
     × (position (is_held (number_of header)) hosted.0.rules ≡ Some place)
     × (slice_get hosted.0.rules place ≡ Some rule.0) =
     some_of_then (slice_get hosted.0.rules) (position (is_held (number_of header)) hosted.0.rules) rule.0
-    (find-position (is_held (number_of header)) hosted.0.rules ∙ rule.1) in
-    record {
+    (find-position (is_held (number_of header)) hosted.0.rules ∙ rule.1) in record {
       place = position_of.0;
       rule = rule.0;
       first = found;
       holds = there.1;
-      at = ap (slice_get plan) number ∙ got;
+      at = ap (slice_get plan) (sym (ap (λ (p : Partition). p.number) mapped)
+          ∙ is.parts.sound.numbers k (part_of hosted) within) ∙ got;
       position = ap (λ o. unwrap_or o 0) position_of.1;
       ruled = position_of.2;
       decides = rule.2;
@@ -114,21 +100,14 @@ in_plan setting rows plan header hosted is sound found =
 pub record LooksUp (rows : List Row) (plan : List Hosted) (version switch : ℕ) (header : Header) : Type 0 where
   pub hosted : Hosted
   pub finds : Finds rows plan header hosted
-  pub says : table_lookup (tables_of plan version switch) header ≡ lookup_in switch header
-      hosted
+  pub says : table_lookup (tables_of plan version switch) header ≡ lookup_in switch header hosted
 
 pub looks_up : (setting : Setting) (rows : List Row) (plan : List Hosted) (version switch : ℕ)
     (header : Header) → IsPlanned setting rows plan → IsHeader header
     → LooksUp rows plan version switch header
 looks_up setting rows plan version switch header is sound =
-    let planned : plan_lookup plan switch header ≡ Some
-    (table_lookup (tables_of plan version switch) header) =
-    tables_planned rows plan version switch header is.parts.sound sound in
-    let own : (hosted : Hosted)
-    × (find (λ other. is_in header (part_of other)) plan ≡ Some hosted)
-    × (lookup_in switch header hosted ≡ table_lookup (tables_of plan version switch)
-    header) =
-    some_of_map (lookup_in switch header)
+    let own = some_of_map (lookup_in switch header)
     (find (λ other. is_in header (part_of other)) plan)
-    (table_lookup (tables_of plan version switch) header) planned in
+    (table_lookup (tables_of plan version switch) header)
+    (tables_planned rows plan version switch header is.parts.sound sound) in
     record { hosted = own.0; finds = in_plan setting rows plan header own.0 is sound own.1; says = sym own.2 }

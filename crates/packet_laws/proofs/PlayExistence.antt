@@ -17,8 +17,7 @@ goes : (setting : Setting) (next : List Item → Option Step) (row : ℕ) (befor
     (steps : List StepOfRow) → AreAll setting next row before steps
     → GoesOrStops setting next row before
 goes setting next row before [] all = record { steps = []; room = tt; how = inl all }
-goes setting next row before (first ∷ steps) all =
-    by_room (cases_lt full_at (next_message before))
+goes setting next row before (first ∷ steps) all = by_room (cases_lt full_at (next_message before))
     (goes setting next row (before ++ piece setting before first.row first.step) steps all.2)
   where
     by_room : (full_at < next_message before) ⊎ (next_message before ≤ full_at)
@@ -76,29 +75,25 @@ goes_as setting next row event before all_of some_of goes = record {
 
 event_goes : (setting : Setting) (row : ℕ) (event : Event) (before : List Item)
     → IsSetting setting → IsReady setting before → EventGoes setting row event before
-event_goes setting row (One step) before is ready =
-    elim (cases_lt full_at (next_message before)) [
-      | inl full ↦ record {
-        steps = [];
-        room = tt;
-        how = inr (record {
-          more = record { row = row; step = step };
-          allowed = inr refl;
-          full = full;
-        });
-      }
-      | inr room ↦ record {
-        steps = record { row = row; step = step } ∷ [];
-        room = (room, tt);
-        how = inl refl;
-      }
-    ]
-event_goes setting row Flush before is ready =
-    goes_as setting next_delivery row Flush before (λ steps all. all) (λ steps some. some)
-    (flush_goes setting before row)
-event_goes setting row Drain before is ready =
-    let hops : (steps : List StepOfRow) × AreAll setting next_hop row before steps =
-    drain_ends setting before row is ready in
+event_goes setting row (One step) before is ready = elim (cases_lt full_at (next_message before)) [
+  | inl full ↦ record {
+    steps = [];
+    room = tt;
+    how = inr (record {
+      more = record { row = row; step = step };
+      allowed = inr refl;
+      full = full;
+    });
+  }
+  | inr room ↦ record {
+    steps = record { row = row; step = step } ∷ [];
+    room = (room, tt);
+    how = inl refl;
+  }
+]
+event_goes setting row Flush before is ready = goes_as setting next_delivery row Flush before
+    (λ steps all. all) (λ steps some. some) (flush_goes setting before row)
+event_goes setting row Drain before is ready = let hops = drain_ends setting before row is ready in
     goes_as setting next_hop row Drain before (λ steps all. all) (λ steps some. some)
     (goes setting next_hop row before hops.0 hops.1)
 
@@ -154,19 +149,14 @@ events_go : (setting : Setting) (row : ℕ) (events : List Event) (before : List
     → EventsGo setting row events before
 events_go setting row [] before is own ready = record { steps = []; room = tt; how = inl refl }
 events_go setting row (event ∷ events) before is own ready =
-    by_first (event_goes setting row event before is ready)
-    (λ journal then_ready. events_go setting (row + 1) events journal is
-    (λ k d within. own (suc k) d (omega (arith, within))) then_ready)
+    by_first (event_goes setting row event before is ready) (λ journal then_ready. events_go setting
+    (row + 1) events journal is (λ k d within. own (suc k) d (omega (arith, within))) then_ready)
   where
-    by_first : EventGoes setting row event before
-        → ((journal : List Item) → IsReady setting journal
-        → EventsGo setting (row + 1) events journal)
-        → EventsGo setting row (event ∷ events) before
+    by_first : EventGoes setting row event before → ((journal : List Item) → IsReady setting journal
+        → EventsGo setting (row + 1) events journal) → EventsGo setting row (event ∷ events) before
     by_first first rest = elim first.how [
-      | inl all ↦
-          go_on setting row event events before first.steps first.room all
-          (rest (after_steps setting before first.steps)
-          (steps_ready setting before first.steps is
+      | inl all ↦ go_on setting row event events before first.steps first.room all
+          (rest (after_steps setting before first.steps) (steps_ready setting before first.steps is
           (event_steps_are (NamesOwn setting) (has_nexts setting) setting row event before
           first.steps (own 0 event (omega arith)) all) ready))
       | inr stop ↦ stop_first setting row event events before first.steps first.room stop
@@ -176,10 +166,8 @@ events_go setting row (event ∷ events) before is own ready =
 
 pub has_play : (setting : Setting) (events : List Event) → IsSetting setting
     → AreEvents setting events → HasPlay setting events
-has_play setting events is own =
-    by (events_go setting 1 events [] is
-    (λ k d within. own_event setting (get_or events k d) (own k d within))
-    (ready_at_first setting))
+has_play setting events is own = by (events_go setting 1 events [] is
+    (λ k d within. own_event setting (get_or events k d) (own k d within)) (ready_at_first setting))
   where
     by : EventsGo setting 1 events [] → HasPlay setting events
     by all = elim all.how [

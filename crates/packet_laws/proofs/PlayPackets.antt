@@ -20,11 +20,9 @@ answer_entered setting events journal answers =
     steps_entered setting answers.steps journal (step_rows 1 events) answers.written
     (all_steps_rows setting 1 events [] answers.steps answers.allowed)
 
-pub play_entered : (setting : Setting) (events : List Event) (journal : List Item)
-    (full : Option ℕ) → IsPlay setting events journal full
-    → AreEntered (rows_played full events) journal
-play_entered setting events journal None play =
-    answer_entered setting events journal play.answers
+pub play_entered : (setting : Setting) (events : List Event) (journal : List Item) (full : Option ℕ)
+    → IsPlay setting events journal full → AreEntered (rows_played full events) journal
+play_entered setting events journal None play = answer_entered setting events journal play.answers
 play_entered setting events journal (Some row) play =
     steps_entered setting play.steps journal (step_rows 1 (take (row - 1) events)) play.written
     ((steps_in_front setting 1 events [] play.steps play.next play.allowed).rows

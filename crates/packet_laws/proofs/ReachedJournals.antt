@@ -26,33 +26,28 @@ reached_settled setting journal is reached =
 -- ---- laws
 
 -- what holds where packets rest and all items have their causes holds between steps
-pub between : (Holds : Setting → List Item → Type 0)
-    → ((setting : Setting) (journal : List Item) → IsSetting setting
-    → IsSettled setting journal → Holds setting journal)
+pub between : (Holds : Setting → List Item → Type 0) → ((setting : Setting) (journal : List Item)
+    → IsSetting setting → IsSettled setting journal → Holds setting journal)
     → HoldsBetween (λ setting journal. IsSetting setting → Holds setting journal)
 between Holds settled = record {
   reached = λ setting journal reached is.
       settled setting journal is (reached_settled setting journal is reached);
-  answered = λ setting events journal own answers is.
-      settled setting journal is
-      (so_far_carries setting (OfSettings IsSettled setting) (settled_carried setting) events journal
-      own (answers_so_far setting events journal answers) is);
-  so_far = λ setting events journal own answers is.
-      settled setting journal is
-      (so_far_carries setting (OfSettings IsSettled setting) (settled_carried setting) events journal
-      own answers is);
-  played = λ setting events journal full own play n is.
-      settled setting (after_steps setting [] (take n
-      (steps_played setting events journal full play))) is
-      (played_carries setting (OfSettings IsSettled setting) (settled_carried setting) events journal
-      full own play n is);
+  answered = λ setting events journal own answers is. settled setting journal is
+      (so_far_carries setting (OfSettings IsSettled setting) (settled_carried setting) events
+      journal own (answers_so_far setting events journal answers) is);
+  so_far = λ setting events journal own answers is. settled setting journal is
+      (so_far_carries setting (OfSettings IsSettled setting) (settled_carried setting) events
+      journal own answers is);
+  played = λ setting events journal full own play n is. settled setting
+      (after_steps setting [] (take n (steps_played setting events journal full play))) is
+      (played_carries setting (OfSettings IsSettled setting) (settled_carried setting) events
+      journal full own play n is);
 }
 
 -- what holds where all items have their causes holds of each journal that is reached, within a
 -- step too
-pub reached : (Holds : Setting → List Item → Type 0)
-    → ((setting : Setting) (journal : List Item) → IsSetting setting
-    → HaveCauses (IsWayItem setting) [] journal → Holds setting journal)
+pub reached : (Holds : Setting → List Item → Type 0) → ((setting : Setting) (journal : List Item)
+    → IsSetting setting → HaveCauses (IsWayItem setting) [] journal → Holds setting journal)
     → HoldsReached (λ setting journal. IsSetting setting → Holds setting journal)
 reached Holds =
     reached_by IsSettled Holds IsWayItem settled_carried (λ setting journal settled. settled.causes)

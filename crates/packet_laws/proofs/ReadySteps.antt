@@ -52,37 +52,31 @@ row_causes setting journal row step own settled =
 row_off : (journal : List Item) (row : ℕ) (step : Step) (j : ℕ)
     → changes_asked j journal false (item.Row row step) ≡ false
     → is_asked journal j ≡ false → is_asked (journal ++ item.Row row step ∷ []) j ≡ false
-row_off journal row step j stays off =
-    asked_more journal (item.Row row step) j
+row_off journal row step j stays off = asked_more journal (item.Row row step) j
     ∙ subst (λ b. changes_asked j journal b (item.Row row step) ≡ false) (sym off) stays
 
 step_off : (setting : Setting) (journal : List Item) (row : ℕ) (step : Step) (j : ℕ)
     → IsSetting setting → NamesOwn setting step → IsReady setting journal
     → let here = journal ++ item.Row row step ∷ [] in
     is_asked (here ++ step_items setting journal step here) j ≡ false
-step_off setting journal row (Hop i) j is own ready =
-    by_test ((i == j) && travels journal j) refl
+step_off setting journal row (Hop i) j is own ready = by_test ((i == j) && travels journal j) refl
   where
     here : List Item
     here = journal ++ item.Row row (Hop i) ∷ []
 
     by_test : (b : Bool) → ((i == j) && travels journal j) ≡ b
         → is_asked (here ++ step_items setting journal (Hop i) here) j ≡ false
-    by_test false e =
-        stays_off j here (step_items setting journal (Hop i) here)
+    by_test false e = stays_off j here (step_items setting journal (Hop i) here)
         (no_rows setting journal row (Hop i))
         (row_off journal row (Hop i) j (rw e refl) (ready.off j))
     by_test true e =
         let parts = and_parts (i == j) (travels journal j) e in
-        let same : i ≡ j = eqb-true i j parts.0 in
         let keeps = packet_keeps j journal (item.Row row (Hop i) ∷ []) (refl, tt) in
         turns_off j here (step_items setting journal (Hop i) here)
         (no_rows setting journal row (Hop i))
-        (subst (λ k. NamesFirst j (hop_items setting k here)) (sym same)
-        (hop_names setting j here is
-        (row_causes setting journal row (Hop i) own ready.settled)
-        (row_rests journal row (Hop i) ready.settled.rests)
-        (keeps.travels ∙ parts.1)))
+        (subst (λ k. NamesFirst j (hop_items setting k here)) (sym (eqb-true i j parts.0))
+        (hop_names setting j here is (row_causes setting journal row (Hop i) own ready.settled)
+        (row_rests journal row (Hop i) ready.settled.rests) (keeps.travels ∙ parts.1)))
 step_off setting journal row step j is own ready =
     stays_off j (journal ++ item.Row row step ∷ []) (step_items setting journal step
     (journal ++ item.Row row step ∷ [])) (no_rows setting journal row step)
@@ -103,8 +97,7 @@ piece_ready setting journal row step is own ready = record {
 
 pub ready_at_first : (setting : Setting) → IsReady setting []
 unfolding is_asked
-ready_at_first setting =
-    record { settled = settled_at_first setting; begins = tt; off = λ i. refl }
+ready_at_first setting = record { settled = settled_at_first setting; begins = tt; off = λ i. refl }
 
 ready_carried : (setting : Setting) → IsCarried setting (OfSettings IsReady setting)
 ready_carried = setting_carries IsReady ready_at_first piece_ready
@@ -112,19 +105,16 @@ ready_carried = setting_carries IsReady ready_at_first piece_ready
 pub steps_ready : (setting : Setting) (before : List Item) (steps : List StepOfRow)
     → IsSetting setting → AreOf (NamesOwn setting) steps → IsReady setting before
     → IsReady setting (after_steps setting before steps)
-steps_ready setting before steps is own ready =
-    carried_on setting (OfSettings IsReady setting) (ready_carried setting) before steps own
-    (λ is. ready) is
+steps_ready setting before steps is own ready = carried_on setting (OfSettings IsReady setting)
+    (ready_carried setting) before steps own (λ is. ready) is
 
 pub reached_ready : (setting : Setting) (journal : List Item) → IsReached setting journal
     → IsSetting setting → IsReady setting journal
-reached_ready setting =
-    reached_carries setting (OfSettings IsReady setting) (ready_carried setting)
+reached_ready setting = reached_carries setting (OfSettings IsReady setting) (ready_carried setting)
 
 -- what holds where all items have their causes holds of each journal that is reached, within a
 -- step too
-pub reached : (Holds : Setting → List Item → Type 0)
-    → ((setting : Setting) (journal : List Item) → IsSetting setting
-    → HaveCauses (IsHopItem setting) [] journal → Holds setting journal)
+pub reached : (Holds : Setting → List Item → Type 0) → ((setting : Setting) (journal : List Item)
+    → IsSetting setting → HaveCauses (IsHopItem setting) [] journal → Holds setting journal)
     → HoldsReached (λ setting journal. IsSetting setting → Holds setting journal)
 reached Holds = reached_by IsReady Holds IsHopItem ready_carried hop_causes

@@ -3,7 +3,7 @@
 use Rattle.std.proofs.Common.{[], ◌++◌, ◌+◌, ◌<◌, ◌==◌, ◌∙◌, ◌∷◌, ◌≡◌, ◌≢◌, ◌⊎◌, IsTrue, List, None, Option, Some, ap, arith, eq-eqb, false, inl, inr, length, ne_eqb, refl, subst, sym, unwrap_or, ℕ}
 use Rattle.base.proofs.Exports.{cases_eq, ⊤}
 use Rattle.five_tuple.specs.Exports.{IsHeader}
-use Rattle.update_machine.specs.Exports.{Crash, HaveCauses, Header, Hop, IsSetting, Item, Lose, Packet, Setting, Step, authority_rule, gives_header, header_at, header_in, lookup_at, next_packet, packet_items, piece, serves, stamp_of, step_items, travels}
+use Rattle.update_machine.specs.Exports.{Crash, HaveCauses, Header, Hop, IsSetting, Item, Lose, Packet, Setting, Step, authority_rule, header_at, header_in, lookup_at, next_packet, packet_items, piece, serves, stamp_of, step_items, travels}
 use Rattle.switch_table.specs.declared.search.Found.TheVariants as found
 use Rattle.journal.specs.declared.item.Item.TheVariants as item
 use Rattle.update_machine.proofs.Exports.{have_append, last_given_append, packet_keeps}
@@ -56,9 +56,8 @@ pub record IsSettled (setting : Setting) (journal : List Item) : Type 0 where
 
 pub switches_of_all : (setting : Setting) (before items : List Item)
     → HaveCauses (IsWayItem setting) before items → HaveCauses (HasItemCause setting) before items
-switches_of_all setting before items have =
-    have_weaker (IsWayItem setting) (HasItemCause setting) (λ js next is. is.switches) before items
-    have
+switches_of_all setting before items have = have_weaker (IsWayItem setting) (HasItemCause setting)
+    (λ js next is. is.switches) before items have
 
 pub ways_of_all : (setting : Setting) (before items : List Item)
     → HaveCauses (IsWayItem setting) before items → HaveCauses (PacketCause setting) before items
@@ -68,16 +67,14 @@ ways_of_all setting before items have =
 pub numbered : (setting : Setting) (journal : List Item) → HaveCauses (PacketCause setting) [] journal
     → AreNumbered journal
 unfolding travels
-numbered setting journal have =
-    fact_on (PacketCause setting) AreNumbered (numbered_kept setting) [] journal have
-    (λ i travelling. absurd cc)
+numbered setting journal have = fact_on (PacketCause setting) AreNumbered (numbered_kept setting) []
+    journal have (λ i travelling. absurd cc)
 
 have_legs : (setting : Setting) (journal : List Item) → HaveCauses (IsWayItem setting) [] journal
     → HaveLegs journal
 unfolding stage_of
-have_legs setting journal have =
-    fact_on (PacketCause setting) HaveLegs (legs_kept setting) [] journal
-    (ways_of_all setting [] journal have) (λ i moving. absurd cc)
+have_legs setting journal have = fact_on (PacketCause setting) HaveLegs (legs_kept setting) []
+    journal (ways_of_all setting [] journal have) (λ i moving. absurd cc)
 
 -- ---- items behind which packets are served
 
@@ -87,11 +84,9 @@ served_on : (setting : Setting) (before items : List Item)
     → HaveCauses (PacketCause setting) before items
     → HaveCauses (λ js next. NotDown next) before items → AreServed before
     → AreServed (before ++ items)
-served_on setting before items past switches ways up served =
-    fact_on (IsCausedUp setting) AreServed (served_kept setting) before items
-    (have_weaker
-    (Both (Past (HasItemCause setting)) (Both (PacketCause setting) (λ js next. NotDown next)))
-    (IsCausedUp setting)
+served_on setting before items past switches ways up served = fact_on (IsCausedUp setting) AreServed
+    (served_kept setting) before items (have_weaker (Both (Past (HasItemCause setting))
+    (Both (PacketCause setting) (λ js next. NotDown next))) (IsCausedUp setting)
     (λ js next both. record {
       caused = record {
         switches = both.first.caused;
@@ -131,8 +126,7 @@ IsApart j before step = (i : ℕ) → packet_of before step ≡ Some i → (i ==
 
 -- it spares each other one
 others_spare : (setting : Setting) (j : ℕ) (before : List Item) (row : ℕ) (step : Step)
-    → BringsNoPacket step → IsApart j before step
-    → let here = before ++ item.Row row step ∷ [] in
+    → BringsNoPacket step → IsApart j before step → let here = before ++ item.Row row step ∷ [] in
     HaveCauses (SparesAll j) here (step_items setting before step here)
 others_spare setting j before row (Packet s header) none apart = absurd none
 others_spare setting j before row (Hop i) none apart = hop_spares setting j i _ (apart i refl)
@@ -152,9 +146,8 @@ step_spares setting j before row step apart =
 -- a number that isn't the packet's
 another : (before : List Item) (step : Step)
     → IsApart (unwrap_or (packet_of before step) 0 + 1) before step
-another before step i is =
-    ne_eqb i (unwrap_or (packet_of before step) 0 + 1)
-    (λ same. omega (arith, same, ap (λ o. unwrap_or o 0) is))
+another before step i is = ne_eqb i (unwrap_or (packet_of before step) 0 + 1) (λ same. omega
+    (arith, same, ap (λ o. unwrap_or o 0) is))
 
 -- behind its row a step begins no other
 pub no_rows : (setting : Setting) (before : List Item) (row : ℕ) (step : Step)
@@ -162,8 +155,7 @@ pub no_rows : (setting : Setting) (before : List Item) (row : ℕ) (step : Step)
     HaveCauses (λ js next. IsNoRow next) here (step_items setting before step here)
 no_rows setting before row step =
     have_weaker (Spares (unwrap_or (packet_of before step) 0 + 1)) (λ js next. IsNoRow next)
-    (λ js next spares. spares.1) _ _
-    (step_spares setting _ before row step (another before step))
+    (λ js next spares. spares.1) _ _ (step_spares setting _ before row step (another before step))
 
 -- and only that of a packet row brings one in or refuses one
 pub no_entries : (setting : Setting) (before : List Item) (row : ℕ) (step : Step)
@@ -188,11 +180,9 @@ piece_causes setting before row step own rests =
     let ways = piece_ways setting before row step rests in
     let links = pieces_caused setting before row step in (
       record { switches = switches.0; way = ways.0; links = links.0; asked = own },
-      have_weaker
-          (Both (HasItemCause setting)
+      have_weaker (Both (HasItemCause setting)
           (Both (PacketCause setting) (Both (HasLinkCause setting) (IsAsked setting))))
-          (IsWayItem setting)
-          (λ js next both. record {
+          (IsWayItem setting) (λ js next both. record {
             switches = both.first;
             way = both.second.first;
             links = both.second.second.first;
@@ -208,35 +198,25 @@ piece_causes setting before row step own rests =
 header_now : (journal : List Item) (i s : ℕ) (header : Header)
     → header_in (journal ++ item.Entered i s header ∷ []) i ≡ Some header
 unfolding header_in
-header_now journal i s header =
-    rw (
-      last_given_append (gives_header i) journal (item.Entered i s header ∷ []),
-      eq-eqb i i refl,
-    ) refl
+header_now journal i s header = rw (last_given_append, eq-eqb) refl
 
 -- the rules of its lookup are there
 rules_there : (setting : Setting) (journal : List Item) (i s : ℕ) (header : Header)
     → IsSetting setting → HaveCauses (HasItemCause setting) [] journal
     → s < length setting.net.switches → IsHeader header → IsTrue (serves journal s)
-    → (partition place : ℕ)
-    → let entered = journal ++ item.Entered i s header ∷ [] in
+    → (partition place : ℕ) → let entered = journal ++ item.Entered i s header ∷ [] in
     lookup_at setting entered s (header_at entered i) ≡ found.Authority partition place
     → authority_rule setting entered (stamp_of entered s) partition place ≡ None → ⊥
 rules_there setting journal i s header is have there sound serving partition place answer none =
     let next : Item = item.Entered i s header in
     let entered : List Item = journal ++ next ∷ [] in
-    let own_header : header_at entered i ≡ header = rw (header_now journal i s header) refl in
-    let finds : FindsRule setting entered s header partition place =
-    authority_found setting entered s header partition place
-    (stamped setting entered s is
-    (have_append (HasItemCause setting) [] journal (next ∷ []) have (tt, tt)) there
-    (rw (serving_more journal next s) serving)) sound
-    (ap (lookup_at setting entered s) (sym own_header) ∙ answer) in
-    let rule = rule_there setting entered header finds.part.hosted (stamp_of entered s) partition
-    finds.part.finds finds.part.number in
-    let clash : Some _ ≡ None =
-    sym rule ∙ ap (authority_rule setting entered (stamp_of entered s) partition) finds.found_at
-    ∙ none in
+    let finds : FindsRule setting entered s header partition place = authority_found setting entered
+    s header partition place (stamped setting entered s is (have_append (HasItemCause setting) []
+    journal (next ∷ []) have (tt, tt)) there (rw (serving_more journal next s) serving)) sound
+    (ap (lookup_at setting entered s) (sym (rw (header_now journal i s header) refl)) ∙ answer) in
+    let clash : Some _ ≡ None = sym (rule_there setting entered header finds.part.hosted
+    (stamp_of entered s) partition finds.part.finds finds.part.number)
+    ∙ ap (authority_rule setting entered (stamp_of entered s) partition) finds.found_at ∙ none in
     cc
 
 -- ---- behind a step
@@ -245,104 +225,86 @@ step_served : (setting : Setting) (before : List Item) (row : ℕ) (step : Step)
     → IsSettled setting before → let here = before ++ item.Row row step ∷ [] in
     AreServed (here ++ step_items setting before step here)
 unfolding piece
-step_served setting before row step settled = by_kind step
-  where
-    past : (step : Step) → HaveCauses (HasItemCause setting) []
-        (before ++ item.Row row step ∷ [])
-    past step =
-        have_append (HasItemCause setting) [] before (item.Row row step ∷ [])
-        (switches_of_all setting [] before settled.causes) (tt, tt)
+step_served setting before row step settled = by_kind step where
+  past : (step : Step) → HaveCauses (HasItemCause setting) [] (before ++ item.Row row step ∷ [])
+  past step = have_append (HasItemCause setting) [] before
+      (item.Row row step ∷ []) (switches_of_all setting [] before settled.causes) (tt, tt)
 
-    up_served : (step : Step) → let here = before ++ item.Row row step ∷ [] in
-        HaveCauses (λ js next. NotDown next) here (step_items setting before step here)
-        → AreServed (here ++ step_items setting before step here)
-    up_served step up =
-        served_on setting _ _ (past step) (pieces_have setting before row step).1
-        (piece_ways setting before row step settled.rests).1 up
-        (row_rests before row step settled.rests).served
+  up_served : (step : Step) → let here = before ++ item.Row row step ∷ [] in
+      HaveCauses (λ js next. NotDown next) here (step_items setting before step here)
+      → AreServed (here ++ step_items setting before step here)
+  up_served step up = served_on setting _ _ (past step) (pieces_have setting before row step).1
+      (piece_ways setting before row step settled.rests).1 up
+      (row_rests before row step settled.rests).served
 
-    aside_served : (step : Step) → let here = before ++ item.Row row step ∷ [] in
-        AreAside here (step_items setting before step here)
-        → AreServed (here ++ step_items setting before step here)
-    aside_served step aside =
-        up_served step (have_weaker IsAside (λ js next. NotDown next) aside_up _ _ aside)
+  aside_served : (step : Step) → let here = before ++ item.Row row step ∷ [] in
+      AreAside here (step_items setting before step here)
+      → AreServed (here ++ step_items setting before step here)
+  aside_served step aside =
+      up_served step (have_weaker IsAside (λ js next. NotDown next) aside_up _ _ aside)
 
-    traffic_served : (step : Step) → let here = before ++ item.Row row step ∷ [] in
-        Traffic setting here (step_items setting before step here)
-        → AreServed (here ++ step_items setting before step here)
-    traffic_served step traffic =
-        up_served step
-        (have_weaker (IsTraffic setting) (λ js next. NotDown next) (traffic_up setting) _ _ traffic)
+  traffic_served : (step : Step) → let here = before ++ item.Row row step ∷ [] in
+      Traffic setting here (step_items setting before step here)
+      → AreServed (here ++ step_items setting before step here)
+  traffic_served step traffic = up_served step
+      (have_weaker (IsTraffic setting) (λ js next. NotDown next) (traffic_up setting) _ _ traffic)
 
-    by_kind : (step : Step) → let here = before ++ item.Row row step ∷ [] in
-        AreServed (here ++ step_items setting before step here)
-    by_kind (Packet s header) =
-        up_served (Packet s header)
-        (packet_has setting (λ js next. NotDown next) (traffic_up setting) (next_packet before) s
-        header _ tt)
-    by_kind (Hop i) = traffic_served (Hop i) (step_traffic setting before (Hop i) _ tt)
-    by_kind (Lose i) = traffic_served (Lose i) (step_traffic setting before (Lose i) _ tt)
-    by_kind (Crash s) =
-        crash_served setting before s (before ++ item.Row row (Crash s) ∷ [])
-        (numbered setting before (ways_of_all setting [] before settled.causes))
-        (row_rests before row (Crash s) settled.rests).served
-        (λ i.
-        let keeps = packet_keeps i before (item.Row row (Crash s) ∷ []) (refl, tt) in
-        (keeps.travels, keeps.stands))
-    by_kind step = aside_served step (step_aside setting before row step tt)
+  by_kind : (step : Step) → let here = before ++ item.Row row step ∷ [] in
+      AreServed (here ++ step_items setting before step here)
+  by_kind (Packet s header) = up_served (Packet s header) (packet_has setting
+      (λ js next. NotDown next) (traffic_up setting) (next_packet before) s header _ tt)
+  by_kind (Hop i) = traffic_served (Hop i) (step_traffic setting before (Hop i) _ tt)
+  by_kind (Lose i) = traffic_served (Lose i) (step_traffic setting before (Lose i) _ tt)
+  by_kind (Crash s) = crash_served setting before s (before ++ item.Row row (Crash s) ∷ [])
+      (numbered setting before (ways_of_all setting [] before settled.causes))
+      (row_rests before row (Crash s) settled.rests).served
+      (λ i. let keeps = packet_keeps i before (item.Row row (Crash s) ∷ []) (refl, tt) in
+      (keeps.travels, keeps.stands))
+  by_kind step = aside_served step (step_aside setting before row step tt)
 
 step_moving : (setting : Setting) (before : List Item) (row : ℕ) (step : Step)
     → IsSetting setting → NamesOwn setting step → IsSettled setting before → (j : ℕ)
     → let here = before ++ item.Row row step ∷ [] in
     IsMoving (here ++ step_items setting before step here) j
-step_moving setting before row step is own settled j = by_kind step own
-  where
-    resting : (step : Step) → IsMoving (before ++ item.Row row step ∷ []) j
-    resting step = (row_rests before row step settled.rests).moving j
+step_moving setting before row step is own settled j = by_kind step own where
+  resting : (step : Step) → IsMoving (before ++ item.Row row step ∷ []) j
+  resting step = (row_rests before row step settled.rests).moving j
 
-    other : (step : Step) → ((i : ℕ) → packet_of before step ≡ Some i → (i == j) ≡ false)
-        → let here = before ++ item.Row row step ∷ [] in
-        IsMoving (here ++ step_items setting before step here) j
-    other step apart =
-        spared j _ _ (step_spares setting j before row step apart) (resting step)
+  other : (step : Step) → ((i : ℕ) → packet_of before step ≡ Some i → (i == j) ≡ false)
+      → let here = before ++ item.Row row step ∷ [] in
+      IsMoving (here ++ step_items setting before step here) j
+  other step apart = spared j _ _ (step_spares setting j before row step apart) (resting step)
 
-    by_packet : (s : ℕ) (header : Header) → s < length setting.net.switches → IsHeader header
-        → (next_packet before ≡ j) ⊎ (next_packet before ≢ j)
-        → let here = before ++ item.Row row (Packet s header) ∷ [] in
-        IsMoving (here ++ packet_items setting (next_packet before) s header here) j
-    by_packet s header there sound (inl same) =
-        let here : List Item = before ++ item.Row row (Packet s header) ∷ [] in
-        subst (λ k. IsMoving (here ++ packet_items setting k s header here) j) (sym same)
-        (packet_done setting j s header here
-        (rules_there setting here j s header is
-        (have_append (HasItemCause setting) [] before (item.Row row (Packet s header) ∷ [])
-        (switches_of_all setting [] before settled.causes) (tt, tt)) there sound)
-        (resting (Packet s header)))
-    by_packet s header there sound (inr apart) =
-        other (Packet s header)
-        (λ i e. ne_eqb i j (λ same. apart (cc)))
+  by_packet : (s : ℕ) (header : Header) → s < length setting.net.switches → IsHeader header
+      → (next_packet before ≡ j) ⊎ (next_packet before ≢ j)
+      → let here = before ++ item.Row row (Packet s header) ∷ [] in
+      IsMoving (here ++ packet_items setting (next_packet before) s header here) j
+  by_packet s header there sound (inl same) =
+      let here : List Item = before ++ item.Row row (Packet s header) ∷ [] in
+      subst (λ k. IsMoving (here ++ packet_items setting k s header here) j) (sym same)
+      (packet_done setting j s header here (rules_there setting here j s header is
+      (have_append (HasItemCause setting) [] before (item.Row row (Packet s header) ∷ [])
+      (switches_of_all setting [] before settled.causes) (tt, tt)) there sound)
+      (resting (Packet s header)))
+  by_packet s header there sound (inr apart) = other (Packet s header)
+      (λ i e. ne_eqb i j (λ same. apart (cc)))
 
-    by_hop : (i : ℕ) → (i ≡ j) ⊎ (i ≢ j)
-        → let here = before ++ item.Row row (Hop i) ∷ [] in
-        IsMoving (here ++ step_items setting before (Hop i) here) j
-    by_hop i (inl same) =
-        let here : List Item = before ++ item.Row row (Hop i) ∷ [] in
-        let keeps = packet_keeps j before (item.Row row (Hop i) ∷ []) (refl, tt) in
-        subst (λ k. IsMoving (here ++ step_items setting before (Hop k) here) j) (sym same)
-        (hop_done setting j here
-        (λ travelling.
-        let leg = have_legs setting before settled.causes j
-        (settled.rests.moving j (sym keeps.travels ∙ travelling)) in
-        (leg.0, keeps.leg ∙ leg.1)) (resting (Hop i)))
-    by_hop i (inr apart) = other (Hop i) (λ k e. ne_eqb k j (λ same. apart (cc)))
+  by_hop : (i : ℕ) → (i ≡ j) ⊎ (i ≢ j) → let here = before ++ item.Row row (Hop i) ∷ [] in
+      IsMoving (here ++ step_items setting before (Hop i) here) j
+  by_hop i (inl same) =
+      let here : List Item = before ++ item.Row row (Hop i) ∷ [] in
+      let keeps = packet_keeps j before (item.Row row (Hop i) ∷ []) (refl, tt) in
+      subst (λ k. IsMoving (here ++ step_items setting before (Hop k) here) j) (sym same)
+      (hop_done setting j here (λ travelling. let leg = have_legs setting before settled.causes j
+      (settled.rests.moving j (sym keeps.travels ∙ travelling)) in
+      (leg.0, keeps.leg ∙ leg.1)) (resting (Hop i)))
+  by_hop i (inr apart) = other (Hop i) (λ k e. ne_eqb k j (λ same. apart (cc)))
 
-    by_kind : (step : Step) → NamesOwn setting step
-        → let here = before ++ item.Row row step ∷ [] in
-        IsMoving (here ++ step_items setting before step here) j
-    by_kind (Packet s header) own =
-        by_packet s header own.0 own.1 (cases_eq (next_packet before) j)
-    by_kind (Hop i) own = by_hop i (cases_eq i j)
-    by_kind step own = other step (λ k e. absurd cc)
+  by_kind : (step : Step) → NamesOwn setting step → let here = before ++ item.Row row step ∷ [] in
+      IsMoving (here ++ step_items setting before step here) j
+  by_kind (Packet s header) own = by_packet s header own.0 own.1 (cases_eq (next_packet before) j)
+  by_kind (Hop i) own = by_hop i (cases_eq i j)
+  by_kind step own = other step (λ k e. absurd cc)
 
 pub piece_settled : (setting : Setting) (before : List Item) (row : ℕ) (step : Step)
     → IsSetting setting → NamesOwn setting step → IsSettled setting before

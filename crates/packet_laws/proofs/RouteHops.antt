@@ -38,8 +38,7 @@ record IsWithin (held : PacketFacts) (stage : Option Stage) (asked : Bool)
       ≤ most_switches * routes + (if asked then 1 else 0)
 
 abbrev IsWithinOf : List Item → ℕ → Type 0
-IsWithinOf journal i =
-    IsWithin (what_is_known journal i) (stage_of journal i) (is_asked journal i)
+IsWithinOf journal i = IsWithin (what_is_known journal i) (stage_of journal i) (is_asked journal i)
     (routes_taken journal i) (hops_taken journal i) (hops_on_route journal i)
 
 none_asked : (b : Bool) → b ≡ false → (if b then 1 else 0) ≤ 0
@@ -48,20 +47,18 @@ none_asked false e = omega arith
 
 route_few : (setting : Setting) (before : List Item) (held : PacketFacts)
     → IsOnWay setting before held → length held.route ≤ 64
-route_few setting before held way = by_leg way.leg way.on_leg
-  where
-    by_leg : (leg : Leg) → IsOnLeg setting before held way.under_way.header leg
-        → length held.route ≤ 64
-    by_leg (Seek version partition) on = on.leads.list.few
-    by_leg (Exit port) on = on.leads.list.few
+route_few setting before held way = by_leg way.leg way.on_leg where
+  by_leg : (leg : Leg) → IsOnLeg setting before held way.under_way.header leg
+      → length held.route ≤ 64
+  by_leg (Seek version partition) on = on.leads.list.few
+  by_leg (Exit port) on = on.leads.list.few
 
 -- as one is that the packet begins
 begun_few : (setting : Setting) (before : List Item) (packet i : ℕ) (held : PacketFacts)
     → (packet == i) ≡ true → HasKeptFacts setting before held (Some OnWay)
     → held.travels ≡ (what_is_known before packet).travels
     → IsTrue (what_is_known before i).travels → length held.route ≤ 64
-begun_few setting before packet i held e kept same tr =
-    route_few setting before held
+begun_few setting before packet i held e kept same tr = route_few setting before held
     (kept.on_way (same ∙ rw (eqb-true packet i e) tr) (inl refl))
 
 -- ---- items
@@ -75,8 +72,7 @@ record Premises (setting : Setting) (before : List Item) (next : Item) : Type 0 
 -- a packet that isn't on its way
 rests : {held : PacketFacts} {stage : Option Stage} {asked : Bool} {routes taken on : ℕ}
     → taken ≤ most_switches * routes → on ≤ most_switches
-    → (IsTrue held.travels → stage ≡ Some OnWay → ⊥)
-    → IsWithin held stage asked routes taken on
+    → (IsTrue held.travels → stage ≡ Some OnWay → ⊥) → IsWithin held stage asked routes taken on
 rests all each elsewhere = record {
   all = all;
   each = each;
@@ -85,10 +81,9 @@ rests all each elsewhere = record {
 }
 
 -- or that begins a route
-begins_route : {held : PacketFacts} {stage : Option Stage} {asked : Bool}
-    {routes taken : ℕ} → taken + most_switches ≤ most_switches * routes
-    → (IsTrue held.travels → length held.route ≤ 64)
-    → IsWithin held stage asked routes taken 0
+begins_route : {held : PacketFacts} {stage : Option Stage} {asked : Bool} {routes taken : ℕ}
+    → taken + most_switches ≤ most_switches * routes
+    → (IsTrue held.travels → length held.route ≤ 64) → IsWithin held stage asked routes taken 0
 begins_route room few = record {
   all = omega (arith, room);
   each = omega arith;
@@ -97,8 +92,7 @@ begins_route room few = record {
 }
 
 row_within : (setting : Setting) (before : List Item) (packet i : ℕ) → Before setting before
-    → IsRested before → IsWithinOf before i → (b : Bool)
-    → ((packet == i) && travels before i) ≡ b
+    → IsRested before → IsWithinOf before i → (b : Bool) → ((packet == i) && travels before i) ≡ b
     → IsWithin (what_is_known before i) (stage_of before i) (if b then true else is_asked before i)
     (routes_taken before i) (if b then hops_taken before i + 1 else hops_taken before i)
     (if b then hops_on_route before i + 1 else hops_on_route before i)
@@ -108,14 +102,11 @@ row_within setting before packet i known rested within true e =
     let held : PacketFacts = what_is_known before i in
     let travelling : IsTrue held.travels = travels_in before i on in
     let moving : stage_of before i ≡ Some OnWay = rested.rests.moving i on in
-    let way : IsOnWay setting before held =
-    (known.kept.packets i).on_way travelling (inl moving) in
-    let inside : held.hops < length held.route =
-    slice_get_within held.route held.hops way.under_way.switch way.stands in
+    let way : IsOnWay setting before held = (known.kept.packets i).on_way travelling (inl moving) in
+    let inside = slice_get_within held.route held.hops way.under_way.switch way.stands in
     let off = none_asked (is_asked before i) (rested.off i) in
     let left = within.left travelling moving in
-    let place = within.place travelling moving in
-    record {
+    let place = within.place travelling moving in record {
       all = omega (arith, left, off, inside);
       each = omega (arith, place, off, inside, route_few setting before held way);
       place = λ tr is. omega (arith, place, off);
@@ -124,37 +115,30 @@ row_within setting before packet i known rested within true e =
 
 within_by : (setting : Setting) (before : List Item) (next : Item) (i : ℕ)
     → Premises setting before next → (b : Bool) → is_of_packet i next ≡ b → IsWithinOf before i
-    → IsWithin
-    (if b then facts_after (retired_mark before) next (what_is_known before i) else what_is_known before i)
-    (option_or (gives_stage i next) (stage_of before i))
+    → IsWithin (if b then facts_after (retired_mark before) next (what_is_known before i)
+    else what_is_known before i) (option_or (gives_stage i next) (stage_of before i))
     (changes_asked i before (is_asked before i) next)
     (one_more (is_search i next) (search_count before i) + one_more (is_exit i next)
-    (exit_count before i)
-    + one_more (is_detour i next) (detour_count before i))
-    (changes_taken i before (hops_taken before i) next)
-    (changes_on_route i before (hops_on_route before i) next)
+    (exit_count before i) + one_more (is_detour i next) (detour_count before i)) (changes_taken i
+    before (hops_taken before i) next) (changes_on_route i before (hops_on_route before i) next)
 within_by setting before (item.Row row (Hop packet)) i facts true e within = absurd cc
-within_by setting before (item.Row row (Hop packet)) i facts false e within =
-    row_within setting before packet i facts.known facts.begins within
-    ((packet == i) && travels before i) refl
+within_by setting before (item.Row row (Hop packet)) i facts false e within = row_within setting
+    before packet i facts.known facts.begins within ((packet == i) && travels before i) refl
 within_by setting before (item.Entered packet s header) i facts true e within =
     rw e (rests within.all within.each (λ tr is. cc))
 within_by setting before (item.Seeking packet version partition route) i facts true e within =
     rw e (begins_route (omega (arith, within.all)) (begun_few setting before packet i _ e
     (seeking_after setting before packet 0 version partition route
     (knows setting before packet facts.known) facts.way) refl))
-within_by setting before (item.Exiting packet route) i facts true e within =
-    rw e (begins_route (omega (arith, within.all)) (begun_few setting before packet i _ e
-    (exiting_after setting before packet 0 route (knows setting before packet facts.known)
-    facts.way) refl))
-within_by setting before (item.Rerouted packet route) i facts true e within =
-    rw e (begins_route (omega (arith, within.all)) (begun_few setting before packet i _ e
-    (rerouted_after setting before packet 0 route (knows setting before packet facts.known)
-    facts.way) refl))
+within_by setting before (item.Exiting packet route) i facts true e within = rw e
+    (begins_route (omega (arith, within.all)) (begun_few setting before packet i _ e (exiting_after
+    setting before packet 0 route (knows setting before packet facts.known) facts.way) refl))
+within_by setting before (item.Rerouted packet route) i facts true e within = rw e
+    (begins_route (omega (arith, within.all)) (begun_few setting before packet i _ e (rerouted_after
+    setting before packet 0 route (knows setting before packet facts.known) facts.way) refl))
 within_by setting before (item.Hopped packet s) i facts true e within =
-    let same : packet ≡ i = eqb-true packet i e in
     let moving : stage_of before i ≡ Some OnWay =
-    subst (λ k. stage_of before k ≡ Some OnWay) same facts.way.moving in
+    subst (λ k. stage_of before k ≡ Some OnWay) (eqb-true packet i e) facts.way.moving in
     let held : PacketFacts = what_is_known before i in
     let inside : IsTrue held.travels → held.hops < length held.route = λ tr.
     let way : IsOnWay setting before held =
@@ -164,12 +148,7 @@ within_by setting before (item.Hopped packet s) i facts true e within =
       all = within.all;
       each = within.each;
       place = λ tr is. omega (arith, within.place tr moving, one_if (is_asked before i));
-      left = λ tr is. omega (
-        arith,
-        within.left tr moving,
-        one_if (is_asked before i),
-        inside tr,
-      );
+      left = λ tr is. omega (arith, within.left tr moving, one_if (is_asked before i), inside tr);
     })
 within_by setting before (item.FoundDown packet one two) i facts true e within =
     rw e (rests within.all within.each (λ tr is. cc))
@@ -195,8 +174,7 @@ within_by setting before (item.Decided packet version rule act by) i facts false
 within_by setting before (item.Left packet port leaving) i facts false e within = rw e within
 within_by setting before (item.Dropped packet) i facts false e within = rw e within
 within_by setting before (item.Lost packet) i facts false e within = rw e within
-within_by setting before (item.Stuck packet s cause leg down) i facts false e within =
-    rw e within
+within_by setting before (item.Stuck packet s cause leg down) i facts false e within = rw e within
 within_by setting before next i facts true e within = absurd cc
 within_by setting before next i facts false e within = within
 
@@ -207,8 +185,7 @@ pub hops_more : (before : List Item) (next : Item) (i : ℕ)
 unfolding hops_taken
 hops_more before next i = folded_append (changes_taken i) 0 before (next ∷ [])
 
-on_route_more : (before : List Item) (next : Item) (i : ℕ)
-    → hops_on_route (before ++ next ∷ []) i
+on_route_more : (before : List Item) (next : Item) (i : ℕ) → hops_on_route (before ++ next ∷ []) i
     ≡ changes_on_route i before (hops_on_route before i) next
 unfolding hops_on_route
 on_route_more before next i = folded_append (changes_on_route i) 0 before (next ∷ [])
@@ -216,17 +193,16 @@ on_route_more before next i = folded_append (changes_on_route i) 0 before (next 
 within_more : (setting : Setting) (before : List Item) (next : Item) (i : ℕ)
     → Premises setting before next → IsWithinOf before i → IsWithinOf (before ++ next ∷ []) i
 unfolding search_count exit_count detour_count
-within_more setting before next i facts within =
-    rw (
-      facts_grow i before next,
-      stage_next before next i,
-      asked_more before next i,
-      count_more (is_search i) before next,
-      count_more (is_exit i) before next,
-      count_more (is_detour i) before next,
-      hops_more before next i,
-      on_route_more before next i,
-    ) (within_by setting before next i facts (is_of_packet i next) refl within)
+within_more setting before next i facts within = rw (
+  facts_grow i before next,
+  stage_next before next i,
+  asked_more before next i,
+  count_more (is_search i) before next,
+  count_more (is_exit i) before next,
+  count_more (is_detour i) before next,
+  hops_more before next i,
+  on_route_more before next i,
+) (within_by setting before next i facts (is_of_packet i next) refl within)
 
 within_at_first : (i : ℕ) → IsWithinOf [] i
 unfolding what_is_known stage_of is_asked hops_taken hops_on_route travels search_count exit_count
@@ -249,14 +225,12 @@ IsHopItem setting before next = Both (IsWayItem setting) BeginsRested before nex
 
 ways_of : (setting : Setting) (before items : List Item)
     → HaveCauses (IsHopItem setting) before items → HaveCauses (IsWayItem setting) before items
-ways_of setting before items have =
-    have_weaker (IsHopItem setting) (IsWayItem setting) (λ js next both. both.first) before items
-    have
+ways_of setting before items have = have_weaker (IsHopItem setting) (IsWayItem setting)
+    (λ js next both. both.first) before items have
 
 all_within : (setting : Setting) (journal : List Item) → IsSetting setting
     → HaveCauses (IsHopItem setting) [] journal → (i : ℕ) → IsWithinOf journal i
-all_within setting journal is have i =
-    fact_on (IsKnown setting) (λ js. IsWithinOf js i)
+all_within setting journal is have i = fact_on (IsKnown setting) (λ js. IsWithinOf js i)
     (λ before next both within. within_more setting before next i (record {
       known = known_before setting is before next both.first;
       way = both.first.caused.caused.way;
@@ -274,8 +248,7 @@ pub within_routes : (setting : Setting) (journal : List Item) → IsSetting sett
 within_routes setting journal is have i = (all_within setting journal is have i).all
 
 pub within_each : (setting : Setting) (journal : List Item) → IsSetting setting
-    → HaveCauses (IsHopItem setting) [] journal → (i : ℕ)
-    → hops_on_route journal i ≤ most_switches
+    → HaveCauses (IsHopItem setting) [] journal → (i : ℕ) → hops_on_route journal i ≤ most_switches
 within_each setting journal is have i = (all_within setting journal is have i).each
 
 pub hops_few : (setting : Setting) (journal : List Item) → IsSetting setting

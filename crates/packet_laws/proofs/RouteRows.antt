@@ -10,9 +10,8 @@ seeking = item.Entered 1 0 one ∷ item.Seeking 1 1 0 (0 ∷ 1 ∷ []) ∷ []
 
 -- the link is down, and the packet takes two hops around it
 abbrev around : List Item
-around =
-    seeking ++ item.Row 2 (Hop 1) ∷ item.FoundDown 1 0 1 ∷ item.Rerouted 1 (0 ∷ 2 ∷ 1 ∷ [])
-    ∷ item.Hopped 1 2 ∷ item.Row 3 (Hop 1) ∷ item.Hopped 1 1 ∷ []
+around = seeking ++ item.Row 2 (Hop 1) ∷ item.FoundDown 1 0 1
+    ∷ item.Rerouted 1 (0 ∷ 2 ∷ 1 ∷ []) ∷ item.Hopped 1 2 ∷ item.Row 3 (Hop 1) ∷ item.Hopped 1 1 ∷ []
 
 two_hops : hops_taken around 1 ≡ 2
 unfolding hops_taken travels

@@ -22,8 +22,7 @@ piece_rows : (setting : Setting) (before : List Item) (row : ℕ) (step : Step)
     → step_rows_in (piece setting before row step) ≡ step_row row step
 unfolding piece
 piece_rows setting before row step =
-    ap (λ rows. step_row row step ++ rows) (none_given _ _ (no_rows setting before row step))
-    ∙ append-nil (step_row row step)
+    cc (none_given _ _ (no_rows setting before row step), append-nil (step_row row step))
 
 -- the packet rows of steps
 abbrev pub rows_of : List StepOfRow → List StepRow
@@ -37,8 +36,7 @@ steps_rows setting before (next ∷ steps) =
     steps_rows setting (before ++ piece setting before next.row next.step) steps
     ∙ ap (λ rows. rows ++ rows_of steps)
     (all_given_append gives_row before (piece setting before next.row next.step)
-    ∙ ap (λ rows. step_rows_in before ++ rows)
-    (piece_rows setting before next.row next.step))
+    ∙ ap (λ rows. step_rows_in before ++ rows) (piece_rows setting before next.row next.step))
     ∙ append_assoc (step_rows_in before) (step_row next.row next.step) (rows_of steps)
 
 -- ---- the entries
@@ -55,21 +53,19 @@ none_enter before journal (first ∷ items) none =
 packet_enters : (setting : Setting) (before : List Item) (row s : ℕ) (header : Header)
     → EachEnters before (piece setting before row (Packet s header))
 unfolding piece packet_items
-packet_enters setting before row s header = by_serving (serves here s) refl
-  where
-    i : ℕ
-    i = next_packet before
+packet_enters setting before row s header = by_serving (serves here s) refl where
+  i : ℕ
+  i = next_packet before
 
-    here : List Item
-    here = before ++ item.Row row (Packet s header) ∷ []
+  here : List Item
+  here = before ++ item.Row row (Packet s header) ∷ []
 
-    by_serving : (b : Bool) → serves here s ≡ b → EachEnters before (item.Row row (Packet s header) ∷ elim b [
-      | false ↦ item.Closed i s ∷ []
-      | true ↦ items_then (item.Entered i s header ∷ []) (lookup_items setting i s) here
-    ])
-    by_serving false is = ((refl, refl, is), tt)
-    by_serving true is =
-        ((refl, refl, refl, is), none_enter _ _ _ (lookup_in_step setting i s _))
+  by_serving : (b : Bool) → serves here s ≡ b → EachEnters before (item.Row row (Packet s header) ∷ elim b [
+    | false ↦ item.Closed i s ∷ []
+    | true ↦ items_then (item.Entered i s header ∷ []) (lookup_items setting i s) here
+  ])
+  by_serving false is = ((refl, refl, is), tt)
+  by_serving true is = ((refl, refl, refl, is), none_enter _ _ _ (lookup_in_step setting i s _))
 
 piece_enters : (setting : Setting) (before : List Item) (row : ℕ) (step : Step)
     → EachEnters before (piece setting before row step)
@@ -84,14 +80,12 @@ enter_on before (item.Row row (Packet s header) ∷ []) more first then = absurd
 enter_on before (item.Row row (Packet s header) ∷ entry ∷ items) more first then =
     let own : List Item = item.Row row (Packet s header) ∷ entry ∷ [] in (
       first.0,
-      enter_on (before ++ own) items more first.1
-          (subst (λ js. EachEnters js more) (sym (append_assoc before own items)) then),
+      enter_on (before ++ own) items more first.1 (rw (append_assoc before own items) then),
     )
 enter_on before (item.Entered packet switch header ∷ items) more first then = absurd first
 enter_on before (item.Closed packet switch ∷ items) more first then = absurd first
-enter_on before (next ∷ items) more first then =
-    enter_on (before ++ next ∷ []) items more first
-    (subst (λ js. EachEnters js more) (sym (append_assoc before (next ∷ []) items)) then)
+enter_on before (next ∷ items) more first then = enter_on (before ++ next ∷ []) items more first
+    (rw (append_assoc before (next ∷ []) items) then)
 
 pub steps_enter : (setting : Setting) (before : List Item) (steps : List StepOfRow)
     → EachEnters [] before → EachEnters [] (after_steps setting before steps)

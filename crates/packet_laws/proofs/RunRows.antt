@@ -1,5 +1,5 @@
 -- Moves that the abstract machine doesn't make: what a journal that is a run never says.
-use Rattle.std.proofs.Common.{◌<◌, ◌∙◌, ◌≡◌, List, None, Option, Some, ap, arith, length, option_map, subst, sym, ℕ}
+use Rattle.std.proofs.Common.{◌∙◌, ◌≡◌, List, None, Option, Some, ap, arith, length, option_map, subst, sym, ℕ}
 use Rattle.base.proofs.Exports.{slice_get_within, some_same}
 use Rattle.update_machine.specs.Exports.{Action, Decides, Drop, Dropped, End, Ends, Enters, Header, Hit, LeftBy, Machine, Out, Retires, Row, Submits}
 use Rattle.update_machine.specs.Machine.{Packet}
@@ -38,13 +38,11 @@ open_until_decided : (old new : Machine) (packet : Packet) (version : ℕ) (hit 
     → old.packets 1 ≡ Some packet → Decides old 1 version hit new
     → (packet.decision ≡ None) × (packet.end ≡ None)
 open_until_decided old new packet version hit entered decides =
-    subst (λ (p : Packet). (p.decision ≡ None) × (p.end ≡ None))
-    (some_same (old.packets 1) decides.packet packet decides.entered entered)
-    (decides.undecided, decides.not_ended)
+    subst (λ (p : Packet). (p.decision ≡ None) × (p.end ≡ None)) (some_same (old.packets 1)
+    decides.packet packet decides.entered entered) (decides.undecided, decides.not_ended)
 
 not_decided_twice : (old new : Machine) (packet : Packet) (version : ℕ) (first hit : Hit)
-    → old.packets 1 ≡ Some packet → packet.decision ≡ Some first
-    → Decides old 1 version hit new → ⊥
+    → old.packets 1 ≡ Some packet → packet.decision ≡ Some first → Decides old 1 version hit new → ⊥
 not_decided_twice old new packet version first hit entered decided decides =
     let was = open_until_decided old new packet version hit entered decides in
     let none : None ≡ Some first = sym was.0 ∙ decided in cc
@@ -58,17 +56,13 @@ not_decided_once_it_ended old new packet version hit end entered ended decides =
 
 not_by_a_version_to_come : (old new : Machine) (hit : Hit) → length old.policies ≡ 1
     → Decides old 1 3 hit new → ⊥
-not_by_a_version_to_come old new hit one decides =
-    let within : 2 < length old.policies =
-    slice_get_within old.policies 2 decides.policy decides.submitted in
-    omega (arith, one, within)
+not_by_a_version_to_come old new hit one decides = omega (arith, slice_get_within)
 
 not_ended_twice : (old new : Machine) (packet : Packet) (first other : End)
     → old.packets 1 ≡ Some packet → packet.end ≡ Some first → Ends old 1 other new → ⊥
 not_ended_twice old new packet first other entered ended ends =
-    let same : ends.packet ≡ packet =
-    some_same (old.packets 1) ends.packet packet ends.entered entered in
-    let none : None ≡ Some first = sym ends.not_ended ∙ ap (λ (p : Packet). p.end) same ∙ ended in
+    let none : None ≡ Some first = sym ends.not_ended ∙ ap (λ (p : Packet). p.end)
+    (some_same (old.packets 1) ends.packet packet ends.entered entered) ∙ ended in
     cc
 
 -- ---- ends are as they were decided
@@ -80,33 +74,26 @@ action_of packet = option_map (λ (hit : Hit). hit.action) packet.decision
 not_dropped_undecided : (old new : Machine) (packet : Packet) → old.packets 1 ≡ Some packet
     → packet.decision ≡ None → Ends old 1 Dropped new → ⊥
 not_dropped_undecided old new packet entered undecided ends =
-    let same : ends.packet ≡ packet =
-    some_same (old.packets 1) ends.packet packet ends.entered entered in
     let none : Some Drop ≡ None =
-    sym ends.may ∙ ap action_of same ∙ ap (option_map (λ (hit : Hit). hit.action)) undecided in
+    sym ends.may ∙ ap action_of (some_same (old.packets 1) ends.packet packet ends.entered entered)
+    ∙ ap (option_map (λ (hit : Hit). hit.action)) undecided in
     cc
 
 same_port : (port other : ℕ) → Some (Out port) ≡ Some (Out other) → port ≡ other
 same_port port other same = cc
 
-not_out_by_another_port : (old new : Machine) (packet : Packet) (hit : Hit)
-    → old.packets 1 ≡ Some packet → packet.decision ≡ Some hit → hit.action ≡ Out 2
-    → Ends old 1 (LeftBy 3) new → ⊥
+not_out_by_another_port : (old new : Machine) (packet : Packet) (hit : Hit) → old.packets 1
+    ≡ Some packet → packet.decision ≡ Some hit → hit.action ≡ Out 2 → Ends old 1 (LeftBy 3) new → ⊥
 not_out_by_another_port old new packet hit entered decided by ends =
-    let same : ends.packet ≡ packet =
-    some_same (old.packets 1) ends.packet packet ends.entered entered in
     let other : Some (Out 3) ≡ Some (Out 2) =
-    sym ends.may ∙ ap action_of same ∙ ap (option_map (λ (h : Hit). h.action)) decided
-    ∙ ap Some by in
+    sym ends.may ∙ ap action_of (some_same (old.packets 1) ends.packet packet ends.entered entered)
+    ∙ ap (option_map (λ (h : Hit). h.action)) decided ∙ ap Some by in
     omega (arith, same_port 3 2 other)
 
-not_dropped_that_is_let_out : (old new : Machine) (packet : Packet) (hit : Hit)
-    → old.packets 1 ≡ Some packet → packet.decision ≡ Some hit → hit.action ≡ Out 2
-    → Ends old 1 Dropped new → ⊥
+not_dropped_that_is_let_out : (old new : Machine) (packet : Packet) (hit : Hit) → old.packets 1
+    ≡ Some packet → packet.decision ≡ Some hit → hit.action ≡ Out 2 → Ends old 1 Dropped new → ⊥
 not_dropped_that_is_let_out old new packet hit entered decided by ends =
-    let same : ends.packet ≡ packet =
-    some_same (old.packets 1) ends.packet packet ends.entered entered in
     let other : Some Drop ≡ Some (Out 2) =
-    sym ends.may ∙ ap action_of same ∙ ap (option_map (λ (h : Hit). h.action)) decided
-    ∙ ap Some by in
+    sym ends.may ∙ ap action_of (some_same (old.packets 1) ends.packet packet ends.entered entered)
+    ∙ ap (option_map (λ (h : Hit). h.action)) decided ∙ ap Some by in
     cc

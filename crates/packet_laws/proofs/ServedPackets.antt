@@ -38,12 +38,9 @@ pub stays_served : (before : List Item) (next : Item) (i : ℕ) → gives_standi
     → (IsTrue (travels before i) → IsServed before i)
     → IsTrue (travels (before ++ next ∷ []) i) → IsServed (before ++ next ∷ []) i
 stays_served before next i stays (inr ends) on served travelling =
-    let over : travels (before ++ next ∷ []) i ≡ false = ended before next i ends in
-    absurd cc
+    absurd (cc (ended before next i ends))
 stays_served before next i stays (inl same) on served travelling =
-    let here : IsServed before i =
-    served (rw (travels_more before next i, same) at travelling) in
-    record {
+    let here = served (rw (travels_more before next i, same) at travelling) in record {
       switch = here.switch;
       stands = standing_more before next i ∙ rw stays here.stands;
       serving = on here.switch here.serving;
@@ -74,9 +71,7 @@ brought_served before next packet s i silent stands moves served serving travell
       serving = still_serves before next s (silent s) serving;
     }
     by_same false e =
-        let here : IsServed before i =
-        served i (rw (travels_more before next i, moves e) at travelling) in
-        record {
+        let here = served i (rw (travels_more before next i, moves e) at travelling) in record {
           switch = here.switch;
           stands = rw (standing_more before next i, stands, e) here.stands;
           serving = still_serves before next here.switch (silent here.switch) here.serving;
@@ -85,21 +80,16 @@ brought_served before next packet s i silent stands moves served serving travell
 booted_serves : (before : List Item) (switch boot s : ℕ) → ServingIsKnown before
     → IsFalse (is_up before switch) → IsTrue (serves before s)
     → IsTrue (serves (before ++ item.Booted switch boot ∷ []) s)
-booted_serves before switch boot s known down serving = by_same (switch == s) refl
-  where
-    by_same : (b : Bool) → (switch == s) ≡ b
-        → IsTrue (serves (before ++ item.Booted switch boot ∷ []) s)
-    by_same true e =
-        let same : switch ≡ s = eqb-true switch s e in
-        let clash : true ≡ false =
-        sym (known.up s serving) ∙ subst (λ x. IsFalse (is_up before x)) same down in
-        absurd cc
-    by_same false e = rw (serving_more before (item.Booted switch boot) s, e) serving
+booted_serves before switch boot s known down serving = by_same (switch == s) refl where
+  by_same : (b : Bool) → (switch == s) ≡ b
+      → IsTrue (serves (before ++ item.Booted switch boot ∷ []) s)
+  by_same true e = absurd (cc (sym (known.up s serving)
+      ∙ subst (λ x. IsFalse (is_up before x)) (eqb-true switch s e) down))
+  by_same false e = rw (serving_more before (item.Booted switch boot) s, e) serving
 
 opened_serves : (before : List Item) (switch version s : ℕ) → IsTrue (serves before s)
     → IsTrue (serves (before ++ item.Opened switch version ∷ []) s)
-opened_serves before switch version s serving =
-    grind (arith, serving_more before (item.Opened switch version) s, serving)
+opened_serves before switch version s serving = grind (arith, serving_more, serving)
 
 pub served_kept : (setting : Setting) → AreKept (IsCausedUp setting) AreServed
 served_kept setting before (item.Entered packet s header) is served i travelling =
@@ -126,20 +116,17 @@ served_kept setting before (item.Lost packet) is served i travelling =
     stays_served before (item.Lost packet) i refl (ends_or_not (packet == i))
     (λ s. still_serves before (item.Lost packet) s refl) (served i) travelling
 served_kept setting before (item.Stuck packet switch cause leg down) is served i travelling =
-    stays_served before (item.Stuck packet switch cause leg down) i refl
-    (ends_or_not (packet == i))
+    stays_served before (item.Stuck packet switch cause leg down) i refl (ends_or_not (packet == i))
     (λ s. still_serves before (item.Stuck packet switch cause leg down) s refl) (served i)
     travelling
-served_kept setting before next is served i travelling =
-    stays_served before next i refl (inl refl) (λ s. still_serves before next s refl) (served i)
-    travelling
+served_kept setting before next is served i travelling = stays_served before next i refl (inl refl)
+    (λ s. still_serves before next s refl) (served i) travelling
 
 -- ---- numbers of packets
 
 -- a packet that travels has a number that was given
 abbrev pub AreNumbered : List Item → Type 0
-AreNumbered journal = (i : ℕ) → IsTrue (travels journal i)
-    → (1 ≤ i) × (i < next_packet journal)
+AreNumbered journal = (i : ℕ) → IsTrue (travels journal i) → (1 ≤ i) × (i < next_packet journal)
 
 next_first : (journal : List Item) → 1 ≤ next_packet journal
 unfolding next_packet
@@ -148,11 +135,8 @@ next_first journal = omega arith
 number_stays : (before : List Item) (next : Item) (i : ℕ)
     → (gives_travelling i next ≡ None) ⊎ (gives_travelling i next ≡ Some false)
     → (IsTrue (travels before i) → (1 ≤ i) × (i < next_packet before))
-    → IsTrue (travels (before ++ next ∷ []) i)
-    → (1 ≤ i) × (i < next_packet (before ++ next ∷ []))
-number_stays before next i (inr ends) numbered travelling =
-    let over : travels (before ++ next ∷ []) i ≡ false = ended before next i ends in
-    absurd cc
+    → IsTrue (travels (before ++ next ∷ []) i) → (1 ≤ i) × (i < next_packet (before ++ next ∷ []))
+number_stays before next i (inr ends) numbered travelling = absurd (cc (ended before next i ends))
 number_stays before next i (inl same) numbered travelling =
     let there = numbered (rw (travels_more before next i, same) at travelling) in
     (there.0, omega (arith, there.1, packet_more before next))
@@ -167,16 +151,14 @@ numbered_kept setting before (item.Entered packet s header) way numbered i trave
     grows : next_packet (before ++ next ∷ []) ≡ next_packet before + 1
     grows = packet_more before next
 
-    by_same : (b : Bool) → (packet == i) ≡ b
-        → (1 ≤ i) × (i < next_packet (before ++ next ∷ []))
+    by_same : (b : Bool) → (packet == i) ≡ b → (1 ≤ i) × (i < next_packet (before ++ next ∷ []))
     by_same true e =
         let same : packet ≡ i = eqb-true packet i e in
         let number : packet ≡ next_packet before = way.0.number in (
           omega (arith, same, number, next_first before),
           omega (arith, same, number, grows),
         )
-    by_same false e =
-        let there = numbered i (rw (travels_more before next i, e) at travelling) in
+    by_same false e = let there = numbered i (rw (travels_more before next i, e) at travelling) in
         (there.0, omega (arith, there.1, grows))
 numbered_kept setting before (item.Dropped packet) way numbered i travelling =
     number_stays before (item.Dropped packet) i (ends_or_not (packet == i)) (numbered i) travelling
@@ -210,16 +192,15 @@ leg_behind : (before : List Item) (next : Item) (packet i : ℕ) → HaveLegs be
     × (changes_leg i before (leg_of before i) next ≡ leg_of before i))
     → stage_of (before ++ next ∷ []) i ≡ Some OnWay
     → (leg : Leg) × (leg_of (before ++ next ∷ []) i ≡ Some leg)
-leg_behind before next packet i has own other moving = by_same (packet == i) refl
-  where
-    by_same : (b : Bool) → (packet == i) ≡ b
-        → (leg : Leg) × (leg_of (before ++ next ∷ []) i ≡ Some leg)
-    by_same true e = own e
-    by_same false e =
-        let silent = other e in
-        let there = has i (ap (λ o. option_or o (stage_of before i)) (sym silent.0)
-        ∙ sym (stage_next before next i) ∙ moving) in
-        (there.0, leg_more before next i ∙ silent.1 ∙ there.1)
+leg_behind before next packet i has own other moving = by_same (packet == i) refl where
+  by_same : (b : Bool) → (packet == i) ≡ b
+      → (leg : Leg) × (leg_of (before ++ next ∷ []) i ≡ Some leg)
+  by_same true e = own e
+  by_same false e =
+      let silent = other e in
+      let there = has i (ap (λ o. option_or o (stage_of before i)) (sym silent.0)
+      ∙ sym (stage_next before next i) ∙ moving) in
+      (there.0, leg_more before next i ∙ silent.1 ∙ there.1)
 
 -- an item that takes its packet off its way, to another stage
 off_way : (before : List Item) (next : Item) (packet i : ℕ) (stage : Stage)
@@ -228,8 +209,7 @@ off_way : (before : List Item) (next : Item) (packet i : ℕ) (stage : Stage)
     → changes_leg i before (leg_of before i) next ≡ leg_of before i → HaveLegs before
     → stage_of (before ++ next ∷ []) i ≡ Some OnWay
     → (leg : Leg) × (leg_of (before ++ next ∷ []) i ≡ Some leg)
-off_way before next packet i stage other tells same has moving =
-    leg_behind before next packet i has
+off_way before next packet i stage other tells same has moving = leg_behind before next packet i has
     (λ e. absurd (other (rw (stage_next before next i, tells, e) at moving)))
     (λ e. (rw (tells, e) refl, same)) moving
 
@@ -256,8 +236,7 @@ legs_kept setting before (item.Rerouted packet route) way has i moving =
 legs_kept setting before (item.Hopped packet s) way has i moving =
     let next : Item = item.Hopped packet s in
     leg_behind before next packet i has
-    (λ e.
-    let there = has packet way.moving in (
+    (λ e. let there = has packet way.moving in (
       there.0,
       leg_more before next i
           ∙ subst (λ k. leg_of before k ≡ Some there.0) (eqb-true packet i e) there.1,

@@ -38,9 +38,8 @@ in_step_no_row _ within = tt
 
 pub spare : (i : ℕ) (before items : List Item) → HaveCauses (SparesAll i) before items
     → HaveCauses (Spares i) before items
-spare i before items all =
-    have_weaker (SparesAll i) (Spares i) (λ js next is. (is.0, in_step_no_row next is.1)) before
-    items all
+spare i before items all = have_weaker (SparesAll i) (Spares i)
+    (λ js next is. (is.0, in_step_no_row next is.1)) before items all
 
 pub in_step : (i : ℕ) (before items : List Item) → HaveCauses (SparesAll i) before items
     → HaveCauses (λ js next. IsInStep next) before items
@@ -54,12 +53,11 @@ ends_or_not false = inl refl
 
 comes_in : (i : ℕ) (next : Item) → gives_stage i next ≡ None
     → (gives_travelling i next ≡ None) ⊎ (gives_travelling i next ≡ Some false)
-comes_in i (item.Entered packet switch header) spares = by_test (packet == i) spares
-  where
-    by_test : (b : Bool) → (if b then Some CameIn else None) ≡ None
-        → ((if b then Some true else None) ≡ None) ⊎ ((if b then Some true else None) ≡ Some false)
-    by_test true e = absurd cc
-    by_test false e = inl refl
+comes_in i (item.Entered packet switch header) spares = by_test (packet == i) spares where
+  by_test : (b : Bool) → (if b then Some CameIn else None) ≡ None
+      → ((if b then Some true else None) ≡ None) ⊎ ((if b then Some true else None) ≡ Some false)
+  by_test true e = absurd cc
+  by_test false e = inl refl
 comes_in i (item.Dropped packet) spares = ends_or_not (packet == i)
 comes_in i (item.Left packet port leaving) spares = ends_or_not (packet == i)
 comes_in i (item.Lost packet) spares = ends_or_not (packet == i)
@@ -68,8 +66,7 @@ comes_in i _ spares = inl refl
 
 pub spared_on : (i : ℕ) → AreKept (Spares i) (λ journal. IsMoving journal i)
 spared_on i before next spares done travelling = elim (comes_in i next spares.0) [
-  | inl none ↦
-      stage_stays before next i spares.0
+  | inl none ↦ stage_stays before next i spares.0
       ∙ done (rw (travels_more before next i, none) at travelling)
   | inr ends ↦
       let over : travels (before ++ next ∷ []) i ≡ false = ended before next i ends in absurd cc
@@ -106,8 +103,7 @@ unfolding cache_items sent_from
 cache_spares setting j i s rule journal = grind arith
 
 authority_spares : (setting : Setting) (j i s : ℕ) (rule : Option AuthorityRule)
-    (journal : List Item) → Apart i j
-    → Spared j journal (authority_items setting i s rule journal)
+    (journal : List Item) → Apart i j → Spared j journal (authority_items setting i s rule journal)
 unfolding authority_items
 authority_spares setting j i s None journal apart = tt
 authority_spares setting j i s (Some rule) journal apart =
@@ -127,8 +123,7 @@ lookup_spares setting j i s journal apart =
 arrive_spares : (setting : Setting) (j i s : ℕ) (journal : List Item) → Apart i j
     → Spared j journal (arrive_items setting i s journal)
 unfolding arrive_items
-arrive_spares setting j i s journal apart =
-    grind (arith, lookup_spares, authority_spares, apart)
+arrive_spares setting j i s journal apart = grind (arith, lookup_spares, authority_spares, apart)
 
 reroute_spares : (setting : Setting) (j i s : ℕ) (journal : List Item) → Apart i j
     → Spared j journal (reroute_items setting i s journal)
@@ -142,8 +137,7 @@ move_spares setting j i s journal apart = grind (arith, arrive_spares, reroute_s
 
 pub lookup_in_step : (setting : Setting) (i s : ℕ) (journal : List Item)
     → HaveCauses (λ js next. IsInStep next) journal (lookup_items setting i s journal)
-lookup_in_step setting i s journal =
-    in_step (i + 1) journal _
+lookup_in_step setting i s journal = in_step (i + 1) journal _
     (lookup_spares setting (i + 1) i s journal (ne_eqb i (i + 1) (λ same. omega (arith, same))))
 
 lookup_spare : (setting : Setting) (j i s : ℕ) (journal : List Item) → Apart i j
@@ -194,16 +188,14 @@ losts_spare j (i ∷ packets) journal =
 pub crash_spares : (setting : Setting) (j : ℕ) (before : List Item) (s : ℕ) (journal : List Item)
     → Spared j journal (crash_items setting before s journal)
 unfolding crash_items
-crash_spares setting j before s journal = by_up (is_up before s)
-  where
-    by_up : (b : Bool) → Spared j journal (elim b [
-      | false ↦ nothing
-      | true ↦ items_then (item.Down s ∷ map item.Lost (packets_at before s))
-          (link_changes setting before) journal
-    ])
-    by_up false = ((refl, tt), tt)
-    by_up true =
-        have_put (SparesAll j) (item.Down s ∷ map item.Lost (packets_at before s))
+crash_spares setting j before s journal = by_up (is_up before s) where
+  by_up : (b : Bool) → Spared j journal (elim b [
+    | false ↦ nothing
+    | true ↦ items_then (item.Down s ∷ map item.Lost (packets_at before s))
         (link_changes setting before) journal
-        ((refl, tt), losts_spare j (packets_at before s) (journal ++ item.Down s ∷ []))
-        (aside_spares j _ _ (changes_aside setting before _))
+  ])
+  by_up false = ((refl, tt), tt)
+  by_up true = have_put (SparesAll j) (item.Down s ∷ map item.Lost (packets_at before s))
+      (link_changes setting before) journal
+      ((refl, tt), losts_spare j (packets_at before s) (journal ++ item.Down s ∷ []))
+      (aside_spares j _ _ (changes_aside setting before _))

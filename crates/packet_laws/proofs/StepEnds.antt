@@ -10,8 +10,7 @@ use Rattle.packet_laws.proofs.RestingPackets.{no_rows}
 -- what the steps write behind the journal
 abbrev written : Setting → List Item → List StepOfRow → List Item
 written setting before [] = []
-written setting before (next ∷ steps) =
-    piece setting before next.row next.step
+written setting before (next ∷ steps) = piece setting before next.row next.step
     ++ written setting (before ++ piece setting before next.row next.step) steps
 
 after_is : (setting : Setting) (before : List Item) (steps : List StepOfRow)
@@ -40,8 +39,7 @@ past before [] rest n none begins = record { count = n; taken = refl; begins = b
 past before (first ∷ own) rest zero none begins =
     absurd (no_row_begins first (own ++ rest) none.0 begins)
 past before (first ∷ own) rest (suc n) none begins =
-    let more : Past own rest n = past (before ++ first ∷ []) own rest n none.1 begins in
-    record {
+    let more : Past own rest n = past (before ++ first ∷ []) own rest n none.1 begins in record {
       count = more.count;
       taken = ap (λ (items : List Item). first ∷ items) more.taken;
       begins = more.begins;
@@ -61,28 +59,21 @@ firsts : (setting : Setting) (before : List Item) (steps : List StepOfRow) (n : 
 unfolding piece
 firsts setting before [] zero begins = record { count = 0; are = append-nil before }
 firsts setting before [] (suc n) begins = record { count = 0; are = append-nil before }
-firsts setting before (next ∷ steps) zero begins =
-    record { count = 0; are = append-nil before }
+firsts setting before (next ∷ steps) zero begins = record { count = 0; are = append-nil before }
 firsts setting before (next ∷ steps) (suc n) begins =
     let here : List Item = before ++ item.Row next.row next.step ∷ [] in
     let own : List Item = step_items setting before next.step here in
     let whole : List Item = piece setting before next.row next.step in
     let rest : List Item = written setting (before ++ whole) steps in
-    let behind : Past own rest n =
-    past here own rest n (no_rows setting before next.row next.step) begins in
-    let more : Firsts setting (before ++ whole) steps behind.count =
-    firsts setting (before ++ whole) steps behind.count behind.begins in
-    record {
+    let behind = past here own rest n (no_rows setting before next.row next.step) begins in
+    let more = firsts setting (before ++ whole) steps behind.count behind.begins in record {
       count = suc more.count;
-      are = ap (λ (items : List Item). before ++ item.Row next.row next.step ∷ items) behind.taken
-          ∙ sym (append_assoc before whole (take behind.count rest))
-          ∙ more.are;
+      are = cc (behind.taken, append_assoc before whole (take behind.count rest), more.are);
     }
 
 pub ends_at : (setting : Setting) (steps : List StepOfRow) (n : ℕ)
-    → EndsStep (after_steps setting [] steps) n
-    → (count : ℕ) × (take n (after_steps setting [] steps)
-    ≡ after_steps setting [] (take count steps))
+    → EndsStep (after_steps setting [] steps) n → (count : ℕ)
+    × (take n (after_steps setting [] steps) ≡ after_steps setting [] (take count steps))
 ends_at setting steps n ends =
     let is = after_is setting [] steps in
     let found : Firsts setting [] steps n =

@@ -17,8 +17,7 @@ not_two_by_one_row way = let last : false ≡ true = way.0.behind in cc
 
 -- the switch goes down, and its packet is lost
 abbrev crashed : List Item
-crashed =
-    item.Row 1 (Packet 0 one) ∷ item.Entered 1 0 one ∷ item.Row 2 (Crash 0) ∷ item.Down 0 ∷ []
+crashed = item.Row 1 (Packet 0 one) ∷ item.Entered 1 0 one ∷ item.Row 2 (Crash 0) ∷ item.Down 0 ∷ []
 
 lost_with_it : PacketCause open_net crashed (item.Lost 1)
 unfolding travels present_step fallen_switch is_up standing
@@ -29,14 +28,12 @@ lost_with_it = record {
 
 -- but not once more, in a crash of a switch that is down already
 abbrev down_already : List Item
-down_already =
-    item.Row 1 (Packet 0 one) ∷ item.Entered 1 0 one ∷ item.Row 2 (Crash 0) ∷ item.Down 0
+down_already = item.Row 1 (Packet 0 one) ∷ item.Entered 1 0 one ∷ item.Row 2 (Crash 0) ∷ item.Down 0
     ∷ item.Row 3 (Crash 0) ∷ item.Nothing ∷ []
 
 not_lost_when_it_was_down : PacketCause open_net down_already (item.Lost 1) → ⊥
 unfolding present_step fallen_switch
-not_lost_when_it_was_down way = by_how way.how
-  where
-    by_how : (present_step down_already ≡ Some (Lose 1)) ⊎ IsLostInCrash down_already 1 → ⊥
-    by_how (inl row) = cc
-    by_how (inr crash) = let none : None ≡ Some crash.switch = crash.fell in cc
+not_lost_when_it_was_down way = by_how way.how where
+  by_how : (present_step down_already ≡ Some (Lose 1)) ⊎ IsLostInCrash down_already 1 → ⊥
+  by_how (inl row) = cc
+  by_how (inr crash) = let none : None ≡ Some crash.switch = crash.fell in cc

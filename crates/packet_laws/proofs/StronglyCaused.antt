@@ -1,8 +1,7 @@
 -- The strong causes follow from those that are read off the items, and from what is kept.
 use Rattle.std.proofs.Common.{[], ◌<◌, ◌∙◌, ◌≡◌, ◌⊎◌, IsFalse, IsTrue, List, None, Option, Some, arith, inl, inr, length, subst, sym, ℕ}
 use Rattle.base.proofs.Exports.{some_same}
-use Rattle.failover.specs.Exports.{IsRoute}
-use Rattle.update_machine.specs.Exports.{Action, Cause, Exit, HaveCauses, How, IsSetting, Item, Leg, Seek, Setting, found_down, holds_version, leg_of, links_known, route_for, stamp_of, standing, targets_of}
+use Rattle.update_machine.specs.Exports.{Action, Cause, Exit, HaveCauses, How, IsSetting, Item, Leg, Seek, Setting, found_down, holds_version, leg_of, route_for, stamp_of, standing, targets_of}
 use Rattle.journal.specs.declared.item.Item.TheVariants as item
 use Rattle.update_machine.proofs.Exports.{known_link_laws}
 use Rattle.control_laws.specs.Exports.{HasItemCause}
@@ -32,52 +31,48 @@ finds_link setting before i one two knows_it meets = record {
 below_stamp : (setting : Setting) (before : List Item) (i s earlier part : ℕ)
     → Knows setting before i (stage_of before i) → IsAt before i s → IsLookedUp before i s
     → leg_of before i ≡ Some (Seek earlier part) → earlier < stamp_of before s
-below_stamp setting before i s earlier part knows_it at looked seeks = by_lookup looked
-  where
-    facts : PacketFacts
-    facts = what_is_known before i
+below_stamp setting before i s earlier part knows_it at looked seeks = by_lookup looked where
+  facts : PacketFacts
+  facts = what_is_known before i
 
-    here : IsHere setting before i s
-    here = here_of setting before i s (stage_of before i) knows_it.is knows_it.have knows_it.kept at
+  here : IsHere setting before i s
+  here = here_of setting before i s (stage_of before i) knows_it.is knows_it.have knows_it.kept at
 
-    there : s < length setting.net.switches
-    there = subst (λ x. x < length setting.net.switches) (sym here.at) here.under.now
+  there : s < length setting.net.switches
+  there = subst (λ x. x < length setting.net.switches) (sym here.at) here.under.now
 
-    sought : facts.leg ≡ Some (Seek earlier part)
-    sought = leg_in before i (Some (Seek earlier part)) seeks
+  sought : facts.leg ≡ Some (Seek earlier part)
+  sought = leg_in before i (Some (Seek earlier part)) seeks
 
-    by_held : IsTrue (holds_version before s earlier) ⊎ (earlier < stamp_of before s)
-        → IsFalse (holds_version before s earlier) → earlier < stamp_of before s
-    by_held (inl held) missing = absurd cc
-    by_held (inr below) missing = below
+  by_held : IsTrue (holds_version before s earlier) ⊎ (earlier < stamp_of before s)
+      → IsFalse (holds_version before s earlier) → earlier < stamp_of before s
+  by_held (inl held) missing = absurd cc
+  by_held (inr below) missing = below
 
-    by_lookup : IsLookedUp before i s → earlier < stamp_of before s
-    by_lookup (inl came) =
-        let none : facts.leg ≡ None = (knows_it.kept.came_in here.travelling came).1 in
-        let clash : None ≡ Some (Seek earlier part) = sym none ∙ sought in
-        absurd cc
-    by_lookup (inr misses) =
-        let on : IsOnLeg setting before facts here.under.header (Seek earlier part) =
-        seeking_of setting before facts here.under.header earlier part
-        (knows_it.kept.on_way here.travelling (inl misses.arrives.moving)) here.under.entered
-        sought in
-        let same : Seek misses.version misses.partition ≡ Seek earlier part =
-        some_same (leg_of before i) (Seek misses.version misses.partition) (Seek earlier part)
-        misses.seeks seeks in
-        let version_same : misses.version ≡ earlier = cc in
-        by_held
-        ((serving_hold setting before knows_it.have s there at.serving).held earlier on.current)
-        (subst (λ v. IsFalse (holds_version before s v)) version_same misses.missing)
+  by_lookup : IsLookedUp before i s → earlier < stamp_of before s
+  by_lookup (inl came) =
+      let none : facts.leg ≡ None = (knows_it.kept.came_in here.travelling came).1 in
+      let clash : None ≡ Some (Seek earlier part) = sym none ∙ sought in absurd cc
+  by_lookup (inr misses) =
+      let on : IsOnLeg setting before facts here.under.header (Seek earlier part) =
+      seeking_of setting before facts here.under.header earlier part
+      (knows_it.kept.on_way here.travelling (inl misses.arrives.moving)) here.under.entered
+      sought in
+      let same = some_same (leg_of before i) (Seek misses.version misses.partition)
+      (Seek earlier part) misses.seeks seeks in
+      let version_same : misses.version ≡ earlier = cc in
+      by_held
+      ((serving_hold setting before knows_it.have s there at.serving).held earlier on.current)
+      (subst (λ v. IsFalse (holds_version before s v)) version_same misses.missing)
 
 raises_version : (setting : Setting) (before : List Item) (i s version partition : ℕ)
     → Knows setting before i (stage_of before i) → IsAt before i s
     → IsRedirected setting before i s version partition → RaisesVersion before i version
-raises_version setting before i s version partition knows_it at takes earlier part seeks =
-    omega (
-      arith,
-      below_stamp setting before i s earlier part knows_it at takes.looked_up seeks,
-      takes.stamp,
-    )
+raises_version setting before i s version partition knows_it at takes earlier part seeks = omega (
+  arith,
+  below_stamp setting before i s earlier part knows_it at takes.looked_up seeks,
+  takes.stamp,
+)
 
 -- a version that is decided by, and isn't the one that is sought, is the stamp
 raises_unheld : (setting : Setting) (before : List Item) (i s version : ℕ)
@@ -93,12 +88,10 @@ raises_unheld setting before i s version knows_it at when earlier part switch se
       looked.1,
     )
     by_when (inr reaches) =
-        let same : Seek version reaches.partition ≡ Seek earlier part =
-        some_same (leg_of before i) (Seek version reaches.partition) (Seek earlier part)
-        reaches.seeks seeks in
+        let same : Seek version reaches.partition ≡ Seek earlier part = some_same (leg_of before i)
+        (Seek version reaches.partition) (Seek earlier part) reaches.seeks seeks in
         let version_same : version ≡ earlier = cc in
-        let switch_same : s ≡ switch =
-        some_same (standing before i) s switch
+        let switch_same : s ≡ switch = some_same (standing before i) s switch
         (stands_known setting before i s knows_it at) stands in
         let held : IsTrue (holds_version before switch earlier) =
         subst (λ v. IsTrue (holds_version before switch v)) version_same
@@ -125,17 +118,16 @@ stuck_on_leg setting before i s cause leg down knows_it finds = record {
   why = rw finds.found finds.why;
   rightly = by_leg leg finds.on;
   raises = raises_on_leg setting before i s leg knows_it finds.at finds.on;
-}
-  where
-    here : IsHere setting before i s
-    here = here_of setting before i s (stage_of before i) knows_it.is knows_it.have knows_it.kept
-        finds.at
+} where
+  here : IsHere setting before i s
+  here = here_of setting before i s (stage_of before i) knows_it.is knows_it.have knows_it.kept
+      finds.at
 
-    by_leg : (leg : Leg) → TakesLeg setting before i s leg ⊎ IsBlockedOn before i leg
-        → IsOnRightLeg before i leg
-    by_leg (Seek version partition) on =
-        seeks_rightly setting before i s version partition knows_it here on
-    by_leg (Exit port) on = tt
+  by_leg : (leg : Leg) → TakesLeg setting before i s leg ⊎ IsBlockedOn before i leg
+      → IsOnRightLeg before i leg
+  by_leg (Seek version partition) on =
+      seeks_rightly setting before i s version partition knows_it here on
+  by_leg (Exit port) on = tt
 
 decided_rightly : (setting : Setting) (before : List Item) (i version : ℕ) (rule : Option ℕ)
     (act : Action) (by : How) → Before setting before → IsDecided setting before i version rule act by
@@ -148,9 +140,8 @@ decided_rightly setting before i version rule act by known way =
     let now : IsDecidedNow setting before i s version rule act here.under.header =
     decided_now setting before i s version rule act by knows_it here (known.kept.cached s) way.by in (
       record {
-        undecided = decision_out before i None
-            (undecided_of setting before i s (stage_of before i) knows_it.kept here
-            (stage_when before i s version now.when));
+        undecided = decision_out before i None (undecided_of setting before i s (stage_of before i)
+            knows_it.kept here (stage_when before i s version now.when));
         not_retired = subst (λ m. m < version) (mark_in before i) now.rightly.not_retired;
         current = now.rightly.current;
       },
@@ -162,12 +153,10 @@ least_route : (setting : Setting) (before : List Item) (i s : ℕ) (leg : Leg) (
     → route_for setting before i s leg ≡ Some route → IsLeastRoute setting before i leg route
 least_route setting before i s leg route knows_it at leads =
     let targets = targets_of setting before leg in
-    let down = found_down before i in
-    record {
+    let down = found_down before i in record {
       switch = s;
       stands = stands_known setting before i s knows_it at;
-      least = subst (IsRoute (links_known setting before s down) s targets) leads
-          (known_link_laws.route setting before s targets down);
+      least = rw leads at (known_link_laws.route setting before s targets down);
       avoids = (route_way setting before s targets down route knows_it.links leads).avoids;
     }
 
@@ -182,20 +171,18 @@ further setting before (item.Seeking packet version partition route) known cause
   least_route setting before packet way.switch (Seek version partition) route
       (knows setting before packet known) way.at way.leads,
 )
-further setting before (item.Exiting packet route) known cause way =
-    record {
-      port = way.port;
-      own_leg = (way.by.takes.decision, way.by.takes.decided, way.by.takes.action);
-      by = least_route setting before packet way.by.switch (Exit way.port) route
-          (knows setting before packet known) way.by.at way.by.leads;
-    }
-further setting before (item.Rerouted packet route) known cause way =
-    record {
-      leg = way.leg;
-      own_leg = way.blocked.takes;
-      by = least_route setting before packet way.switch way.leg route
-          (knows setting before packet known) way.at way.leads;
-    }
+further setting before (item.Exiting packet route) known cause way = record {
+  port = way.port;
+  own_leg = (way.by.takes.decision, way.by.takes.decided, way.by.takes.action);
+  by = least_route setting before packet way.by.switch (Exit way.port) route
+      (knows setting before packet known) way.by.at way.by.leads;
+}
+further setting before (item.Rerouted packet route) known cause way = record {
+  leg = way.leg;
+  own_leg = way.blocked.takes;
+  by = least_route setting before packet way.switch way.leg route
+      (knows setting before packet known) way.at way.leads;
+}
 further setting before (item.FoundDown packet one two) known cause way =
     finds_link setting before packet one two (knows setting before packet known) way
 further setting before (item.Decided packet version rule act by) known cause way =

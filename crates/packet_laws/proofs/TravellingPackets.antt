@@ -7,9 +7,8 @@ use Rattle.packet_laws.proofs.AllKept.{all_kept}
 use Rattle.packet_laws.proofs.PacketsHere.{leg_in, seeking_of, travels_in}
 use Rattle.packet_laws.proofs.RestingPackets.{IsSettled, switches_of_all}
 
-avoids_in : (journal : List Item) (i : ℕ)
-    → Avoids (what_is_known journal i).found (what_is_known journal i).route
-    → Avoids (found_down journal i) (route_in journal i)
+avoids_in : (journal : List Item) (i : ℕ) → Avoids (what_is_known journal i).found
+    (what_is_known journal i).route → Avoids (found_down journal i) (route_in journal i)
 unfolding what_is_known
 avoids_in journal i avoids = avoids
 
@@ -20,16 +19,14 @@ packets_travel setting journal is settled i travelling =
     let on : IsTrue (what_is_known journal i).travels = travels_in journal i travelling in
     let moving = settled.rests.moving i travelling in
     let way : IsOnWay setting journal (what_is_known journal i) =
-    (kept.packets i).on_way on (inl moving) in
-    record {
+    (kept.packets i).on_way on (inl moving) in record {
       on_way = way;
       served = settled.rests.served i travelling;
       avoids = avoids_in journal i ((kept.packets i).avoids on moving);
-      held = λ version partition s seeks there serving.
-          (serving_hold setting journal (switches_of_all setting [] journal settled.causes) s there
-          serving).held version
-          (seeking_of setting journal (what_is_known journal i) way.under_way.header version partition
-          way way.under_way.entered
+      held = λ version partition s seeks there serving. (serving_hold setting journal
+          (switches_of_all setting [] journal settled.causes) s there serving).held version
+          (seeking_of setting journal (what_is_known journal i) way.under_way.header version
+          partition way way.under_way.entered
           (leg_in journal i (Some (Seek version partition)) seeks)).current;
     }
 

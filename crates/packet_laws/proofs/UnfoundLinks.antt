@@ -26,11 +26,9 @@ part true c = omega arith
 part false true = omega arith
 part false false = omega arith
 
-one_link : (before after : List ℕ) (one two : ℕ) (link : LinkRow)
-    → IsOneMore before after one two
+one_link : (before after : List ℕ) (one two : ℕ) (link : LinkRow) → IsOneMore before after one two
     → cond (is_unfound after link) 1 0 ≤ cond (is_unfound before link) 1 0
-one_link before after one two link more =
-    rw (more.added link.one link.two)
+one_link before after one two link more = rw (more.added link.one link.two)
     (part (has_link before link.one link.two) (is_link_of one two link.one link.two))
 
 stays : (before after : List ℕ) (one two : ℕ) → IsOneMore before after one two
@@ -48,8 +46,7 @@ this_link : (before after : List ℕ) (one two : ℕ) (link : LinkRow)
     → IsOneMore before after one two → is_link_of one two link.one link.two ≡ true
     → cond (is_unfound after link) 1 0 + 1 ≤ cond (is_unfound before link) 1 0
 this_link before after one two link more is =
-    let old : has_link before link.one link.two ≡ false = more.new link.one link.two is in
-    rw (more.added link.one link.two, old, is) (omega arith)
+    rw (more.added link.one link.two, more.new link.one link.two is, is) (omega arith)
 
 falls : (before after : List ℕ) (one two : ℕ) → IsOneMore before after one two
     → (links : List LinkRow) → IsTrue (are_linked links one two)
@@ -94,32 +91,26 @@ joined_ends count one two link few is joined = record {
 
 ends : (net : Net) (one two : ℕ) → IsNet net → IsTrue (are_linked net.links one two)
     → AreEnds one two
-ends net one two is linked = by_link (Any-from_list_any (joins one two) net.links linked)
-  where
-    by_link : Any (λ link. joins one two link ≡ true) net.links → AreEnds one two
-    by_link any =
-        joined_ends (length net.switches) one two any.1 is.few_switches
-        (subst (IsLink (length net.switches)) any.3 (is.links any.0 any.1 any.2)) any.4
+ends net one two is linked = by_link (Any-from_list_any (joins one two) net.links linked) where
+  by_link : Any (λ link. joins one two link ≡ true) net.links → AreEnds one two
+  by_link any = joined_ends (length net.switches) one two any.1 is.few_switches
+      (subst (IsLink (length net.switches)) any.3 (is.links any.0 any.1 any.2)) any.4
 
 same_ends : (found : List ℕ) (one two x y : ℕ) → has_link found one two ≡ false
     → is_link_of one two x y ≡ true → has_link found x y ≡ false
-same_ends found one two x y none is =
-    by_order ((x == one) && (y == two)) refl
-  where
-    straight : (x == one) ≡ true → (y == two) ≡ true → has_link found x y ≡ false
-    straight p q = rw (eqb-true x one p, eqb-true y two q) none
+same_ends found one two x y none is = by_order ((x == one) && (y == two)) refl where
+  straight : (x == one) ≡ true → (y == two) ≡ true → has_link found x y ≡ false
+  straight p q = rw (eqb-true x one p, eqb-true y two q) none
 
-    turned : (x == two) ≡ true → (y == one) ≡ true → has_link found x y ≡ false
-    turned p q =
-        rw (eqb-true x two p, eqb-true y one q) (has_link-turned found two one ∙ none)
+  turned : (x == two) ≡ true → (y == one) ≡ true → has_link found x y ≡ false
+  turned p q = rw (eqb-true x two p, eqb-true y one q) (has_link-turned found two one ∙ none)
 
-    by_order : (b : Bool) → ((x == one) && (y == two)) ≡ b → has_link found x y ≡ false
-    by_order true e =
-        let parts = and_parts (x == one) (y == two) e in straight parts.0 parts.1
-    by_order false e =
-        let other : ((x == two) && (y == one)) ≡ true =
-        ap (λ b. b || ((x == two) && (y == one))) (sym e) ∙ is in
-        let parts = and_parts (x == two) (y == one) other in turned parts.0 parts.1
+  by_order : (b : Bool) → ((x == one) && (y == two)) ≡ b → has_link found x y ≡ false
+  by_order true e = let parts = and_parts (x == one) (y == two) e in straight parts.0 parts.1
+  by_order false e =
+      let other : ((x == two) && (y == one)) ≡ true =
+      ap (λ b. b || ((x == two) && (y == one))) (sym e) ∙ is in
+      let parts = and_parts (x == two) (y == one) other in turned parts.0 parts.1
 
 -- what one more link of the network leaves of a set
 pub record FindsOne (net : Net) (found : List ℕ) (one two : ℕ) : Type 0 where
@@ -130,14 +121,12 @@ pub finds_one : (net : Net) (found : List ℕ) (one two : ℕ) → IsNet net →
     → IsTrue (are_linked net.links one two) → IsFalse (has_link found one two)
     → FindsOne net found one two
 finds_one net found one two is set linked none =
-    let at : AreEnds one two = ends net one two is linked in
-    record {
+    let at : AreEnds one two = ends net one two is linked in record {
       set = with_link_is_link_set found one two set at.apart at.one_fits at.two_fits;
-      fewer = falls found (with_link found one two) one two
-          (record {
-            added = λ x y. has_link-with_link found one two x y set at.one_fits at.two_fits;
-            new = λ x y same. same_ends found one two x y none same;
-          }) net.links linked;
+      fewer = falls found (with_link found one two) one two (record {
+        added = λ x y. has_link-with_link found one two x y set at.one_fits at.two_fits;
+        new = λ x y same. same_ends found one two x y none same;
+      }) net.links linked;
     }
 
 pub few_unfound : (net : Net) (found : List ℕ) → unfound net.links found ≤ length net.links

@@ -45,8 +45,7 @@ pub record AreDecidedAlike (setting : Setting) (journal : List Item) (version : 
   pub after : IsMatchUnder setting journal (version + 1) header hit
   pub decided : (packet : ℕ) (decision : Decision) → header_in journal packet ≡ Some header
       → decision_of journal packet ≡ Some decision
-      → (decision.version ≡ version) ⊎ (decision.version ≡ version + 1)
-      → hit_in decision ≡ hit
+      → (decision.version ≡ version) ⊎ (decision.version ≡ version + 1) → hit_in decision ≡ hit
 
 -- this is true of each change and each header, whatever else is in the journal
 abbrev pub ChangesLeaveOthers : Setting → List Item → Type 0

@@ -57,8 +57,7 @@ EachEnters before [] = ⊤
 EachEnters before (item.Row row (Packet s header) ∷ []) = ⊥
 EachEnters before (item.Row row (Packet s header) ∷ entry ∷ items) =
     IsEntryOf (serves (before ++ item.Row row (Packet s header) ∷ []) s) (next_packet before) s
-    header entry
-    × EachEnters (before ++ item.Row row (Packet s header) ∷ entry ∷ []) items
+    header entry × EachEnters (before ++ item.Row row (Packet s header) ∷ entry ∷ []) items
 EachEnters before (item.Entered packet switch header ∷ items) = ⊥
 EachEnters before (item.Closed packet switch ∷ items) = ⊥
 EachEnters before (first ∷ items) = EachEnters (before ++ first ∷ []) items

@@ -66,8 +66,7 @@ facts_after mark (item.Exiting packet route) facts = record facts {
   route = route;
   hops = 0;
 }
-facts_after mark (item.Rerouted packet route) facts =
-    record facts { route = route; hops = 0 }
+facts_after mark (item.Rerouted packet route) facts = record facts { route = route; hops = 0 }
 facts_after mark (item.Hopped packet switch) facts =
     record facts { stands = Some switch; hops = facts.hops + 1 }
 facts_after mark (item.FoundDown packet one two) facts =

@@ -96,10 +96,8 @@ FurtherCause setting before (item.Retired version) = RetiresRightly setting befo
 FurtherCause setting before (item.Seeking packet version partition route) =
     RaisesVersion before packet version
     × IsLeastRoute setting before packet (Seek version partition) route
-FurtherCause setting before (item.Exiting packet route) =
-    ExitsByLeast setting before packet route
-FurtherCause setting before (item.Rerouted packet route) =
-    TurnsToLeast setting before packet route
+FurtherCause setting before (item.Exiting packet route) = ExitsByLeast setting before packet route
+FurtherCause setting before (item.Rerouted packet route) = TurnsToLeast setting before packet route
 FurtherCause setting before (item.FoundDown packet one two) =
     FindsLinkDown setting before packet one two
 FurtherCause setting before (item.Decided packet version rule action how) =
@@ -112,5 +110,4 @@ FurtherCause setting before _ = ⊤
 
 -- the cause of an item, and what is required beyond it
 abbrev pub StrongCause : Setting → List Item → Item → Type 0
-StrongCause setting before next =
-    PacketCause setting before next × FurtherCause setting before next
+StrongCause setting before next = PacketCause setting before next × FurtherCause setting before next

@@ -38,8 +38,7 @@ ends_at_once region rule rules meet covers = (
 )
 
 narrow_ends : (earlier : List Rule) (last : Rule) (region : WordValue)
-    → IsTrue (covers_of last.word region)
-    → EndInCover region (narrow (earlier ++ last ∷ []) region)
+    → IsTrue (covers_of last.word region) → EndInCover region (narrow (earlier ++ last ∷ []) region)
 narrow_ends [] last region covers = ends_at_once region last []
     (meets_comm last.word region ∙ meets_cover last.word region covers) covers
 narrow_ends (rule ∷ earlier) last region covers =
@@ -51,8 +50,7 @@ narrow_ends (rule ∷ earlier) last region covers =
         | inr past ↦ (
           narrowed_rule region rule ∷ rest.0,
           rest.1,
-          narrow_more region rule rules meet past
-              ∙ ap (λ rs. narrowed_rule region rule ∷ rs) rest.2,
+          cc (narrow_more region rule rules meet past, rest.2),
           rest.3,
         )
       ]
@@ -78,11 +76,9 @@ IsEndedLeaf leaf = EndInCover leaf.0 leaf.1
 
 ended_leaves : (tree : Shape) (rules : List Rule) (region : WordValue) (most : ℕ)
     → IsTreeOf rules region most tree → EndInCover region rules → All IsEndedLeaf (leaves_of tree)
-ended_leaves (End r rs) rules region most is ends =
-    All-cons IsEndedLeaf (r, rs) []
+ended_leaves (End r rs) rules region most is ends = All-cons IsEndedLeaf (r, rs) []
     (ends.0, ends.1, is.same_rules ∙ ends.2, rw is.same_region ends.3) (All-nil IsEndedLeaf)
-ended_leaves (Node bit low high) rules region most is ends =
-    let free = is.0.least.cuts.free in
+ended_leaves (Node bit low high) rules region most is ends = let free = is.0.least.cuts.free in
     All-append IsEndedLeaf (leaves_of low) (leaves_of high)
     (ended_leaves low (side_of rules region bit false) (fix_of region bit false) most is.1
     (half_ends rules region (fix_of region bit false) (fix_within region bit false free) ends))
@@ -92,8 +88,7 @@ ended_leaves (Node bit low high) rules region most is ends =
 -- ---- the partitions of a policy
 
 rules_end : (rows : List Row) → IsPolicy rows → EndInCover any_word (rules_of rows)
-rules_end rows policy =
-    let ends = (IsRuleList-rules_of rows policy).ends in
+rules_end rows policy = let ends = (IsRuleList-rules_of rows policy).ends in
     (ends.0, default_rule _, ends.1, covers_reflexive any_word)
 
 pub parts_ended : (rows : List Row) (most : ℕ) (tree : Shape) → IsPolicy rows

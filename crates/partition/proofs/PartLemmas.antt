@@ -29,9 +29,8 @@ hit_at header rules = option_map hit_of_rule (find (is_held header) rules)
 
 -- ---- a leaf for each header
 
-one_digit : (t : Bool) (digit : ℕ) → digit < 2
-    → from_bool (t && (digit == from_bool false)) + from_bool (t && (digit == from_bool true))
-    ≡ from_bool t
+one_digit : (t : Bool) (digit : ℕ) → digit < 2 → from_bool (t && (digit == from_bool false))
+    + from_bool (t && (digit == from_bool true)) ≡ from_bool t
 one_digit true zero small = refl
 one_digit true (suc zero) small = refl
 one_digit true (suc (suc digit)) small = absurd (omega arith)
@@ -57,16 +56,13 @@ leaves_at header leaves = count_by (λ (leaf : WordValue × List Rule). holds le
 leaf_count_at : (tree : Shape) (rules : List Rule) (region : WordValue) (most header : ℕ)
     → IsTreeOf rules region most tree → leaves_at header (leaves_of tree) ≡ from_bool
     (holds region header)
-leaf_count_at (End r rs) rules region most header is = rw is.same_region
-    (omega (arith, counted (holds region header)))
+leaf_count_at (End r rs) rules region most header is = rw is.same_region (omega (arith, counted))
 leaf_count_at (Node bit low high) rules region most header is =
     let below = leaf_count_at low (side_of rules region bit false) (fix_of region bit false) most
     header is.1 in
     let above = leaf_count_at high (side_of rules region bit true) (fix_of region bit true) most
     header is.2 in
-    let both : leaves_at header (leaves_of low ++ leaves_of high) ≡ leaves_at header
-    (leaves_of low) + leaves_at header (leaves_of high) =
-    sum_by-append (λ (leaf : WordValue × List Rule). cond (holds leaf.0 header) 1 0)
+    let both = sum_by-append (λ (leaf : WordValue × List Rule). cond (holds leaf.0 header) 1 0)
     (leaves_of low) (leaves_of high) in
     omega (arith, both, below, above, one_half region bit header is.0.least.cuts.free)
 
@@ -80,8 +76,7 @@ record IsLeafThatDecides (rules : List Rule) (region : WordValue) (header : ℕ)
   pub same : IsTrue (holds leaf.0 header) → hit_at header leaf.1 ≡ hit_at header rules
 
 hit_narrowed : (region : WordValue) (rule : Rule) → hit_of_rule (narrowed_rule region rule)
-    ≡ hit_of_rule
-    rule
+    ≡ hit_of_rule rule
 unfolding narrowed_rule
 hit_narrowed region rule = refl
 
@@ -98,8 +93,7 @@ widened : (rules : List Rule) (region half : WordValue) (header : ℕ)
 widened rules region half header within leaf decides = record {
   within = covers_transitive region half leaf.0 within decides.within;
   few = omega (arith, decides.few, narrow_few rules half);
-  same = λ held.
-      let here = covers_held half leaf.0 header decides.within held in
+  same = λ held. let here = covers_held half leaf.0 header decides.within held in
       decides.same held ∙ ap (option_map hit_of_rule) (narrow_first rules half header here)
       ∙ hits_narrowed half (find (is_held header) rules);
 }
@@ -115,17 +109,15 @@ leaves_decide (End r rs) rules region most header is =
 leaves_decide (Node bit low high) rules region most header is =
     let free = is.0.least.cuts.free in
     let half = fix_of region bit in
-    let below = leaves_decide low (side_of rules region bit false) (half false) most header is.1 in
     let above = leaves_decide high (side_of rules region bit true) (half true) most header is.2 in
     All-append (IsLeafThatDecides rules region header) (leaves_of low) (leaves_of high)
     (All-weaker (IsLeafThatDecides (narrow rules (half false)) (half false) header)
     (IsLeafThatDecides rules region header)
-    (widened rules region (half false) header (fix_within region bit false free))
-    (leaves_of low) below)
+    (widened rules region (half false) header (fix_within region bit false free)) (leaves_of low)
+    (leaves_decide low (side_of rules region bit false) (half false) most header is.1))
     (All-weaker (IsLeafThatDecides (narrow rules (half true)) (half true) header)
-    (IsLeafThatDecides rules region header)
-    (widened rules region (half true) header (fix_within region bit true free)) (leaves_of high)
-    above)
+    (IsLeafThatDecides rules region header) (widened rules region (half true) header
+    (fix_within region bit true free)) (leaves_of high) above)
 
 -- ---- leaves with numbers
 
@@ -144,16 +136,12 @@ numbered_count : (number : ℕ) (leaves : List (WordValue × List Rule)) (header
 numbered_count number [] header = ap (count_by (is_in header)) (numbered_none number)
 numbered_count number (leaf ∷ leaves) header =
     let parts = numbered_from (number + 1) leaves in
-    let more : count_by (is_in header) (numbered_from number (leaf ∷ leaves)) ≡ count_by
-    (is_in header) (partition_numbered (number, leaf) ∷ parts) = ap (count_by (is_in header))
-    (numbered_more number leaf leaves) in
-    let part : count_by (is_in header) (partition_numbered (number, leaf) ∷ parts) ≡ cond
-    (holds leaf.0 (number_of header)) 1 0 + count_by (is_in header) parts =
-    sum_by-cons (λ part. cond (is_in header part) 1 0) (partition_numbered (number, leaf)) parts in
-    let front : leaves_at (number_of header) (leaf ∷ leaves) ≡ cond
-    (holds leaf.0 (number_of header)) 1 0 + leaves_at (number_of header) leaves =
-    sum_by-cons (λ (leaf : WordValue × List Rule). cond (holds leaf.0 (number_of header)) 1 0)
-    leaf leaves in
+    let more = ap (count_by (is_in header)) (numbered_more number leaf leaves) in
+    let part = sum_by-cons (λ part. cond (is_in header part) 1 0)
+    (partition_numbered (number, leaf)) parts in
+    let front =
+    sum_by-cons (λ (leaf : WordValue × List Rule). cond (holds leaf.0 (number_of header)) 1 0) leaf
+    leaves in
     omega (arith, more, part, front, numbered_count (number + 1) leaves header)
 
 pub numbered_all : (P : Partition → Type 0) (Q : WordValue × List Rule → Type 0)
@@ -161,8 +149,7 @@ pub numbered_all : (P : Partition → Type 0) (Q : WordValue × List Rule → Ty
     → (number : ℕ) (leaves : List (WordValue × List Rule)) → All Q leaves
     → All P (numbered_from number leaves)
 numbered_all P Q each number [] all = All-same P _ _ (numbered_none number) (All-nil P)
-numbered_all P Q each number (leaf ∷ leaves) all =
-    All-same P _ _ (numbered_more number leaf leaves)
+numbered_all P Q each number (leaf ∷ leaves) all = All-same P _ _ (numbered_more number leaf leaves)
     (All-cons P (partition_numbered (number, leaf)) (numbered_from (number + 1) leaves)
     (each number leaf (All-head Q leaf leaves all))
     (numbered_all P Q each (number + 1) leaves (All-tail Q leaf leaves all)))
@@ -176,11 +163,9 @@ numbered_length number leaves = length-map (enumerate_from number leaves) partit
 pub numbered_append : (number : ℕ) (a b : List (WordValue × List Rule))
     → numbered_from number (a ++ b) ≡ numbered_from number a ++ numbered_from (number + length a) b
 numbered_append number [] b = rw numbered_none (ap (λ n. numbered_from n b) (sym (add-zero number)))
-numbered_append number (leaf ∷ a) b =
-    let later : number + 1 + length a ≡ number + length (leaf ∷ a) = omega arith in
-    numbered_more number leaf (a ++ b) ∙ ap (λ ps. partition_numbered (number, leaf) ∷ ps)
-    (numbered_append (number + 1) a b
-    ∙ ap (λ n. numbered_from (number + 1) a ++ numbered_from n b) later)
+numbered_append number (leaf ∷ a) b = numbered_more number leaf (a ++ b)
+    ∙ ap (λ ps. partition_numbered (number, leaf) ∷ ps) (numbered_append (number + 1) a b
+    ∙ ap (λ n. numbered_from (number + 1) a ++ numbered_from n b) (omega arith))
     ∙ ap (λ ps. ps ++ numbered_from (number + length (leaf ∷ a)) b)
     (sym (numbered_more number leaf a))
 
@@ -200,11 +185,10 @@ pub parts_decide : (rules : List Rule) (most : ℕ) (tree : Shape) → IsDefined
 parts_decide rules most tree is = record {
   one = λ header. numbered_count 0 (leaves_of tree) header ∙ leaf_count_at tree rules any_word most
       (number_of header) is ∙ ap from_bool (any_holds (number_of header));
-  decides = λ header.
-      numbered_all (λ part. IsTrue (is_in header part) → DecidesAs rules header part)
-      (IsLeafThatDecides rules any_word (number_of header))
-      (λ number leaf decides. decides.same) 0 (leaves_of tree)
-      (leaves_decide tree rules any_word most (number_of header) is);
+  decides = λ header. numbered_all
+      (λ part. IsTrue (is_in header part) → DecidesAs rules header part)
+      (IsLeafThatDecides rules any_word (number_of header)) (λ number leaf decides. decides.same) 0
+      (leaves_of tree) (leaves_decide tree rules any_word most (number_of header) is);
   few = numbered_all (λ part. length part.rules ≤ length rules) (IsLeafThatDecides rules any_word 0)
       (λ number leaf decides. decides.few) 0 (leaves_of tree)
       (leaves_decide tree rules any_word most 0 is);
@@ -217,8 +201,7 @@ parts_numbered tree = λ place d within. numbers_at 0 (leaves_of tree) place d
 pub parts_sound : (rows : List Row) (most : ℕ) (tree : Shape) → IsPolicy rows
     → IsDefinedTree (rules_of rows) most tree → AreSoundPartitions rows (parts_of tree)
 parts_sound rows most tree policy is =
-    let decide = parts_decide (rules_of rows) most tree is in
-    record {
+    let decide = parts_decide (rules_of rows) most tree is in record {
       one = λ header good. decide.one header;
       decides = λ header good.
           All-weaker (λ part. IsTrue (is_in header part) → DecidesAs (rules_of rows) header part)
@@ -238,8 +221,7 @@ partitions_decide rules most some words = parts_decide rules most (tree_of rules
 
 pub partitions_sound : (rows : List Row) (most : ℕ) → 0 < most → IsPolicy rows
     → AreSoundPartitions rows (partitions_of (rules_of rows) most)
-partitions_sound rows most some policy =
-    parts_sound rows most (tree_of (rules_of rows) most) policy
+partitions_sound rows most some policy = parts_sound rows most (tree_of (rules_of rows) most) policy
     (tree_defined (rules_of rows) most some (IsRuleList-rules_of rows policy).words)
 
 -- ---- the one partition of a header
@@ -254,12 +236,11 @@ none_in header [] none = All-nil (λ part. is_in header part ≡ false)
 none_in header (part ∷ parts) none =
     let front : count_by (is_in header) (part ∷ parts) ≡ cond (is_in header part) 1 0 + count_by
     (is_in header) parts = sum_by-cons (λ part. cond (is_in header part) 1 0) part parts in
-    let rest : count_by (is_in header) parts ≡ 0 = omega (arith, front, none) in
     elim (cases_Bool (is_in header part)) [
       | inl here ↦ let one : ◌≡◌ {A = ℕ} (cond (is_in header part) 1 0) 1 =
           cond-true (is_in header part) 1 0 here in absurd (omega (arith, front, none, one))
       | inr away ↦ All-cons (λ part. is_in header part ≡ false) part parts away
-          (none_in header parts rest)
+          (none_in header parts (omega (arith, front, none)))
     ]
 
 -- the first partition of the header is the only one
@@ -272,18 +253,16 @@ found_alone header (part ∷ parts) found one is =
     let front : count_by (is_in header) (part ∷ parts) ≡ cond (is_in header part) 1 0 + count_by
     (is_in header) parts = sum_by-cons (λ part. cond (is_in header part) 1 0) part parts in
     elim (cases_Bool (is_in header part)) [
-      | inl here ↦
-          let once : ◌≡◌ {A = ℕ} (cond (is_in header part) 1 0) 1 = cond-true (is_in header part) 1
-          0 here in
+      | inl here ↦ let once : ◌≡◌ {A = ℕ} (cond (is_in header part) 1 0) 1 =
+          cond-true (is_in header part) 1 0 here in
           let rest : count_by (is_in header) parts ≡ 0 = omega (arith, front, one, once) in
           let same : part ≡ found = some_same part found
           (sym (cond-true _ (Some part) (find (is_in header) parts) here) ∙ is) in
           All-cons P part parts (λ _. ap (λ (p : Partition). p.number) same)
           (All-weaker (λ part. is_in header part ≡ false) P
           (λ other away hit. absurd (both_ways _ away hit)) parts (none_in header parts rest))
-      | inr away ↦
-          let never : ◌≡◌ {A = ℕ} (cond (is_in header part) 1 0) 0 = cond-false (is_in header part)
-          1 0 away in
+      | inr away ↦ let never : ◌≡◌ {A = ℕ} (cond (is_in header part) 1 0) 0 =
+          cond-false (is_in header part) 1 0 away in
           let rest : count_by (is_in header) parts ≡ 1 = omega (arith, front, one, never) in
           All-cons P part parts (λ hit. absurd (both_ways _ away hit))
           (found_alone header parts found rest
@@ -297,9 +276,8 @@ alone_by : (header : Header) (parts : List Partition) (number : ℕ) → count_b
 alone_by header parts number one None is miss = cc
 alone_by header parts number one (Some found) is same =
     All-weaker (λ part. IsTrue (is_in header part) → part.number ≡ found.number)
-    (λ part. IsTrue (is_in header part) → part.number ≡ number)
-    (λ part equal hit. equal hit ∙ same_Some found.number number same) parts
-    (found_alone header parts found one is)
+    (λ part. IsTrue (is_in header part) → part.number ≡ number) (λ part equal hit. equal hit
+    ∙ same_Some found.number number same) parts (found_alone header parts found one is)
 
 pub alone : (header : Header) (parts : List Partition) (number : ℕ) → count_by (is_in header) parts
     ≡ 1 → option_map (λ (part : Partition). part.number) (find (is_in header) parts) ≡ Some number
@@ -328,16 +306,15 @@ pushed_leaf old tree number region rules copy is same last = rw (is, same, last)
 pub pushed_room : (old new : List Partition) (tree low high : Shape) (bit most : ℕ)
     → tree ≡ Node bit low high → new ≡ old ++ numbered_from (length old) (leaves_of low)
     → length old + leaf_count tree < most → length new + leaf_count high < most
-pushed_room old new tree low high bit most is pushed room =
-    omega (
-      arith,
-      ap leaf_count is,
-      length-append (leaves_of low) (leaves_of high),
-      ap length pushed,
-      length-append old (numbered_from (length old) (leaves_of low)),
-      numbered_length (length old) (leaves_of low),
-      room,
-    )
+pushed_room old new tree low high bit most is pushed room = omega (
+  arith,
+  ap leaf_count is,
+  length-append (leaves_of low) (leaves_of high),
+  ap length pushed,
+  length-append old (numbered_from (length old) (leaves_of low)),
+  numbered_length (length old) (leaves_of low),
+  room,
+)
 
 pub pushed_both : (old middle new : List Partition) (tree low high : Shape) (bit : ℕ)
     → tree ≡ Node bit low high → middle ≡ old ++ numbered_from (length old) (leaves_of low)
@@ -345,12 +322,9 @@ pub pushed_both : (old middle new : List Partition) (tree low high : Shape) (bit
     → new ≡ old ++ numbered_from (length old) (leaves_of tree)
 pushed_both old middle new tree low high bit is first second =
     let front = numbered_from (length old) (leaves_of low) in
-    let count : length middle ≡ length old + leaf_count low = ap length first
-    ∙ length-append old front
+    let count = ap length first ∙ length-append old front
     ∙ ap (λ n. length old + n) (numbered_length (length old) (leaves_of low)) in
-    let whole : numbered_from (length old) (leaves_of tree) ≡ front ++ numbered_from
-    (length old + leaf_count low) (leaves_of high) =
-    ap (λ t. numbered_from (length old) (leaves_of t)) is
+    let whole = ap (λ t. numbered_from (length old) (leaves_of t)) is
     ∙ numbered_append (length old) (leaves_of low) (leaves_of high) in
     second ∙ ap (λ n. middle ++ numbered_from n (leaves_of high)) count
     ∙ ap (λ ps. ps ++ numbered_from (length old + leaf_count low) (leaves_of high)) first

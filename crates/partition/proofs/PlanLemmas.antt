@@ -44,9 +44,8 @@ small_parts : (most number : ℕ) (leaves : List (WordValue × List Rule))
     → All (IsSmallLeaf most) leaves → All (IsSmall most) (numbered_from number leaves)
 small_parts most number [] all = All-same (IsSmall most) _ _ (numbered_none number)
     (All-nil (IsSmall most))
-small_parts most number (leaf ∷ leaves) all =
-    All-same (IsSmall most) _ _ (numbered_more number leaf leaves)
-    (All-cons (IsSmall most) _ _ (all 0 leaf (omega arith))
+small_parts most number (leaf ∷ leaves) all = All-same (IsSmall most) _ _
+    (numbered_more number leaf leaves) (All-cons (IsSmall most) _ _ (all 0 leaf (omega arith))
     (small_parts most (number + 1) leaves (λ k d within. all (suc k) d (omega arith))))
 
 -- ---- what a plan is made of
@@ -91,18 +90,16 @@ made_of rows net plan is = worded_by rows net plan (tree_of (rules_of rows) net.
 
 placement_there : (sizes rooms : List ℕ) (backups : ℕ) (targets : List (List ℕ))
     → placement_of sizes rooms backups ≡ Ok targets → IsPlacement sizes rooms backups targets
-placement_there sizes rooms backups targets is = let P : Result (List (List ℕ)) ℕ
-    → Type 0 = MeetsPlacement sizes rooms backups in subst P is
-    (placement_meets sizes rooms backups)
+placement_there sizes rooms backups targets is = let P : Result (List (List ℕ)) ℕ → Type 0 =
+    MeetsPlacement sizes rooms backups in rw is at (placement_meets sizes rooms backups)
 
 abbrev AreThere : Net → List ℕ → Type 0
 AreThere net switches = All (λ s. s < length net.switches) switches
 
 targets_there : (net : Net) (sizes : List ℕ) (targets : List (List ℕ))
     → IsPlacement sizes (rooms_of net) net.backups targets → All (AreThere net) targets
-targets_there net sizes targets placement =
-    All-from_get_or (AreThere net) targets [] (λ i within.
-    let hosted = placement.hosted i (omega (arith, within, placement.number)) in
+targets_there net sizes targets placement = All-from_get_or (AreThere net) targets []
+    (λ i within. let hosted = placement.hosted i (omega (arith, within, placement.number)) in
     All-weaker (λ s. s < length (rooms_of net)) (λ s. s < length net.switches)
     (λ s here. omega (arith, here, length-map net.switches (λ row. row.room)))
     _ (first_there _ _ (rooms_of net) (get_or sizes i 0) (1 + net.backups) _ hosted))
@@ -114,9 +111,7 @@ zip_holds : (rows : List Row) (net : Net) (tree : Shape) (targets : List (List �
     → IsPlan rows net (zip (parts_of tree) targets)
 zip_holds rows net tree targets policy defined few placement =
     let parts = parts_of tree in
-    let count : length targets ≡ length parts = placement.number
-    ∙ length-map parts (λ part. length part.rules) in
-    let number : length parts ≡ leaf_count tree = numbered_length 0 (leaves_of tree) in
+    let count = placement.number ∙ length-map parts (λ part. length part.rules) in
     let firsts : map (λ (p : Hosted). p.0) (zip parts targets) ≡ parts = firsts-zip parts targets
     count in
     let seconds : map (λ (p : Hosted). p.1) (zip parts targets) ≡ targets = seconds-zip parts
@@ -125,18 +120,15 @@ zip_holds rows net tree targets policy defined few placement =
     grind (arith, length-zip parts targets, count) in
     let small = small_parts net.leaf_rules 0 (leaves_of tree)
     (small_leaves tree (rules_of rows) any_word net.leaf_rules defined) in
-    let there = targets_there net (sizes_of parts) targets placement in
-    record {
+    let there = targets_there net (sizes_of parts) targets placement in record {
       parts = record { tree = tree; defined = defined; leaves = firsts };
       sound = rw firsts (parts_sound rows net.leaf_rules tree policy defined);
       ended = rw firsts (parts_ended rows net.leaf_rules tree policy defined);
-      few = omega (arith, pairs, number, few);
-      leaves = λ k d within.
-          let here : k < length parts = omega (arith, within, pairs) in
+      few = omega (arith, pairs, numbered_length 0 (leaves_of tree), few);
+      leaves = λ k d within. let here : k < length parts = omega (arith, within, pairs) in
           rw (get_or-zip parts targets k d here (omega (arith, here, count))) (small k d.0 here);
       placement = rw (firsts, seconds) placement;
-      targets = λ k d within.
-          let here : k < length parts = omega (arith, within, pairs) in
+      targets = λ k d within. let here : k < length parts = omega (arith, within, pairs) in
           let goes : k < length targets = omega (arith, here, count) in
           rw (get_or-zip parts targets k d here goes) (there k d.1 goes);
     }
@@ -146,8 +138,7 @@ pub plan_holds : (rows : List Row) (net : Net) (plan : List Hosted) → IsPolicy
 plan_holds rows net plan policy network is =
     let made = made_of rows net plan is in
     let tree = tree_of (rules_of rows) net.leaf_rules in
-    let some : 0 < net.leaf_rules = omega (arith, network.some_rules) in
-    let defined = tree_defined (rules_of rows) net.leaf_rules some
+    let defined = tree_defined (rules_of rows) net.leaf_rules (omega (arith, network.some_rules))
     (IsRuleList-rules_of rows policy).words in
     let placement = placement_there (sizes_of (parts_of tree)) (rooms_of net) net.backups
     made.targets made.chosen in
@@ -187,8 +178,7 @@ pub no_room : (rows : List Row) (net : Net) (tree : Shape) (number : ℕ) → wo
     → tree ≡ tree_of (rules_of rows) net.leaf_rules → leaf_count tree ≤ 512
     → placement_of (sizes_of (parts_of tree)) (rooms_of net) net.backups ≡ Err number
     → plan_of rows net ≡ Err (NoRoom number)
-no_room rows net tree number few is small none = hosted_plan rows net tree few is small
-    ∙ ap (result_map_both (zip (parts_of tree)) NoRoom) none
+no_room rows net tree number few is small none = cc (hosted_plan rows net tree few is small, none)
 
 pub planned : (rows : List Row) (net : Net) (tree : Shape) (targets : List (List ℕ))
     → word_total rows ≤ 4096 → tree ≡ tree_of (rules_of rows) net.leaf_rules → leaf_count tree ≤ 512

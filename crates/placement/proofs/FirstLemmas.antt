@@ -51,8 +51,7 @@ after-take before (suc n) (x ∷ xs) z rises there none =
     let later : 0 < count z xs = omega (arith, sum_by-cons (one_of z) x xs, one_of-other z x other)
     in (
       each_from_count (λ y. before x y ≡ true) z xs rises.0 later,
-      after-take before n xs z rises.1
-          later parts.1,
+      after-take before n xs z rises.1 later parts.1,
     )
 
 has_room-within : (load : ℕ → ℕ) (rooms : List ℕ) (size s : ℕ) → has_room load rooms size s ≡ true
@@ -73,14 +72,12 @@ count-with_room load rooms size s = by_case (has_room load rooms size s) refl
     by_case : (b : Bool) → has_room load rooms size s ≡ b → count s (with_room load rooms size)
         ≡ cond b (count s (range_with_len 0 (length rooms))) 0 → count s (with_room load rooms size)
         ≡ cond b 1 0
-    by_case true is counts =
-        omega (
-          arith,
-          counts,
-          count-range-le s 0 (length rooms),
-          count-range_within s (length rooms)
-              (has_room-within load rooms size s is),
-        )
+    by_case true is counts = omega (
+      arith,
+      counts,
+      count-range-le s 0 (length rooms),
+      count-range_within s (length rooms) (has_room-within load rooms size s is),
+    )
     by_case false is counts = counts
 
 pub count-with_room-le : (load : ℕ → ℕ) (rooms : List ℕ) (size s : ℕ)
@@ -93,44 +90,37 @@ pub front_is_first : (held load : ℕ → ℕ) (rooms : List ℕ) (size n : ℕ)
     → n ≤ length xs → AreFirst held load rooms size n (take n xs)
 front_is_first held load rooms size n xs rises counts enough =
     let fits : (s : ℕ) → 0 < count s xs → has_room held rooms size s ≡ true = λ s there.
-    grind (arith, counts s, count-with_room held rooms size s) in
-    record {
+    grind (arith, counts s, count-with_room held rooms size s) in record {
       number = omega (arith, length-take n xs);
       fit = All-from_recursion (λ s. has_room held rooms size s ≡ true) (take n xs)
           (each-take (λ s. has_room held rooms size s ≡ true) n xs
           (each_by_count (λ s. has_room held rooms size s ≡ true) xs fits));
       rising = pairs_from_rises (is_lighter load) (take n xs)
           (rises-take (is_lighter load) n xs rises);
-      least = λ other room none.
-          let there : 0 < count other xs =
-          grind (arith, counts other, count-with_room held rooms size other) in
-          All-from_recursion (λ s. is_lighter load s other ≡ true) (take n xs)
-          (after-take (is_lighter load) n xs other rises there none);
+      least = λ other room none. All-from_recursion
+          (λ s. is_lighter load s other ≡ true) (take n xs) (after-take (is_lighter load) n xs other
+          rises (grind (arith, counts other, count-with_room held rooms size other)) none);
     }
 
 -- so is the front of the switches that have room, in order
 pub first_in_order : (held load : ℕ → ℕ) (rooms : List ℕ) (size n : ℕ)
     → n ≤ length (in_order (is_lighter load) (with_room held rooms size))
     → AreFirst held load rooms size n (take n (in_order (is_lighter load) (with_room held rooms size)))
-first_in_order held load rooms size n enough =
-    front_is_first held load rooms size n _
+first_in_order held load rooms size n enough = front_is_first held load rooms size n _
     (rises-in_order (is_lighter load) (lighter_order load) (with_room held rooms size)
     (count-with_room-le held rooms size))
     (λ s. sum-in_order (one_of s) (is_lighter load) (with_room held rooms size)) enough
 
 -- the same order, by numbers that are the same
 pub order_along : (held held' loads loads' rooms : List ℕ) (size size' : ℕ) (switches : List ℕ)
-    → held ≡ held' → loads ≡ loads' → size ≡ size'
-    → switches ≡ in_order (is_lighter (λ s. get_or loads s 0))
-    (with_room (λ s. get_or held s 0) rooms size)
+    → held ≡ held' → loads ≡ loads' → size ≡ size' → switches
+    ≡ in_order (is_lighter (λ s. get_or loads s 0)) (with_room (λ s. get_or held s 0) rooms size)
     → switches ≡ in_order (is_lighter (λ s. get_or loads' s 0))
     (with_room (λ s. get_or held' s 0) rooms size')
 order_along held held' loads loads' rooms size size' switches holds carries large is =
-    is
-    ∙ ap (λ xs. in_order (is_lighter (λ s. get_or xs s 0))
-    (with_room (λ s. get_or held s 0) rooms size)) carries
-    ∙ ap (λ xs. in_order (is_lighter (λ s. get_or loads' s 0))
-    (with_room (λ s. get_or xs s 0) rooms size)) holds
+    is ∙ ap (λ xs. in_order (is_lighter (λ s. get_or xs s 0))
+    (with_room (λ s. get_or held s 0) rooms size)) carries ∙ ap (λ xs. in_order
+    (is_lighter (λ s. get_or loads' s 0)) (with_room (λ s. get_or xs s 0) rooms size)) holds
     ∙ ap (λ n. in_order (is_lighter (λ s. get_or loads' s 0))
     (with_room (λ s. get_or held' s 0) rooms n)) large
 
@@ -144,13 +134,12 @@ none_of (Some targets) few first said none = absurd (none targets refl)
 pub fewer_in_order : (held load : ℕ → ℕ) (rooms : List ℕ) (size n : ℕ) (switches : List ℕ)
     → switches ≡ in_order (is_lighter load) (with_room held rooms size) → length switches < n
     → length (with_room held rooms size) < n
-fewer_in_order held load rooms size n switches is fewer =
-    omega (
-      arith,
-      ap length is,
-      length-in_order (is_lighter load) (with_room held rooms size),
-      fewer,
-    )
+fewer_in_order held load rooms size n switches is fewer = omega (
+  arith,
+  ap length is,
+  length-in_order (is_lighter load) (with_room held rooms size),
+  fewer,
+)
 
 -- the front of the switches in order
 pub first_of_order : (held load : ℕ → ℕ) (rooms : List ℕ) (size n : ℕ) (switches targets : List ℕ)
@@ -172,20 +161,18 @@ record IsFront (before : ℕ → ℕ → Bool) (passes : ℕ → Bool) (xs : Lis
 pub among_holds : (P : ℕ → Type 0) (z : ℕ) (xs : List ℕ) → AllByRecursion P xs
     → list_any (eqb z) xs ≡ true → P z
 among_holds P z [] each among = absurd (false≢true among)
-among_holds P z (x ∷ xs) each among =
-    elim (cases_eq z x) [
-      | inl same ↦ subst P (sym same) each.0
-      | inr other ↦ among_holds P z xs each.1 (rw (ne_eqb z x other) at among)
-    ]
+among_holds P z (x ∷ xs) each among = elim (cases_eq z x) [
+  | inl same ↦ subst P (sym same) each.0
+  | inr other ↦ among_holds P z xs each.1 (rw (ne_eqb z x other) at among)
+]
 
 -- the head of the one front is the head of the other, or comes after it
 after_head : (before : ℕ → ℕ → Bool) (passes : ℕ → Bool) (x y : ℕ) (xs ys : List ℕ)
     → IsFront before passes (x ∷ xs) → IsFront before passes (y ∷ ys) → x ≢ y → before y x ≡ true
-after_head before passes x y xs ys p q other =
-    elim (cases_Bool (list_any (eqb x) ys)) [
-      | inl among ↦ among_holds (λ z. before y z ≡ true) x ys q.rises.0 among
-      | inr absent ↦ (q.least x p.each.0 (rw (ne_eqb x y other) absent)).0
-    ]
+after_head before passes x y xs ys p q other = elim (cases_Bool (list_any (eqb x) ys)) [
+  | inl among ↦ among_holds (λ z. before y z ≡ true) x ys q.rises.0 among
+  | inr absent ↦ (q.least x p.each.0 (rw (ne_eqb x y other) absent)).0
+]
 
 -- without its head a front is one of the numbers that pass and are not the head
 front-tail : (before : ℕ → ℕ → Bool) (passes : ℕ → Bool) (x : ℕ) (xs : List ℕ) → IsOrder before
@@ -193,40 +180,34 @@ front-tail : (before : ℕ → ℕ → Bool) (passes : ℕ → Bool) (x : ℕ) (
 front-tail before passes x xs order front = record {
   each = both xs front.each.1 front.rises.0;
   rises = front.rises.1;
-  least = λ z pass none.
-      let parts = and_parts (passes z) (not (eqb z x)) pass in
+  least = λ z pass none. let parts = and_parts (passes z) (not (eqb z x)) pass in
       (front.least z parts.0 (rw (not-true (eqb z x) parts.1) none)).1;
-}
-  where
-    both : (ys : List ℕ) → AllByRecursion (λ y. passes y ≡ true) ys
-        → AllByRecursion (λ y. before x y ≡ true) ys
-        → AllByRecursion (λ y. (passes y && not (eqb y x)) ≡ true) ys
-    both [] each after = tt
-    both (y ∷ ys) each after =
-        let other : y ≢ x = λ same.
-        false≢true (sym (order.never x) ∙ subst (λ z. before x z ≡ true) same after.0) in (
-          and_from (passes y) (not (eqb y x)) each.0 (not_from_false (eqb y x) (ne_eqb y x other)),
-          both ys each.1 after.1,
-        )
+} where
+  both : (ys : List ℕ) → AllByRecursion (λ y. passes y ≡ true) ys
+      → AllByRecursion (λ y. before x y ≡ true) ys
+      → AllByRecursion (λ y. (passes y && not (eqb y x)) ≡ true) ys
+  both [] each after = tt
+  both (y ∷ ys) each after =
+      let other : y ≢ x = λ same.
+      false≢true (sym (order.never x) ∙ subst (λ z. before x z ≡ true) same after.0) in (
+        and_from (passes y) (not (eqb y x)) each.0 (not_from_false (eqb y x) (ne_eqb y x other)),
+        both ys each.1 after.1,
+      )
 
 same_front : (before : ℕ → ℕ → Bool) → IsOrder before → (passes : ℕ → Bool) (xs ys : List ℕ)
     → length xs ≡ length ys → IsFront before passes xs → IsFront before passes ys → xs ≡ ys
 same_front before order passes [] [] len p q = refl
 same_front before order passes [] (y ∷ ys) len p q = absurd (omega arith)
 same_front before order passes (x ∷ xs) [] len p q = absurd (omega arith)
-same_front before order passes (x ∷ xs) (y ∷ ys) len p q =
-    elim (cases_eq x y) [
-      | inl same ↦
-          let q' = subst (λ z. IsFront before passes (z ∷ ys)) (sym same) q in
-          let tails = same_front before order (λ z. passes z && not (eqb z x)) xs ys (omega arith)
-          (front-tail before passes x xs order p) (front-tail before passes x ys order q') in
-          cc
-      | inr other ↦
-          let flipped : y ≢ x = λ same. other (sym same) in
-          absurd (false≢true (sym (order.never x)
-          ∙ order.trans x y x (after_head before passes y x ys xs q p flipped)
-          (after_head before passes x y xs ys p q other)))
-    ]
+same_front before order passes (x ∷ xs) (y ∷ ys) len p q = elim (cases_eq x y) [
+  | inl same ↦ let q' = subst (λ z. IsFront before passes (z ∷ ys)) (sym same) q in
+      let tails = same_front before order (λ z. passes z && not (eqb z x)) xs ys (omega arith)
+      (front-tail before passes x xs order p) (front-tail before passes x ys order q') in
+      cc
+  | inr other ↦ let flipped : y ≢ x = λ same. other (sym same) in
+      absurd (false≢true (sym (order.never x) ∙ order.trans x y x (after_head before passes y x
+      ys xs q p flipped) (after_head before passes x y xs ys p q other)))
+]
 
 front_of : (held load : ℕ → ℕ) (rooms : List ℕ) (size n : ℕ) (xs : List ℕ)
     → AreFirst held load rooms size n xs → IsFront (is_lighter load) (has_room held rooms size) xs
@@ -239,35 +220,31 @@ front_of held load rooms size n xs first = record {
 
 pub same_first : (held load : ℕ → ℕ) (rooms : List ℕ) (size n : ℕ) (xs ys : List ℕ)
     → AreFirst held load rooms size n xs → AreFirst held load rooms size n ys → xs ≡ ys
-same_first held load rooms size n xs ys p q =
-    same_front (is_lighter load) (lighter_order load) (has_room held rooms size) xs ys
-    (p.number ∙ sym q.number) (front_of held load rooms size n xs p)
-    (front_of held load rooms size n ys q)
+same_first held load rooms size n xs ys p q = same_front (is_lighter load) (lighter_order load)
+    (has_room held rooms size) xs ys (p.number ∙ sym q.number)
+    (front_of held load rooms size n xs p) (front_of held load rooms size n ys q)
 
 count-rises : (before : ℕ → ℕ → Bool) → IsOrder before → (xs : List ℕ) → Rises before xs → (z : ℕ)
     → count z xs ≤ 1
 count-rises before order [] rises z = omega arith
-count-rises before order (x ∷ xs) rises z =
-    elim (cases_eq z x) [
-      | inl same ↦
-          elim (cases_lt 0 (count z xs)) [
-            | inl again ↦ absurd (false≢true
-                (sym (order.never x) ∙ subst (λ y. before x y ≡ true) same
-                (each_from_count (λ y. before x y ≡ true) z xs rises.0 again)))
-            | inr none ↦ omega (
-              arith,
-              sum_by-cons (one_of z) x xs,
-              one_of-same x,
-              ap (λ y. one_of y x) same,
-            )
-          ]
-      | inr other ↦ omega (
-        arith,
-        sum_by-cons (one_of z) x xs,
-        one_of-other z x other,
-        count-rises before order xs rises.1 z,
-      )
-    ]
+count-rises before order (x ∷ xs) rises z = elim (cases_eq z x) [
+  | inl same ↦ elim (cases_lt 0 (count z xs)) [
+    | inl again ↦ absurd (false≢true (sym (order.never x)
+        ∙ rw same at (each_from_count (λ y. before x y ≡ true) z xs rises.0 again)))
+    | inr none ↦ omega (
+      arith,
+      sum_by-cons (one_of z) x xs,
+      one_of-same x,
+      ap (λ y. one_of y x) same,
+    )
+  ]
+  | inr other ↦ omega (
+    arith,
+    sum_by-cons (one_of z) x xs,
+    one_of-other z x other,
+    count-rises before order xs rises.1 z,
+  )
+]
 
 -- all numbers of a list but this one
 abbrev without : ℕ → List ℕ → List ℕ
@@ -275,24 +252,19 @@ without x ys = filter (λ y. not (eqb x y)) ys
 
 length-without : (x : ℕ) (ys : List ℕ) → length (without x ys) + count x ys ≡ length ys
 length-without x [] = refl
-length-without x (y ∷ ys) = by_case (eqb x y) refl (length-without x ys)
-  where
-    by_case : (b : Bool) → eqb x y ≡ b → length (without x ys) + count x ys ≡ length ys
-        → length (cond (not b) (y ∷ without x ys) (without x ys)) + count x (y ∷ ys) ≡ suc
-        (length ys)
-    by_case true is rest =
-        let one : one_of x y ≡ 1 = rw is refl in
-        omega (arith, sum_by-cons (one_of x) y ys, one, rest)
-    by_case false is rest =
-        let none : one_of x y ≡ 0 = rw is refl in
-        omega (arith, sum_by-cons (one_of x) y ys, none, rest)
+length-without x (y ∷ ys) = by_case (eqb x y) refl (length-without x ys) where
+  by_case : (b : Bool) → eqb x y ≡ b → length (without x ys) + count x ys ≡ length ys
+      → length (cond (not b) (y ∷ without x ys) (without x ys)) + count x (y ∷ ys) ≡ suc (length ys)
+  by_case true is rest = let one : one_of x y ≡ 1 = rw is refl in
+      omega (arith, sum_by-cons (one_of x) y ys, one, rest)
+  by_case false is rest = let none : one_of x y ≡ 0 = rw is refl in
+      omega (arith, sum_by-cons (one_of x) y ys, none, rest)
 
 length_by_count : (xs ys : List ℕ) → ((z : ℕ) → count z xs ≤ 1)
     → ((z : ℕ) → count z xs ≤ count z ys) → length xs ≤ length ys
 length_by_count [] ys once there = omega arith
 length_by_count (x ∷ xs) ys once there =
-    let fewer : (z : ℕ) → count z xs ≤ count z (without x ys) = λ z.
-    elim (cases_eq x z) [
+    let fewer : (z : ℕ) → count z xs ≤ count z (without x ys) = λ z. elim (cases_eq x z) [
       | inl same ↦ omega (
         arith,
         once z,
@@ -301,10 +273,9 @@ length_by_count (x ∷ xs) ys once there =
         ap (λ y. one_of y x) same,
       )
       | inr other ↦
-          let kept = count-filter (λ y. not (eqb x y)) z ys in
           let passes : not (eqb x z) ≡ true = not_from_false (eqb x z) (ne_eqb x z other) in
-          let same : count z (without x ys) ≡ count z ys = kept
-          ∙ ap (λ b. cond b (count z ys) 0) passes in
+          let same : count z (without x ys) ≡ count z ys =
+          (count-filter (λ y. not (eqb x y)) z ys) ∙ ap (λ b. cond b (count z ys) 0) passes in
           omega (arith, same, there z, sum_by-cons (one_of z) x xs)
     ] in
     omega (
@@ -325,8 +296,7 @@ room_for_first held load rooms size n xs first =
     let once = count-rises (is_lighter load) (lighter_order load) xs rises in
     let there : (s : ℕ) → count s xs ≤ count s (with_room held rooms size) = λ s.
     elim (cases_lt 0 (count s xs)) [
-      | inl some ↦
-          let room = each_from_count (λ t. has_room held rooms size t ≡ true) s xs
+      | inl some ↦ let room = each_from_count (λ t. has_room held rooms size t ≡ true) s xs
           (recursion_from_All (λ t. has_room held rooms size t ≡ true) xs first.fit) some in
           grind (arith, once s, count-with_room held rooms size s)
       | inr none ↦ omega arith
@@ -343,24 +313,19 @@ first_there held load rooms size n xs first = λ k d within. has_room-within hel
 pub first_room : (held load : ℕ → ℕ) (rooms : List ℕ) (size n : ℕ) (xs : List ℕ)
     → AreFirst held load rooms size n xs → All (λ s. held s + size ≤ get_or rooms s 0) xs
 unfolding has_room
-first_room held load rooms size n xs first = λ k d within.
-    let s = get_or xs k d in
-    let parts = and_parts (ltb s (length rooms)) (leb (held s + size) (get_or rooms s 0))
-    (first.fit k d within) in
-    leb-true (held s + size) (get_or rooms s 0) parts.1
+first_room held load rooms size n xs first = λ k d within. let s = get_or xs k d in
+    leb-true (held s + size) (get_or rooms s 0) (and_parts (ltb s (length rooms))
+    (leb (held s + size) (get_or rooms s 0)) (first.fit k d within)).1
 
 pub first_distinct : (held load : ℕ → ℕ) (rooms : List ℕ) (size n : ℕ) (xs : List ℕ)
     → AreFirst held load rooms size n xs → AllPairs (λ a b. a ≡ b → ⊥) xs
-first_distinct held load rooms size n xs first = λ i j d less within same.
-    false≢true (sym ((lighter_order load).never (get_or xs i d))
-    ∙ subst (λ z. is_lighter load (get_or xs i d) z ≡ true) (sym same)
-    (first.rising i j d less within))
+first_distinct held load rooms size n xs first = λ i j d less within same. false≢true
+    (sym ((lighter_order load).never (get_or xs i d)) ∙ subst
+    (λ z. is_lighter load (get_or xs i d) z ≡ true) (sym same) (first.rising i j d less within))
 
 -- the same switches are first where the same is held and carried
 pub first_along : (held held' load load' : ℕ → ℕ) (rooms : List ℕ) (size n : ℕ) (xs ys : List ℕ)
     → held ≡ held' → load ≡ load' → xs ≡ ys → AreFirst held load rooms size n xs
     → AreFirst held' load' rooms size n ys
-first_along held held' load load' rooms size n xs ys holds carries same first =
-    subst (λ f. AreFirst f load' rooms size n ys) holds
-    (subst (λ f. AreFirst held f rooms size n ys) carries
-    (subst (AreFirst held load rooms size n) same first))
+first_along held held' load load' rooms size n xs ys holds carries same first = rw holds at
+    (rw carries at (subst (AreFirst held load rooms size n) same first))

@@ -1,6 +1,6 @@
 -- Numbers in an order: what an insertion sort keeps, and that one list alone rises and has given
 -- numbers.
-use Rattle.base.proofs.Exports.{All-from_recursion, AllByRecursion, AllPairs-cons, cases_Bool, cases_eq, false≢true, get_or_default, list_any, list_any-append, list_any_none, nat_tests, or_left, or_right, ordering_then, range_with_len, recursion_from_All, sum_by-cons, ⊤}
+use Rattle.base.proofs.Exports.{All-from_recursion, AllByRecursion, AllPairs-cons, cases_Bool, cases_eq, false≢true, get_or_default, list_any, list_any-append, list_any_none, nat_tests, ordering_then, range_with_len, recursion_from_All, sum_by-cons, ⊤}
 use Rattle.std.proofs.Common.{[], ◌&&◌, ◌++◌, ◌+◌, ◌<◌, ◌||◌, ◌∙◌, ◌∷◌, ◌≡◌, ◌≢◌, ◌≤◌, AllPairs, Bool, IsSortedBy, List, ap, arith, cond, eq-eqb, eqb, false, filter, get_or, get_or-take, inl, inr, is_lt, leb, length, length-take, ltb, nat_cmp, ne_eqb, refl, subst, suc, sum_by, sym, take, true, zero, ℕ}
 use Rattle.placement.specs.Order.{with_inserted, in_order}
 
@@ -34,12 +34,11 @@ one_of-other x y other = rw (ne_eqb x y other) refl
 pub each_from_count : (P : ℕ → Type 0) (z : ℕ) (xs : List ℕ) → AllByRecursion P xs → 0 < count z xs
     → P z
 each_from_count P z [] each some = absurd (omega arith)
-each_from_count P z (x ∷ xs) each some =
-    elim (cases_eq z x) [
-      | inl same ↦ subst P (sym same) each.0
-      | inr other ↦ each_from_count P z xs each.1
-          (omega (arith, sum_by-cons (one_of z) x xs, one_of-other z x other))
-    ]
+each_from_count P z (x ∷ xs) each some = elim (cases_eq z x) [
+  | inl same ↦ subst P (sym same) each.0
+  | inr other ↦ each_from_count P z xs each.1
+      (omega (arith, sum_by-cons (one_of z) x xs, one_of-other z x other))
+]
 
 pub each_by_count : (P : ℕ → Type 0) (xs : List ℕ) → ((z : ℕ) → 0 < count z xs → P z)
     → AllByRecursion P xs
@@ -49,74 +48,47 @@ each_by_count P (x ∷ xs) all = (
   each_by_count P xs (λ z some. all z (omega (arith, sum_by-cons (one_of z) x xs))),
 )
 
-pub among_from_count : (z : ℕ) (xs : List ℕ) → 0 < count z xs → list_any (eqb z) xs ≡ true
-among_from_count z [] some = absurd (omega arith)
-among_from_count z (x ∷ xs) some =
-    elim (cases_eq z x) [
-      | inl same ↦ or_left (eqb z x) (list_any (eqb z) xs) (eq-eqb z x same)
-      | inr other ↦ or_right (eqb z x) (list_any (eqb z) xs)
-          (among_from_count z xs (omega
-          (arith, sum_by-cons (one_of z) x xs, one_of-other z x other)))
-    ]
-
-pub not_among_from_count : (z : ℕ) (xs : List ℕ) → count z xs ≡ 0 → list_any (eqb z) xs ≡ false
-not_among_from_count z [] none = refl
-not_among_from_count z (x ∷ xs) none =
-    let other : z ≢ x = λ same.
-    absurd (omega (arith, sum_by-cons (one_of z) x xs, one_of-same z, ap (one_of z) same)) in
-    rw (ne_eqb z x other) (not_among_from_count z xs (omega (arith, sum_by-cons (one_of z) x xs)))
-
 pub count-filter : (p : ℕ → Bool) (z : ℕ) (xs : List ℕ) → count z (filter p xs) ≡ cond (p z)
     (count z xs) 0
-count-filter p z [] = empty_case (p z)
-  where
-    empty_case : (b : Bool) → let none : ℕ = 0 in none ≡ cond b 0 0
-    empty_case true = refl
-    empty_case false = refl
+count-filter p z [] = empty_case (p z) where
+  empty_case : (b : Bool) → let none : ℕ = 0 in none ≡ cond b 0 0
+  empty_case true = refl
+  empty_case false = refl
 count-filter p z (x ∷ xs) = elim (cases_eq z x) [
   | inl same ↦ same_case same (p z) refl (count-filter p z xs)
-  | inr other ↦ other_case other
-      (p x) (p z) (count-filter p z xs)
-]
-  where
-    same_case : z ≡ x → (b : Bool) → p z ≡ b → count z (filter p xs) ≡ cond b (count z xs) 0
-        → count z (cond (p x) (x ∷ filter p xs) (filter p xs)) ≡ cond b (count z (x ∷ xs)) 0
-    same_case same true is rest =
-        let passes : p x ≡ true = ap p (sym same) ∙ is in
-        rw passes (omega (
-          arith,
-          sum_by-cons (one_of z) x (filter p xs),
-          sum_by-cons (one_of z) x
-              xs,
-          rest,
-        ))
-    same_case same false is rest =
-        let fails : p x ≡ false = ap p (sym same) ∙ is in
-        rw fails rest
+  | inr other ↦ other_case other (p x) (p z) (count-filter p z xs)
+] where
+  same_case : z ≡ x → (b : Bool) → p z ≡ b → count z (filter p xs) ≡ cond b (count z xs) 0
+      → count z (cond (p x) (x ∷ filter p xs) (filter p xs)) ≡ cond b (count z (x ∷ xs)) 0
+  same_case same true is rest = rw (ap p (sym same) ∙ is) (omega (
+    arith,
+    sum_by-cons (one_of z) x (filter p xs),
+    sum_by-cons (one_of z) x xs,
+    rest,
+  ))
+  same_case same false is rest = rw (ap p (sym same) ∙ is) rest
 
-    other_case : z ≢ x → (b c : Bool) → count z (filter p xs) ≡ cond c (count z xs) 0
-        → count z (cond b (x ∷ filter p xs) (filter p xs)) ≡ cond c (count z (x ∷ xs)) 0
-    other_case other true true rest =
-        omega (arith, sum_by-cons (one_of z) x (filter p xs), sum_by-cons (one_of z) x xs, rest)
-    other_case other false true rest =
-        omega (arith, one_of-other z x other, sum_by-cons (one_of z) x xs, rest)
-    other_case other true false rest =
-        omega (arith, one_of-other z x other, sum_by-cons (one_of z) x (filter p xs), rest)
-    other_case other false false rest = rest
+  other_case : z ≢ x → (b c : Bool) → count z (filter p xs) ≡ cond c (count z xs) 0
+      → count z (cond b (x ∷ filter p xs) (filter p xs)) ≡ cond c (count z (x ∷ xs)) 0
+  other_case other true true rest =
+      omega (arith, sum_by-cons (one_of z) x (filter p xs), sum_by-cons (one_of z) x xs, rest)
+  other_case other false true rest =
+      omega (arith, one_of-other z x other, sum_by-cons (one_of z) x xs, rest)
+  other_case other true false rest =
+      omega (arith, one_of-other z x other, sum_by-cons (one_of z) x (filter p xs), rest)
+  other_case other false false rest = rest
 
 -- ---- the numbers from one on
 
 -- a number is there just where it is neither below the first nor past the last
 pub count-range : (z a n : ℕ) → count z (range_with_len a n) ≡ cond (leb a z && ltb z (a + n)) 1 0
 count-range z a zero = grind (arith, nat_tests)
-count-range z a (suc n) =
-    grind (
-      arith,
-      nat_tests,
-      count-range z (a + 1) n,
-      sum_by-cons (one_of z) a
-          (range_with_len (a + 1) n),
-    )
+count-range z a (suc n) = grind (
+  arith,
+  nat_tests,
+  count-range z (a + 1) n,
+  sum_by-cons (one_of z) a (range_with_len (a + 1) n),
+)
 
 pub count-range-le : (z a n : ℕ) → count z (range_with_len a n) ≤ 1
 count-range-le z a n = grind (arith, count-range z a n)
@@ -132,40 +104,36 @@ range-within z n some = grind (arith, nat_tests, count-range z 0 n)
 pub sum-inserted : (f : ℕ → ℕ) (before : ℕ → ℕ → Bool) (x : ℕ) (xs : List ℕ)
     → sum_by f (with_inserted before x xs) ≡ f x + sum_by f xs
 sum-inserted f before x [] = sum_by-cons f x []
-sum-inserted f before x (y ∷ ys) = by_case (before y x) (sum-inserted f before x ys)
-  where
-    by_case : (b : Bool) → sum_by f (with_inserted before x ys) ≡ f x + sum_by f ys
-        → sum_by f (cond b (y ∷ with_inserted before x ys) (x ∷ y ∷ ys)) ≡ f x + sum_by f (y ∷ ys)
-    by_case true rest = omega (
-      arith,
-      sum_by-cons f y (with_inserted before x ys),
-      sum_by-cons f y ys,
-      rest,
-    )
-    by_case false rest = sum_by-cons f x (y ∷ ys)
+sum-inserted f before x (y ∷ ys) = by_case (before y x) (sum-inserted f before x ys) where
+  by_case : (b : Bool) → sum_by f (with_inserted before x ys) ≡ f x + sum_by f ys
+      → sum_by f (cond b (y ∷ with_inserted before x ys) (x ∷ y ∷ ys)) ≡ f x + sum_by f (y ∷ ys)
+  by_case true rest = omega (
+    arith,
+    sum_by-cons f y (with_inserted before x ys),
+    sum_by-cons f y ys,
+    rest,
+  )
+  by_case false rest = sum_by-cons f x (y ∷ ys)
 
 pub sum-in_order : (f : ℕ → ℕ) (before : ℕ → ℕ → Bool) (xs : List ℕ) → sum_by f (in_order before xs)
     ≡ sum_by f xs
 unfolding in_order
 sum-in_order f before [] = refl
-sum-in_order f before (x ∷ xs) =
-    omega (
-      arith,
-      sum-inserted f before x (in_order before xs),
-      sum-in_order f before xs,
-      sum_by-cons f x xs,
-    )
+sum-in_order f before (x ∷ xs) = omega (
+  arith,
+  sum-inserted f before x (in_order before xs),
+  sum-in_order f before xs,
+  sum_by-cons f x xs,
+)
 
 pub length-inserted : (before : ℕ → ℕ → Bool) (x : ℕ) (xs : List ℕ)
-    → length (with_inserted before x xs)
-    ≡ suc (length xs)
+    → length (with_inserted before x xs) ≡ suc (length xs)
 length-inserted before x [] = refl
-length-inserted before x (y ∷ ys) = by_case (before y x) (length-inserted before x ys)
-  where
-    by_case : (b : Bool) → length (with_inserted before x ys) ≡ suc (length ys)
-        → length (cond b (y ∷ with_inserted before x ys) (x ∷ y ∷ ys)) ≡ suc (suc (length ys))
-    by_case true rest = ap suc rest
-    by_case false rest = refl
+length-inserted before x (y ∷ ys) = by_case (before y x) (length-inserted before x ys) where
+  by_case : (b : Bool) → length (with_inserted before x ys) ≡ suc (length ys)
+      → length (cond b (y ∷ with_inserted before x ys) (x ∷ y ∷ ys)) ≡ suc (suc (length ys))
+  by_case true rest = ap suc rest
+  by_case false rest = refl
 
 pub length-in_order : (before : ℕ → ℕ → Bool) (xs : List ℕ) → length (in_order before xs) ≡ length
     xs
@@ -202,8 +170,7 @@ rises-inserted before order x (y ∷ ys) none rises =
         each-inserted (λ z. before y z ≡ true) before x ys first rises.0,
         rises-inserted before order x ys (omega (arith, sum_by-cons (one_of x) y ys)) rises.1,
       )
-      | inr later ↦
-          let first = order.total x y other later in
+      | inr later ↦ let first = order.total x y other later in
           rw later ((first, each-trans before order x y ys first rises.0), rises)
     ]
 
@@ -212,8 +179,7 @@ pub rises-in_order : (before : ℕ → ℕ → Bool) → IsOrder before → (xs 
 unfolding in_order
 rises-in_order before order [] once = tt
 rises-in_order before order (x ∷ xs) once =
-    let none : count x (in_order before xs) ≡ 0 =
-    omega (
+    let none : count x (in_order before xs) ≡ 0 = omega (
       arith,
       sum-in_order (one_of x) before xs,
       once x,
@@ -230,13 +196,11 @@ pub rises_from_sorted : (before : ℕ → ℕ → Bool) → IsOrder before → (
 rises_from_sorted before order [] sorted once = tt
 rises_from_sorted before order (x ∷ []) sorted once = (tt, tt)
 rises_from_sorted before order (x ∷ y ∷ ys) sorted once =
-    let other : x ≢ y = λ same.
-    absurd (omega (
+    let other : x ≢ y = λ same. absurd (omega (
       arith,
       once x,
       sum_by-cons (one_of x) x (y ∷ ys),
-      sum_by-cons (one_of x) y
-          ys,
+      sum_by-cons (one_of x) y ys,
       one_of-same x,
       ap (one_of x) same,
     )) in
@@ -254,8 +218,7 @@ rises_from_sorted before order (x ∷ y ∷ ys) sorted once =
 behind_first : (before : ℕ → ℕ → Bool) (x y : ℕ) (xs ys : List ℕ) → x ≢ y
     → count x (x ∷ xs) ≡ count x (y ∷ ys) → AllByRecursion (λ z. before y z ≡ true) ys
     → before y x ≡ true
-behind_first before x y xs ys other same rises =
-    each_from_count (λ z. before y z ≡ true) x ys rises
+behind_first before x y xs ys other same rises = each_from_count (λ z. before y z ≡ true) x ys rises
     (omega (
       arith,
       sum_by-cons (one_of x) x xs,
@@ -272,35 +235,27 @@ same_rising before order [] (y ∷ ys) p q counts =
     absurd (omega (arith, counts y, sum_by-cons (one_of y) y ys, one_of-same y))
 same_rising before order (x ∷ xs) [] p q counts =
     absurd (omega (arith, counts x, sum_by-cons (one_of x) x xs, one_of-same x))
-same_rising before order (x ∷ xs) (y ∷ ys) p q counts =
-    elim (cases_eq x y) [
-      | inl same ↦
-          let tails = same_rising before order xs ys p.1 q.1
-          (λ z. omega (
-            arith,
-            counts z,
-            sum_by-cons (one_of z) x xs,
-            sum_by-cons (one_of z) y
-                ys,
-            ap (one_of z) same,
-          )) in
-          cc
-      | inr other ↦
-          let x_later = behind_first before x y xs ys other (counts x) q.0 in
-          let y_later = behind_first before y x ys xs (λ same. other (sym same)) (sym (counts y)) p.0
-          in
-          absurd (false≢true (sym (order.never x) ∙ order.trans x y x y_later x_later))
-    ]
+same_rising before order (x ∷ xs) (y ∷ ys) p q counts = elim (cases_eq x y) [
+  | inl same ↦ let tails = same_rising before order xs ys p.1 q.1 (λ z. omega (
+    arith,
+    counts z,
+    sum_by-cons (one_of z) x xs,
+    sum_by-cons (one_of z) y ys,
+    ap (one_of z) same,
+  )) in
+      cc
+  | inr other ↦ let x_later = behind_first before x y xs ys other (counts x) q.0 in
+      absurd (false≢true (sym (order.never x) ∙ order.trans x y x (behind_first before y x ys xs
+      (λ same. other (sym same)) (sym (counts y)) p.0) x_later))
+]
 
 -- ---- between the forms of a rising list
 
 pub pairs_from_rises : (before : ℕ → ℕ → Bool) (xs : List ℕ) → Rises before xs
     → AllPairs (λ a b. before a b ≡ true) xs
 pairs_from_rises before [] rises = λ i j d less within. absurd (omega arith)
-pairs_from_rises before (x ∷ xs) rises =
-    AllPairs-cons (λ a b. before a b ≡ true) x xs
-    (All-from_recursion (λ y. before x y ≡ true) xs rises.0)
-    (pairs_from_rises before xs rises.1)
+pairs_from_rises before (x ∷ xs) rises = AllPairs-cons (λ a b. before a b ≡ true) x xs
+    (All-from_recursion (λ y. before x y ≡ true) xs rises.0) (pairs_from_rises before xs rises.1)
 
 pub rises_from_pairs : (before : ℕ → ℕ → Bool) (xs : List ℕ) → AllPairs (λ a b. before a b ≡ true)
     xs → Rises before xs
@@ -320,18 +275,15 @@ lexicographic a b c d = grind (arith, nat_tests)
 -- of different numbers, none stands at an earlier place
 pub not_among_before : (xs : List ℕ) (k : ℕ) → k < length xs → AllPairs (λ a b. a ≡ b → ⊥) xs
     → list_any (eqb (get_or xs k 0)) (take k xs) ≡ false
-not_among_before xs k within pairs =
-    list_any_none (eqb (get_or xs k 0)) (take k xs) (λ i d less.
-    let before : i < k = omega (arith, length-take k xs) in
+not_among_before xs k within pairs = list_any_none (eqb (get_or xs k 0)) (take k xs)
+    (λ i d less. let before : i < k = omega (arith, length-take k xs) in
     rw (get_or-take k xs i d before)
     (ne_eqb (get_or xs k 0) (get_or xs i d)
     (λ same. pairs i k 0 before within (get_or_default xs i 0 d (omega arith) ∙ sym same))))
 
 pub among-push : (x : ℕ) (xs : List ℕ) (y : ℕ) → list_any (eqb x) (xs ++ y ∷ [])
     ≡ (list_any (eqb x) xs || eqb x y)
-among-push x xs y = list_any-append (eqb x) xs (y ∷ []) ∙ ap (λ b. list_any (eqb x) xs || b)
-    (or-false (eqb x y))
-  where
-    or-false : (b : Bool) → (b || false) ≡ b
-    or-false true = refl
-    or-false false = refl
+among-push x xs y = cc (list_any-append (eqb x) xs (y ∷ []), or-false (eqb x y)) where
+  or-false : (b : Bool) → (b || false) ≡ b
+  or-false true = refl
+  or-false false = refl

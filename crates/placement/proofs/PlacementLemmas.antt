@@ -28,18 +28,15 @@ turns_meet sizes rooms backups (p ∷ left) done P taken =
     let found = in_order (is_lighter load) (with_room load rooms (get_or sizes p 0)) in
     by_case (ltb (length found) (1 + backups))
     (placement_from sizes rooms backups (set P p (take (1 + backups) found)) left)
-    (λ few. taken_refused (placing sizes rooms backups) P done p left taken
-    (omega (
+    (λ few. taken_refused (placing sizes rooms backups) P done p left taken (omega (
       arith,
       ltb-true (length found) (1 + backups) few,
-      length-in_order (is_lighter load)
-          (with_room load rooms (get_or sizes p 0)),
+      length-in_order (is_lighter load) (with_room load rooms (get_or sizes p 0)),
     )))
-    (λ many. turns_meet sizes rooms backups left (done ++ p ∷ [])
-    (set P p (take (1 + backups) found))
-    (taken_more (placing sizes rooms backups) P done p left (take (1 + backups) found) taken
-    (first_in_order load load rooms (get_or sizes p 0) (1 + backups)
-    (ltb-false (length found) (1 + backups) many))))
+    (λ many. turns_meet sizes rooms backups left
+    (done ++ p ∷ []) (set P p (take (1 + backups) found)) (taken_more (placing sizes rooms backups)
+    P done p left (take (1 + backups) found) taken (first_in_order load load rooms
+    (get_or sizes p 0) (1 + backups) (ltb-false (length found) (1 + backups) many))))
   where
     by_case : (b : Bool) (hosted : Result (List (List ℕ)) ℕ)
         → (b ≡ true → LacksRoom sizes rooms backups p)
@@ -52,9 +49,8 @@ pub placement_meets : (sizes rooms : List ℕ) (backups : ℕ) → MeetsPlacemen
     (placement_of sizes rooms backups)
 unfolding placement_of
 placement_meets sizes rooms backups = turns_meet sizes rooms backups (turns sizes) []
-    (replicate (length sizes) [])
-    (taken_none (placing sizes rooms backups) (replicate (length sizes) [])
-    (length-replicate (length sizes) []))
+    (replicate (length sizes) []) (taken_none (placing sizes rooms backups)
+    (replicate (length sizes) []) (length-replicate (length sizes) []))
 
 -- ---- one placement
 

@@ -41,8 +41,7 @@ rises-parts : (before : ℕ → ℕ → Bool) (done : List ℕ) (p : ℕ) (left 
     × AllByRecursion (λ o. before p o ≡ true) left
 rises-parts before [] p left rises = (tt, rises.0)
 rises-parts before (x ∷ xs) p left rises =
-    let rest = rises-parts before xs p left rises.1 in
-    ((reached xs rises.0, rest.0), rest.1)
+    let rest = rises-parts before xs p left rises.1 in ((reached xs rises.0, rest.0), rest.1)
   where
     reached : (ys : List ℕ) → AllByRecursion (λ y. before x y ≡ true) (ys ++ p ∷ left)
         → before x p ≡ true
@@ -60,15 +59,13 @@ split_of sizes done p left split =
     let parts = rises-parts (is_earlier sizes) done p left
     (subst (Rises (is_earlier sizes)) split (rises-turns sizes)) in
     let counts : (o : ℕ) → count o (turns sizes) ≡ count o done + count o (p ∷ left) =
-    λ o. ap (count o) split ∙ sum_by-append (one_of o) done (p ∷ left) in
-    record {
+    λ o. ap (count o) split ∙ sum_by-append (one_of o) done (p ∷ left) in record {
       within = turns-within sizes p
           (omega (arith, counts p, sum_by-cons (one_of p) p left, one_of-same p));
       before = parts.0;
       after = parts.1;
-      others = λ o within earlier.
-          let other : o ≢ p = λ same.
-          false≢true (sym ((earlier_order sizes).never p)
+      others = λ o within earlier. let other : o ≢ p =
+          λ same. false≢true (sym ((earlier_order sizes).never p)
           ∙ subst (λ z. is_earlier sizes z p ≡ true) same earlier) in
           elim (cases_lt 0 (count o left)) [
             | inl later ↦ absurd (not_both sizes o p earlier
@@ -86,25 +83,21 @@ split_of sizes done p left split =
 split_at : (p : ℕ) (xs : List ℕ) → 0 < count p xs → (done : List ℕ) × (left : List ℕ)
     × (xs ≡ done ++ p ∷ left)
 split_at p [] there = absurd (omega arith)
-split_at p (x ∷ xs) there =
-    elim (cases_eq p x) [
-      | inl same ↦ ([], xs, ap (λ y. y ∷ xs) (sym same))
-      | inr other ↦
-          let rest = split_at p xs
-          (omega (arith, sum_by-cons (one_of p) x xs, one_of-other p x other)) in
-          (x ∷ rest.0, rest.1, ap (λ ys. x ∷ ys) rest.2)
-    ]
+split_at p (x ∷ xs) there = elim (cases_eq p x) [
+  | inl same ↦ ([], xs, ap (λ y. y ∷ xs) (sym same))
+  | inr other ↦ let rest = split_at p xs
+      (omega (arith, sum_by-cons (one_of p) x xs, one_of-other p x other)) in
+      (x ∷ rest.0, rest.1, ap (λ ys. x ∷ ys) rest.2)
+]
 
 earlier-within : (sizes : List ℕ) (o p : ℕ) → is_earlier sizes o p ≡ true → p < length sizes
     → o < length sizes
 unfolding is_earlier
-earlier-within sizes o p earlier within =
-    elim (cases_lt o (length sizes)) [
-      | inl there ↦ there
-      | inr past ↦
-          let none : get_or sizes o 0 ≡ 0 = get_or_past sizes o 0 past in
-          absurd (grind (arith, nat_tests))
-    ]
+earlier-within sizes o p earlier within = elim (cases_lt o (length sizes)) [
+  | inl there ↦ there
+  | inr past ↦ let none : get_or sizes o 0 ≡ 0 = get_or_past sizes o 0 past in
+      absurd (grind (arith, nat_tests))
+]
 
 -- ---- what the earlier partitions put on a switch
 
@@ -118,9 +111,8 @@ sums_agree : (chosen : List ℕ → List ℕ) (keys numbers : List ℕ) (P Q : L
     → ((o : ℕ) → is_earlier keys o p ≡ true → targets_at P o ≡ targets_at Q o)
     → sum_before chosen keys numbers P p ≡ sum_before chosen keys numbers Q p
 sums_agree chosen keys numbers P Q p same =
-    fun_ext (λ s. ap (sum_by (λ o. get_or numbers o 0))
-    (filter_agree _ _ (λ o. by_case o s (is_earlier keys o p) refl)
-    (range_with_len 0 (length keys))))
+    fun_ext (λ s. ap (sum_by (λ o. get_or numbers o 0)) (filter_agree _ _
+    (λ o. by_case o s (is_earlier keys o p) refl) (range_with_len 0 (length keys))))
   where
     by_case : (o s : ℕ) (b : Bool) → is_earlier keys o p ≡ b
         → (b && list_any (eqb s) (chosen (targets_at P o)))
@@ -132,32 +124,28 @@ sums_agree chosen keys numbers P Q p same =
 sums-set : (chosen : List ℕ → List ℕ) (keys numbers : List ℕ) (P : List (List ℕ)) (p q : ℕ)
     (targets : List ℕ) → is_earlier keys p q ≡ false
     → sum_before chosen keys numbers (set P p targets) q ≡ sum_before chosen keys numbers P q
-sums-set chosen keys numbers P p q targets later =
-    sums_agree chosen keys numbers (set P p targets) P q (λ o earlier.
-    let other : o ≢ p = λ same.
-    false≢true (sym later ∙ subst (λ z. is_earlier keys z q ≡ true) same earlier) in
+sums-set chosen keys numbers P p q targets later = sums_agree chosen keys numbers (set P p targets)
+    P q (λ o earlier. let other : o ≢ p =
+    λ same. false≢true (sym later ∙ subst (λ z. is_earlier keys z q ≡ true) same earlier) in
     get_or-set_other P p o targets [] other)
 
 pub sum-filter : (f : ℕ → ℕ) (p : ℕ → Bool) (xs : List ℕ)
     → sum_by f (filter p xs) ≡ sum_by (λ x. cond (p x) (f x) 0) xs
 sum-filter f p [] = refl
-sum-filter f p (x ∷ xs) = by_case (p x) refl (sum-filter f p xs)
-  where
-    by_case : (b : Bool) → p x ≡ b → sum_by f (filter p xs) ≡ sum_by (λ y. cond (p y) (f y) 0) xs
-        → sum_by f (cond b (x ∷ filter p xs) (filter p xs)) ≡ sum_by (λ y. cond (p y) (f y) 0)
-        (x ∷ xs)
-    by_case true is rest =
-        let one : cond (p x) (f x) 0 ≡ f x = rw is refl in
-        omega (
-          arith,
-          sum_by-cons f x (filter p xs),
-          sum_by-cons (λ y. cond (p y) (f y) 0) x xs,
-          one,
-          rest,
-        )
-    by_case false is rest =
-        let none : cond (p x) (f x) 0 ≡ 0 = rw is refl in
-        omega (arith, sum_by-cons (λ y. cond (p y) (f y) 0) x xs, none, rest)
+sum-filter f p (x ∷ xs) = by_case (p x) refl (sum-filter f p xs) where
+  by_case : (b : Bool) → p x ≡ b → sum_by f (filter p xs) ≡ sum_by (λ y. cond (p y) (f y) 0) xs
+      → sum_by f (cond b (x ∷ filter p xs) (filter p xs)) ≡ sum_by (λ y. cond (p y) (f y) 0)
+      (x ∷ xs)
+  by_case true is rest = let one : cond (p x) (f x) 0 ≡ f x = rw is refl in
+      omega (
+        arith,
+        sum_by-cons f x (filter p xs),
+        sum_by-cons (λ y. cond (p y) (f y) 0) x xs,
+        one,
+        rest,
+      )
+  by_case false is rest = let none : cond (p x) (f x) 0 ≡ 0 = rw is refl in
+      omega (arith, sum_by-cons (λ y. cond (p y) (f y) 0) x xs, none, rest)
 
 sum_same : (f g : ℕ → ℕ) (xs : List ℕ) → AllByRecursion (λ x. f x ≡ g x) xs
     → sum_by f xs ≡ sum_by g xs
@@ -184,21 +172,18 @@ running_sum chosen keys numbers P done p left split s =
     let among : ℕ → Bool = λ o. list_any (eqb s) (chosen (targets_at P o)) in
     let held : ℕ → Bool = λ o. is_earlier keys o p && among o in
     let weight : ℕ → ℕ = λ o. cond (held o) (number o) 0 in
-    let there : AllByRecursion (λ o. weight o ≡ cond (among o) (number o) 0) done =
-    each_weaker (λ o. is_earlier keys o p ≡ true) _
+    let there = each_weaker (λ o. is_earlier keys o p ≡ true) _
     (λ o is. ap (λ b. cond (b && among o) (number o) 0) is) done parts.before in
-    let later : AllByRecursion (λ o. weight o ≡ 0) left =
-    each_weaker (λ o. is_earlier keys p o ≡ true) _
+    let later = each_weaker (λ o. is_earlier keys p o ≡ true) _
     (λ o is. ap (λ b. cond (b && among o) (number o) 0)
     (false_from_ne_true _ (λ flipped. not_both keys p o is flipped))) left parts.after in
-    let here : weight p ≡ 0 = ap (λ b. cond (b && among p) (number p) 0)
-    ((earlier_order keys).never p) in
     let whole : sum_by number (filter held (range_with_len 0 (length keys))) ≡ sum_by weight
     (done ++ p ∷ left) = sum-filter number held (range_with_len 0 (length keys))
     ∙ sym (sum-in_order weight (is_earlier keys) (range_with_len 0 (length keys)))
     ∙ ap (sum_by weight) split in
     let front = sum_same weight (λ o. cond (among o) (number o) 0) done there in
-    let back = sum_none weight (p ∷ left) (here, later) in
+    let back = sum_none weight (p ∷ left)
+    ((ap (λ b. cond (b && among p) (number p) 0) ((earlier_order keys).never p)), later) in
     omega (arith, whole, sum_by-append weight done (p ∷ left), front, back)
 
 -- ---- one turn
@@ -216,30 +201,26 @@ taken_none t placement len = record { split = refl; number = len; hosted = tt }
 hosted-set : (t : TurnRule) (P : List (List ℕ)) (p q : ℕ) (targets : List ℕ)
     → is_earlier t.keys q p ≡ true → HasDueTargets t P q → HasDueTargets t (set P p targets) q
 hosted-set t P p q targets earlier hosted =
-    let later : is_earlier t.keys p q ≡ false = false_from_ne_true _
-    (λ flipped. not_both t.keys q p earlier flipped) in
-    let other : q ≢ p = λ same.
-    false≢true (sym ((earlier_order t.keys).never p) ∙ subst (λ z. is_earlier t.keys z p ≡ true)
-    same earlier) in
+    let later = false_from_ne_true _ (λ flipped. not_both t.keys q p earlier flipped) in
+    let other : q ≢ p = λ same. false≢true (sym ((earlier_order t.keys).never p)
+    ∙ subst (λ z. is_earlier t.keys z p ≡ true) same earlier) in
     first_along _ _ _ _ t.rooms (get_or t.sizes q 0) (1 + t.backups) _ _
     (sym (sums-set (λ xs. xs) t.keys t.sizes P p q targets later))
     (sym (sums-set t.loaded t.keys t.keys P p q targets later))
     (sym (get_or-set_other P p q targets [] other)) hosted
 
 pub taken_more : (t : TurnRule) (P : List (List ℕ)) (done : List ℕ) (p : ℕ) (left targets : List ℕ)
-    → TakenTurns t P done (p ∷ left)
-    → AreFirst (sum_before (λ xs. xs) t.keys t.sizes P p) (sum_before t.loaded t.keys t.keys P p)
-    t.rooms (get_or t.sizes p 0) (1 + t.backups) targets
+    → TakenTurns t P done (p ∷ left) → AreFirst (sum_before (λ xs. xs) t.keys t.sizes P p)
+    (sum_before t.loaded t.keys t.keys P p) t.rooms (get_or t.sizes p 0) (1 + t.backups) targets
     → TakenTurns t (set P p targets) (done ++ p ∷ []) left
 taken_more t P done p left targets taken first =
     let parts = split_of t.keys done p left taken.split in
-    let within : p < length P = omega (arith, parts.within, taken.number) in
     let never = (earlier_order t.keys).never p in
-    let here : HasDueTargets t (set P p targets) p =
-    first_along _ _ _ _ t.rooms (get_or t.sizes p 0) (1 + t.backups) _ _
+    let here : HasDueTargets t (set P p targets) p = first_along _ _ _ _ t.rooms
+    (get_or t.sizes p 0) (1 + t.backups) _ _
     (sym (sums-set (λ xs. xs) t.keys t.sizes P p p targets never))
     (sym (sums-set t.loaded t.keys t.keys P p p targets never))
-    (sym (get_or-set_same P p targets [] within)) first in
+    (sym (get_or-set_same P p targets [] (omega (arith, parts.within, taken.number)))) first in
     record {
       split = taken.split ∙ sym (append_assoc done (p ∷ []) left);
       number = length-set P p targets ∙ taken.number;
@@ -260,21 +241,18 @@ taken_within t P done p left taken =
 
 pub taken_all : (t : TurnRule) (P : List (List ℕ)) (done : List ℕ) → TakenTurns t P done []
     → AreHosted t P
-taken_all t P done taken =
-    let whole : turns t.keys ≡ done = taken.split ∙ append-nil done in
-    record {
-      number = taken.number;
-      hosted = λ p within. each_from_count (HasDueTargets t P) p done taken.hosted
-          (subst (λ xs. 0 < count p xs) whole (in_turns t.keys p within));
-    }
+taken_all t P done taken = record {
+  number = taken.number;
+  hosted = λ p within. each_from_count (HasDueTargets t P) p done taken.hosted
+      (subst (λ xs. 0 < count p xs) (taken.split ∙ append-nil done) (in_turns t.keys p within));
+}
 
 pub taken_refused : (t : TurnRule) (P : List (List ℕ)) (done : List ℕ) (p : ℕ) (left : List ℕ)
     → TakenTurns t P done (p ∷ left)
     → length (with_room (sum_before (λ xs. xs) t.keys t.sizes P p) t.rooms (get_or t.sizes p 0))
     < 1 + t.backups → IsRefused t p
 taken_refused t P done p left taken fewer =
-    let parts = split_of t.keys done p left taken.split in
-    record {
+    let parts = split_of t.keys done p left taken.split in record {
       there = parts.within;
       placement = P;
       earlier = λ o within earlier. each_from_count (HasDueTargets t P) o done taken.hosted
@@ -285,23 +263,20 @@ taken_refused t P done p left taken fewer =
 -- what a turn puts on a switch
 sum_among_more : (chosen : List ℕ → List ℕ) (t : TurnRule) (numbers : List ℕ) (P : List (List ℕ))
     (done : List ℕ) (p : ℕ) (left targets : List ℕ) → TakenTurns t P done (p ∷ left) → (s : ℕ)
-    → sum_among chosen numbers (set P p targets) (done ++ p ∷ []) s
-    ≡ sum_among chosen numbers P done s + cond (list_any (eqb s) (chosen targets))
-    (get_or numbers p 0) 0
+    → sum_among chosen numbers (set P p targets) (done ++ p ∷ []) s ≡ sum_among chosen numbers P
+    done s + cond (list_any (eqb s) (chosen targets)) (get_or numbers p 0) 0
 sum_among_more chosen t numbers P done p left targets taken s =
     let parts = split_of t.keys done p left taken.split in
-    let within : p < length P = omega (arith, parts.within, taken.number) in
     let put : List ℕ → ℕ → ℕ = λ xs o. cond (list_any (eqb s) (chosen xs)) (get_or numbers o 0) 0 in
     let after : ℕ → ℕ = λ o. put (targets_at (set P p targets) o) o in
     let before : ℕ → ℕ = λ o. put (targets_at P o) o in
     let same : AllByRecursion (λ o. after o ≡ before o) done =
-    each_weaker (λ o. is_earlier t.keys o p ≡ true) _ (λ o is.
-    let other : o ≢ p = λ here.
-    false≢true (sym ((earlier_order t.keys).never p) ∙ subst (λ z. is_earlier t.keys z p ≡ true)
-    here is) in
+    each_weaker (λ o. is_earlier t.keys o p ≡ true) _
+    (λ o is. let other : o ≢ p = λ here. false≢true
+    (sym ((earlier_order t.keys).never p) ∙ subst (λ z. is_earlier t.keys z p ≡ true) here is) in
     ap (λ xs. put xs o) (get_or-set_other P p o targets [] other)) done parts.before in
     let here : after p ≡ put targets p = ap (λ xs. put xs p)
-    (get_or-set_same P p targets [] within) in
+    (get_or-set_same P p targets [] (omega (arith, parts.within, taken.number))) in
     omega (arith, sum_by_push after done p, sum_same after before done same, here)
 
 -- ---- one turn with running sums
@@ -328,15 +303,13 @@ pub record Loaded (t : TurnRule) (held loads : List ℕ) (placement : List (List
 held_before : (t : TurnRule) (held loads : List ℕ) (P : List (List ℕ)) (done : List ℕ) (p : ℕ)
     (left : List ℕ) → Loaded t held loads P done (p ∷ left)
     → (λ s. get_or held s 0) ≡ sum_before (λ xs. xs) t.keys t.sizes P p
-held_before t held loads P done p left loaded =
-    fun_ext (λ s. loaded.held_is s
+held_before t held loads P done p left loaded = fun_ext (λ s. loaded.held_is s
     ∙ sym (running_sum (λ xs. xs) t.keys t.sizes P done p left loaded.taken.split s))
 
 loads_before : (t : TurnRule) (held loads : List ℕ) (P : List (List ℕ)) (done : List ℕ) (p : ℕ)
     (left : List ℕ) → Loaded t held loads P done (p ∷ left)
     → (λ s. get_or loads s 0) ≡ sum_before t.loaded t.keys t.keys P p
-loads_before t held loads P done p left loaded =
-    fun_ext (λ s. loaded.loads_is s
+loads_before t held loads P done p left loaded = fun_ext (λ s. loaded.loads_is s
     ∙ sym (running_sum t.loaded t.keys t.keys P done p left loaded.taken.split s))
 
 pub loaded_none : (t : TurnRule) (held loads : List ℕ) (P : List (List ℕ))
@@ -364,8 +337,7 @@ pub loaded_more : (t : TurnRule) (held loads : List ℕ) (P : List (List ℕ)) (
     → length more_held ≡ length held → length more_loads ≡ length loads
     → Loaded t more_held more_loads (set P p targets) (done ++ p ∷ []) left
 loaded_more t held loads P done p left targets more_held more_loads loaded first added carried
-    held_len loads_len =
-    record {
+    held_len loads_len = record {
       taken = taken_more t P done p left targets loaded.taken
           (first_along _ _ _ _ t.rooms (get_or t.sizes p 0) (1 + t.backups) targets targets
           (held_before t held loads P done p left loaded)
@@ -390,10 +362,8 @@ pub loaded_refused : (t : TurnRule) (held loads : List ℕ) (P : List (List ℕ)
     (left : List ℕ) → Loaded t held loads P done (p ∷ left)
     → length (with_room (λ s. get_or held s 0) t.rooms (get_or t.sizes p 0)) < 1 + t.backups
     → IsRefused t p
-loaded_refused t held loads P done p left loaded fewer =
-    taken_refused t P done p left loaded.taken
-    (subst (λ f. length (with_room f t.rooms (get_or t.sizes p 0)) < 1 + t.backups)
-    (held_before t held loads P done p left loaded) fewer)
+loaded_refused t held loads P done p left loaded fewer = taken_refused t P done p left loaded.taken
+    (rw (held_before t held loads P done p left loaded) at fewer)
 
 -- what a switch carries before a turn, and the key of this one, are within the sum of all
 pub carried-room : (t : TurnRule) (held loads : List ℕ) (P : List (List ℕ)) (done : List ℕ)
@@ -440,12 +410,11 @@ agree_from : (t : TurnRule) (P Q : List (List ℕ)) (now done left : List ℕ)
 agree_from t P Q [] done left split agree p q = subst (Agree P Q) (sym (append-nil done)) agree
 agree_from t P Q (x ∷ xs) done left split agree p q =
     let held = agree_next (λ xs. xs) t.keys t.sizes P Q done x (xs ++ left) split agree in
-    let loads = agree_next t.loaded t.keys t.keys P Q done x (xs ++ left) split agree in
     let here = same_first (sum_before (λ xs. xs) t.keys t.sizes Q x)
-    (sum_before t.loaded t.keys t.keys Q x) t.rooms (get_or t.sizes x 0) (1 + t.backups)
-    (targets_at P x) (targets_at Q x)
-    (first_along _ _ _ _ t.rooms (get_or t.sizes x 0) (1 + t.backups) (targets_at P x)
-    (targets_at P x) held loads refl p.0) q.0 in
+    (sum_before t.loaded t.keys t.keys Q x) t.rooms (get_or t.sizes x 0)
+    (1 + t.backups) (targets_at P x) (targets_at Q x) (first_along _ _ _ _ t.rooms
+    (get_or t.sizes x 0) (1 + t.backups) (targets_at P x) (targets_at P x) held
+    (agree_next t.loaded t.keys t.keys P Q done x (xs ++ left) split agree) refl p.0) q.0 in
     subst (Agree P Q) (append_assoc done (x ∷ []) xs)
     (agree_from t P Q xs (done ++ x ∷ []) left
     (split ∙ sym (append_assoc done (x ∷ []) (xs ++ left)))
@@ -456,18 +425,16 @@ each_within : (P : ℕ → Type 0) (sizes : List ℕ) → ((p : ℕ) → p < len
 each_within P sizes all [] within = tt
 each_within P sizes all (x ∷ xs) within = (
   all x (within x (omega (arith, sum_by-cons (one_of x) x xs, one_of-same x))),
-  each_within P sizes all xs
-      (λ z there. within z (omega (arith, sum_by-cons (one_of z) x xs))),
+  each_within P sizes all xs (λ z there. within z (omega (arith, sum_by-cons (one_of z) x xs))),
 )
 
 pub same_hosted : (t : TurnRule) (P Q : List (List ℕ)) → AreHosted t P → AreHosted t Q → P ≡ Q
 same_hosted t P Q p q =
     let due = λ (R : List (List ℕ)) (r : AreHosted t R). each_within (HasDueTargets t R) t.keys r.hosted
     (turns t.keys) (turns-within t.keys) in
-    let agree = agree_from t P Q (turns t.keys) [] [] (sym (append-nil (turns t.keys))) tt
-    (due P p) (due Q q) in
     same_lists P Q (omega (arith, p.number, q.number)) (λ k d within.
-    let here = each_from_count (λ z. targets_at P z ≡ targets_at Q z) k (turns t.keys) agree
+    let here = each_from_count (λ z. targets_at P z ≡ targets_at Q z) k (turns t.keys)
+    (agree_from t P Q (turns t.keys) [] [] (sym (append-nil (turns t.keys))) tt (due P p) (due Q q))
     (in_turns t.keys k (omega (arith, p.number))) in
     get_or_default P k d [] within ∙ here
     ∙ get_or_default Q k [] d (omega (arith, p.number, q.number)))
@@ -505,22 +472,19 @@ refused_clash t p refused Q earlier due =
 
 refused_before : (t : TurnRule) (p q : ℕ) → IsRefused t p → IsRefused t q
     → is_earlier t.keys p q ≡ true → ⊥
-refused_before t p q at_p at_q first =
-    refused_clash t p at_p at_q.placement
-    (λ o within earlier. at_q.earlier o within
-    ((earlier_order t.keys).trans o p q earlier first)) (at_q.earlier p at_p.there first)
+refused_before t p q at_p at_q first = refused_clash t p at_p at_q.placement
+    (λ o within earlier. at_q.earlier o within ((earlier_order t.keys).trans o p q earlier first))
+    (at_q.earlier p at_p.there first)
 
 pub same_refused : (t : TurnRule) (p q : ℕ) → IsRefused t p → IsRefused t q → p ≡ q
-same_refused t p q at_p at_q =
-    elim (cases_eq p q) [
-      | inl same ↦ same
-      | inr other ↦
-          elim (cases_Bool (is_earlier t.keys q p)) [
-            | inl later ↦ absurd (refused_before t q p at_q at_p later)
-            | inr first ↦ absurd (refused_before t p q at_p at_q
-                ((earlier_order t.keys).total p q other first))
-          ]
-    ]
+same_refused t p q at_p at_q = elim (cases_eq p q) [
+  | inl same ↦ same
+  | inr other ↦ elim (cases_Bool (is_earlier t.keys q p)) [
+    | inl later ↦ absurd (refused_before t q p at_q at_p later)
+    | inr first ↦ absurd (refused_before t p q at_p at_q
+        ((earlier_order t.keys).total p q other first))
+  ]
+]
 
 pub hosted_or_refused : (t : TurnRule) (p : ℕ) (Q : List (List ℕ)) → AreHosted t Q → IsRefused t p → ⊥
 hosted_or_refused t p Q placement refused = refused_clash t p refused Q
@@ -533,44 +497,35 @@ fits_more : (t : TurnRule) (P : List (List ℕ)) (done : List ℕ) (p : ℕ) (le
     → turns t.keys ≡ done ++ p ∷ left → HasDueTargets t P p
     → sum_among (λ xs. xs) t.sizes P done s ≤ get_or t.rooms s 0
     → sum_among (λ xs. xs) t.sizes P (done ++ p ∷ []) s ≤ get_or t.rooms s 0
-fits_more t P done p left s split due fits =
-    by_case (list_any (eqb s) (targets_at P p)) refl
-  where
-    by_case : (b : Bool) → list_any (eqb s) (targets_at P p) ≡ b
-        → sum_among (λ xs. xs) t.sizes P (done ++ p ∷ []) s ≤ get_or t.rooms s 0
-    by_case true among =
-        let put : ℕ → ℕ = λ o. cond (list_any (eqb s) (targets_at P o)) (get_or t.sizes o 0) 0 in
-        let here : put p ≡ get_or t.sizes p 0 = ap (λ b. cond b (get_or t.sizes p 0) 0) among in
-        let before : ℕ → ℕ = sum_before (λ xs. xs) t.keys t.sizes P p in
-        let load : ℕ → ℕ = sum_before t.loaded t.keys t.keys P p in
-        let room : before s + get_or t.sizes p 0 ≤ get_or t.rooms s 0 =
-        among_holds (λ z. before z + get_or t.sizes p 0 ≤ get_or t.rooms z 0) s (targets_at P p)
-        (recursion_from_All (λ z. before z + get_or t.sizes p 0 ≤ get_or t.rooms z 0)
-        (targets_at P p)
-        (first_room before load t.rooms (get_or t.sizes p 0) (1 + t.backups) (targets_at P p) due))
-        among in
-        omega (
-          arith,
-          sum_by_push put done p,
-          here,
-          room,
-          running_sum (λ xs. xs) t.keys t.sizes P done p left split s,
-        )
-    by_case false among =
-        let put : ℕ → ℕ = λ o. cond (list_any (eqb s) (targets_at P o)) (get_or t.sizes o 0) 0 in
-        let here : put p ≡ 0 = ap (λ b. cond b (get_or t.sizes p 0) 0) among in
-        omega (arith, sum_by_push put done p, here, fits)
+fits_more t P done p left s split due fits = by_case (list_any (eqb s) (targets_at P p)) refl where
+  by_case : (b : Bool) → list_any (eqb s) (targets_at P p) ≡ b
+      → sum_among (λ xs. xs) t.sizes P (done ++ p ∷ []) s ≤ get_or t.rooms s 0
+  by_case true among =
+      let put : ℕ → ℕ = λ o. cond (list_any (eqb s) (targets_at P o)) (get_or t.sizes o 0) 0 in
+      let before : ℕ → ℕ = sum_before (λ xs. xs) t.keys t.sizes P p in
+      let load : ℕ → ℕ = sum_before t.loaded t.keys t.keys P p in
+      let room : before s + get_or t.sizes p 0 ≤ get_or t.rooms s 0 =
+      among_holds (λ z. before z + get_or t.sizes p 0 ≤ get_or t.rooms z 0) s (targets_at P p)
+      (recursion_from_All (λ z. before z + get_or t.sizes p 0 ≤ get_or t.rooms z 0)
+      (targets_at P p) (first_room before load t.rooms (get_or t.sizes p 0)
+      (1 + t.backups) (targets_at P p) due)) among in
+      omega (
+        arith,
+        sum_by_push put done p,
+        (ap (λ b. cond b (get_or t.sizes p 0) 0) among),
+        room,
+        running_sum (λ xs. xs) t.keys t.sizes P done p left split s,
+      )
+  by_case false among =
+      let put : ℕ → ℕ = λ o. cond (list_any (eqb s) (targets_at P o)) (get_or t.sizes o 0) 0 in
+      omega (arith, sum_by_push put done p, ap (λ b. cond b (get_or t.sizes p 0) 0) among, fits)
 
 fits_from : (t : TurnRule) (P : List (List ℕ)) (now done : List ℕ) (s : ℕ)
     → turns t.keys ≡ done ++ now → AllByRecursion (HasDueTargets t P) now
     → sum_among (λ xs. xs) t.sizes P done s ≤ get_or t.rooms s 0
     → sum_among (λ xs. xs) t.sizes P (done ++ now) s ≤ get_or t.rooms s 0
-fits_from t P [] done s split due fits =
-    subst (λ xs. sum_among (λ xs. xs) t.sizes P xs s ≤ get_or t.rooms s 0) (sym (append-nil done))
-    fits
-fits_from t P (x ∷ xs) done s split due fits =
-    subst (λ ys. sum_among (λ xs. xs) t.sizes P ys s ≤ get_or t.rooms s 0)
-    (append_assoc done (x ∷ []) xs)
+fits_from t P [] done s split due fits = rw (append-nil done) fits
+fits_from t P (x ∷ xs) done s split due fits = rw (append_assoc done (x ∷ []) xs) at
     (fits_from t P xs (done ++ x ∷ []) s (split ∙ sym (append_assoc done (x ∷ []) xs)) due.1
     (fits_more t P done x xs s split due.0 fits))
 

@@ -12,14 +12,12 @@ use Rattle.policy_rules.specs.declared.applying.Inapplicable.TheVariants.{Absent
 -- ---- the cases
 
 abbrev outcome : Bool → Bool → Bool → List Row → Result (List Row) Inapplicable
-outcome absent taken many rows =
-    cond absent (Err Absent) (cond taken (Err Taken)
-    (cond many (Err (TooManyRows (length rows))) (Ok rows)))
+outcome absent taken many rows = cond absent (Err Absent)
+    (cond taken (Err Taken) (cond many (Err (TooManyRows (length rows))) (Ok rows)))
 
-by_cases : (rows : List Row) (change : List Edit) {absent taken many : Bool}
-    → removes_absent rows change ≡ absent → adds_taken rows change ≡ taken
-    → ltb 2000 (length (amended_rows rows change)) ≡ many
-    → applied rows change ≡ outcome absent taken many (amended_rows rows change)
+by_cases : (rows : List Row) (change : List Edit) {absent taken many : Bool} → removes_absent rows
+    change ≡ absent → adds_taken rows change ≡ taken → ltb 2000 (length (amended_rows rows change))
+    ≡ many → applied rows change ≡ outcome absent taken many (amended_rows rows change)
 unfolding applied
 by_cases rows change one two three = λ i. outcome (one i) (two i) (three i)
     (amended_rows rows change)
@@ -51,8 +49,7 @@ pub record CanApply (rows : List Row) (change : List Edit) (after : List Row) : 
 
 pub can_apply : (rows after : List Row) (change : List Edit) → applied rows change ≡ Ok after
     → CanApply rows change after
-can_apply rows after change is =
-    by (removes_absent rows change) (adds_taken rows change)
+can_apply rows after change is = by (removes_absent rows change) (adds_taken rows change)
     (ltb 2000 (length (amended_rows rows change))) refl refl refl
     (sym (by_cases rows change refl refl refl) ∙ is)
   where
@@ -64,8 +61,7 @@ can_apply rows after change is =
     by false true many one two three ok = cc ok
     by false false true one two three ok = cc ok
     by false false false one two three ok =
-        let same : amended_rows rows change ≡ after = cc ok in
-        record {
+        let same : amended_rows rows change ≡ after = cc ok in record {
           there = one;
           free = two;
           few = subst (λ xs. length xs ≤ 2000) same (ltb-false 2000 _ three);
@@ -93,13 +89,11 @@ additions_sound edits sound = All-additions IsSoundRow edits
     by_edit (Add row) sound = sound
 
 -- no added row has the priority of one that stays
-apart : (staying added : List Row)
-    → list_any (λ row. has_priority staying row.priority) added ≡ false
-    → All (λ (x : Row). All (λ (y : Row). x.priority ≢ y.priority) added) staying
+apart : (staying added : List Row) → list_any (λ row. has_priority staying row.priority) added
+    ≡ false → All (λ (x : Row). All (λ (y : Row). x.priority ≢ y.priority) added) staying
 apart staying added free = λ k d within. λ j e inside same.
-    let here : has_priority staying (get_or added j e).priority ≡ true =
-    list_any_at (λ (x : Row). eqb x.priority (get_or added j e).priority) staying k d within
-    (eq-eqb _ _ same) in
+    let here = list_any_at (λ (x : Row). eqb x.priority (get_or added j e).priority) staying k d
+    within (eq-eqb _ _ same) in
     let some = list_any_at (λ (y : Row). has_priority staying y.priority) added j e inside here in
     cc
 
@@ -107,30 +101,24 @@ pub IsPolicy-amended : (rows : List Row) (change : List Edit) → IsPolicy rows 
     → adds_taken rows change ≡ false → length (amended_rows rows change) ≤ 2000
     → IsPolicy (amended_rows rows change)
 IsPolicy-amended rows change policy amendment free few =
-    let stays : Row → Bool = λ row. not (removes change row.priority) in
-    record {
+    let stays : Row → Bool = λ row. not (removes change row.priority) in record {
       sound = All-append IsSoundRow (staying_rows rows change) (additions change)
-          (All-filter stays IsSoundRow rows policy.sound)
-          (additions_sound change amendment.sound);
+          (All-filter stays IsSoundRow rows policy.sound) (additions_sound change amendment.sound);
       distinct = AllPairs-append (λ (x y : Row). x.priority ≢ y.priority) (staying_rows rows change)
           (additions change)
           (AllPairs-filter (λ (x y : Row). x.priority ≢ y.priority) stays rows policy.distinct)
-          amendment.distinct.added_once
-          (apart (staying_rows rows change) (additions change) free);
+          amendment.distinct.added_once (apart (staying_rows rows change) (additions change) free);
       few = omega (arith, few);
     }
 
 pub IsPolicy-applied : (rows after : List Row) (change : List Edit) → IsPolicy rows
     → IsAmendment change → applied rows change ≡ Ok after → IsPolicy after
-IsPolicy-applied rows after change policy amendment is =
-    let can = can_apply rows after change is in
-    subst IsPolicy can.is (IsPolicy-amended rows change policy amendment can.free
-    (subst (λ xs. length xs ≤ 2000) (sym can.is) can.few))
+IsPolicy-applied rows after change policy amendment is = let can = can_apply rows after change is in
+    rw can.is at (IsPolicy-amended rows change policy amendment can.free (rw can.is can.few))
 
 pub All-applied : (P : Row → Type 0) (rows after : List Row) (change : List Edit) → All P rows
     → All P (additions change) → applied rows change ≡ Ok after → All P after
-All-applied P rows after change kept added is =
-    let can = can_apply rows after change is in
+All-applied P rows after change kept added is = let can = can_apply rows after change is in
     subst (All P) can.is (All-append P (staying_rows rows change) (additions change)
     (All-filter (λ (row : Row). not (removes change row.priority)) P rows kept) added)
 
@@ -153,8 +141,7 @@ priorities rows = map (λ (row : Row). row.priority) rows
 
 is_member_is : (numbers : List ℕ) (q : ℕ)
     → is_member eqb numbers q ≡ list_any (λ n. eqb n q) numbers
-is_member_is numbers q =
-    ap (λ (test : ℕ → Bool). list_any test numbers) (λ i n. eqb_sym q n i)
+is_member_is numbers q = ap (λ (test : ℕ → Bool). list_any test numbers) (λ i n. eqb_sym q n i)
 
 -- the priorities of the rows that the change removes
 abbrev gone_priorities : List Row → List Edit → List ℕ
@@ -162,23 +149,19 @@ gone_priorities rows change = priorities (filter (λ row. removes change row.pri
 
 gone_once : (rows : List Row) (change : List Edit) → HaveDistinctPriorities rows
     → IsDistinct eqb (gone_priorities rows change)
-gone_once rows change distinct =
-    IsDistinct-from_AllPairs Decides-eqb (gone_priorities rows change)
+gone_once rows change distinct = IsDistinct-from_AllPairs Decides-eqb (gone_priorities rows change)
     (AllPairs-map (λ (x y : ℕ). x ≢ y) (λ (row : Row). row.priority)
-    (filter (λ row. removes change row.priority) rows)
-    (AllPairs-filter (λ (x y : Row). x.priority ≢ y.priority)
-    (λ row. removes change row.priority) rows distinct))
+    (filter (λ row. removes change row.priority) rows) (AllPairs-filter (λ (x y : Row). x.priority
+    ≢ y.priority) (λ row. removes change row.priority) rows distinct))
 
 -- they are those that the policy has, of those that the change removes
 gone_are : (rows : List Row) (change : List Edit)
     → IsIntersection eqb (removals change) (priorities rows) (gone_priorities rows change)
-gone_are rows change q =
-    is_member_is (gone_priorities rows change) q
+gone_are rows change q = is_member_is (gone_priorities rows change) q
     ∙ any_key (λ (row : Row). row.priority) (filter (λ row. removes change row.priority) rows) q
     ∙ any-filter_same (λ (row : Row). eqb row.priority q) (λ row. removes change row.priority)
-    (removes change q)
-    (λ row same. ap (removes change) (exact_unsigned_eq row.priority q same)) rows
-    ∙ ap (λ b. removes change q && b) (sym (any_key (λ (row : Row). row.priority) rows q))
+    (removes change q) (λ row same. ap (removes change) (exact_unsigned_eq row.priority q same))
+    rows ∙ ap (λ b. removes change q && b) (sym (any_key (λ (row : Row). row.priority) rows q))
     ∙ sym (ap (λ b. b && is_member eqb (priorities rows) q) (is_member_is (removals change) q)
     ∙ ap (λ b. removes change q && b) (is_member_is (priorities rows) q))
 
@@ -194,8 +177,7 @@ some_fails : (test : ℕ → Bool) (xs : List ℕ)
     → not (list_all test xs) ≡ ltb (count_by test xs) (length xs)
 some_fails test [] = refl
 some_fails test (x ∷ xs) =
-    by (test x) (some_fails test xs)
-    ∙ ap (λ n. ltb n (suc (length xs))) (sym (sum_by-cons (λ y. cond (test y) 1 0) x xs))
+    cc (by (test x) (some_fails test xs), sum_by-cons (λ y. cond (test y) 1 0) x xs)
   where
     few : count_by test xs ≤ length xs
     few = count_by-le-length test xs
@@ -207,16 +189,14 @@ some_fails test (x ∷ xs) =
 
 -- the policy lacks a priority that is removed where fewer rows go than priorities are removed
 pub absent_by : (rows : List Row) (change : List Edit) → HaveDistinctPriorities rows
-    → AllPairs (λ (x y : ℕ). x ≢ y) (removals change)
-    → removes_absent rows change
+    → AllPairs (λ (x y : ℕ). x ≢ y) (removals change) → removes_absent rows change
     ≡ ltb (length rows) (length (staying_rows rows change) + length (removals change))
 absent_by rows change distinct once =
     let gone = filter (λ row. removes change row.priority) rows in
     let held : (q : ℕ) → has_priority rows q ≡ is_member eqb (priorities rows) q =
     λ q. sym (any_key (λ (row : Row). row.priority) rows q) ∙ sym (is_member_is (priorities rows) q)
     in
-    let count : length gone ≡ count_by (has_priority rows) (removals change) =
-    sym (length-map gone (λ (row : Row). row.priority))
+    let count = sym (length-map gone (λ (row : Row). row.priority))
     ∙ length-IsIntersection nat_eq_equiv (removals change) (priorities rows) (priorities gone)
     (IsDistinct-from_AllPairs Decides-eqb (removals change) once) (gone_once rows change distinct)
     (gone_are rows change)
@@ -245,8 +225,7 @@ passes_either p q (row ∷ rows) =
     one_passes (p row) (q row) (list_any p rows) (list_any q rows) _ (passes_either p q rows)
 
 -- of two lists a row of the first has the priority of one of the second, or the other way round
-share_priority : (rows others : List Row)
-    → list_any (λ row. has_priority rows row.priority) others
+share_priority : (rows others : List Row) → list_any (λ row. has_priority rows row.priority) others
     ≡ list_any (λ row. has_priority others row.priority) rows
 share_priority rows [] = sym (none_passes rows)
 share_priority rows (other ∷ others) =
@@ -259,8 +238,7 @@ share_priority rows (other ∷ others) =
 pub taken_by : (new : ℕ → Bool) (rows : List Row) (change : List Edit)
     → IsSetOf new (priorities (additions change))
     → adds_taken rows change ≡ list_any (λ row. new row.priority) (staying_rows rows change)
-taken_by new rows change is_new =
-    share_priority (staying_rows rows change) (additions change)
+taken_by new rows change is_new = share_priority (staying_rows rows change) (additions change)
     ∙ ap (λ (test : Row → Bool). list_any test (staying_rows rows change))
     (λ i row. (sym (any_key (λ (added : Row). added.priority) (additions change) row.priority)
     ∙ sym (is_new row.priority)) i)

@@ -14,8 +14,7 @@ or_from_cond false false = refl
 pub seen_more : (rows : List Row) (i : ℕ) (row : Row) (q : ℕ) → i < length rows
     → row ≡ get_or rows i row → cond (eqb row.priority q) true (has_priority (take i rows) q)
     ≡ has_priority (take (i + 1) rows) q
-seen_more rows i row q within is =
-    or_from_cond (eqb row.priority q) (has_priority (take i rows) q)
+seen_more rows i row q within is = or_from_cond (eqb row.priority q) (has_priority (take i rows) q)
     ∙ ap (λ (x : Row). has_priority (take i rows) q || eqb x.priority q) is
     ∙ sym (list_any_more (λ (x : Row). eqb x.priority q) rows i row within)
 
@@ -37,8 +36,7 @@ pub distinct_more : (rows : List Row) (i : ℕ) (row : Row) → i < length rows
     → row ≡ get_or rows i row → HaveDistinctPriorities (take i rows)
     → has_priority (take i rows) row.priority ≡ false → HaveDistinctPriorities (take (i + 1) rows)
 distinct_more rows i row within is distinct new =
-    subst HaveDistinctPriorities
-    (ap (λ x. take i rows ++ x ∷ []) is ∙ sym (take_more rows i row within))
+    rw (ap (λ x. take i rows ++ x ∷ []) is ∙ sym (take_more rows i row within)) at
     (distinct_push (take i rows) row distinct new)
 
 -- the first rows are as those of a policy are
@@ -56,9 +54,8 @@ so_far_more rows i row within is so_far sound new = record {
 
 pub so_far_all : (rows : List Row) (i : ℕ) → length rows ≤ i → length rows < 2 ^ 32
     → AreSoFar rows i → IsPolicy rows
-so_far_all rows i past few so_far =
-    let all = take_all i rows past in record {
-      sound = subst (All IsSoundRow) all so_far.sound;
-      distinct = subst HaveDistinctPriorities all so_far.distinct;
-      few = few;
-    }
+so_far_all rows i past few so_far = let all = take_all i rows past in record {
+  sound = subst (All IsSoundRow) all so_far.sound;
+  distinct = subst HaveDistinctPriorities all so_far.distinct;
+  few = few;
+}

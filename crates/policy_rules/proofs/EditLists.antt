@@ -46,15 +46,13 @@ added_back (row ∷ added) = ap (λ xs. row ∷ xs) (added_back added)
 
 pub removals_of : (removed : List ℕ) (added : List Row)
     → removals (edits_of removed added) ≡ removed
-removals_of removed added =
-    filter_map-append removal (map Remove removed) (map Add added)
+removals_of removed added = filter_map-append removal (map Remove removed) (map Add added)
     ∙ ap (λ xs. xs ++ removals (map Add added)) (removed_back removed)
     ∙ ap (λ xs. removed ++ xs) (none_removed added) ∙ append-nil removed
 
 pub additions_of : (removed : List ℕ) (added : List Row)
     → additions (edits_of removed added) ≡ added
-additions_of removed added =
-    filter_map-append addition (map Remove removed) (map Add added)
+additions_of removed added = filter_map-append addition (map Remove removed) (map Add added)
     ∙ ap (λ xs. xs ++ additions (map Add added)) (none_added removed) ∙ added_back added
 
 -- ---- one priority more
@@ -68,9 +66,8 @@ or_more false false = refl
 abbrev Puts : (ℕ → Bool) → ℕ → (ℕ → Bool) → Type 0
 Puts old priority new = (q : ℕ) → new q ≡ cond (eqb priority q) true (old q)
 
-pub seen_remove : (removed added new : ℕ → Bool) (edits : List Edit) (priority : ℕ)
-    → Puts removed priority new → AreSeen removed added edits
-    → AreSeen new added (edits ++ Remove priority ∷ [])
+pub seen_remove : (removed added new : ℕ → Bool) (edits : List Edit) (priority : ℕ) → Puts removed
+    priority new → AreSeen removed added edits → AreSeen new added (edits ++ Remove priority ∷ [])
 seen_remove removed added new edits priority puts seen = record {
   of_removed = λ q. puts q ∙ ap (cond (eqb priority q) true) (seen.of_removed q)
       ∙ or_more (eqb priority q) (removes edits q)
@@ -80,12 +77,10 @@ seen_remove removed added new edits priority puts seen = record {
       ∙ ap (λ rows. has_priority rows q) (sym (additions_remove edits priority));
 }
 
-pub seen_add : (removed added new : ℕ → Bool) (edits : List Edit) (row : Row)
-    → Puts added row.priority new → AreSeen removed added edits
-    → AreSeen removed new (edits ++ Add row ∷ [])
+pub seen_add : (removed added new : ℕ → Bool) (edits : List Edit) (row : Row) → Puts added
+    row.priority new → AreSeen removed added edits → AreSeen removed new (edits ++ Add row ∷ [])
 seen_add removed added new edits row puts seen = record {
-  of_removed = λ q. seen.of_removed q
-      ∙ ap (list_any (λ x. eqb x q)) (sym (removals_add edits row));
+  of_removed = λ q. seen.of_removed q ∙ ap (list_any (λ x. eqb x q)) (sym (removals_add edits row));
   of_added = λ q. puts q ∙ ap (cond (eqb row.priority q) true) (seen.of_added q)
       ∙ or_more (eqb row.priority q) (has_priority (additions edits) q)
       ∙ sym (ap (λ rows. has_priority rows q) (additions_add edits row)
@@ -99,16 +94,13 @@ pub distinct_edits_push : (edits : List Edit) (edit : Edit) → AreDistinctEdits
 distinct_edits_push edits (Remove priority) distinct new = record {
   removed_once = subst (AllPairs (λ (x y : ℕ). x ≢ y)) (sym (removals_remove edits priority))
       (all_pairs_push (λ (x y : ℕ). x ≢ y) (removals edits) priority distinct.removed_once
-      (λ k d within same.
-      let some = list_any_at (λ x. eqb x priority) (removals edits) k d within
+      (λ k d within same. let some = list_any_at (λ x. eqb x priority) (removals edits) k d within
       (eq-eqb _ _ same) in
       cc));
-  added_once = subst HaveDistinctPriorities (sym (additions_remove edits priority))
-      distinct.added_once;
+  added_once = rw (additions_remove edits priority) distinct.added_once;
 }
 distinct_edits_push edits (Add row) distinct new = record {
-  removed_once = subst (AllPairs (λ (x y : ℕ). x ≢ y)) (sym (removals_add edits row))
-      distinct.removed_once;
+  removed_once = rw (removals_add edits row) distinct.removed_once;
   added_once = subst HaveDistinctPriorities (sym (additions_add edits row))
       (distinct_push (additions edits) row distinct.added_once new);
 }
@@ -118,28 +110,24 @@ distinct_edits_push edits (Add row) distinct new = record {
 -- the first of distinct edits, the next, and the others
 fresh_before : (earlier later : List Edit) (edit : Edit)
     → AreDistinctEdits (earlier ++ edit ∷ later) → repeats earlier edit ≡ false
-fresh_before earlier later (Remove priority) distinct =
-    list_any_none (λ x. eqb x priority) (removals earlier) (λ k d within. ne_eqb _ _
+fresh_before earlier later (Remove priority) distinct = list_any_none (λ x. eqb x priority)
+    (removals earlier) (λ k d within. ne_eqb _ _
     (pairs_before (λ (x y : ℕ). x ≢ y) (removals earlier) priority (removals later)
-    (subst (AllPairs (λ (x y : ℕ). x ≢ y))
-    (filter_map-append removal earlier (Remove priority ∷ later)) distinct.removed_once)
-    k d within))
+    (rw (filter_map-append removal earlier (Remove priority ∷ later)) at distinct.removed_once) k d
+    within))
 fresh_before earlier later (Add row) distinct =
     list_any_none (λ (x : Row). eqb x.priority row.priority) (additions earlier)
     (λ k d within. ne_eqb _ _
-    (pairs_before (λ (x y : Row). x.priority ≢ y.priority) (additions earlier) row
-    (additions later) (subst HaveDistinctPriorities
-    (filter_map-append addition earlier (Add row ∷ later)) distinct.added_once)
-    k d within))
+    (pairs_before (λ (x y : Row). x.priority ≢ y.priority) (additions earlier) row (additions later)
+    (rw (filter_map-append addition earlier (Add row ∷ later)) at distinct.added_once) k d within))
 
 pub fresh_edits : (edits : List Edit) (p k : ℕ) (d : Edit) → AreDistinctEdits (take p edits)
     → k < p → k < length edits → repeats (take k edits) (get_or edits k d) ≡ false
 fresh_edits edits p k d distinct less within =
-    let room : k < length (take p edits) = omega (arith, length-take p edits) in
     let split : take p edits ≡ take k edits ++ get_or edits k d ∷ drop (k + 1) (take p edits) =
     sym (take-append-drop k (take p edits))
-    ∙ ap (λ xs. xs ++ drop k (take p edits)) (take-take k p edits (omega arith))
-    ∙ ap (λ xs. take k edits ++ xs) (drop_more (take p edits) k d room)
+    ∙ ap (λ xs. xs ++ drop k (take p edits)) (take-take k p edits (omega arith)) ∙ ap
+    (λ xs. take k edits ++ xs) (drop_more (take p edits) k d (omega (arith, length-take p edits)))
     ∙ ap (λ edit. take k edits ++ edit ∷ drop (k + 1) (take p edits))
     (get_or-take p edits k d less) in
     fresh_before (take k edits) (drop (k + 1) (take p edits)) (get_or edits k d)

@@ -23,21 +23,18 @@ below_test n p = grind (arith, nat_tests)
 moved_below : (n : ℕ) (rows : List Row) → IsPermutation (filter (below n) rows)
     (falling_below n rows)
 unfolding falling_below
-moved_below zero rows = subst (λ xs. IsPermutation xs []) (sym (none_below rows))
-    (IsPermutation-refl [])
+moved_below zero rows = rw (none_below rows) (IsPermutation-refl [])
 moved_below (suc p) rows =
     let has : Row → Bool = λ row. eqb row.priority p in
     let other : Row → Bool = λ row. not (has row) in
     let kept = filter (below (suc p)) rows in
-    let split = IsPermutation-filter_both has other (λ row. refl) kept in
     let same : filter has kept ++ filter other kept ≡ filter has rows ++ filter (below p) rows =
-    ap (λ xs. xs ++ filter other kept)
-    (filter_filter (below (suc p)) has has (λ row. equal_test row.priority p) rows)
-    ∙ ap (λ ys. filter has rows ++ ys)
+    ap (λ xs. xs ++ filter other kept) (filter_filter (below (suc p)) has has
+    (λ row. equal_test row.priority p) rows) ∙ ap (λ ys. filter has rows ++ ys)
     (filter_filter (below (suc p)) other (below p) (λ row. below_test row.priority p) rows) in
     IsPermutation-trans kept (filter has rows ++ filter (below p) rows)
     (filter has rows ++ falling_below p rows)
-    (subst (IsPermutation kept) same split)
+    (subst (IsPermutation kept) same (IsPermutation-filter_both has other (λ row. refl) kept))
     (IsPermutation-append_right (filter has rows) (filter (below p) rows) (falling_below p rows)
     (moved_below p rows))
 
@@ -45,8 +42,7 @@ pub IsPermutation-by_falling_priority : (rows : List Row) → All IsSoundRow row
     → IsPermutation rows (by_falling_priority rows)
 unfolding by_falling_priority
 IsPermutation-by_falling_priority rows sound =
-    subst (λ xs. IsPermutation xs (falling_below (2 ^ 32) rows))
-    (filter_all (below (2 ^ 32)) rows (λ k d within. lt-ltb _ _ (sound k d within).priority))
+    rw (filter_all (below (2 ^ 32)) rows (λ k d within. lt-ltb _ _ (sound k d within).priority)) at
     (moved_below (2 ^ 32) rows)
 
 -- ---- they fall
@@ -100,8 +96,7 @@ bound_from_count q most (row ∷ rows) all some = by_case (eqb row.priority q) r
     by_case : (b : Bool) → eqb row.priority q ≡ b → (0 < sum_by (has q) rows → q ≤ most) → q ≤ most
     by_case true is rest = omega
         (arith, eqb-true row.priority q is, All-head (λ (x : Row). x.priority ≤ most) row rows all)
-    by_case false is rest =
-        let none : has q row ≡ 0 = rw is refl in
+    by_case false is rest = let none : has q row ≡ 0 = rw is refl in
         rest (omega (arith, sum_by-cons (has q) row rows, none))
 
 counts_itself : (row : Row) (rows : List Row) → 0 < sum_by (has row.priority) (row ∷ rows)
@@ -127,8 +122,7 @@ same_falling P one (x ∷ xs) (y ∷ ys) f g p q counts =
     (omega (arith, counts_itself y ys, counts y.priority)) in
     let heads = one x y (All-head P x xs p) (All-head P y ys q) (omega (arith, low, high)) in
     let tails = same_falling P one xs ys (falling_tail x xs f) (falling_tail y ys g)
-    (All-tail P x xs p) (All-tail P y ys q)
-    (λ k. omega (
+    (All-tail P x xs p) (All-tail P y ys q) (λ k. omega (
       arith,
       counts k,
       sum_by-cons (has k) x xs,
@@ -202,22 +196,20 @@ pub filter_none : (p : Row → Bool) (rows : List Row) → All (λ row. p row �
     → filter p rows ≡ []
 filter_none p [] all = refl
 filter_none p (row ∷ rows) all =
-    let here : p row ≡ false = all 0 row (omega arith) in
-    rw here (filter_none p rows (All-tail (λ row. p row ≡ false) row rows all))
+    rw (all 0 row (omega arith)) (filter_none p rows (All-tail (λ row. p row ≡ false) row rows all))
 
 in_filter : (p : Row → Bool) (rows : List Row)
     → All (λ row. p row ≡ true → Contains (filter p rows) row) rows
 in_filter p [] = All-nil _
-in_filter p (row ∷ rows) = by_case (p row) refl (in_filter p rows)
-  where
-    by_case : (b : Bool) → p row ≡ b → All (λ x. p x ≡ true → Contains (filter p rows) x) rows
-        → All (λ x. p x ≡ true → Contains (cond b (row ∷ filter p rows) (filter p rows)) x)
-        (row ∷ rows)
-    by_case true is rest = All-cons (λ x. p x ≡ true → Contains (row ∷ filter p rows) x) row rows
-        (λ _. (0, omega arith, refl))
-        (λ k d h passes. Contains-append_right (row ∷ []) (filter p rows) _ (rest k d h passes))
-    by_case false is rest = All-cons (λ x. p x ≡ true → Contains (filter p rows) x) row rows
-        (λ passes. absurd (cc)) rest
+in_filter p (row ∷ rows) = by_case (p row) refl (in_filter p rows) where
+  by_case : (b : Bool) → p row ≡ b → All (λ x. p x ≡ true → Contains (filter p rows) x) rows
+      → All (λ x. p x ≡ true → Contains (cond b (row ∷ filter p rows) (filter p rows)) x)
+      (row ∷ rows)
+  by_case true is rest = All-cons (λ x. p x ≡ true → Contains (row ∷ filter p rows) x) row rows
+      (λ _. (0, omega arith, refl))
+      (λ k d h passes. Contains-append_right (row ∷ []) (filter p rows) _ (rest k d h passes))
+  by_case false is rest = All-cons (λ x. p x ≡ true → Contains (filter p rows) x) row rows
+      (λ passes. absurd (cc)) rest
 
 -- among rows by falling priority the first that passes is the highest
 pub find-by_falling_priority : (p : Row → Bool) (rows : List Row) → All IsSoundRow rows
@@ -229,10 +221,9 @@ find-by_falling_priority p rows sound distinct = by_case (find p (by_falling_pri
     by_case : (found : Option Row) → FirstPasses p (by_falling_priority rows) found
         → found ≡ highest_row (filter p rows)
     by_case None none =
-        let back = IsPermutation-sym rows (by_falling_priority rows)
-        (IsPermutation-by_falling_priority rows sound) in
-        let all = All-permutation (λ row. p row ≡ false) (by_falling_priority rows) rows back
-        none in
+        let all = All-permutation (λ row. p row ≡ false) (by_falling_priority rows) rows
+        (IsPermutation-sym rows (by_falling_priority rows)
+        (IsPermutation-by_falling_priority rows sound)) none in
         ap highest_row (sym (filter_none p rows all))
     by_case (Some row) first =
         let back = IsPermutation-sym rows (by_falling_priority rows)

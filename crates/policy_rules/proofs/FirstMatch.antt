@@ -21,9 +21,7 @@ one_of_priority rows distinct x y (i, within, is) (j, inside, also) same =
       | inl less ↦ absurd (distinct i j x less inside equal)
       | inr more ↦ elim (cases_lt j i) [
         | inl less ↦ absurd (distinct j i x less within (sym equal))
-        | inr same_place ↦
-            let place : i ≡ j = omega arith in
-            sym is ∙ ap (λ k. get_or rows k x) place ∙ here
+        | inr same_place ↦ sym is ∙ ap (λ k. get_or rows k x) (omega arith) ∙ here
       ]
     ]
 
@@ -34,9 +32,8 @@ passes rows row most = list_all-from_AllPass (λ (other : Row). leb other.priori
 
 bounds : (rows : List Row) (row : Row) → is_highest rows row ≡ true
     → All (λ (other : Row). other.priority ≤ row.priority) rows
-bounds rows row is k d within =
-    leb-true _ _ (AllPass-from_list_all (λ (other : Row). leb other.priority row.priority) rows is k
-    d within)
+bounds rows row is k d within = leb-true _ _
+    (AllPass-from_list_all (λ (other : Row). leb other.priority row.priority) rows is k d within)
 
 -- among rows of distinct priorities one is the highest
 pub highest_is : (rows : List Row) (row : Row) → HaveDistinctPriorities rows → IsHighestIn rows row
@@ -55,8 +52,7 @@ highest_is rows row distinct is = by_case (find (is_highest rows) rows)
         there in
         let above = All-contains (λ (x : Row). x.priority ≤ other.priority) rows row
         (bounds rows other test) is.member in
-        ap Some (one_of_priority rows distinct other row there is.member
-        (omega (arith, below, above)))
+        ap Some (one_of_priority rows distinct other row there is.member (omega arith))
 
 -- rows have a highest one
 top_of : (row : Row) (rows : List Row) → (best : Row) × IsHighestIn (row ∷ rows) best
@@ -64,35 +60,31 @@ top_of row [] = (
   row,
   record {
     member = (0, omega arith, refl);
-    highest =
-        All-cons (λ (x : Row). x.priority ≤ row.priority) row [] (omega arith) (All-nil _);
+    highest = All-cons (λ (x : Row). x.priority ≤ row.priority) row [] (omega arith) (All-nil _);
   },
 )
-top_of row (next ∷ rows) = by_case (top_of next rows)
-  where
-    by_case : (best : Row) × IsHighestIn (next ∷ rows) best → (best : Row)
-        × IsHighestIn (row ∷ next ∷ rows) best
-    by_case (best, is) = elim (cases_lt best.priority row.priority) [
-      | inl lower ↦ (
-        row,
-        record {
-          member = (0, omega arith, refl);
-          highest =
-              All-cons (λ (x : Row). x.priority ≤ row.priority) row (next ∷ rows) (omega arith)
-              (All-weaker (λ (x : Row). x.priority ≤ best.priority)
-              (λ (x : Row). x.priority ≤ row.priority) (λ x h. omega (arith, lower)) (next ∷ rows)
-              is.highest);
-        },
-      )
-      | inr upper ↦ (
-        best,
-        record {
-          member = contains_later row (next ∷ rows) best is.member;
-          highest =
-              All-cons (λ (x : Row). x.priority ≤ best.priority) row (next ∷ rows) upper is.highest;
-        },
-      )
-    ]
+top_of row (next ∷ rows) = by_case (top_of next rows) where
+  by_case : (best : Row) × IsHighestIn (next ∷ rows) best → (best : Row)
+      × IsHighestIn (row ∷ next ∷ rows) best
+  by_case (best, is) = elim (cases_lt best.priority row.priority) [
+    | inl lower ↦ (
+      row,
+      record {
+        member = (0, omega arith, refl);
+        highest = All-cons (λ (x : Row). x.priority ≤ row.priority) row (next ∷ rows) (omega arith)
+            (All-weaker (λ (x : Row). x.priority ≤ best.priority) (λ (x : Row). x.priority
+            ≤ row.priority) (λ x h. omega (arith, lower)) (next ∷ rows) is.highest);
+      },
+    )
+    | inr upper ↦ (
+      best,
+      record {
+        member = contains_later row (next ∷ rows) best is.member;
+        highest =
+            All-cons (λ (x : Row). x.priority ≤ best.priority) row (next ∷ rows) upper is.highest;
+      },
+    )
+  ]
 
 pub highest_of : (rows : List Row) → MatchOption (highest_row rows) (rows ≡ []) (IsHighestIn rows)
 highest_of [] = refl
@@ -130,13 +122,11 @@ hit_with rule action = record { rule = rule; action = action }
 first_match_by : (rows : List Row) (header : Header) (rule : Option ℕ) (action : Action)
     → HaveDistinctPriorities rows → IsFirstMatch rows header (hit_with rule action)
     → hit_with rule action ≡ scan rows header
-first_match_by rows header None action distinct (none, drop) = ap (hit_with None) drop
-    ∙ ap (λ matching. hit_of (highest_row matching)) (sym none)
+first_match_by rows header None action distinct (none, drop) = cc (drop, none)
 first_match_by rows header (Some priority) action distinct (row, is, names, acts) =
-    let kept = AllPairs-filter (λ (x y : Row). x.priority ≢ y.priority)
-    (λ x. row_matches x (fields_of header)) rows distinct in
     ap (λ n. hit_with (Some n) action) (sym names) ∙ ap (hit_with (Some row.priority)) (sym acts)
-    ∙ sym (ap hit_of (highest_is _ row kept is))
+    ∙ sym (ap hit_of (highest_is _ row (AllPairs-filter (λ (x y : Row). x.priority ≢ y.priority)
+    (λ x. row_matches x (fields_of header)) rows distinct) is))
 
 -- rows of distinct priorities have one first match
 pub first_match-only : (rows : List Row) (header : Header) (hit : Hit) → HaveDistinctPriorities rows
@@ -156,12 +146,10 @@ pub best_takes : (kept : List Row) (row : Row) (best new : Option (Bor Row)) (ma
     → IsBest kept best → IsBest (kept ++ cond matches (row ∷ []) []) new
 best_takes kept row best new false here is now matches exceeds known = cc matches
 best_takes kept row best new true here is now matches exceeds known =
-    let top : IsHighestIn (kept ++ row ∷ []) row =
-    record {
+    let top : IsHighestIn (kept ++ row ∷ []) row = record {
       member = Contains-push kept row;
-      highest =
-          All-push (λ (x : Row). x.priority ≤ row.priority) kept row (lower best exceeds known)
-          (omega arith);
+      highest = All-push (λ (x : Row). x.priority ≤ row.priority) kept row
+          (lower best exceeds known) (omega arith);
     } in
     subst (IsBest (kept ++ row ∷ [])) (sym is)
     (subst (IsHighestIn (kept ++ row ∷ [])) (sym now) top)
@@ -169,26 +157,19 @@ best_takes kept row best new true here is now matches exceeds known =
     lower : (best : Option (Bor Row))
         → option_map_or (λ (other : Bor Row). ltb other.now.priority row.priority) best true ≡ true
         → IsBest kept best → All (λ (x : Row). x.priority ≤ row.priority) kept
-    lower None exceeds none = subst (All (λ (x : Row). x.priority ≤ row.priority)) (sym none)
-        (All-nil _)
-    lower (Some other) exceeds is =
-        let above = ltb-true other.now.priority row.priority exceeds in
+    lower None exceeds none = rw none (All-nil _)
+    lower (Some other) exceeds is = let above = ltb-true other.now.priority row.priority exceeds in
         All-weaker (λ (x : Row). x.priority ≤ other.now.priority)
         (λ (x : Row). x.priority ≤ row.priority) (λ x h. omega (arith, above)) kept is.highest
 
 -- another row changes nothing
 pub best_keeps : (kept : List Row) (row : Row) (best : Option (Bor Row)) (matches : Bool)
     → (matches ≡ true → option_map_or (λ (other : Bor Row). ltb other.now.priority row.priority)
-    best true ≡ false)
-    → IsBest kept best → IsBest (kept ++ cond matches (row ∷ []) []) best
-best_keeps kept row best false lower is = subst (λ rows. IsBest rows best) (sym (append-nil kept))
-    is
+    best true ≡ false) → IsBest kept best → IsBest (kept ++ cond matches (row ∷ []) []) best
+best_keeps kept row best false lower is = rw (append-nil kept) is
 best_keeps kept row None true lower is = absurd (let e = lower refl in cc)
-best_keeps kept row (Some best) true lower is =
-    let below : row.priority ≤ best.now.priority = ltb-false best.now.priority row.priority
-    (lower refl) in
-    record {
-      member = Contains-append_left kept (row ∷ []) best.now is.member;
-      highest =
-          All-push (λ (x : Row). x.priority ≤ best.now.priority) kept row is.highest below;
-    }
+best_keeps kept row (Some best) true lower is = record {
+  member = Contains-append_left kept (row ∷ []) best.now is.member;
+  highest = All-push (λ (x : Row). x.priority ≤ best.now.priority) kept row is.highest
+      (ltb-false best.now.priority row.priority (lower refl));
+}

@@ -14,8 +14,7 @@ use Rattle.five_tuple.proofs.CallerLemmas.{HasBits, and_packed, masked_packed}
 -- the address of a block has no bit past those that the block fixes
 prefix_within : (p : AddressBlock) → IsAddressBlock p → bit_and p.address (prefix_mask p)
     ≡ p.address
-prefix_within p block =
-    let k = 32 - p.len in
+prefix_within p block = let k = 32 - p.len in
     and_high_mask 32 k (omega arith) p.address block.address
     ∙ omega (arith, shr_split p.address k, block.cleared)
 
@@ -28,8 +27,7 @@ pub masked_prefix : (p : AddressBlock) (address : ℕ) → IsAddressBlock p → 
 masked_prefix p address block bound =
     let k = 32 - p.len in
     let pos = pow_pos k in
-    let whole : p.address / 2 ^ k * 2 ^ k ≡ p.address =
-    omega (arith, shr_split p.address k, block.cleared) in
+    let whole : p.address / 2 ^ k * 2 ^ k ≡ p.address = omega (arith, shr_split, block.cleared) in
     ap (λ n. eqb n p.address) (and_high_mask 32 k (omega arith) address bound)
     ∙ same_from_decides _ _
     (Decides-like _ (λ e. sym (mul-div_cancel (address / 2 ^ k) pos) ∙ ap (λ n. n / 2 ^ k) e)
@@ -51,33 +49,28 @@ masked_proto : (p : Proto) (number : ℕ) → IsProtocol p → number < 2 ^ 8
     → eqb (bit_and number (proto_mask p)) (proto_value p) ≡ proto_matches p number
 masked_proto Any number small bound = ap (λ n. eqb n 0) (and_zero_r number)
 masked_proto (Is this) number small bound =
-    let same : bit_and number 255 ≡ number = and_high_mask 8 0 (omega arith) number bound
-    ∙ omega arith in
-    ap (λ n. eqb n this) same ∙ eqb_sym number this
+    ap (λ n. eqb n this) (and_high_mask 8 0 (omega arith) number bound ∙ omega arith)
+    ∙ eqb_sym number this
 
 value_bits : (row : Row) (source destination : Block) → IsSoundRow row → IsPortBlock source
     → IsPortBlock destination → HasBits row.dst.address source.0 destination.0
     (proto_value row.proto)
-value_bits row source destination sound s d =
-    record {
-      dst = sound.dst.address;
-      sport = s.value;
-      dport = d.value;
-      proto =
-          (proto_bound row.proto sound.proto).0;
-    }
+value_bits row source destination sound s d = record {
+  dst = sound.dst.address;
+  sport = s.value;
+  dport = d.value;
+  proto = (proto_bound row.proto sound.proto).0;
+}
 
 mask_bits : (row : Row) (source destination : Block) → IsSoundRow row → IsPortBlock source
     → IsPortBlock destination → HasBits (prefix_mask row.dst) source.1 destination.1
     (proto_mask row.proto)
-mask_bits row source destination sound s d =
-    record {
-      dst = mask_bound row.dst;
-      sport = s.mask;
-      dport = d.mask;
-      proto =
-          (proto_bound row.proto sound.proto).1;
-    }
+mask_bits row source destination sound s d = record {
+  dst = mask_bound row.dst;
+  sport = s.mask;
+  dport = d.mask;
+  proto = (proto_bound row.proto sound.proto).1;
+}
 
 -- no bit of the value is outside the mask, and the mask has the bits of a header's number
 pub IsWord-word_of_row : (row : Row) (source destination : Block) → IsSoundRow row
@@ -88,11 +81,9 @@ IsWord-word_of_row row source destination sound s d =
     let within = and_packed row.src.address row.dst.address source.0 destination.0
     (proto_value row.proto) (prefix_mask row.src) (prefix_mask row.dst) source.1 destination.1
     (proto_mask row.proto) (value_bits row source destination sound s d) bits in
-    let src = prefix_within row.src sound.src in
     let dst = prefix_within row.dst sound.dst in
-    let proto = proto_within row.proto sound.proto in
-    record {
-      within = within ∙ rw (src, dst, s.inside, d.inside, proto) refl;
+    let proto = proto_within row.proto sound.proto in record {
+      within = within ∙ rw ((prefix_within row.src sound.src), dst, s.inside, d.inside, proto) refl;
       bounded = omega (arith, mask_bound row.src, bits.dst, bits.sport, bits.dport, bits.proto);
     }
 
@@ -110,16 +101,14 @@ holds-word_of_row row source destination h sound s d bits =
     let w = word_of_row row source destination in
     let header : HasBits f.dst f.sport f.dport f.proto =
     record { dst = bits.dst; sport = bits.sport; dport = bits.dport; proto = bits.proto } in
-    let masks = mask_bits row source destination sound s d in
     let values = value_bits row source destination sound s d in
     ap (eqb (bit_and (number_of h) w.mask))
     (IsWord-word_of_row row source destination sound s d).within
     ∙ masked_packed f.src f.dst f.sport f.dport f.proto (prefix_mask row.src) (prefix_mask row.dst)
     source.1 destination.1 (proto_mask row.proto) row.src.address row.dst.address source.0
-    destination.0 (proto_value row.proto) header masks values
+    destination.0 (proto_value row.proto) header (mask_bits row source destination sound s d) values
     ∙ rw (
       masked_prefix row.src f.src sound.src bits.src,
-      masked_prefix row.dst f.dst sound.dst
-          bits.dst,
+      masked_prefix row.dst f.dst sound.dst bits.dst,
       masked_proto row.proto f.proto sound.proto bits.proto,
     ) refl

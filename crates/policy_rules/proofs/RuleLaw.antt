@@ -47,15 +47,14 @@ found-append n xs ys = ap (option_map (λ (entry : WordValue × Hit). entry.1))
 found-with_hit : (n : ℕ) (row : Row) (words : List WordValue) → found n (with_hit row words) ≡ cond
     (list_any (λ word. holds word n) words) (Some (hit_of (Some row))) None
 found-with_hit n row [] = refl
-found-with_hit n row (word ∷ words) = by_case (holds word n) (found-with_hit n row words)
-  where
-    by_case : (b : Bool) → found n (with_hit row words) ≡ cond
-        (list_any (λ word. holds word n) words) (Some (hit_of (Some row))) None →
-        option_map (λ (e : WordValue × Hit). e.1)
-        (cond b (Some (word, hit_of (Some row))) (find (λ e. holds e.0 n) (with_hit row words)))
-        ≡ cond (b || list_any (λ word. holds word n) words) (Some (hit_of (Some row))) None
-    by_case true rest = refl
-    by_case false rest = rest
+found-with_hit n row (word ∷ words) = by_case (holds word n) (found-with_hit n row words) where
+  by_case : (b : Bool) → found n (with_hit row words) ≡ cond
+      (list_any (λ word. holds word n) words) (Some (hit_of (Some row))) None →
+      option_map (λ (e : WordValue × Hit). e.1)
+      (cond b (Some (word, hit_of (Some row))) (find (λ e. holds e.0 n) (with_hit row words)))
+      ≡ cond (b || list_any (λ word. holds word n) words) (Some (hit_of (Some row))) None
+  by_case true rest = refl
+  by_case false rest = rest
 
 none_passes : (a b : Bool) → (a && false && b) ≡ false
 none_passes true b = refl
@@ -71,19 +70,17 @@ holds-words_of_row row h sound bits =
     let destinations = is_cover_of row.dport sound.dport in
     let front = prefix_matches row.src f.src && prefix_matches row.dst f.dst in
     let last = proto_matches row.proto f.proto in
-    let inner = λ (source : Block) (masked : IsPortBlock source).
-    list_any_map (λ word. holds word n) (word_of_row row source) (cover_of row.dport)
+    let inner = λ (source : Block) (masked : IsPortBlock source). list_any_map
+    (λ word. holds word n) (word_of_row row source) (cover_of row.dport)
     ∙ any_within (λ b. front && block_holds f.sport source && b && last)
     (none_passes (front && block_holds f.sport source) last)
     (λ destination. holds (word_of_row row source destination) n) (block_holds f.dport)
-    (cover_of row.dport)
-    (λ k d within. holds-word_of_row row source (get_or (cover_of row.dport) k d) h sound masked
-    (destinations.masked k d within) bits) in
+    (cover_of row.dport) (λ k d within. holds-word_of_row row source
+    (get_or (cover_of row.dport) k d) h sound masked (destinations.masked k d within) bits) in
     list_any_flat_map (λ word. holds word n)
     (λ source. map (word_of_row row source) (cover_of row.dport)) (cover_of row.sport)
     ∙ any_within (λ b. front && b && list_any (block_holds f.dport) (cover_of row.dport) && last)
-    (ap (λ b. b && last) (none_passes front
-    (list_any (block_holds f.dport) (cover_of row.dport))))
+    (ap (λ b. b && last) (none_passes front (list_any (block_holds f.dport) (cover_of row.dport))))
     (λ source. list_any (λ word. holds word n)
     (map (word_of_row row source) (cover_of row.dport))) (block_holds f.sport)
     (cover_of row.sport)
@@ -105,9 +102,7 @@ holds-any_word n = eq-eqb (bit_and n 0) 0 (and_zero_r n)
 found-rows : (rows : List Row) (h : Header) → All IsSoundRow rows → IsHeader h
     → found (number_of h) (with_default rows) ≡ Some
     (hit_of (find (λ row. row_matches row (fields_of h)) rows))
-found-rows [] h sound bits =
-    ap (λ b. option_map (λ (entry : WordValue × Hit). entry.1)
-    (cond b (Some (any_word, hit_of None)) None)) (holds-any_word (number_of h))
+found-rows [] h sound bits = cc (holds-any_word (number_of h))
 found-rows (row ∷ rows) h sound bits =
     let n = number_of h in
     let here = found-row row h (sound 0 row (omega arith)) bits in

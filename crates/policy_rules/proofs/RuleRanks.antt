@@ -26,8 +26,7 @@ pub ranked_more : (old now new : List Rule) (done more all : List (WordValue × 
     → now ≡ old ++ ranked_from (length old) done → new ≡ now ++ ranked_from (length now) more
     → all ≡ done ++ more → new ≡ old ++ ranked_from (length old) all
 ranked_more old now new done more all is pushed joined =
-    let len : length now ≡ length old + length done =
-    omega (
+    let len : length now ≡ length old + length done = omega (
       arith,
       ap length is,
       length-append old (ranked_from (length old) done),
@@ -38,19 +37,17 @@ ranked_more old now new done more all is pushed joined =
     ∙ ap (λ rules. rules ++ ranked_from (length old + length done) more) is
     ∙ append_assoc old (ranked_from (length old) done) (ranked_from (length old + length done) more)
     ∙ ap (λ rules. old ++ rules)
-    (sym (ranked_from-append (length old) done more)
-    ∙ ap (ranked_from (length old)) (sym joined))
+    (sym (ranked_from-append (length old) done more) ∙ ap (ranked_from (length old)) (sym joined))
 
 -- how many rules there are then
 pub length_ranked : (old now : List Rule) (done : List (WordValue × Hit))
     → now ≡ old ++ ranked_from (length old) done → length now ≡ length old + length done
-length_ranked old now done is =
-    omega (
-      arith,
-      ap length is,
-      length-append old (ranked_from (length old) done),
-      length-ranked_from (length old) done,
-    )
+length_ranked old now done is = omega (
+  arith,
+  ap length is,
+  length-append old (ranked_from (length old) done),
+  length-ranked_from (length old) done,
+)
 
 -- a word for each pair of blocks
 length-pairs : (row : Row) (destinations sources : List Block)

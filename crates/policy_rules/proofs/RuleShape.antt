@@ -42,8 +42,7 @@ IsWord-words_of_row row sound = words_of_pairs row (cover_of row.dport) (cover_o
 words_of_rows : (rows : List Row) → All IsSoundRow rows → All HasWord (flat_map entries_of rows)
 unfolding HasWord
 words_of_rows [] sound = no_words
-words_of_rows (row ∷ rows) sound =
-    All-append HasWord (entries_of row) (flat_map entries_of rows)
+words_of_rows (row ∷ rows) sound = All-append HasWord (entries_of row) (flat_map entries_of rows)
     (All-map HasWord (λ word. (word, hit_of (Some row))) (words_of_row row)
     (IsWord-words_of_row row (sound 0 row (omega arith))))
     (words_of_rows rows (All-tail IsSoundRow row rows sound))
@@ -62,11 +61,10 @@ unfolding ranked_from
 rank_at entries place d within =
     let some : WordValue × Hit = (any_word, hit_of None) in
     let start : ℕ × (WordValue × Hit) = (0, some) in
-    let listed : place < length (enumerate_from 0 entries) =
-    omega (arith, length-ranked_from 0 entries, length-enumerate_from 0 entries) in
     let inside : place < length entries = omega (arith, length-ranked_from 0 entries) in
     ap (λ (rule : Rule). rule.rank)
-    (get_or-map ranked_rule (enumerate_from 0 entries) place start d listed)
+    (get_or-map ranked_rule (enumerate_from 0 entries) place start d
+    (omega (arith, length-ranked_from 0 entries, length-enumerate_from 0 entries)))
     ∙ ap (λ p. (ranked_rule p).rank) (get_or-enumerate_from 0 entries place start inside)
     ∙ omega arith
 
@@ -78,13 +76,11 @@ unfolding rules_of ranked_from HasWord
 IsRuleList-rules_of rows policy =
     let sorted = by_falling_priority rows in
     let entries = flat_map entries_of sorted in
-    let last : WordValue × Hit = (any_word, hit_of None) in
-    let sound = All-permutation IsSoundRow rows sorted
-    (IsPermutation-by_falling_priority rows policy.sound) policy.sound in
-    record {
+    let last : WordValue × Hit = (any_word, hit_of None) in record {
       ranks = rank_at (with_default sorted);
       words = words_ranked 0 (with_default sorted)
-          (All-append HasWord entries (last ∷ []) (words_of_rows sorted sound)
+          (All-append HasWord entries (last ∷ []) (words_of_rows sorted (All-permutation IsSoundRow
+          rows sorted (IsPermutation-by_falling_priority rows policy.sound) policy.sound))
           (All-cons HasWord last [] any_is_word no_words));
       ends = (
         ranked_from 0 entries,
@@ -99,13 +95,12 @@ pub length-rules_of : (rows : List Row) → IsPolicy rows → length (rules_of r
 unfolding rules_of
 length-rules_of rows policy =
     let sorted = by_falling_priority rows in
-    let entries = flat_map entries_of sorted in
     let total = sum_by-IsPermutation word_count rows sorted
     (IsPermutation-by_falling_priority rows policy.sound) in
     omega (
       arith,
       length-ranked_from 0 (with_default sorted),
-      length-append entries ((any_word, hit_of None) ∷ []),
+      length-append (flat_map entries_of sorted) ((any_word, hit_of None) ∷ []),
       length-entries sorted,
       total,
     )

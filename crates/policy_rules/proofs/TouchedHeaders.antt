@@ -19,21 +19,19 @@ use Rattle.policy_rules.proofs.FallingRows.{filter_none}
 find_there : (rows : List Row) (row : Row) (priority : ℕ) → HaveDistinctPriorities rows
     → Contains rows row → row.priority ≡ priority
     → find (λ (x : Row). eqb x.priority priority) rows ≡ Some row
-find_there rows row priority distinct there same =
-    by (find has rows) (find_found has rows)
-  where
-    has : Row → Bool
-    has x = eqb x.priority priority
+find_there rows row priority distinct there same = by (find has rows) (find_found has rows) where
+  has : Row → Bool
+  has x = eqb x.priority priority
 
-    by : (found : Option Row)
-        → MatchOption found (All (λ x. has x ≡ false) rows) (λ x. Contains rows x × (has x ≡ true))
-        → found ≡ Some row
-    by None none =
-        let passing : has row ≡ true = eq-eqb _ _ same in
-        let failing : has row ≡ false = All-contains (λ x. has x ≡ false) rows row none there in
-        absurd (cc)
-    by (Some other) (in_rows, is) =
-        ap Some (one_of_priority rows distinct other row in_rows there (eqb-true _ _ is ∙ sym same))
+  by : (found : Option Row)
+      → MatchOption found (All (λ x. has x ≡ false) rows) (λ x. Contains rows x × (has x ≡ true))
+      → found ≡ Some row
+  by None none =
+      let passing : has row ≡ true = eq-eqb _ _ same in
+      let failing : has row ≡ false = All-contains (λ x. has x ≡ false) rows row none there in
+      absurd (cc)
+  by (Some other) (in_rows, is) =
+      ap Some (one_of_priority rows distinct other row in_rows there (eqb-true _ _ is ∙ sym same))
 
 is_removed : (rows : List Row) (row : Row) (removed : List ℕ) → HaveDistinctPriorities rows
     → Contains rows row → list_any (λ n. eqb n row.priority) removed ≡ true
@@ -56,14 +54,12 @@ is_removed rows row (n ∷ removed) distinct there is =
 All-removed : (P : Row → Type 0) (rows : List Row) (removed : List ℕ) → All P rows
     → All P (filter_map (λ n. find (λ (x : Row). eqb x.priority n) rows) removed)
 All-removed P rows [] all = All-nil P
-All-removed P rows (n ∷ removed) all =
-    by (find (λ (x : Row). eqb x.priority n) rows)
+All-removed P rows (n ∷ removed) all = by (find (λ (x : Row). eqb x.priority n) rows)
     (find_found (λ (x : Row). eqb x.priority n) rows) _ (All-removed P rows removed all)
   where
-    by : (found : Option Row)
-        → MatchOption found (All (λ (x : Row). eqb x.priority n ≡ false) rows)
-        (λ (x : Row). Contains rows x × (eqb x.priority n ≡ true))
-        → (rest : List Row) → All P rest → All P (cons_option found rest)
+    by : (found : Option Row) → MatchOption found (All (λ (x : Row). eqb x.priority n ≡ false) rows)
+        (λ (x : Row). Contains rows x × (eqb x.priority n ≡ true)) → (rest : List Row) → All P rest
+        → All P (cons_option found rest)
     by None none rest kept = kept
     by (Some row) (there, is) rest kept = All-cons P row rest
         (All-contains P rows row all there) kept
@@ -76,15 +72,12 @@ passes_same : (p : Row → Bool) (rows : List Row) (change : List Edit)
     → filter p (amended_rows rows change) ≡ filter p rows
 passes_same p rows change distinct none =
     filter-append p (staying_rows rows change) (additions change)
-    ∙ ap (λ added. filter p (staying_rows rows change) ++ added)
-    (filter_none p (additions change) (All-weaker (Contains (additions change))
-    (λ row. p row ≡ false) (λ row there. out row (Contains-append_right
-    (removed_rows rows change) (additions change) row there)) (additions change)
-    (All-contains_itself (additions change))))
-    ∙ append-nil _
-    ∙ filter_implied p stays rows (All-weaker (Contains rows)
-    (λ row. p row ≡ true → stays row ≡ true)
-    (λ row there. by row there (removes change row.priority) refl) rows (All-contains_itself rows))
+    ∙ ap (λ added. filter p (staying_rows rows change) ++ added) (filter_none p (additions change)
+    (All-weaker (Contains (additions change)) (λ row. p row ≡ false) (λ row there. out row
+    (Contains-append_right (removed_rows rows change) (additions change) row there))
+    (additions change) (All-contains_itself (additions change)))) ∙ append-nil _ ∙ filter_implied p
+    stays rows (All-weaker (Contains rows) (λ row. p row ≡ true → stays row ≡ true) (λ row there. by
+    row there (removes change row.priority) refl) rows (All-contains_itself rows))
   where
     stays : Row → Bool
     stays row = not (removes change row.priority)
@@ -96,9 +89,8 @@ passes_same p rows change distinct none =
         → p row ≡ true → stays row ≡ true
     by row there false is passes = ap not is
     by row there true is passes =
-        let failing : p row ≡ false = out row (Contains-append_left (removed_rows rows change)
-        (additions change) row
-        (is_removed rows row (removals change) distinct there is)) in
+        let failing = out row (Contains-append_left (removed_rows rows change) (additions change)
+        row (is_removed rows row (removals change) distinct there is)) in
         absurd (cc)
 
 pub scan-untouched : (rows after : List Row) (change : List Edit) (header : Header)
@@ -127,16 +119,13 @@ unmatched : (word : WordValue) (header : Header) → IsHeader header
 unmatched word header bits held row sound words_apart =
     sym (holds-words_of_row row header sound bits)
     ∙ list_any_none (λ w. holds w (number_of header)) (words_of_row row)
-    (All-weaker (λ touched. IsFalse (meets word touched))
-    (λ w. holds w (number_of header) ≡ false)
+    (All-weaker (λ touched. IsFalse (meets word touched)) (λ w. holds w (number_of header) ≡ false)
     (λ w is. by w is (holds w (number_of header)) refl) (words_of_row row) words_apart)
   where
     by : (w : WordValue) → IsFalse (meets word w) → (b : Bool) → holds w (number_of header) ≡ b
         → holds w (number_of header) ≡ false
     by w misses false is = is
-    by w misses true is =
-        let both = held_meets word w (number_of header) held is in
-        absurd (cc)
+    by w misses true is = let both = held_meets word w (number_of header) held is in absurd (cc)
 
 pub scan-apart : (rows after : List Row) (change : List Edit) (word : WordValue) (header : Header)
     → IsPolicy rows → IsAmendment change → IsHeader header → applied rows change ≡ Ok after
@@ -144,8 +133,7 @@ pub scan-apart : (rows after : List Row) (change : List Edit) (word : WordValue)
     → IsTrue (holds word (number_of header)) → scan after header ≡ scan rows header
 scan-apart rows after change word header policy amendment bits is words_apart held =
     let touched = touched_rows rows change in
-    let sound : All IsSoundRow touched =
-    All-append IsSoundRow (removed_rows rows change) (additions change)
+    let sound = All-append IsSoundRow (removed_rows rows change) (additions change)
     (All-removed IsSoundRow rows (removals change) policy.sound)
     (additions_sound change amendment.sound) in
     let parts = All-flat_map_parts (λ w. IsFalse (meets word w)) words_of_row touched words_apart in

@@ -1,7 +1,6 @@
 -- What acts write: what these items concern, and what they send.
 use Rattle.std.proofs.Common.{[], ◌++◌, ◌+◌, ◌∙◌, ◌∷◌, ◌≡◌, Bool, IsFalse, List, ap, arith, cond, length, refl, ℕ}
 use Rattle.base.proofs.Exports.{sum_by-cons}
-use Rattle.message_bag.specs.Exports.{new_post}
 use Rattle.controller.specs.declared.sends.Act.{Act}
 use Rattle.controller.specs.declared.sends.Act.TheVariants as act
 use Rattle.refinement.specs.Exports.{written_items}
@@ -46,14 +45,12 @@ acts_send number (act.Current v ∷ acts) = acts_send number acts
 acts_send number (act.Retired v ∷ acts) = acts_send number acts
 acts_send number (act.Post message ∷ acts) = (refl, acts_send (number + 1) acts)
 
-pub acts_posted : (number : ℕ) (acts : List Act)
-    → posts_in (act_items number acts) ≡ act_posts acts
+pub acts_posted : (number : ℕ) (acts : List Act) → posts_in (act_items number acts) ≡ act_posts acts
 unfolding act_items act_posts
 acts_posted number [] = refl
 acts_posted number (act.Current v ∷ acts) = acts_posted number acts
 acts_posted number (act.Retired v ∷ acts) = acts_posted number acts
-acts_posted number (act.Post message ∷ acts) =
-    ap (λ posts. new_post message ∷ posts) (acts_posted (number + 1) acts)
+acts_posted number (act.Post message ∷ acts) = cc (acts_posted (number + 1) acts)
 
 -- how many messages these items send
 pub acts_counted : (number : ℕ) (acts : List Act)
@@ -61,12 +58,10 @@ pub acts_counted : (number : ℕ) (acts : List Act)
 unfolding act_items act_posts
 acts_counted number [] = refl
 acts_counted number (act.Current v ∷ acts) =
-    let sum = sum_by-cons (λ x. cond (is_sending x) 1 0) (item.Current v)
-    (act_items number acts) in
+    let sum = sum_by-cons (λ x. cond (is_sending x) 1 0) (item.Current v) (act_items number acts) in
     omega (arith, sum, acts_counted number acts)
 acts_counted number (act.Retired v ∷ acts) =
-    let sum = sum_by-cons (λ x. cond (is_sending x) 1 0) (item.Retired v)
-    (act_items number acts) in
+    let sum = sum_by-cons (λ x. cond (is_sending x) 1 0) (item.Retired v) (act_items number acts) in
     omega (arith, sum, acts_counted number acts)
 acts_counted number (act.Post message ∷ acts) =
     let sum = sum_by-cons (λ x. cond (is_sending x) 1 0) (item.Sent number message)
@@ -80,15 +75,12 @@ pub written_is : (journal : List Item) (acts : List Act)
 unfolding act_items
 written_is journal [] = refl
 written_is journal (act.Current v ∷ acts) =
-    ap (λ items. item.Current v ∷ items)
-    (written_is (journal ++ item.Current v ∷ []) acts
+    ap (λ items. item.Current v ∷ items) (written_is (journal ++ item.Current v ∷ []) acts
     ∙ ap (λ n. act_items n acts) (messages_keep journal (item.Current v ∷ []) (refl, tt)).next)
 written_is journal (act.Retired v ∷ acts) =
-    ap (λ items. item.Retired v ∷ items)
-    (written_is (journal ++ item.Retired v ∷ []) acts
+    ap (λ items. item.Retired v ∷ items) (written_is (journal ++ item.Retired v ∷ []) acts
     ∙ ap (λ n. act_items n acts) (messages_keep journal (item.Retired v ∷ []) (refl, tt)).next)
-written_is journal (act.Post message ∷ acts) =
-    let n : ℕ = next_message journal in
+written_is journal (act.Post message ∷ acts) = let n : ℕ = next_message journal in
     ap (λ items. item.Sent n message ∷ items)
     (written_is (journal ++ item.Sent n message ∷ []) acts
     ∙ ap (λ k. act_items k acts) (next_sent journal n message))

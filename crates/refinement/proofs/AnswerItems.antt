@@ -47,8 +47,7 @@ pub decided_later : (number : ℕ) (at : Standing) (decision : Decision) (messag
     (onward : Next)
     → AreInStep (decided_items at decision (sent_from number (message_list message)) onward)
 unfolding sent_from
-decided_later number at decision None onward =
-    (tt, (end_later at decision onward, tt))
+decided_later number at decision None onward = (tt, (end_later at decision onward, tt))
 decided_later number at decision (Some message) onward =
     (tt, (tt, (end_later at decision onward, tt)))
 
@@ -56,8 +55,7 @@ pub answer_later : (number : ℕ) (at : Standing) (what : Answer)
     → AreInStep (answer_items number at what)
 answer_later number at (answer.Decided decision cache onward) =
     decided_later number at decision (cache_message at.ingress cache) onward
-answer_later number at (answer.Seek tunnel) =
-    (route_later at.packet tunnel.leg tunnel.route, tt)
+answer_later number at (answer.Seek tunnel) = (route_later at.packet tunnel.leg tunnel.route, tt)
 answer_later number at (answer.Stuck cause leg) = (tt, tt)
 
 pub arrived_later : (number : ℕ) (at : Standing) (t : Flight) (what : Arrival)
@@ -115,9 +113,8 @@ end_sends number at decision (next.Exit tunnel) =
 end_sends number at decision (next.Stuck cause) = (tt, refl)
 
 decided_sends : (number : ℕ) (at : Standing) (decision : Decision) (message : Option Message)
-    (onward : Next)
-    → (let items : List Item =
-    decided_items at decision (sent_from number (message_list message)) onward in
+    (onward : Next) → (let items : List Item = decided_items at decision
+    (sent_from number (message_list message)) onward in
     SendFrom number items × (posts_in items ≡ map new_post (message_list message)))
 unfolding sent_from
 decided_sends number at decision None onward = end_sends number at decision onward
@@ -133,8 +130,7 @@ answer_sends : (number : ℕ) (at : Standing) (what : Answer)
     → SendPosts number (answer_items number at what) (answer_posts at what)
 answer_sends number at (answer.Decided decision cache onward) =
     decided_sends number at decision (cache_message at.ingress cache) onward
-answer_sends number at (answer.Seek tunnel) =
-    route_sends number at.packet tunnel.leg tunnel.route
+answer_sends number at (answer.Seek tunnel) = route_sends number at.packet tunnel.leg tunnel.route
 answer_sends number at (answer.Stuck cause leg) = (tt, refl)
 
 pub entered_sends : (number : ℕ) (at : Standing) (what : Option Answer)
@@ -156,21 +152,18 @@ turned_sends number i here (Some other) (hop.Move next) route rest posts sends =
 turned_sends number i here (Some other) (hop.Stuck cause) route rest posts sends = sends
 
 ended_sends : (number : ℕ) (switch : SwitchValue) (near : ℕ) (ports : Ports) (t : Flight)
-    (end : HopEnd)
-    → SendPosts number (ended_items number switch near ports t end)
+    (end : HopEnd) → SendPosts number (ended_items number switch near ports t end)
     (ended_posts switch near ports t end)
 unfolding arrival_items arrival_posts
-ended_sends number switch near ports t hop.Arrive =
-    arrived_sends number (standing_at switch.number t) t
-    (received switch (around near ports) t.tunnel)
+ended_sends number switch near ports t hop.Arrive = arrived_sends number
+    (standing_at switch.number t) t (received switch (around near ports) t.tunnel)
 ended_sends number switch near ports t (hop.Move other) = (tt, refl)
 ended_sends number switch near ports t (hop.Stuck cause) = (tt, refl)
 
 pub hop_sends : (number : ℕ) (switch : SwitchValue) (near : ℕ) (ports : Ports) (t : Flight)
     → SendFrom number (hop_written number switch near ports t)
     × (posts_in (hop_written number switch near ports t) ≡ hop_posts switch near ports t)
-hop_sends number switch near ports t =
-    turned_sends number t.tunnel.packet switch.number (link_found_down near (next_switch t.tunnel))
-    (hop_answer switch near t.tunnel).end (hop_answer switch near t.tunnel).tunnel.route _ _
-    (ended_sends number (call_counted switch) near ports (hopped_flight switch near t)
-    (hop_answer switch near t.tunnel).end)
+hop_sends number switch near ports t = turned_sends number t.tunnel.packet switch.number
+    (link_found_down near (next_switch t.tunnel)) (hop_answer switch near t.tunnel).end
+    (hop_answer switch near t.tunnel).tunnel.route _ _ (ended_sends number (call_counted switch)
+    near ports (hopped_flight switch near t) (hop_answer switch near t.tunnel).end)

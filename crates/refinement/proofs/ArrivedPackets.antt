@@ -13,7 +13,7 @@ use Rattle.switch_core.specs.declared.tunnel_calls.Packet.{Packet}
 use Rattle.switch_table.specs.Exports.{Hosted}
 use Rattle.update_machine.proofs.Exports.{policies_keep}
 use Rattle.packet_laws.specs.Exports.{IsOnLeg, PacketFacts, what_is_known}
-use Rattle.packet_laws.proofs.Exports.{Finds, IsPlanned, current_planned, in_plan, last_here, one_target}
+use Rattle.packet_laws.proofs.Exports.{Finds, current_planned, in_plan, last_here, one_target}
 use Rattle.world_log.specs.Exports.{arrived_flight, arrived_items}
 use Rattle.travelling.specs.Travelling.{Flight, Standing}
 use Rattle.refinement.proofs.AuthorityDecisions.{header_is}
@@ -40,11 +40,8 @@ pub ours_of : (setting : Setting) (journal : List Item) (s : ℕ) (facts : Packe
     → IsTrue (list_any (nat_eq s) seeks.hosted.1)
     → IsOurs setting journal s header version partition
 ours_of setting journal s facts header version partition knows sound seeks target =
-    let planned : IsPlanned setting (policy_at setting journal version)
-    (plan_at setting journal version) =
-    current_planned setting journal version knows.is knows.caused
-    (omega (arith, seeks.not_retired)) seeks.current in
-    record {
+    let planned = current_planned setting journal version knows.is knows.caused
+    (omega (arith, seeks.not_retired)) seeks.current in record {
       planned = planned;
       hosted = seeks.hosted;
       finds = in_plan setting (policy_at setting journal version)
@@ -62,10 +59,9 @@ end_of_route setting journal s facts header (Exit port) knows sound on stands la
     on.has_port ∙ ap Some (sym (one_target on.leads.ends.target on.owner on.leads.ends.own)
     ∙ sym (last_here facts.route facts.hops s on.leads.ends.target stands last on.leads.ends.last))
 end_of_route setting journal s facts header (Seek version partition) knows sound on stands last =
-    let target : on.leads.ends.target ≡ s =
-    sym (last_here facts.route facts.hops s on.leads.ends.target stands last on.leads.ends.last) in
     ours_of setting journal s facts header version partition knows sound on
-    (subst (λ at. IsTrue (list_any (nat_eq at) on.hosted.1)) target on.leads.ends.own)
+    (subst (λ at. IsTrue (list_any (nat_eq at) on.hosted.1)) (sym (last_here facts.route facts.hops
+    s on.leads.ends.target stands last on.leads.ends.last)) on.leads.ends.own)
 
 -- items by which no policy comes keep the plan
 pub at_end_on : (setting : Setting) (before items : List Item) (s : ℕ) (header : Header)
@@ -74,19 +70,11 @@ pub at_end_on : (setting : Setting) (before items : List Item) (s : ℕ) (header
 at_end_on setting before items s header (Exit port) none end = end
 at_end_on setting before items s header (Seek version partition) none end =
     let keeps = policies_keep before items none in
-    let same_policy : policy_at setting before version
-    ≡ policy_at setting (before ++ items) version = sym (keeps.policy setting version) in
-    let same_plan : plan_at setting before version ≡ plan_at setting (before ++ items) version =
-    sym (keeps.plan setting version) in
-    record {
-      planned = subst (λ rows. IsPlanned setting rows (plan_at setting (before ++ items) version))
-          same_policy (subst (IsPlanned setting (policy_at setting before version)) same_plan
-          end.planned);
+    let same_policy = sym (keeps.policy setting version) in
+    let same_plan = sym (keeps.plan setting version) in record {
+      planned = rw same_policy at (rw same_plan at end.planned);
       hosted = end.hosted;
-      finds = subst (λ rows. Finds rows (plan_at setting (before ++ items) version) header
-          end.hosted) same_policy
-          (subst (λ plan. Finds (policy_at setting before version) plan header end.hosted) same_plan
-          end.finds);
+      finds = rw same_policy at (rw same_plan at end.finds);
       number = end.number;
       target = end.target;
     }
@@ -108,12 +96,11 @@ module _ (setting : Setting) (journal : List Item) (s : ℕ) (w : SwitchValue) (
       (ours : IsOurs setting journal s packet.header version partition)
       → first_place_in setting journal version partition (header_at journal packet.number)
       ≡ ours.finds.place
-  place_in_plan version partition ours =
-      ap (first_place_in setting journal version partition)
+  place_in_plan version partition ours = ap (first_place_in setting journal version partition)
       (header_is journal packet.number packet.header asked.of_packet.entered)
-      ∙ ap (λ (o : Option Hosted). unwrap_or (option_and_then
-      (λ (p : Hosted). position (is_held (number_of packet.header)) p.0.rules) o) 0)
-      (ap (slice_get (plan_at setting journal version)) (sym ours.number) ∙ ours.finds.at)
+      ∙ ap (λ (o : Option Hosted). unwrap_or
+      (option_and_then (λ (p : Hosted). position (is_held (number_of packet.header)) p.0.rules) o)
+      0) (ap (slice_get (plan_at setting journal version)) (sym ours.number) ∙ ours.finds.at)
       ∙ ours.finds.position
 
   -- and in the switch's own partition
@@ -121,19 +108,14 @@ module _ (setting : Setting) (journal : List Item) (s : ℕ) (w : SwitchValue) (
       (ours : IsOurs setting journal s packet.header version partition)
       → place_of_first packet.header (part_numbered (tables_at setting journal version s) partition)
       ≡ ours.finds.place
-  place_in_tables version partition ours =
-      ap (place_of_first packet.header)
+  place_in_tables version partition ours = ap (place_of_first packet.header)
       (own_numbered (plan_at setting journal version) s version partition ours.hosted
-      ours.planned.parts.sound.numbers
-      (ap (slice_get (plan_at setting journal version)) (sym ours.number) ∙ ours.finds.at)
-      ours.number ours.target)
-      ∙ ours.finds.position
+      ours.planned.parts.sound.numbers (ap (slice_get (plan_at setting journal version))
+      (sym ours.number) ∙ ours.finds.at) ours.number ours.target) ∙ ours.finds.position
 
   -- at an authority that has the version, or not
-  sought_law : (t : Flight) (version partition : ℕ) (b : Bool)
-      → holds_version journal s version ≡ b
-      → IsOurs setting journal s packet.header version partition
-      → elim b [
+  sought_law : (t : Flight) (version partition : ℕ) (b : Bool) → holds_version journal s version ≡ b
+      → IsOurs setting journal s packet.header version partition → elim b [
         | false ↦ lookup_items setting packet.number s journal
         | true ↦ authority_items setting packet.number s (authority_rule setting journal version
             partition (first_place_in setting journal version partition
@@ -142,42 +124,32 @@ module _ (setting : Setting) (journal : List Item) (s : ℕ) (w : SwitchValue) (
       ≡ arrived_items (next_message journal) at t.version t.rule
       (arrived_on w (around mask ports) packet (Seek version partition))
   unfolding decided_in
-  sought_law t version partition false missing ours =
-      looked_law setting journal s w mask ports packet asked
-      ∙ ap (λ (o : Option Tables). arrived_items (next_message journal) at t.version t.rule
-      (arrived.Answered (option_map_or (decided_in w (around mask ports) packet partition) o
-      (looked_up w (around mask ports) packet))))
-      (sym (asked.sees.tables version
-      ∙ ap (λ b. if b then Some (tables_at setting journal version s) else None) missing))
-  sought_law t version partition true held ours =
-      ap (λ place. authority_items setting packet.number s
-      (authority_rule setting journal version partition place) journal)
+  sought_law t version partition false missing ours = cc
+      (looked_law setting journal s w mask ports packet asked, asked.sees.tables version, missing)
+  sought_law t version partition true held ours = ap (λ place. authority_items setting packet.number
+      s (authority_rule setting journal version partition place) journal)
       (place_in_plan version partition ours)
       ∙ sym (ruled_law setting journal s w mask ports packet asked version partition ours)
       ∙ ap (λ place. arrived_items (next_message journal) at t.version t.rule
-      (arrived.Answered
-      (decided_at w (around mask ports) packet version
+      (arrived.Answered (decided_at w (around mask ports) packet version
       (part_numbered (tables_at setting journal version s) partition) place)))
       (sym (place_in_tables version partition ours))
       ∙ ap (λ (o : Option Tables). arrived_items (next_message journal) at t.version t.rule
       (arrived.Answered (option_map_or (decided_in w (around mask ports) packet partition) o
-      (looked_up w (around mask ports) packet))))
-      (sym (asked.sees.tables version
+      (looked_up w (around mask ports) packet)))) (sym (asked.sees.tables version
       ∙ ap (λ b. if b then Some (tables_at setting journal version s) else None) held))
 
   pub arrive_law : (t : Flight) (leg : Leg)
       → AreOfFacts t.version t.rule (what_is_known journal packet.number)
       → (what_is_known journal packet.number).leg ≡ Some leg
       → IsAtEnd setting journal s packet.header leg
-      → arrive_items setting packet.number s journal
-      ≡ arrived_items (next_message journal) (at_switch s packet) t.version t.rule
-      (arrived_on w (around mask ports) packet leg)
+      → arrive_items setting packet.number s journal ≡ arrived_items (next_message journal)
+      (at_switch s packet) t.version t.rule (arrived_on w (around mask ports) packet leg)
   unfolding arrive_items what_is_known
   arrive_law t (Exit port) of takes end =
       let i : ℕ = packet.number in
-      let left : Header → ℕ → Option ℕ → List Item = λ header version rule.
-      item.Left i port (record { packet = i; header = header; version = version; rule = rule })
-      ∷ [] in
+      let left : Header → ℕ → Option ℕ → List Item = λ header version rule. item.Left i port
+      (record { packet = i; header = header; version = version; rule = rule }) ∷ [] in
       ap (λ leg. arrive_by setting i s leg journal) takes
       ∙ ap (λ header. left header
       (unwrap_or (option_map (λ decision. decision.version) (decision_of journal i)) 0)
@@ -188,33 +160,28 @@ module _ (setting : Setting) (journal : List Item) (s : ℕ) (w : SwitchValue) (
       (sym of.its_version)
       ∙ ap (left packet.header t.version) (sym of.its_rule)
   arrive_law t (Seek version partition) of takes end =
-      ap (λ leg. arrive_by setting packet.number s leg journal) takes
-      ∙ sought_law t version partition (holds_version journal s version) refl end
+      cc (takes, sought_law t version partition (holds_version journal s version) refl end)
 
   pub arrive_comes : (leg : Leg) → GoesOut (targets_of setting journal) (at_switch s packet)
       (arrived_on w (around mask ports) packet leg)
   unfolding decided_in
   arrive_comes (Exit port) = tt
-  arrive_comes (Seek version partition) = by_tables (held_tables w version)
-    where
-      by_tables : (o : Option Tables) → IsComing (targets_of setting journal) at
-          (option_map_or (decided_in w (around mask ports) packet partition) o (looked_up w (around mask ports) packet))
-      by_tables None = looked_goes setting journal s w mask ports packet asked
-      by_tables (Some tables) =
-          ruled_goes setting journal s tables.version
-          (place_of_first packet.header (part_numbered tables partition)) w mask ports packet
-          (part_numbered tables partition) asked.owners
+  arrive_comes (Seek version partition) = by_tables (held_tables w version) where
+    by_tables : (o : Option Tables) → IsComing (targets_of setting journal) at
+        (option_map_or (decided_in w (around mask ports) packet partition) o (looked_up w (around mask ports) packet))
+    by_tables None = looked_goes setting journal s w mask ports packet asked
+    by_tables (Some tables) = ruled_goes setting journal s tables.version
+        (place_of_first packet.header (part_numbered tables partition)) w mask ports packet
+        (part_numbered tables partition) asked.owners
 
 -- ---- what becomes of the packet
 
 pub arrival_goes : (targets : Targets) (before : List Item) (number : ℕ) (at : Standing)
     (t : Flight) (what : Arrival) (facts : PacketFacts) → IsSeen at at.ingress facts
     → AreOfFacts t.version t.rule facts → GoesOut targets at what
-    → arrived_flight t.version t.rule what
-    ≡ flight_by targets at.packet
+    → arrived_flight t.version t.rule what ≡ flight_by targets at.packet
     (facts_along at.packet before (arrived_items number at t.version t.rule what) facts)
 arrival_goes targets before number at t (arrived.Out port) facts seen of goes =
-    let own : (at.packet == at.packet) ≡ true = eq-eqb _ _ refl in
-    rw own refl
+    rw (eq-eqb _ _ refl) refl
 arrival_goes targets before number at t (arrived.Answered what) facts seen of goes =
     answer_goes targets before number at t.version t.rule what facts seen of goes

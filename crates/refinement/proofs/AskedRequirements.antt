@@ -48,9 +48,8 @@ own_found : (P : Partition → Type 0) (s partition : ℕ) (plan : List Hosted)
     → IsSomeAnd (find (λ (part : Partition). part.number == partition)
     (map part_of (filter (has_target s) plan))) P
 own_found P s partition [] all there = absurd cc
-own_found P s partition (hosted ∷ plan) all there =
-    by_test (own_found P s partition plan all.1) (hosted.0.number == partition) refl
-    (has_target s hosted) refl there
+own_found P s partition (hosted ∷ plan) all there = by_test (own_found P s partition plan all.1)
+    (hosted.0.number == partition) refl (has_target s hosted) refl there
   where
     Found : List Partition → Type 0
     Found parts = IsSomeAnd (find (λ (part : Partition). part.number == partition) parts) P
@@ -62,11 +61,9 @@ own_found P s partition (hosted ∷ plan) all there =
     any = list_any (λ hosted. (hosted.0.number == partition) && has_target s hosted) plan
 
     by_test : (any ≡ true → Found rest) → (own : Bool) → (hosted.0.number == partition) ≡ own
-        → (b : Bool) → has_target s hosted ≡ b → ((own && b) || any) ≡ true
-        → Found (map part_of (if b then hosted ∷ filter (has_target s) plan
-        else filter (has_target s) plan))
-    by_test found true is true e there =
-        rw is (all.0 (eqb-true hosted.0.number partition is))
+        → (b : Bool) → has_target s hosted ≡ b → ((own && b) || any) ≡ true → Found (map part_of
+        (if b then hosted ∷ filter (has_target s) plan else filter (has_target s) plan))
+    by_test found true is true e there = rw is (all.0 (eqb-true hosted.0.number partition is))
     by_test found true is false e there = found there
     by_test found false is true e there = rw is (found there)
     by_test found false is false e there = found there
@@ -81,11 +78,9 @@ one_of_number P plan partition hosted numbers there holds k d within is =
     let number : each.0.number ≡ k =
     ap (λ (p : Partition). p.number) (sym (get_or-map part_of plan k d (part_of d) within))
     ∙ numbers k (part_of d) fits in
-    let at : slice_get plan partition ≡ Some each =
-    ap (slice_get plan) (sym is ∙ number) ∙ slice_get-get_or plan k d within in
+    let at = ap (slice_get plan) (sym is ∙ number) ∙ slice_get-get_or plan k d within in
     let both : Some hosted ≡ Some each = sym there ∙ at in
-    let same : hosted ≡ each = cc in
-    subst (λ one. P (part_of one)) same holds
+    let same : hosted ≡ each = cc in subst (λ one. P (part_of one)) same holds
 
 -- so what holds of a partition of a plan holds of the own one, by its number, of a target
 pub own_has : (P : Partition → Type 0) (plan : List Hosted) (s version partition : ℕ)
@@ -93,13 +88,11 @@ pub own_has : (P : Partition → Type 0) (plan : List Hosted) (s version partiti
     → slice_get plan partition ≡ Some hosted → hosted.0.number ≡ partition
     → IsTrue (has_target s hosted) → P (part_of hosted)
     → IsSomeAnd (own_part (tables_of plan version s) partition) P
-own_has P plan s version partition hosted numbers there number target holds =
-    let own : (hosted.0.number == partition) ≡ true = eq-eqb hosted.0.number partition number in
-    own_found P s partition plan
-    (recursion_from_All (λ each. each.0.number ≡ partition → P (part_of each)) plan
+own_has P plan s version partition hosted numbers there number target holds = own_found P s
+    partition plan (recursion_from_All (λ each. each.0.number ≡ partition → P (part_of each)) plan
     (one_of_number P plan partition hosted numbers there holds))
-    (any_passes_from_place (λ each. (each.0.number == partition) && has_target s each) plan partition hosted
-    there (rw own target))
+    (any_passes_from_place (λ each. (each.0.number == partition) && has_target s each) plan
+    partition hosted there (rw (eq-eqb hosted.0.number partition number) target))
 
 at_leg : (setting : Setting) (journal : List Item) (s : ℕ) (header : Header) (leg : Leg)
     → TablesAreKnown setting journal → EndsAt setting journal s header leg
@@ -114,13 +107,11 @@ at_leg setting journal s header (Seek version partition) known sought =
     own : (rows : List Row) → IsPlan rows setting.net plan
         → IsSomeAnd (own_part (tables_of plan version s) partition)
         (λ part. IsTrue (is_in header part))
-    own rows holds =
-        own_has (λ part. IsTrue (is_in header part)) plan s version partition sought.hosted
-        holds.sound.numbers sought.found sought.number sought.target sought.holds
+    own rows holds = own_has (λ part. IsTrue (is_in header part)) plan s version partition
+        sought.hosted holds.sound.numbers sought.found sought.number sought.target sought.holds
 
-    by_held : (o : Option Tables) → held_tables (switch_of setting journal s) version ≡ o
-        → IfSome o (λ tables. IsSomeAnd (own_part tables partition)
-        (λ part. IsTrue (is_in header part)))
+    by_held : (o : Option Tables) → held_tables (switch_of setting journal s) version ≡ o → IfSome o
+        (λ tables. IsSomeAnd (own_part tables partition) (λ part. IsTrue (is_in header part)))
     by_held None none = tt
     by_held (Some tables) is =
         let are = planned_tables setting journal s version tables known is in

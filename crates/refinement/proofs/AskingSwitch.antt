@@ -25,8 +25,7 @@ module _ {setting : Setting} {journal : List Item} {state : NetworkState}
 
   pub seen : (s : ℕ) (w : SwitchValue) → s < length setting.net.switches
       → w ≡ get_or state.switches s w → Sees setting journal s w (slice_index state.near s)
-  seen s w there its =
-      sees_as setting journal s (slice_index state.near s) w known_of there
+  seen s w there its = sees_as setting journal s (slice_index state.near s) w known_of there
       (switch_is refines s w there its) (mask_is s there)
 
   pub can_look_up : (s : ℕ) (w : SwitchValue) → s < length setting.net.switches
@@ -45,13 +44,10 @@ module _ {setting : Setting} {journal : List Item} {state : NetworkState}
   -- its switch is there
   pub within_here : (i : ℕ) (t : Flight) (s : ℕ) → flight state.travelling i ≡ Some t
       → s ≡ here t.tunnel → s < length state.switches
-  within_here i t s its at =
-      let standing : IsStanding setting journal i t =
-      standing_of i t its in
+  within_here i t s its at = let standing : IsStanding setting journal i t = standing_of i t its in
       omega (
         arith,
-        at
-            ∙ stands_at setting journal i t standing,
+        at ∙ stands_at setting journal i t standing,
         standing.stands.there,
         refines.many,
       )
@@ -61,8 +57,7 @@ module _ {setting : Setting} {journal : List Item} {state : NetworkState}
       → s ≡ here t.tunnel → w ≡ get_or state.switches s w
       → CanAsk setting journal i t s (slice_index state.near s) w ports
   can_ask i t s w ports owners its at own =
-      let standing : IsStanding setting journal i t =
-      standing_of i t its in
+      let standing = standing_of i t its in
       let there : s < length setting.net.switches =
       omega (arith, at ∙ stands_at setting journal i t standing, standing.stands.there) in
       can_be_asked setting journal i t s (slice_index state.near s) w ports

@@ -1,5 +1,5 @@
 -- An authority rule decides a packet at a switch as the journal's definitions say.
-use Rattle.std.proofs.Common.{[], ◌++◌, ◌<◌, ◌==◌, ◌∙◌, ◌∷◌, ◌≡◌, Bool, List, None, Option, Some, ap, append-nil, arith, eq-eqb, false, refl, slice_get, subst, sym, true, unwrap_or, ℕ}
+use Rattle.std.proofs.Common.{[], ◌++◌, ◌<◌, ◌==◌, ◌∙◌, ◌∷◌, ◌≡◌, Bool, List, None, Option, Some, ap, append-nil, arith, eq-eqb, false, refl, slice_get, subst, true, unwrap_or, ℕ}
 use Rattle.base.proofs.Exports.{get_or_from_slice_get}
 use Rattle.update_machine.specs.Exports.{AuthorityRule, Header, Item, Message, Ports, Setting, authority_items, cache_items, cache_rule as rule_message, end_items, found_down, header_at, in_turn, is_at, is_sending, next_message, send_items, sent_from}
 use Rattle.five_tuple.specs.Exports.{header_of}
@@ -27,14 +27,13 @@ pub record IsPacket (journal : List Item) (packet : Packet) : Type 0 where
 pub header_is : (journal : List Item) (i : ℕ) (header : Header)
     → (what_is_known journal i).header ≡ Some header → header_at journal i ≡ header
 unfolding what_is_known
-header_is journal i header entered =
-    ap (λ h. unwrap_or h (header_of (record {
-      src = 0;
-      dst = 0;
-      sport = 0;
-      dport = 0;
-      proto = 0;
-    }))) entered
+header_is journal i header entered = ap (λ h. unwrap_or h (header_of (record {
+  src = 0;
+  dst = 0;
+  sport = 0;
+  dport = 0;
+  proto = 0;
+}))) entered
 
 pub found_of : (journal : List Item) (packet : Packet) → IsPacket journal packet
     → found_down journal packet.number ≡ packet.down
@@ -53,10 +52,8 @@ told_by_rule s packet found =
     cache_message packet.ingress (rule_for_cache s packet found.version found.part found.place)
 
 -- a rule of this place is what the switch finds there
-own_rule : (found : AuthorityRule) → IsOwnRule found
-    → rule_in found.part found.place ≡ found.rule
-own_rule found own =
-    get_or_from_slice_get found.part.rules found.place found.rule no_rule own
+own_rule : (found : AuthorityRule) → IsOwnRule found → rule_in found.part found.place ≡ found.rule
+own_rule found own = get_or_from_slice_get found.part.rules found.place found.rule no_rule own
 
 -- it tells the rule by which it decides
 pub told_is : (s : ℕ) (packet : Packet) (found : AuthorityRule) → IsOwnRule found → (b : Bool) → (packet.ingress == s) ≡ b
@@ -66,8 +63,7 @@ pub told_is : (s : ℕ) (packet : Packet) (found : AuthorityRule) → IsOwnRule 
     ]
 unfolding rule_for_cache
 told_is s packet found own true here = rw here refl
-told_is s packet found own false other =
-    rw (other, own_rule found own) refl
+told_is s packet found own false other = rw (other, own_rule found own) refl
 
 -- which is what the journal's definitions say
 sends_law : (setting : Setting) (journal : List Item) (s : ℕ) (packet : Packet)
@@ -87,26 +83,20 @@ sends_law setting journal s packet found is own =
     ]) (header_is journal packet.number packet.header is.entered)
     ∙ by_ingress (packet.ingress == s) refl
   where
-    by_ingress : (b : Bool) → (packet.ingress == s) ≡ b
-        → elim b [
-          | true ↦ []
-          | false ↦ send_items journal (rule_message found packet.ingress packet.header ∷ [])
-        ]
+    by_ingress : (b : Bool) → (packet.ingress == s) ≡ b → elim b [
+      | true ↦ []
+      | false ↦ send_items journal (rule_message found packet.ingress packet.header ∷ [])
+    ]
         ≡ sent_from (next_message journal) (message_list (told_by_rule s packet found))
-    by_ingress true here =
-        ap (λ message. sent_from (next_message journal) (message_list message))
-        (sym (told_is s packet found own true here))
-    by_ingress false other =
-        ap (λ message. sent_from (next_message journal) (message_list message))
-        (sym (told_is s packet found own false other))
+    by_ingress true here = cc (told_is s packet found own true here)
+    by_ingress false other = cc (told_is s packet found own false other)
 
 -- the switch is as it was behind it
 sees_sent : (setting : Setting) (journal : List Item) (s : ℕ) (w : SwitchValue) (mask number : ℕ)
     (message : Option Message) → Sees setting journal s w mask
     → Sees setting (journal ++ sent_from number (message_list message)) s w mask
 unfolding sent_from
-sees_sent setting journal s w mask number None sees =
-    subst (λ js. Sees setting js s w mask) (sym (append-nil journal)) sees
+sees_sent setting journal s w mask number None sees = rw (append-nil journal) sees
 sees_sent setting journal s w mask number (Some message) sees =
     sees_one setting journal (item.Sent number message) s w mask
     (record { switch = refl; links = refl; policies = refl }) sees
@@ -114,15 +104,13 @@ sees_sent setting journal s w mask number (Some message) sees =
 -- ---- what is decided
 
 -- the packet behind its decision
-decided_packet : (journal : List Item) (packet : Packet) (decision : Decision)
-    → IsPacket journal packet
-    → IsPacket (journal ++ item.Decided packet.number decision.version decision.rule
+decided_packet : (journal : List Item) (packet : Packet) (decision : Decision) → IsPacket journal
+    packet → IsPacket (journal ++ item.Decided packet.number decision.version decision.rule
     decision.action decision.how ∷ []) packet
 decided_packet journal packet decision is =
-    let decided : Item = item.Decided packet.number decision.version decision.rule
-    decision.action decision.how in
     let own : (packet.number == packet.number) ≡ true = eq-eqb _ _ refl in
-    let grown = facts_grow packet.number journal decided in
+    let grown = facts_grow packet.number journal
+    (item.Decided packet.number decision.version decision.rule decision.action decision.how) in
     record {
       entered = ap (λ facts. facts.header) grown ∙ rw own is.entered;
       came = ap (λ facts. facts.ingress) grown ∙ rw own is.came;
@@ -130,17 +118,15 @@ decided_packet journal packet decision is =
     }
 
 -- and so are its facts
-pub decided_facts : (journal : List Item) (packet : Packet) (decision : Decision)
-    → IsPacket journal packet
-    → IsDecided (journal ++ item.Decided packet.number decision.version decision.rule
+pub decided_facts : (journal : List Item) (packet : Packet) (decision : Decision) → IsPacket journal
+    packet → IsDecided (journal ++ item.Decided packet.number decision.version decision.rule
     decision.action decision.how ∷ []) packet decision
 unfolding what_is_known
 decided_facts journal packet decision is =
     let decided : Item = item.Decided packet.number decision.version decision.rule
     decision.action decision.how in
     let own : (packet.number == packet.number) ≡ true = eq-eqb _ _ refl in
-    let behind = decided_packet journal packet decision is in
-    record {
+    let behind = decided_packet journal packet decision is in record {
       entered = behind.entered;
       found = behind.found;
       decided = ap (λ facts. facts.decision) (facts_grow packet.number journal decided) ∙ rw own refl;
@@ -153,11 +139,8 @@ decided_sent : (journal : List Item) (packet : Packet) (decision : Decision) (nu
 unfolding what_is_known
 decided_sent journal packet decision number message is =
     let sent : List Item = sent_from number (message_list message) in
-    let same : what_is_known (journal ++ sent) packet.number ≡ what_is_known journal packet.number =
-    facts_all packet.number journal sent
-    ∙ unnamed packet.number journal sent (what_is_known journal packet.number)
-    (sends_unnamed packet.number number message) in
-    record {
+    let same = facts_all packet.number journal sent ∙ unnamed packet.number journal sent
+    (what_is_known journal packet.number) (sends_unnamed packet.number number message) in record {
       entered = ap (λ facts. facts.header) same ∙ is.entered;
       found = ap (λ facts. facts.found) same ∙ is.found;
       decided = ap (λ facts. facts.decision) same ∙ is.decided;
@@ -171,47 +154,36 @@ unfolding next_message
 number_stays journal packet decision =
     let decided : Item = item.Decided packet.number decision.version decision.rule
     decision.action decision.how in
-    let sum = count_of_append is_sending journal (decided ∷ []) in
-    omega (arith, sum)
+    omega (arith, count_of_append is_sending journal (decided ∷ []))
 
 both_blocks : (first second : List Item → List Item) (journal : List Item)
-    → in_turn (first ∷ second ∷ []) journal
-    ≡ first journal ++ second (journal ++ first journal)
-both_blocks first second journal =
-    ap (λ more. first journal ++ more) (append-nil (second (journal ++ first journal)))
+    → in_turn (first ∷ second ∷ []) journal ≡ first journal ++ second (journal ++ first journal)
+both_blocks first second journal = cc (append-nil (second (journal ++ first journal)))
 
 pub authority_law : (setting : Setting) (journal : List Item) (s : ℕ) (w : SwitchValue) (mask : ℕ)
-    → Sees setting journal s w mask → s < 64
-    → (ports : Ports) → AreOwners setting.net.switches ports
+    → Sees setting journal s w mask
+    → s < 64 → (ports : Ports) → AreOwners setting.net.switches ports
     → (packet : Packet) → IsPacket journal packet → (found : AuthorityRule) → IsOwnRule found
     → authority_items setting packet.number s (Some found) journal
-    ≡ decided_items (at_switch s packet)
-    (by_rule s found.version found.part.number found.rule)
+    ≡ decided_items (at_switch s packet) (by_rule s found.version found.part.number found.rule)
     (sent_from (next_message journal) (message_list (told_by_rule s packet found)))
     (next_of w (around mask ports) packet found.rule.action)
 unfolding authority_items
 authority_law setting journal s w mask sees there ports owners packet is found own =
     let i : ℕ = packet.number in
     let decision : Decision = by_rule s found.version found.part.number found.rule in
-    let decided : Item = item.Decided i decision.version decision.rule decision.action
-    decision.how in
+    let decided = item.Decided i decision.version decision.rule decision.action decision.how in
     let after : List Item = journal ++ decided ∷ [] in
-    let sent : List Item =
-    sent_from (next_message journal) (message_list (told_by_rule s packet found)) in
-    let same : next_message after ≡ next_message journal =
-    number_stays journal packet decision in
+    let sent = sent_from (next_message journal) (message_list (told_by_rule s packet found)) in
     let told : cache_items setting i s found after ≡ sent =
     sends_law setting after s packet found (decided_packet journal packet decision is) own
-    ∙ ap (λ n. sent_from n (message_list (told_by_rule s packet found))) same in
-    let seen : Sees setting (after ++ sent) s w mask =
-    sees_sent setting after s w mask (next_message journal) (told_by_rule s packet found)
-    (sees_one setting journal decided s w mask
-    (record { switch = refl; links = refl; policies = refl }) sees) in
+    ∙ ap (λ n. sent_from n (message_list (told_by_rule s packet found)))
+    (number_stays journal packet decision) in
     ap (λ items. decided ∷ items)
     (both_blocks (cache_items setting i s found) (end_items setting i s found.rule.action) after
     ∙ ap (λ items. items ++ end_items setting i s found.rule.action (after ++ items)) told
-    ∙ ap (λ items. sent ++ items)
-    (end_law setting (after ++ sent) s w mask seen there ports owners packet decision
-    (decided_sent after packet decision (next_message journal) (told_by_rule s packet found)
-    (decided_facts journal packet decision is))
-    found.rule.action refl))
+    ∙ ap (λ items. sent ++ items) (end_law setting (after ++ sent) s w mask (sees_sent setting after
+    s w mask (next_message journal) (told_by_rule s packet found) (sees_one setting journal decided
+    s w mask (record { switch = refl; links = refl; policies = refl }) sees)) there ports owners
+    packet decision (decided_sent after packet decision (next_message journal) (told_by_rule s
+    packet found) (decided_facts journal packet decision is)) found.rule.action refl))

@@ -42,9 +42,7 @@ sent_as journal posts n message bag is =
         → o ≡ Some message
     by_flag None was gone none = absurd cc
     by_flag (Some m) was true none = absurd cc
-    by_flag (Some m) was false some =
-        let same : posted_frames m ≡ posted_frames message = cc in
-        ap Some (known_by_frames message m is.fits same)
+    by_flag (Some m) was false some = ap Some (known_by_frames message m is.fits cc)
 
 -- a message that was found
 pub found_there : (posts : List Post) (n : ℕ) (message : Message) (o : Option Message)
@@ -54,13 +52,11 @@ found_there posts n message o is all = subst (λ o. IfSome o (IsMessageOf posts 
 -- ---- pieces
 
 forget_piece : (setting : Setting) (journal : List Item) (row n : ℕ)
-    → piece setting journal row (Forget n)
-    ≡ item.Row row (Forget n)
+    → piece setting journal row (Forget n) ≡ item.Row row (Forget n)
     ∷ (if is_deliverable journal n then item.Forgotten n ∷ [] else nothing)
 unfolding piece forget_items
 forget_piece setting journal row n =
-    ap (λ b. item.Row row (Forget n)
-    ∷ elim b [ false ↦ nothing | true ↦ item.Forgotten n ∷ [] ])
+    ap (λ b. item.Row row (Forget n) ∷ elim b [ false ↦ nothing | true ↦ item.Forgotten n ∷ [] ])
     (message_keeps n journal (item.Row row (Forget n) ∷ []) (refl, tt)).deliverable
     ∙ by_test (is_deliverable journal n)
   where
@@ -98,13 +94,11 @@ module _ {setting : Setting} {journal : List Item} {state : NetworkState}
   -- by whether the bag has it
   piece_by : (b : Bool) → is_post_deliverable state.posts n ≡ b
       → piece setting journal row (Forget n) ≡ first ∷ (if b then one ∷ [] else nothing)
-  piece_by b is = forget_piece setting journal row n
-      ∙ ap (λ c. first ∷ (if c then one ∷ [] else nothing))
-      (deliverable_as journal state.posts n refines.bag ∙ is)
+  piece_by b is =
+      cc (forget_piece setting journal row n, deliverable_as journal state.posts n refines.bag, is)
 
-  pub forgotten_refines : is_post_deliverable state.posts n ≡ true
-      → WroteOne setting journal row (Forget n) one
-      (record state { posts = with_forgotten state.posts n })
+  pub forgotten_refines : is_post_deliverable state.posts n ≡ true → WroteOne setting journal row
+      (Forget n) one (record state { posts = with_forgotten state.posts n })
   forgotten_refines there =
       let is = piece_by true there in
       let bag = subst (λ js. IsBagOf js (with_forgotten state.posts n))
@@ -119,5 +113,4 @@ module _ {setting : Setting} {journal : List Item} {state : NetworkState}
   -- no such message may be forgotten
   pub unforgotten : is_post_deliverable state.posts n ≡ false
       → WroteOne setting journal row (Forget n) item.Nothing state
-  unforgotten none =
-      nothing_happens refines row (Forget n) may (λ q. refl) (piece_by false none)
+  unforgotten none = nothing_happens refines row (Forget n) may (λ q. refl) (piece_by false none)

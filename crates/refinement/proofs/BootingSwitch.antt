@@ -32,9 +32,7 @@ use Rattle.refinement.proofs.LinksChange.{caused_first}
 same_filter : (now before : LinkRow → Bool) (links : List LinkRow)
     → ((link : LinkRow) → now link ≡ before link) → filter now links ≡ filter before links
 same_filter now before [] same = refl
-same_filter now before (link ∷ links) same =
-    ap (λ b. cond b (link ∷ filter now links) (filter now links)) (same link)
-    ∙ ap (λ rest. cond (before link) (link ∷ rest) rest) (same_filter now before links same)
+same_filter now before (link ∷ links) same = cc (same link, same_filter now before links same)
 
 module _ {setting : Setting} {journal : List Item} {state : NetworkState}
     (refines : RefineJournal setting journal state) (row s : ℕ) (own : SwitchValue)
@@ -53,23 +51,19 @@ module _ {setting : Setting} {journal : List Item} {state : NetworkState}
   rowed = journal ++ item.Row row (Restart s) ∷ []
 
   rowed_up : is_up rowed s ≡ own.is_up
-  rowed_up = (switch_keeps setting s journal (item.Row row (Restart s) ∷ []) (refl, tt)).up
-      ∙ own_up
+  rowed_up = (switch_keeps setting s journal (item.Row row (Restart s) ∷ []) (refl, tt)).up ∙ own_up
 
-  pub up_already : own.is_up ≡ true
-      → WroteOne setting journal row (Restart s) item.Nothing state
+  pub up_already : own.is_up ≡ true → WroteOne setting journal row (Restart s) item.Nothing state
   unfolding piece restart_items
-  up_already up =
-      nothing_happens refines row (Restart s) may
-      (λ q. refl) (ap (λ b. item.Row row (Restart s) ∷ elim b [
+  up_already up = nothing_happens refines row (Restart s) may (λ q. refl)
+      (ap (λ b. item.Row row (Restart s) ∷ elim b [
         | true ↦ nothing
         | false ↦ items_then (item.Booted s (boot_of rowed s + 1) ∷ [])
             (λ booted. send_items booted (hello_of booted s ∷ [])) rowed
       ]) (rowed_up ∙ up))
 
   -- it has a next boot
-  pub boot_next : own.is_up ≡ false → length state.posts < 990_000
-      → CanRestart own
+  pub boot_next : own.is_up ≡ false → length state.posts < 990_000 → CanRestart own
   boot_next down room =
       let fit : NumbersFit setting journal = subst (NumbersFit setting)
       (sym refines.reached.written) (fit_in_room setting refines.reached.steps refines.sound.net
@@ -95,10 +89,7 @@ module _ {setting : Setting} {journal : List Item} {state : NetworkState}
 
   boot_now : boot_of now s ≡ boot
   unfolding boot_of
-  boot_now = ap (λ js. boot_of js s) (sym split)
-      ∙ ap (λ o. unwrap_or o 1) (last_given_append (gives_boot s) rowed (booted ∷ []))
-      ∙ ap (λ b. unwrap_or (option_or (if b then Some boot else None)
-      (last_given (gives_boot s) rowed)) 1) (eq-eqb s s refl)
+  boot_now = cc (split, last_given_append (gives_boot s) rowed (booted ∷ []), eq-eqb s s refl)
 
   abbrev hello : Message
   hello = to_controller (Hello s boot)
@@ -109,15 +100,13 @@ module _ {setting : Setting} {journal : List Item} {state : NetworkState}
       ∙ refines.bag.many
 
   pub boot_piece : own.is_up ≡ false → piece setting journal row (Restart s)
-      ≡ item.Row row (Restart s) ∷ booted
-      ∷ item.Sent (length state.posts + 1) hello ∷ []
+      ≡ item.Row row (Restart s) ∷ booted ∷ item.Sent (length state.posts + 1) hello ∷ []
   unfolding piece restart_items sent_from
-  boot_piece down =
-      ap (λ b. item.Row row (Restart s) ∷ elim b [
-        | true ↦ nothing
-        | false ↦ items_then (item.Booted s (boot_of rowed s + 1) ∷ [])
-            (λ later. send_items later (hello_of later s ∷ [])) rowed
-      ]) (rowed_up ∙ down)
+  boot_piece down = ap (λ b. item.Row row (Restart s) ∷ elim b [
+    | true ↦ nothing
+    | false ↦ items_then (item.Booted s (boot_of rowed s + 1) ∷ [])
+        (λ later. send_items later (hello_of later s ∷ [])) rowed
+  ]) (rowed_up ∙ down)
       ∙ ap (λ b. item.Row row (Restart s) ∷ items_then (item.Booted s (b + 1) ∷ [])
       (λ later. send_items later (hello_of later s ∷ [])) rowed)
       ((switch_keeps setting s journal (item.Row row (Restart s) ∷ []) (refl, tt)).boot ∙ own_boot)
@@ -131,27 +120,19 @@ module _ {setting : Setting} {journal : List Item} {state : NetworkState}
       → serves now x ≡ serves journal x
   unfolding serves
   serves_now x b down is =
-      ap (λ js. serves js x) (sym split)
-      ∙ ap (λ o. unwrap_or o true) (last_given_append (gives_serving x) rowed (booted ∷ []))
-      ∙ ap (λ c. unwrap_or (option_or (if c then Some false else None)
-      (last_given (gives_serving x) rowed)) true) is
-      ∙ by_own b is
+      cc (split, last_given_append (gives_serving x) rowed (booted ∷ []), is, by_own b is)
     where
       closed : (y : ℕ) → (s == y) ≡ true → serves journal y ≡ false
-      closed y same = by_test (serves journal y) refl
-        where
-          by_test : (t : Bool) → serves journal y ≡ t → t ≡ false
-          by_test false e = refl
-          by_test true e =
-              let up : is_up journal y ≡ true =
-              (serving_known journal (caused_known setting journal
-              (reached_known setting journal refines.sound refines.reached).caused)).up y e in
-              let no : is_up journal y ≡ false =
-              subst (λ k. is_up journal k ≡ false) (eqb-true s y same) (own_up ∙ down) in
-              absurd cc
+      closed y same = by_test (serves journal y) refl where
+        by_test : (t : Bool) → serves journal y ≡ t → t ≡ false
+        by_test false e = refl
+        by_test true e =
+            let up : is_up journal y ≡ true = (serving_known journal (caused_known setting journal
+            (reached_known setting journal refines.sound refines.reached).caused)).up y e in
+            let no = subst (λ k. is_up journal k ≡ false) (eqb-true s y same) (own_up ∙ down) in
+            absurd cc
 
-      by_own : (c : Bool) → (s == x) ≡ c
-          → unwrap_or (option_or (if c then Some false else None)
+      by_own : (c : Bool) → (s == x) ≡ c → unwrap_or (option_or (if c then Some false else None)
           (last_given (gives_serving x) rowed)) true ≡ serves journal x
       by_own true same = sym (closed x same)
       by_own false other =
@@ -163,13 +144,11 @@ module _ {setting : Setting} {journal : List Item} {state : NetworkState}
 
   near_now : own.is_up ≡ false → (q : ℕ) → near setting now q ≡ near setting journal q
   unfolding near
-  near_now down q = ap (λ rows. links_of rows q)
-      (same_filter (is_usable now) (is_usable journal) setting.net.links (λ link.
-      ap (λ u. u && serves now link.one && serves now link.two) (up_now link)
+  near_now down q = cc (same_filter (is_usable now) (is_usable journal) setting.net.links
+      (λ link. ap (λ u. u && serves now link.one && serves now link.two) (up_now link)
       ∙ ap (λ u. is_up_link journal link && u && serves now link.two)
-      (serves_now link.one (s == link.one) down refl)
-      ∙ ap (λ u. is_up_link journal link && serves journal link.one && u)
-      (serves_now link.two (s == link.two) down refl)))
+      (serves_now link.one (s == link.one) down refl) ∙ ap (λ u. is_up_link journal link
+      && serves journal link.one && u) (serves_now link.two (s == link.two) down refl)))
 
   abbrev items : List Item
   items = item.Row row (Restart s) ∷ booted ∷ item.Sent (length state.posts + 1) hello ∷ []
@@ -179,9 +158,8 @@ module _ {setting : Setting} {journal : List Item} {state : NetworkState}
       (booted ∷ item.Sent (length state.posts + 1) hello ∷ []) may (boot_piece down)
 
   own_now : own.is_up ≡ false → restarted_switch own ≡ switch_of setting now s
-  own_now down =
-      ap restarted_switch (own_is ∙ sym (kept_is setting s journal (item.Row row (Restart s) ∷ [])
-      (refl, tt) (refl, tt)))
+  own_now down = ap restarted_switch (own_is
+      ∙ sym (kept_is setting s journal (item.Row row (Restart s) ∷ []) (refl, tt) (refl, tt)))
       ∙ sym (lives_refine.restart setting rowed s (caused_rowed down))
       ∙ ap (λ b. switch_of setting (rowed ++ item.Booted s (b + 1) ∷ []) s)
       ((switch_keeps setting s journal (item.Row row (Restart s) ∷ []) (refl, tt)).boot ∙ own_boot)
@@ -213,24 +191,23 @@ module _ {setting : Setting} {journal : List Item} {state : NetworkState}
         posts = state.posts ++ new_post hello ∷ [];
       })
   unfolding act_items act_posts
-  boot_refines changed down changed_is =
-      refines_told refines (record state {
-        switches = set state.switches s changed;
-      }) row (Restart s) (booted ∷ []) (PostAct hello ∷ []) (record {
-        may = may;
-        piece_is = boot_piece down;
-        packet = λ i. (refl, (refl, tt));
-        packets = (refl, (refl, tt));
-        as_many = length-set state.switches s changed;
-        each = λ q d below. one_changes setting journal now state.switches s q changed d (s == q)
-            refl boot_there (changed_is ∙ own_now down) (other_now down q) (refines.each q d below);
-        bag = bag_on journal (item.Row row (Restart s) ∷ booted ∷ []) state.posts
-            (refl, (refl, tt)) refines.bag;
-        number = refl;
-        controller = steps_leave setting journal row (Restart s) state.controller
-            (reached_known setting journal refines.sound refines.reached).caused refl
-            refines.controller;
-        up = λ q below. refines.up q below ∙ ap (λ rows. links_of rows q)
-            (sym (same_links now journal setting.net.links up_now));
-        usable = λ q below. refines.usable q below ∙ sym (near_now down q);
-      })
+  boot_refines changed down changed_is = refines_told refines (record state {
+    switches = set state.switches s changed;
+  }) row (Restart s) (booted ∷ []) (PostAct hello ∷ []) (record {
+    may = may;
+    piece_is = boot_piece down;
+    packet = λ i. (refl, (refl, tt));
+    packets = (refl, (refl, tt));
+    as_many = length-set state.switches s changed;
+    each = λ q d below. one_changes setting journal now state.switches s q changed d (s == q)
+        refl boot_there (changed_is ∙ own_now down) (other_now down q) (refines.each q d below);
+    bag = bag_on journal (item.Row row (Restart s) ∷ booted ∷ []) state.posts
+        (refl, (refl, tt)) refines.bag;
+    number = refl;
+    controller = steps_leave setting journal row (Restart s) state.controller
+        (reached_known setting journal refines.sound refines.reached).caused refl
+        refines.controller;
+    up = λ q below. refines.up q below ∙ ap (λ rows. links_of rows q)
+        (sym (same_links now journal setting.net.links up_now));
+    usable = λ q below. refines.usable q below ∙ sym (near_now down q);
+  })

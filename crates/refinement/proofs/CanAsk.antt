@@ -19,13 +19,10 @@ use Rattle.refinement.proofs.SwitchFacts.{number_shown}
 
 -- the switch and its usable links are as the journal says
 pub sees_as : (setting : Setting) (journal : List Item) (s mask : ℕ) (w : SwitchValue)
-    → Known setting journal → s < length setting.net.switches
-    → w ≡ switch_of setting journal s → mask ≡ near setting journal s
-    → Sees setting journal s w mask
-sees_as setting journal s mask w knows there own usable =
-    subst (Sees setting journal s w) (sym usable)
-    (subst (λ w. Sees setting journal s w (near setting journal s)) (sym own)
-    (sees setting journal s knows there))
+    → Known setting journal → s < length setting.net.switches → w ≡ switch_of setting journal s
+    → mask ≡ near setting journal s → Sees setting journal s w mask
+sees_as setting journal s mask w knows there own usable = subst (Sees setting journal s w)
+    (sym usable) (rw own (sees setting journal s knows there))
 
 pub looks_up_as : (setting : Setting) (journal : List Item) (s : ℕ) (w : SwitchValue)
     → Known setting journal → s < length setting.net.switches
@@ -75,17 +72,13 @@ pub can_be_asked : (setting : Setting) (journal : List Item) (i : ℕ) (t : Flig
 can_be_asked setting journal i t s mask w ports knows owners standing at own usable =
     let here_it : s ≡ standing.switch = at ∙ stands_at setting journal i t standing in
     let there : s < length setting.net.switches = omega (arith, here_it, standing.stands.there) in
-    let sees_it : Sees setting journal s w mask =
-    sees_as setting journal s mask w knows there own usable in
     let hops : Hops setting journal i standing.switch standing.header standing.ingress standing.leg w
     mask ports = record {
       stands = standing.stands;
-      sees = subst (λ k. Sees setting journal k w mask) here_it sees_it;
+      sees = rw here_it at (sees_as setting journal s mask w knows there own usable);
       owners = owners;
     } in
-    let is_switch : w ≡ switch_of setting journal standing.switch =
-    own ∙ ap (switch_of setting journal) here_it in
-    record {
+    let is_switch = own ∙ ap (switch_of setting journal) here_it in record {
       standing = standing;
       at = here_it;
       hops = hops;
@@ -94,15 +87,11 @@ can_be_asked setting journal i t s mask w ports knows owners standing at own usa
           ∙ number_shown setting journal standing.switch)));
       serving = hops.sees.serving ∙ standing.stands.serving;
       stamped = looks_up_as setting journal s w knows there own;
-      authority = λ arrive.
-          subst (λ (u : Flight). IsAtAuthority w u.tunnel.header u.tunnel.leg)
-          (sym standing.is)
-          (subst (λ w. IsAtAuthority w standing.header standing.leg) (sym is_switch)
+      authority = λ arrive. rw standing.is (rw is_switch
           (requirements_hold.arrive setting journal standing.switch standing.header standing.leg
           knows.tables knows.serving knows.holds standing.stands.there standing.stands.serving
           (ends_at setting journal standing.switch standing.header standing.leg
           (arrives_at_end setting journal 0 i standing.switch standing.header standing.ingress
-          standing.leg w mask ports hops
-          (ap (λ (u : Flight). (hop_answer w mask u.tunnel).end)
+          standing.leg w mask ports hops (ap (λ (u : Flight). (hop_answer w mask u.tunnel).end)
           (sym standing.is) ∙ arrive)))).authority);
     }

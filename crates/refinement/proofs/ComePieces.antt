@@ -27,49 +27,39 @@ once first items packet later =
 
 pub entered_once : (number : ℕ) (at : Standing) (what : Option Answer)
     → count_of is_packet (entered_items number at what) ≡ 1
-entered_once number at None =
-    once (item.Closed at.packet at.switch) [] refl tt
-entered_once number at (Some what) =
-    once (item.Entered at.packet at.switch at.header) (answer_items number at what) refl
-    (answer_later number at what)
+entered_once number at None = once (item.Closed at.packet at.switch) [] refl tt
+entered_once number at (Some what) = once (item.Entered at.packet at.switch at.header)
+    (answer_items number at what) refl (answer_later number at what)
 
 -- ---- the switches
 
 -- the switch where it enters is called, and no other
 pub come_called : (setting : Setting) (journal : List Item) (row number q : ℕ) (at : Standing)
     (what : Option Answer) (b : Bool) → SendFrom number (entered_items number at what)
-    → (at.switch == q) ≡ b
-    → switch_of setting (journal ++ item.Row row (PacketStep at.switch at.header)
-    ∷ entered_items number at what) q
+    → (at.switch == q) ≡ b → switch_of setting
+    (journal ++ item.Row row (PacketStep at.switch at.header) ∷ entered_items number at what) q
     ≡ (if b then call_counted (switch_of setting journal q) else switch_of setting journal q)
-come_called setting journal row number q at what b sends is =
-    by_answer what sends
-    ∙ ap (λ b. if b then call_counted (switch_of setting journal q) else switch_of setting journal q) is
-  where
-    by_answer : (what : Option Answer) → SendFrom number (entered_items number at what)
-        → switch_of setting (journal ++ item.Row row (PacketStep at.switch at.header)
-        ∷ entered_items number at what) q
-        ≡ (if at.switch == q then call_counted (switch_of setting journal q)
-        else switch_of setting journal q)
-    by_answer None sends =
-        calls_refine.closed setting journal row at.packet at.switch q at.header
-    by_answer (Some what) sends =
-        calls_refine.entered setting journal row at.packet at.switch q at.header
-        (answer_items number at what) (answer_later number at what)
-        ((are_apart number journal (item.Row row (PacketStep at.switch at.header)
-        ∷ item.Entered at.packet at.switch at.header ∷ answer_items number at what) sends).known q)
+come_called setting journal row number q at what b sends is = cc (by_answer what sends, is) where
+  by_answer : (what : Option Answer) → SendFrom number (entered_items number at what)
+      → switch_of setting (journal ++ item.Row row (PacketStep at.switch at.header)
+      ∷ entered_items number at what) q ≡ (if at.switch == q
+      then call_counted (switch_of setting journal q) else switch_of setting journal q)
+  by_answer None sends = calls_refine.closed setting journal row at.packet at.switch q at.header
+  by_answer (Some what) sends = calls_refine.entered setting journal row at.packet at.switch q
+      at.header (answer_items number at what) (answer_later number at what)
+      ((are_apart number journal (item.Row row (PacketStep at.switch at.header)
+      ∷ item.Entered at.packet at.switch at.header ∷ answer_items number at what) sends).known q)
 
 -- ---- the packets
 
-pub come_along : (setting : Setting) (journal : List Item) (row number : ℕ) (taken : Step) (targets : Targets)
-    (at : Standing) (answer : Option Answer) (kept : Option Flight) (q : ℕ) (b : Bool)
-    → Known setting journal → (q == at.packet) ≡ b → IsUnknown (what_is_known journal at.packet)
+pub come_along : (setting : Setting) (journal : List Item)
+    (row number : ℕ) (taken : Step) (targets : Targets) (at : Standing) (answer : Option Answer)
+    (kept : Option Flight) (q : ℕ) (b : Bool) → Known setting journal
+    → (q == at.packet) ≡ b → IsUnknown (what_is_known journal at.packet)
     → (what_is_known journal at.packet).found ≡ at.down → GoesIn targets at answer
     → ((leg : Leg) → targets leg ≡ targets_of setting journal leg)
-    → NoneConcern concerns_policies journal
-    (item.Row row taken ∷ entered_items number at answer)
-    → kept ≡ flight_in setting journal q
-    → (if b then entered_flight answer else kept)
+    → NoneConcern concerns_policies journal (item.Row row taken ∷ entered_items number at answer)
+    → kept ≡ flight_in setting journal q → (if b then entered_flight answer else kept)
     ≡ flight_in setting (journal ++ item.Row row taken ∷ entered_items number at answer) q
 come_along setting journal row number taken targets at answer kept q true knows is unknown unmarked
     comes same none was =
@@ -84,6 +74,5 @@ come_along setting journal row number taken targets at answer kept q true knows 
     (sym (eqb-true q i is))
 come_along setting journal row number taken targets at answer kept q false knows is unknown unmarked
     comes same none was =
-    let other : (at.packet == q) ≡ false = grind (arith, nat_tests) in
-    was ∙ sym (flight_stays setting journal (item.Row row taken ∷ entered_items number at answer)
-    q knows (refl, entered_other q number at answer other))
+    was ∙ sym (flight_stays setting journal (item.Row row taken ∷ entered_items number at answer) q
+    knows (refl, entered_other q number at answer (grind (arith, nat_tests))))

@@ -30,20 +30,13 @@ pub begins : (setting : Setting) (plan : PlanValue) → plan ≡ (plan_to_keep s
     → IsControllerOf setting [] (first_controller (length setting.net.switches) plan)
 begins setting plan is = record {
   marks = marks_begun setting;
-  plans = ap (λ (own : PlanValue). kept own all_touched) is
-      ∙ ap (kept (plan_to_keep setting [] 1).plan) (sym (first_touched setting []))
-      ∙ ap (λ c. map (plan_to_keep setting []) (range_with_len c 1)) (sym start_laws.current)
-      ∙ ap (λ n. map (plan_to_keep setting []) (range_with_len (current_mark []) n)) one;
-}
-  where
-    kept : PlanValue → List WordValue → List KeptPlan
-    kept own touched = (record { version = 1; plan = own; touched = touched }) ∷ []
+  plans = cc (is, first_touched setting [], start_laws.current, one);
+} where
+  kept : PlanValue → List WordValue → List KeptPlan
+  kept own touched = (record { version = 1; plan = own; touched = touched }) ∷ []
 
-    one : 1 ≡ version_count [] + 1 - current_mark []
-    one =
-        let count = start_laws.count in
-        let current = start_laws.current in
-        omega (arith, count, current)
+  one : 1 ≡ version_count [] + 1 - current_mark []
+  one = let current = start_laws.current in omega (arith, start_laws.count, current)
 
 -- ---- behind a row
 
@@ -63,13 +56,11 @@ row_on setting before row step controller have is =
 -- items that stand behind two others
 behind_two : (before : List Item) (one two : Item) (items : List Item)
     → before ++ one ∷ two ∷ items ≡ ((before ++ one ∷ []) ++ two ∷ []) ++ items
-behind_two before one two items =
-    sym (append_assoc before (one ∷ []) (two ∷ items))
+behind_two before one two items = sym (append_assoc before (one ∷ []) (two ∷ items))
     ∙ sym (append_assoc (before ++ one ∷ []) (two ∷ []) items)
 
-pub are_written : (setting : Setting) (before : List Item) (one two : Item)
-    (items : List Item) (acts : List Act) (new : ControllerValue)
-    → let now = (before ++ one ∷ []) ++ two ∷ [] in
+pub are_written : (setting : Setting) (before : List Item) (one two : Item) (items : List Item)
+    (acts : List Act) (new : ControllerValue) → let now = (before ++ one ∷ []) ++ two ∷ [] in
     written_items now acts ≡ items → IsControllerOf setting (now ++ items) new
     → AreWritten setting before (one ∷ two ∷ []) acts new (one ∷ two ∷ items)
 are_written setting before one two items acts new same after = record {
@@ -91,8 +82,7 @@ hello_boot_is setting now s boot old new after settles there taken =
     let long = length-set old.marks.switches s
     (known.hello_recorded boot (record_of old.marks s)) in
     let is = settles.marks.1 in
-    let below : s < length new.marks.switches =
-    omega (
+    let below : s < length new.marks.switches = omega (
       arith,
       there,
       long,
@@ -109,41 +99,33 @@ hello_boot_is setting now s boot old new after settles there taken =
     boot_in value = value.boot
 
     joined : SwitchRecord
-    joined =
-        record { boot = boot; phase = Joining; acked = 0; open_version = 0; acked_stamp = 0 }
+    joined = record { boot = boot; phase = Joining; acked = 0; open_version = 0; acked_stamp = 0 }
 
     new_boot : (value : SwitchRecord) → takes_hello boot value ≡ true
         → (known.hello_recorded boot value).boot ≡ boot
     new_boot value taken = ap (λ b. boot_in (if b then joined else value)) taken
 
-hello_written : (setting : Setting) (before one : List Item) (body : Body)
-    (old : MarksValue) (new : ControllerValue) → AreCaused setting one
-    → IsControllerOf setting one new
-    → ((s boot : ℕ) → body ≡ Hello s boot
+hello_written : (setting : Setting) (before one : List Item)
+    (body : Body) (old : MarksValue) (new : ControllerValue) → AreCaused setting one
+    → IsControllerOf setting one new → ((s boot : ℕ) → body ≡ Hello s boot
     → (takes_hello boot (record_of old s) ≡ is_new_boot before s boot)
     × (takes_hello boot (record_of old s) ≡ true → boot ≡ known_boot one s))
     → written_items one (installs_after body old new) ≡ after_hello setting before body one
 unfolding installs_to
 hello_written setting before one (Hello s boot) old new have is told =
-    let own = told s boot refl in
-    by_new (takes_hello boot (record_of old s)) refl
-    ∙ ap (λ b. elim b [ true ↦ installs_to setting s one | false ↦ [] ]) own.0
+    cc (by_new (takes_hello boot (record_of old s)) refl, (told s boot refl).0)
   where
     versions : List ℕ
     versions = versions_from_current one
 
-    by_new : (b : Bool) → takes_hello boot (record_of old s) ≡ b
-        → written_items one (if b then map (install_act s boot)
-        (plans_from new.marks.current new.plans)
-        else []) ≡ elim b [ true ↦ installs_to setting s one | false ↦ [] ]
-    by_new true e =
-        ap (written_items one)
-        (ap (map (install_act s boot))
+    by_new : (b : Bool) → takes_hello boot (record_of old s) ≡ b → written_items one
+        (if b then map (install_act s boot) (plans_from new.marks.current new.plans) else [])
+        ≡ elim b [ true ↦ installs_to setting s one | false ↦ [] ]
+    by_new true e = ap (written_items one) (ap (map (install_act s boot))
         (plans_stay setting one new.plans new.marks.current have is.marks.current is.plans)
         ∙ map_twice (plan_to_keep setting one) (install_act s boot) versions
         ∙ ap (λ b. map (λ v. install_act s b (plan_to_keep setting one v)) versions)
-        ((told s boot refl).1 e)
-        ∙ sym (map_twice (λ v. install_for setting one v s) Post versions))
+        ((told s boot refl).1 e) ∙ sym (map_twice (λ v. install_for setting one v s) Post versions))
         ∙ posted (map (λ v. install_for setting one v s) versions) one
     by_new false e = refl
 hello_written setting before one body old new have is told = refl
@@ -152,18 +134,15 @@ installs_leave : (setting : Setting) (before one : List Item) (body : Body)
     (new : ControllerValue) → AreCaused setting one → IsControllerOf setting one new
     → IsControllerOf setting (one ++ after_hello setting before body one) new
 unfolding installs_to
-installs_leave setting before one (Hello s boot) new have is =
-    by_new (is_new_boot before s boot)
+installs_leave setting before one (Hello s boot) new have is = by_new (is_new_boot before s boot)
   where
     by_new : (b : Bool) → IsControllerOf setting
         (one ++ elim b [ true ↦ installs_to setting s one | false ↦ [] ]) new
-    by_new true =
-        controller_on setting one (installs_to setting s one) new have
+    by_new true = controller_on setting one (installs_to setting s one) new have
         (leaves_keep one (installs_to setting s one)
         (sends_leave one _ (installs_reopen setting one s (versions_from_current one)))) is
     by_new false = subst (λ js. IsControllerOf setting js new) (sym (append-nil one)) is
-installs_leave setting before one body new have is =
-    subst (λ js. IsControllerOf setting js new) (sym (append-nil one)) is
+installs_leave setting before one body new have is = rw (append-nil one) is
 
 -- what is said, and what is known as it is
 module _ (setting : Setting) (before : List Item) (row n : ℕ) (body : Body)
@@ -207,11 +186,9 @@ module _ (setting : Setting) (before : List Item) (row n : ℕ) (body : Body)
       → (takes_hello boot (record_of old.marks s) ≡ is_new_boot before s boot)
       × (takes_hello boot (record_of old.marks s) ≡ true → boot ≡ known_boot one s)
   hello_told s boot e =
-      let below : s < length old.marks.switches =
-      subst (λ b. NamesThere b old.marks) e there in (
+      let below : s < length old.marks.switches = subst (λ b. NamesThere b old.marks) e there in (
         ap (λ known. nat_lt known boot) (is.marks.each s below).boot,
-        hello_boot_is setting now s boot old new heard_settles.1
-            (subst (λ b. SettlesWith (marks_after b old.marks) old.plans new) e settles) below,
+        hello_boot_is setting now s boot old new heard_settles.1 (rw e at settles) below,
       )
 
   heard_so : (written_items now (hear_acts body old.marks new)
@@ -221,13 +198,10 @@ module _ (setting : Setting) (before : List Item) (row n : ℕ) (body : Body)
   heard_so = (
     written_in_two now (settling setting) (after_hello setting before body)
         (acts.settling_acts (current_touched new) (marks_after body old.marks) new.marks)
-        (installs_after body old.marks new) heard_settles.0
-        (hello_written setting before one body old.marks new
-        (settling_caused setting now now_have) heard_settles.1 hello_told),
-    subst (λ js. IsControllerOf setting js new)
-        (sym (in_two (settling setting) (after_hello setting before body) now))
-        (installs_leave setting before one body new (settling_caused setting now now_have)
-        heard_settles.1),
+        (installs_after body old.marks new) heard_settles.0 (hello_written setting before one body
+        old.marks new (settling_caused setting now now_have) heard_settles.1 hello_told),
+    rw (in_two (settling setting) (after_hello setting before body) now) (installs_leave setting
+        before one body new (settling_caused setting now now_have) heard_settles.1),
   )
 
 deliver_piece : (setting : Setting) (before : List Item) (row n : ℕ) (body : Body)
@@ -267,10 +241,9 @@ hears setting before row n body old new have is may sent there settles =
 
 -- ---- a switch that is over
 
-pub confirms : (setting : Setting) (before : List Item) (row s : ℕ)
-    (old new : ControllerValue) → AreCaused setting before → IsControllerOf setting before old
-    → IsFalse (is_up before s) → s < length old.marks.switches
-    → SettlesWith (at_switch s after_over old.marks) old.plans new
+pub confirms : (setting : Setting) (before : List Item) (row s : ℕ) (old new : ControllerValue)
+    → AreCaused setting before → IsControllerOf setting before old → IsFalse (is_up before s)
+    → s < length old.marks.switches → SettlesWith (at_switch s after_over old.marks) old.plans new
     → AreWritten setting before (item.Row row (Confirm s) ∷ item.OverNow s ∷ [])
     (acts.settling_acts (current_touched new) (at_switch s after_over old.marks) new.marks) new
     (piece setting before row (Confirm s))

@@ -21,12 +21,11 @@ planned_on : (setting : Setting) (before items : List Item) (v : ℕ) → AreCau
     → current_mark before ≤ v
     → v < current_mark before + (version_count before + 1 - current_mark before)
     → plan_to_keep setting before v ≡ plan_to_keep setting (before ++ items) v
-planned_on setting before items v have above below =
-    rw (
-      policy_stays setting before items v numbers last,
-      plan_stays setting before items v numbers last,
-      touched_stays setting before items v numbers last,
-    ) refl
+planned_on setting before items v have above below = rw (
+  policy_stays setting before items v numbers last,
+  plan_stays setting before items v numbers last,
+  touched_stays setting before items v numbers last,
+) refl
   where
     numbers : VersionsAreNumbered before
     numbers = caused_numbered setting before have
@@ -36,8 +35,7 @@ planned_on setting before items v have above below =
 
 -- the plans stay, where neither a version nor a rise of the current mark came
 pub plans_on : (setting : Setting) (before items : List Item) (plans : List KeptPlan)
-    → AreCaused setting before
-    → version_count (before ++ items) ≡ version_count before
+    → AreCaused setting before → version_count (before ++ items) ≡ version_count before
     → current_mark (before ++ items) ≡ current_mark before
     → plans ≡ map (plan_to_keep setting before) (versions_from_current before)
     → plans ≡ map (plan_to_keep setting (before ++ items)) (versions_from_current (before ++ items))
@@ -46,8 +44,7 @@ plans_on setting before items plans have count current are =
     are
     ∙ map-range_same (plan_to_keep setting before) (plan_to_keep setting after) (current_mark before)
     (version_count before + 1 - current_mark before)
-    (λ v above below.
-    planned_on setting before items v have above below)
+    (λ v above below. planned_on setting before items v have above below)
     ∙ ap (λ n. map (plan_to_keep setting after)
     (range_with_len (current_mark before) (n + 1 - current_mark before))) (sym count)
     ∙ ap (λ c. map (plan_to_keep setting after) (range_with_len c (version_count after + 1 - c)))
@@ -59,8 +56,7 @@ pub plans_pushed : (setting : Setting) (before items : List Item) (plans : List 
     → version_count (before ++ items) ≡ version_count before + 1
     → current_mark (before ++ items) ≡ current_mark before
     → kept ≡ plan_to_keep setting (before ++ items) (version_count before + 1)
-    → plans ≡ map (plan_to_keep setting before) (versions_from_current before)
-    → plans ++ kept ∷ []
+    → plans ≡ map (plan_to_keep setting before) (versions_from_current before) → plans ++ kept ∷ []
     ≡ map (plan_to_keep setting (before ++ items)) (versions_from_current (before ++ items))
 plans_pushed setting before items plans kept have count current new are =
     let after : List Item = before ++ items in
@@ -69,10 +65,8 @@ plans_pushed setting before items plans kept have count current new are =
     let there = (bounded setting before have).there in
     let many : n + 1 ≡ version_count after + 1 - low = omega (arith, count, there) in
     ap (λ xs. xs ++ kept ∷ [])
-    (are
-    ∙ map-range_same (plan_to_keep setting before) (plan_to_keep setting after) low n
-    (λ v above below.
-    planned_on setting before items v have above below))
+    (are ∙ map-range_same (plan_to_keep setting before) (plan_to_keep setting after) low n
+    (λ v above below. planned_on setting before items v have above below))
     ∙ ap (λ k. map (plan_to_keep setting after) (range_with_len low n) ++ k ∷ []) new
     ∙ sym (map-range_with_len_more (plan_to_keep setting after) low n (version_count before + 1)
     (omega (arith, there)))
@@ -82,8 +76,7 @@ plans_pushed setting before items plans kept have count current new are =
 
 -- those of the versions before a later current one are let go
 later_plans : (setting : Setting) (before items : List Item) (plans : List KeptPlan)
-    → AreCaused setting before
-    → version_count (before ++ items) ≡ version_count before
+    → AreCaused setting before → version_count (before ++ items) ≡ version_count before
     → current_mark before ≤ current_mark (before ++ items)
     → current_mark (before ++ items) ≤ version_count before
     → plans ≡ map (plan_to_keep setting before) (versions_from_current before)
@@ -100,8 +93,7 @@ later_plans setting before items plans have count rises bound are =
     ∙ filter_made (plan_to_keep setting before) (λ kept. nat_le to kept.version)
     (range_with_len low n)
     ∙ later_same (plan_to_keep setting before) (plan_to_keep setting after) to low n
-    (λ v above below.
-    planned_on setting before items v have above below)
+    (λ v above below. planned_on setting before items v have above below)
     ∙ ap (λ k. map (plan_to_keep setting after) (range_with_len k (low + n - k))) own
     ∙ ap (λ k. map (plan_to_keep setting after) (range_with_len to k)) many
 
@@ -134,36 +126,30 @@ controller_on setting before items controller have keeps is = record {
 settled_touched : (setting : Setting) (now : List Item) (before : MarksValue)
     (plans : List KeptPlan) (new : ControllerValue) → AreMarksOf setting now before
     → plans ≡ map (plan_to_keep setting now) (versions_from_current now)
-    → SettlesWith before plans new
-    → current_touched new ≡ touched_by setting now new.marks.current
+    → SettlesWith before plans new → current_touched new ≡ touched_by setting now new.marks.current
 settled_touched setting now before plans new marks are settles =
     let c = new.marks.current in
     let is = settles.marks.1 in
     let low = marks.current in
-    let last = marks.count in
     ap (λ o. option_map_or (λ (kept : KeptPlan). kept.touched) o all_touched)
     (ap (find (is_of c)) settles.plans ∙ still_found c c plans (omega arith)
-    ∙ ap (find (is_of c)) are
-    ∙ find_kept setting now (current_mark now) (version_count now + 1 - current_mark now) c
-    (omega (arith, low, is.current.rises))
-    (omega (arith, low, last, is.current.rises, is.current.bound)))
+    ∙ ap (find (is_of c)) are ∙ find_kept setting now (current_mark now)
+    (version_count now + 1 - current_mark now) c (omega (arith, low, is.current.rises))
+    (omega (arith, low, marks.count, is.current.rises, is.current.bound)))
 
 -- the marks settle, and the plans are let go that no later call names
-pub settles_with : (setting : Setting) (now : List Item) (before : MarksValue)
-    (plans : List KeptPlan) (new : ControllerValue) → AreCaused setting now
+pub settles_with : (setting : Setting) (now : List Item)
+    (before : MarksValue) (plans : List KeptPlan) (new : ControllerValue) → AreCaused setting now
     → AreMarksOf setting now before
     → plans ≡ map (plan_to_keep setting now) (versions_from_current now)
     → SettlesWith before plans new
     → (written_items now (acts.settling_acts (current_touched new) before new.marks)
-    ≡ settling setting now)
-    × IsControllerOf setting (now ++ settling setting now) new
+    ≡ settling setting now) × IsControllerOf setting (now ++ settling setting now) new
 settles_with setting now before plans new have marks are settles =
     let is = settles.marks.1 in
     let so = settles_so setting now before new.marks settles.marks.0 (current_touched new)
     (settled_touched setting now before plans new marks are settles) have marks is in
     let after = so.1 in
-    let first = marks.current in
-    let last = marks.count in
     let current = after.current in
     let count : version_count (now ++ settling setting now) ≡ version_count now =
     sym after.count ∙ is.count ∙ marks.count in (
@@ -172,7 +158,7 @@ settles_with setting now before plans new have marks are settles =
         marks = after;
         plans = settles.plans ∙ ap (λ c. plans_from c plans) after.current
             ∙ later_plans setting now (settling setting now) plans have count
-            (omega (arith, first, current, is.current.rises))
-            (omega (arith, last, current, is.current.bound)) are;
+            (omega (arith, marks.current, current, is.current.rises))
+            (omega (arith, marks.count, current, is.current.bound)) are;
       },
     )

@@ -25,20 +25,17 @@ use Rattle.ternary.specs.Exports.{WordValue}
 names_both : (setting : Setting) (journal : List Item) (s v : ℕ) (marks : MarksValue)
     → AreMarksOf setting journal marks → s < length setting.net.switches
     → (1 ≤ v) × (v ≤ version_count journal) → NamesBoth s v marks
-names_both setting journal s v marks are there version =
-    let last = are.count in
-    record {
-      switch_is = omega (arith, there, are.many);
-      first = version.0;
-      last = omega (arith, version.1, last);
-    }
+names_both setting journal s v marks are there version = let last = are.count in record {
+  switch_is = omega (arith, there, are.many);
+  first = version.0;
+  last = omega (arith, version.1, last);
+}
 
 pub names_there : (setting : Setting) (journal : List Item) (n : ℕ) (body : Body)
     (marks : MarksValue) → BodiesNameThere setting journal → AreMarksOf setting journal marks
     → message_of journal n ≡ Some (to_controller body) → NamesThere body marks
 names_there setting journal n (Hello s boot) marks names are sent =
-    let named = names.sent n (to_controller (Hello s boot)) sent in
-    omega (arith, named.addressed, are.many)
+    omega (arith, (names.sent n (to_controller (Hello s boot)) sent).addressed, are.many)
 names_there setting journal n (Installed s boot v) marks names are sent =
     let named = names.sent n (to_controller (Installed s boot v)) sent in
     names_both setting journal s v marks are named.addressed named.version
@@ -54,12 +51,10 @@ if_posted : (b : Bool) (message : Message)
 if_posted true message = refl
 if_posted false message = refl
 
-if_retired : (mark : ℕ) (message : Message)
-    → (if nat_lt 0 mark then Post message ∷ [] else [])
+if_retired : (mark : ℕ) (message : Message) → (if nat_lt 0 mark then Post message ∷ [] else [])
     ≡ map Post (if mark == 0 then [] else message ∷ [])
 if_retired mark message =
-    let test : nat_lt 0 mark ≡ not (mark == 0) = grind (arith, nat_tests) in
-    ap (λ b. if b then Post message ∷ [] else []) test ∙ by_none (mark == 0)
+    ap (λ b. if b then Post message ∷ [] else []) (grind (arith, nat_tests)) ∙ by_none (mark == 0)
   where
     by_none : (b : Bool) → (if not b then Post message ∷ [] else [])
         ≡ map Post (if b then [] else message ∷ [])
@@ -89,8 +84,7 @@ module _ (setting : Setting) (journal : List Item) (s : ℕ) (controller : Contr
       ≡ map again (filter (lacks first) versions)
   of_versions first =
       ap (λ plans. map (install_act s known.boot) (filter (λ kept. lacks first kept.version) plans))
-      is.plans
-      ∙ ap (map (install_act s known.boot))
+      is.plans ∙ ap (map (install_act s known.boot))
       (filter_made (plan_to_keep setting journal) (λ kept. lacks first kept.version) versions)
       ∙ map_twice (plan_to_keep setting journal) (install_act s known.boot)
       (filter (lacks first) versions)
@@ -99,11 +93,9 @@ module _ (setting : Setting) (journal : List Item) (s : ℕ) (controller : Contr
   from_on : IsFalse (machine.is_over journal s) → (first n : ℕ) → 1 ≤ first
       → map again (filter (lacks first) (range_with_len first n))
       ≡ map Post (unacked_installs setting journal s (range_with_len first n))
-  from_on none first n there =
-      picked_same again (λ v. Post (install_for setting journal v s)) (lacks first)
-      (λ v. not (machine.has_acked journal s v)) first n
-      (λ v above below.
-      let passes : nat_le first v ≡ true = grind (arith, nat_tests) in
+  from_on none first n there = picked_same again (λ v. Post (install_for setting journal v s))
+      (lacks first) (λ v. not (machine.has_acked journal s v)) first n
+      (λ v above below. let passes : nat_le first v ≡ true = grind (arith, nat_tests) in
       ap (λ b. b && not (has_acked known v)) passes
       ∙ ap not (own.acked none v (omega (arith, above, there))))
       (λ v above below lacking. ap (λ boot. install_act s boot (plan_to_keep setting journal v))
@@ -126,13 +118,10 @@ module _ (setting : Setting) (journal : List Item) (s : ℕ) (controller : Contr
 
   -- what it keeps for the current version is what that version's change touches
   kept_says : current_touched controller ≡ touched_by setting journal low
-  kept_says =
-      let marks = bounded setting journal have in
-      ap (λ o. option_map_or (λ (kept : KeptPlan). kept.touched) o all_touched)
-      (ap (λ c. find (is_of c) controller.plans) is.marks.current
-      ∙ ap (find (is_of low)) is.plans
+  kept_says = ap (λ o. option_map_or (λ (kept : KeptPlan). kept.touched) o all_touched)
+      (ap (λ c. find (is_of c) controller.plans) is.marks.current ∙ ap (find (is_of low)) is.plans
       ∙ find_kept setting journal low (version_count journal + 1 - low) low (omega arith)
-      (omega (arith, marks.there)))
+      (omega (arith, (bounded setting journal have).there)))
 
   to_member : IsTrue (machine.is_member journal s) → IsFalse (machine.is_over journal s)
       → resend_acts_to Member controller s ≡ map Post (resent_to_member setting journal s)
@@ -143,24 +132,19 @@ module _ (setting : Setting) (journal : List Item) (s : ℕ) (controller : Contr
       then stamp_for setting journal low s ∷ [] else [] in
       let collect : List Message = if retired_mark journal == 0
       then [] else collect_for journal (retired_mark journal) s ∷ [] in
-      let lacking : missing_installs controller s (controller.marks.current + 1) ≡ map Post first =
-      ap (λ c. missing_installs controller s (c + 1)) is.marks.current ∙ of_versions (low + 1)
-      ∙ after_current
-      ∙ from_on none (low + 1) (version_count journal - low) (omega arith) in
+      let lacking = ap (λ c. missing_installs controller s (c + 1)) is.marks.current
+      ∙ of_versions (low + 1) ∙ after_current ∙ from_on none (low + 1) (version_count journal - low)
+      (omega arith) in
       let words : List WordValue = touched_by setting journal low in
-      let stamped : acts.stamp_again (current_touched controller) controller.marks s
-      ≡ map Post stamp =
-      ap (λ these. acts.stamp_again these controller.marks s) kept_says
+      let stamped = ap (λ these. acts.stamp_again these controller.marks s) kept_says
       ∙ ap (λ c. if nat_lt known.acked_stamp c
       then Post (to_switch s (Stamp known.boot c words)) ∷ [] else []) is.marks.current
       ∙ ap (λ a. if nat_lt a low then Post (to_switch s (Stamp known.boot low words)) ∷ [] else [])
-      (own.stamp member)
-      ∙ ap (λ b. if nat_lt (acked_stamp journal s) low
+      (own.stamp member) ∙ ap (λ b. if nat_lt (acked_stamp journal s) low
       then Post (to_switch s (Stamp b low words)) ∷ [] else []) own.boot
       ∙ if_posted (nat_lt (acked_stamp journal s) low) (stamp_for setting journal low s) in
-      let collected : acts.collect_again controller.marks s ≡ map Post collect =
-      ap (λ r. if nat_lt 0 r then Post (to_switch s (Collect known.boot r)) ∷ [] else [])
-      is.marks.retired
+      let collected = ap (λ r. if nat_lt 0 r
+      then Post (to_switch s (Collect known.boot r)) ∷ [] else []) is.marks.retired
       ∙ ap (λ b. if nat_lt 0 (retired_mark journal)
       then Post (to_switch s (Collect b (retired_mark journal))) ∷ [] else []) own.boot
       ∙ if_retired (retired_mark journal) (collect_for journal (retired_mark journal) s) in
@@ -193,29 +177,21 @@ module _ (setting : Setting) (journal : List Item) (s : ℕ) (controller : Contr
       → map Post (sent_by (is_over phase) (is_member phase))
       ≡ map Post (resent_by_controller setting journal s)
   unfolding resent_by_controller
-  sent_in phase e =
-      ap (λ over. map Post (sent_by over (is_member phase))) (sym (ap is_over e) ∙ own.over)
-      ∙ ap (λ member. map Post (sent_by (machine.is_over journal s) member))
-      (sym (ap is_member e) ∙ own.member)
+  sent_in phase e = cc (e, own.over, own.member)
 
   by_phase : (phase : Phase) → known.phase ≡ phase → resend_acts_to phase controller s
       ≡ map Post (resent_by_controller setting journal s)
   by_phase Over e = sent_in Over e
-  by_phase Joining e =
-      let none : false ≡ machine.is_over journal s = sym (ap is_over e) ∙ own.over in
-      ap (missing_installs controller s) is.marks.current ∙ of_versions low
-      ∙ from_on (sym none) low (version_count journal + 1 - low)
-      (bounded setting journal have).first
-      ∙ sent_in Joining e
+  by_phase Joining e = ap (missing_installs controller s) is.marks.current ∙ of_versions low
+      ∙ from_on (sym (sym (ap is_over e) ∙ own.over)) low (version_count journal + 1 - low)
+      (bounded setting journal have).first ∙ sent_in Joining e
   by_phase Member e =
-      let none : false ≡ machine.is_over journal s = sym (ap is_over e) ∙ own.over in
       let member : true ≡ machine.is_member journal s = sym (ap is_member e) ∙ own.member in
-      to_member (sym member) (sym none) ∙ sent_in Member e
+      to_member (sym member) (sym (sym (ap is_over e) ∙ own.over)) ∙ sent_in Member e
 
 pub resends : (setting : Setting) (journal : List Item) (s : ℕ) (controller : ControllerValue)
     → AreCaused setting journal → IsControllerOf setting journal controller
     → s < length controller.marks.switches
     → resend_acts controller s ≡ map Post (resent_by_controller setting journal s)
-resends setting journal s controller have is there =
-    by_phase setting journal s controller have is (is.marks.each s there)
-    (record_of controller.marks s).phase refl
+resends setting journal s controller have is there = by_phase setting journal s controller have is
+    (is.marks.each s there) (record_of controller.marks s).phase refl

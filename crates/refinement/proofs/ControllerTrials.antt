@@ -19,10 +19,9 @@ use Rattle.refinement.proofs.ControllerCalls.{begins}
 -- ---- acts
 
 -- each message has the next number
-numbered : written_items (item.Sent 1 (to 0 (Stamp 1 1 [])) ∷ [])
-    (Current 2 ∷ Post (to 0 (Stamp 1 2 [])) ∷ Retired 1 ∷ Post (to 1 (Stamp 1 2 [])) ∷ [])
-    ≡ item.Current 2 ∷ item.Sent 2 (to 0 (Stamp 1 2 [])) ∷ item.Retired 1
-    ∷ item.Sent 3 (to 1 (Stamp 1 2 [])) ∷ []
+numbered : written_items (item.Sent 1 (to 0 (Stamp 1 1 [])) ∷ []) (Current 2
+    ∷ Post (to 0 (Stamp 1 2 [])) ∷ Retired 1 ∷ Post (to 1 (Stamp 1 2 [])) ∷ []) ≡ item.Current 2
+    ∷ item.Sent 2 (to 0 (Stamp 1 2 [])) ∷ item.Retired 1 ∷ item.Sent 3 (to 1 (Stamp 1 2 [])) ∷ []
 unfolding next_message
 numbered = refl
 
@@ -39,16 +38,11 @@ abbrev plan_by : List Row → List Hosted → PlanValue
 plan_by policy hosted = record { policy = policy; hosted = hosted }
 
 of_first : (journal : List Item) → outs ≡ (plan_to_keep open_net journal 1).plan
-of_first journal =
-    ap (λ policy. plan_by policy plan_p) (sym (first_policy journal))
-    ∙ ap (plan_by (policy_at open_net journal 1)) (sym (first_plan journal))
+of_first journal = cc (first_policy journal, first_plan journal)
 
 of_second : (items : List Item)
     → drops ≡ (plan_to_keep open_net (item.Submitted 2 2 ∷ items) 2).plan
-of_second items =
-    ap (λ policy. plan_by policy plan_q) (sym (second_policy [] items tt))
-    ∙ ap (plan_by (policy_at open_net (item.Submitted 2 2 ∷ items) 2))
-    (sym (second_plan [] items tt))
+of_second items = cc (second_policy [] items tt, second_plan [] items tt)
 
 next_drops : IsPlanOfNext open_net [] 2 drops all_touched
 unfolding next_policy
@@ -61,11 +55,8 @@ lets_out (row ∷ rows) = elim row.action [ Drop ↦ false | Out port ↦ true ]
 -- neither the other plan nor that of a file that isn't there
 not_next_of_first : (touched : List WordValue) → IsPlanOfNext open_net [] 1 drops touched → ⊥
 unfolding lets_out next_policy
-not_next_of_first touched of =
-    let no : true ≡ false =
-    ap (λ (made : Result (List Row) Inapplicable). option_map_or lets_out (result_ok made) false)
-    of.policy in
-    absurd cc
+not_next_of_first touched of = absurd (cc (ap (λ (made : Result (List Row) Inapplicable).
+    option_map_or lets_out (result_ok made) false) of.policy))
 
 not_next_of_third : (touched : List WordValue) → IsPlanOfNext open_net [] 3 outs touched → ⊥
 unfolding next_policy
@@ -82,8 +73,7 @@ first_lets_out (kept ∷ plans) = lets_out kept.plan.policy
 not_begun : IsControllerOf open_net [] (first_controller 2 drops) → ⊥
 unfolding current_mark version_count lets_out first_lets_out
 not_begun is =
-    let no : false ≡ true =
-    ap first_lets_out is.plans ∙ ap lets_out (first_policy []) in absurd cc
+    let no : false ≡ true = ap first_lets_out is.plans ∙ ap lets_out (first_policy []) in absurd cc
 
 -- of two versions both are kept while the first one is current, and then the second one alone
 abbrev submitted : List Item
@@ -99,14 +89,11 @@ abbrev second_kept : PlanValue → List WordValue → KeptPlan
 second_kept plan touched = record { version = 2; plan = plan; touched = touched }
 
 abbrev both : PlanValue → List WordValue → KeptPlan → List KeptPlan
-both plan touched second =
-    (record { version = 1; plan = plan; touched = touched }) ∷ second ∷ []
+both plan touched second = (record { version = 1; plan = plan; touched = touched }) ∷ second ∷ []
 
 second_is : (items : List Item) → second_kept drops all_touched
     ≡ plan_to_keep open_net (item.Submitted 2 2 ∷ items) 2
-second_is items = ap (λ plan. second_kept plan all_touched) (of_second items)
-    ∙ ap (second_kept (plan_to_keep open_net (item.Submitted 2 2 ∷ items) 2).plan)
-    (sym (second_touches items))
+second_is items = cc (of_second items, second_touches items)
 
 both_kept : map (plan_to_keep open_net submitted) (versions_from_current submitted)
     ≡ both outs all_touched (second_kept drops all_touched)
@@ -163,12 +150,10 @@ second s = item.Sent 1 (to s (Install 1 (tables_of plan_q 2 s)))
 to_other_alone : installs_to_all open_net later ≡ second 1 ∷ []
 unfolding installs_to_all machine.is_over known_boot controller_heard message_of next_message
     sent_from version_count
-to_other_alone = ap (λ plan. item.Sent 1 (to 1 (Install 1 (tables_of plan 2 1))) ∷ [])
-    (second_plan over [] (refl, tt))
+to_other_alone = cc (second_plan over [] (refl, tt))
 
-not_to_both : written_items later
-    (map (λ s. install_act s 1 (second_kept drops all_touched)) (0 ∷ 1 ∷ []))
-    ≡ installs_to_all open_net later → ⊥
+not_to_both : written_items later (map (λ s. install_act s 1 (second_kept drops all_touched))
+    (0 ∷ 1 ∷ [])) ≡ installs_to_all open_net later → ⊥
 unfolding next_message
 not_to_both same = let alone = same ∙ to_other_alone in cc alone
 

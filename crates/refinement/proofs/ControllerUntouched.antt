@@ -19,8 +19,7 @@ use Rattle.refinement.proofs.WrittenActs.{posted}
 
 pub items_leave : (setting : Setting) (before items : List Item) (controller : ControllerValue)
     → AreCaused setting before → NoneConcern concerns_controller before items
-    → IsControllerOf setting before controller
-    → IsControllerOf setting (before ++ items) controller
+    → IsControllerOf setting before controller → IsControllerOf setting (before ++ items) controller
 items_leave setting before items controller have none is =
     controller_on setting before items controller have (controller_keeps before items none) is
 
@@ -28,9 +27,8 @@ pub steps_leave : (setting : Setting) (before : List Item) (row : ℕ) (step : S
     (controller : ControllerValue) → AreCaused setting before
     → IsFalse (asks_controller before step) → IsControllerOf setting before controller
     → IsControllerOf setting (before ++ piece setting before row step) controller
-steps_leave setting before row step controller have none is =
-    controller_on setting before (piece setting before row step) controller have
-    (others_keep setting before row step none) is
+steps_leave setting before row step controller have none is = controller_on setting before
+    (piece setting before row step) controller have (others_keep setting before row step none) is
 
 -- ---- a resend
 
@@ -44,12 +42,10 @@ module _ (setting : Setting) (before : List Item) (row s : ℕ) (controller : Co
   messages = resent_by_switch setting here s ++ resent_by_controller setting here s
 
   acts_are : acts_of_resend setting here s controller ≡ map Post messages
-  acts_are =
-      ap (λ xs. map Post (resent_by_switch setting here s) ++ xs)
-      (resends setting here s controller (behind_row setting before row (Resend s) have)
-      (row_on setting before row (Resend s) controller have is) there)
-      ∙ sym (map-append Post (resent_by_switch setting here s)
-      (resent_by_controller setting here s))
+  acts_are = ap (λ xs. map Post (resent_by_switch setting here s) ++ xs) (resends setting here s
+      controller (behind_row setting before row (Resend s) have)
+      (row_on setting before row (Resend s) controller have is) there) ∙ sym (map-append Post
+      (resent_by_switch setting here s) (resent_by_controller setting here s))
 
   after : IsControllerOf setting (before ++ piece setting before row (Resend s)) controller
   after = steps_leave setting before row (Resend s) controller have refl is
@@ -59,15 +55,13 @@ module _ (setting : Setting) (before : List Item) (row s : ℕ) (controller : Co
       (piece setting before row (Resend s))
   unfolding piece resend_items
   resends_nothing none = record {
-    same = ap (λ items. item.Row row (Resend s) ∷ items)
-        (by_messages messages (sym acts_are ∙ none));
+    same = cc (by_messages messages (sym acts_are ∙ none));
     after = after;
-  }
-    where
-      by_messages : (told : List Message) → map Post told ≡ []
-          → sends_or_nothing here told ≡ item.Nothing ∷ []
-      by_messages [] e = refl
-      by_messages (message ∷ told) e = absurd cc
+  } where
+    by_messages : (told : List Message) → map Post told ≡ []
+        → sends_or_nothing here told ≡ item.Nothing ∷ []
+    by_messages [] e = refl
+    by_messages (message ∷ told) e = absurd cc
 
   pub resends_some : acts_of_resend setting here s controller ≢ []
       → AreWritten setting before (item.Row row (Resend s) ∷ [])
@@ -77,9 +71,8 @@ module _ (setting : Setting) (before : List Item) (row s : ℕ) (controller : Co
     same = ap (λ items. item.Row row (Resend s) ∷ items)
         (by_messages messages (λ e. some (acts_are ∙ e)) ∙ ap (written_items here) (sym acts_are));
     after = after;
-  }
-    where
-      by_messages : (told : List Message) → map Post told ≢ []
-          → sends_or_nothing here told ≡ written_items here (map Post told)
-      by_messages [] none = absurd (none refl)
-      by_messages (message ∷ told) e = sym (posted (message ∷ told) here)
+  } where
+    by_messages : (told : List Message) → map Post told ≢ []
+        → sends_or_nothing here told ≡ written_items here (map Post told)
+    by_messages [] none = absurd (none refl)
+    by_messages (message ∷ told) e = sym (posted (message ∷ told) here)

@@ -32,12 +32,11 @@ use Rattle.refinement.proofs.LinksChange.{relinked_state, one_relinks, one_adver
 pub down_piece : (setting : Setting) (journal : List Item) (row s : ℕ) → is_up journal s ≡ false
     → piece setting journal row (Crash s) ≡ item.Row row (Crash s) ∷ item.Nothing ∷ []
 unfolding piece crash_items
-down_piece setting journal row s down =
-    ap (λ b. item.Row row (Crash s) ∷ elim b [
-      | false ↦ nothing
-      | true ↦ items_then (item.Down s ∷ map item.Lost (packets_at journal s))
-          (link_changes setting journal) (journal ++ item.Row row (Crash s) ∷ [])
-    ]) down
+down_piece setting journal row s down = ap (λ b. item.Row row (Crash s) ∷ elim b [
+  | false ↦ nothing
+  | true ↦ items_then (item.Down s ∷ map item.Lost (packets_at journal s))
+      (link_changes setting journal) (journal ++ item.Row row (Crash s) ∷ [])
+]) down
 
 -- another one loses its packets with it, and its neighbours tell that
 pub up_piece : (setting : Setting) (journal : List Item) (row s : ℕ) → is_up journal s ≡ true
@@ -77,14 +76,12 @@ module _ {setting : Setting} {journal : List Item} {state : NetworkState}
     (refines : RefineJournal setting journal state) where
   -- nothing happens where it is down
   pub stays_down : (row s : ℕ) (own : SwitchValue)
-      → IsStep setting.net (length setting.files) (Crash s)
-      → own ≡ get_or state.switches s own → own.is_up ≡ false
-      → WroteOne setting journal row (Crash s) item.Nothing state
+      → IsStep setting.net (length setting.files) (Crash s) → own ≡ get_or state.switches s own
+      → own.is_up ≡ false → WroteOne setting journal row (Crash s) item.Nothing state
   unfolding switch_of
-  stays_down row s own may own_at down =
-      nothing_happens refines row (Crash s) may
-      (λ q. refl) (down_piece setting journal row s (sym (ap (λ (w : SwitchValue). w.is_up)
-      (switch_is refines s own may own_at)) ∙ down))
+  stays_down row s own may own_at down = nothing_happens refines row (Crash s) may (λ q. refl)
+      (down_piece setting journal row s
+      (sym (ap (λ (w : SwitchValue). w.is_up) (switch_is refines s own may own_at)) ∙ down))
 
 -- ---- links
 
@@ -129,26 +126,20 @@ module _ {setting : Setting} {journal : List Item} {state : NetworkState}
 
   -- the switch has lost what it learnt
   crashed_is : changed ≡ switch_of setting now s
-  crashed_is =
-      let down : List Item = begun ++ item.Down s ∷ [] in
-      let whole : down ++ losts ≡ now =
-      append_assoc begun (item.Down s ∷ []) losts
-      ∙ append_assoc journal (item.Row row (Crash s) ∷ []) told in
+  crashed_is = let down : List Item = begun ++ item.Down s ∷ [] in
       changed_is ∙ ap crashed_switch own_is
       ∙ ap crashed_switch (sym (kept_is setting s journal (item.Row row (Crash s) ∷ []) (refl, tt)
       (refl, tt)))
       ∙ sym (crash_is setting begun s)
-      ∙ sym (kept_is setting s down losts
-      (losts_apart (concerns_known s) (λ before k. refl) down packets)
-      (losts_apart (concerns_calls s) (λ before k. refl) down packets))
-      ∙ ap (λ js. switch_of setting js s) whole
+      ∙ sym (kept_is setting s down losts (losts_apart (concerns_known s) (λ before k. refl) down
+      packets) (losts_apart (concerns_calls s) (λ before k. refl) down packets))
+      ∙ ap (λ js. switch_of setting js s) (append_assoc begun (item.Down s ∷ []) losts
+      ∙ append_assoc journal (item.Row row (Crash s) ∷ []) told)
 
   unchanged : has_changed setting journal now s ≡ false
   unfolding switch_of
-  unchanged =
-      let down : is_up now s ≡ false =
-      sym (ap (λ (w : SwitchValue). w.is_up) (sym changed_is ∙ crashed_is)) in
-      ap (λ b. b && not (near setting journal s == near setting now s)) down
+  unchanged = ap (λ b. b && not (near setting journal s == near setting now s))
+      (sym (ap (λ (w : SwitchValue). w.is_up) (sym changed_is ∙ crashed_is)))
 
   -- another switch hears nothing
   leaves : (q : ℕ) → (s == q) ≡ false → LeavesSwitch q journal row (Crash s) told
@@ -163,10 +154,7 @@ module _ {setting : Setting} {journal : List Item} {state : NetworkState}
     );
     calls = (
       refl,
-      (
-        refl,
-        losts_apart (concerns_calls q) (λ before k. refl) (begun ++ item.Down s ∷ []) packets,
-      ),
+      (refl, losts_apart (concerns_calls q) (λ before k. refl) (begun ++ item.Down s ∷ []) packets),
     );
   }
 
@@ -174,9 +162,8 @@ module _ {setting : Setting} {journal : List Item} {state : NetworkState}
   others = set state.switches s changed
 
   same_up : up_links setting now ≡ up_links setting journal
-  same_up = same_links now journal setting.net.links (λ link.
-      ap (λ js. is_up_link js link) (sym split)
-      ∙ (links_keep setting fallen losts
+  same_up = same_links now journal setting.net.links
+      (λ link. ap (λ js. is_up_link js link) (sym split) ∙ (links_keep setting fallen losts
       (losts_apart concerns_links (λ before k. refl) fallen packets)).up link.one link.two
       ∙ fallen_up journal row s link)
 
@@ -196,15 +183,11 @@ module _ {setting : Setting} {journal : List Item} {state : NetworkState}
     number = refl;
     bag = bag_on journal (item.Row row (Crash s) ∷ told) state.posts (
       refl,
-      (
-        refl,
-        losts_apart concerns_messages (λ before k. refl) (begun ++ item.Down s ∷ []) packets,
-      ),
+      (refl, losts_apart concerns_messages (λ before k. refl) (begun ++ item.Down s ∷ []) packets),
     ) refines.bag;
     up = λ q below. refines.up q below ∙ ap (λ rows. links_of rows q) (sym same_up);
-    relinks = one_relinks refines row (Crash s) told s changed within leaves (sym crashed_is
-        ∙ sym (ap (λ b. if b then near_changed changed (near setting now s) else changed)
-        unchanged));
+    relinks = one_relinks refines row (Crash s) told s changed within leaves (sym crashed_is ∙ sym
+        (ap (λ b. if b then near_changed changed (near setting now s) else changed) unchanged));
     own = one_advert refines row (Crash s) told s changed within leaves
         (λ changes. let clash : true ≡ false = sym changes ∙ unchanged in absurd cc);
   }
@@ -218,15 +201,11 @@ module _ {setting : Setting} {journal : List Item} {state : NetworkState}
   numbers : numbers_at state.travelling s ≡ packets
   numbers = numbers_are refines s
 
-  pub crash_piece : piece setting journal row (Crash s)
-      ≡ item.Row row (Crash s) ∷ item.Down s
+  pub crash_piece : piece setting journal row (Crash s) ≡ item.Row row (Crash s) ∷ item.Down s
       ∷ map item.Lost (numbers_at state.travelling s) ++ sent_from number messages
-  crash_piece = change_piece refines changes
-      ∙ ap (λ all. item.Row row (Crash s) ∷ item.Down s
-      ∷ map item.Lost all ++ sent_from number messages) (sym numbers)
+  crash_piece = cc (change_piece refines changes, numbers)
 
-  pub crash_may : length state.posts < 990_000
-      → MaySend state.posts messages
+  pub crash_may : length state.posts < 990_000 → MaySend state.posts messages
   crash_may = change_may refines changes
 
   -- each switch has a next number for its own advert
@@ -246,15 +225,11 @@ module _ {setting : Setting} {journal : List Item} {state : NetworkState}
   -- the packets on their way
   left : (after : Flights) → WithoutAt state.travelling s after → (i : ℕ)
       → flight after i ≡ flight_in setting (journal ++ all) i
-  left after without i =
-      without i
-      ∙ ap (λ b. if b then None else flight state.travelling i)
-      (sym (among_numbers state.travelling s i) ∙ ap (among i) numbers)
-      ∙ ap (λ o. if among i packets then None else o)
-      (refines.packet i ∙ flight_now setting journal i)
-      ∙ sym (flight_along setting journal all i
-      (have_append (λ js one. concerns_policies js one ≡ false) journal
-      (item.Row row (Crash s) ∷ told) (act_items number acts) (
+  left after without i = without i ∙ ap (λ b. if b then None else flight state.travelling i)
+      (sym (among_numbers state.travelling s i) ∙ ap (among i) numbers) ∙ ap
+      (λ o. if among i packets then None else o) (refines.packet i ∙ flight_now setting journal i)
+      ∙ sym (flight_along setting journal all i (have_append (λ js one. concerns_policies js one
+      ≡ false) journal (item.Row row (Crash s) ∷ told) (act_items number acts) (
         refl,
         (
           refl,
@@ -265,13 +240,10 @@ module _ {setting : Setting} {journal : List Item} {state : NetworkState}
       (item.Row row (Crash s) ∷ item.Down s ∷ []) packets (act_items number acts) _
       (refl, (refl, tt)) (acts_unnamed i number acts))
 
-  pub crash_refines : (others_now : List SwitchValue) (after : Flights)
-      → AreRelinked state.near (near_all state.links others) others others_now
-      → WithoutAt state.travelling s after
+  pub crash_refines : (others_now : List SwitchValue) (after : Flights) → AreRelinked state.near
+      (near_all state.links others) others others_now → WithoutAt state.travelling s after
       → RefineJournal setting (journal ++ (item.Row row (Crash s) ∷ item.Down s
       ∷ map item.Lost (numbers_at state.travelling s) ++ sent_from number messages))
       (relinked_state state others state.links state.posts others_now after)
-  crash_refines others_now after are without =
-      subst (λ (losses : List ℕ). RefineJournal setting (journal ++ (item.Row row (Crash s)
-      ∷ item.Down s ∷ map item.Lost losses ++ sent_from number messages))
-      (relinked_state state others state.links state.posts others_now after)) (sym numbers) (change_refines refines changes others_now after are (left after without))
+  crash_refines others_now after are without = rw numbers
+      (change_refines refines changes others_now after are (left after without))

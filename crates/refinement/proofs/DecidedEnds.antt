@@ -19,12 +19,11 @@ use Rattle.refinement.proofs.SeenWithinStep.{Sees}
 pub record IsDecided (journal : List Item) (packet : Packet) (decision : Decided) : Type 0 where
   pub entered : header_in journal packet.number ≡ Some packet.header
   pub found : found_down journal packet.number ≡ packet.down
-  pub decided : decision_of journal packet.number
-      ≡ Some (record {
-        version = decision.version;
-        rule = decision.rule;
-        action = decision.action;
-      })
+  pub decided : decision_of journal packet.number ≡ Some (record {
+    version = decision.version;
+    rule = decision.rule;
+    action = decision.action;
+  })
 
 exit_item : (at : Standing) (decision : Decided) (port : ℕ) (way : Result TunnelValue Cause)
     → decision.action ≡ action.Out port
@@ -41,18 +40,15 @@ out_law : (setting : Setting) (journal : List Item) (s : ℕ) (w : SwitchValue) 
     ≡ end_item (at_switch s packet) decision (leave_by w mask packet port (Some its)) ∷ []
 unfolding end_items leave_by
 out_law setting journal s w mask sees packet decision said port its acts owns true here =
-    let at : Standing = at_switch s packet in
     let i : ℕ = packet.number in
     let way : Result TunnelValue Cause = set_out w mask packet (Exit port) (its ∷ []) in
-    let out : left journal i port ≡ left_item at decision.version decision.rule port =
-    rw (said.entered, said.decided) refl in
     ap (λ b. elim b [
       | true ↦ left journal i port ∷ []
       | false ↦ leg_items setting journal i s (Exit port)
     ]) (ap (λ o. o == s) owns ∙ here)
-    ∙ ap (λ one. one ∷ []) out
-    ∙ sym (ap (λ b. end_item at decision (if b then next.Out port else exit_by way) ∷ [])
-    (ap (λ n. its == n) sees.number ∙ here))
+    ∙ ap (λ one. one ∷ []) (rw (said.entered, said.decided) refl)
+    ∙ sym (ap (λ b. end_item (at_switch s packet) decision
+    (if b then next.Out port else exit_by way) ∷ []) (ap (λ n. its == n) sees.number ∙ here))
 out_law setting journal s w mask sees packet decision said port its acts owns false here =
     let at : Standing = at_switch s packet in
     let i : ℕ = packet.number in
@@ -70,8 +66,7 @@ out_law setting journal s w mask sees packet decision said port its acts owns fa
 -- a port that no switch has
 portless_law : (setting : Setting) (journal : List Item) (s : ℕ) (w : SwitchValue) (mask : ℕ)
     → s < 64 → (packet : Packet) (decision : Decided) → IsDecided journal packet decision
-    → (port : ℕ) → decision.action ≡ action.Out port
-    → owner_of setting.net.switches port ≡ None
+    → (port : ℕ) → decision.action ≡ action.Out port → owner_of setting.net.switches port ≡ None
     → end_items setting packet.number s (action.Out port) journal
     ≡ end_item (at_switch s packet) decision (leave_by w mask packet port None) ∷ []
 unfolding leave_by
@@ -82,11 +77,10 @@ portless_law setting journal s w mask there packet decision said port acts none 
     ∙ sym (rw acts refl)
 
 pub end_law : (setting : Setting) (journal : List Item) (s : ℕ) (w : SwitchValue) (mask : ℕ)
-    → Sees setting journal s w mask → s < 64
-    → (ports : Ports) → AreOwners setting.net.switches ports
+    → Sees setting journal s w mask
+    → s < 64 → (ports : Ports) → AreOwners setting.net.switches ports
     → (packet : Packet) (decision : Decided) → IsDecided journal packet decision
-    → (what : Action) → decision.action ≡ what
-    → end_items setting packet.number s what journal
+    → (what : Action) → decision.action ≡ what → end_items setting packet.number s what journal
     ≡ end_item (at_switch s packet) decision (next_of w (around mask ports) packet what) ∷ []
 unfolding end_items next_of
 end_law setting journal s w mask sees there ports owners packet decision said action.Drop acts =
@@ -103,7 +97,6 @@ end_law setting journal s w mask sees there ports owners packet decision said (a
     by_owner None none =
         portless_law setting journal s w mask there packet decision said port acts none
         ∙ ap (λ o. at_owner o ∷ []) (sym (owners port ∙ none))
-    by_owner (Some its) is =
-        out_law setting journal s w mask sees packet decision said port its acts
-        (ap (λ o. unwrap_or o no_switch) is) (its == s) refl
+    by_owner (Some its) is = out_law setting journal s w mask sees packet decision said port its
+        acts (ap (λ o. unwrap_or o no_switch) is) (its == s) refl
         ∙ ap (λ o. at_owner o ∷ []) (sym (owners port ∙ is))

@@ -1,8 +1,7 @@
 -- A message is delivered: the record of its switch, whether it opens, and what it sends.
 use Rattle.std.proofs.Common.{[], if◌then◌else◌, ◌&&◌, ◌++◌, ◌+◌, ◌-◌, ◌<◌, ◌==◌, ◌||◌, ◌∙◌, ◌∷◌, ◌≡◌, ◌≤◌, ◌⊎◌, Bool, IsTrue, List, None, Option, Some, ap, append-nil, append_assoc, arith, cond, eqb-true, false, filter, inl, inr, length, map, max, refl, subst, suc, sym, true, unwrap_or, zero, ℕ}
 use Rattle.base.proofs.Exports.{AllByRecursion, and_parts, filter_more, or-false, range_with_len, recursion_from_All}
-use Rattle.update_machine.specs.Exports.{Advert, Advertise, Body, Deliver, Install, Installed, Item, LinkRow, LinksKeep, Message, OpenAt, Setting, Stamp, Stamped, advert_to, boot_of, delivery_items, gives_boot, gives_up, has_changed, heard, is_for_boot, is_message_to, is_news_to, is_up, items_then, link_changes, message_of, near, own_advert, own_seq, passed_on, received_items, send_items, sent_from, serves, stamp_of, switch_items, switches_of, to_switch, touched_by}
-use Rattle.ctrl_msg.specs.Exports.{to_controller}
+use Rattle.update_machine.specs.Exports.{Advert, Advertise, Body, Deliver, Install, Item, LinkRow, LinksKeep, Message, OpenAt, Setting, Stamp, advert_to, boot_of, delivery_items, gives_boot, gives_up, has_changed, heard, is_for_boot, is_message_to, is_news_to, is_up, items_then, link_changes, message_of, near, own_advert, own_seq, passed_on, received_items, send_items, sent_from, serves, stamp_of, switch_items, switches_of, to_switch, touched_by}
 use Rattle.base.specs.Exports.{has, switches}
 use Rattle.net_file.specs.Exports.{IsLink, IsNet, are_linked}
 use Rattle.journal.specs.declared.item.Item.TheVariants as item
@@ -65,8 +64,7 @@ row_keeps setting before row n s =
 
 -- the switch behind the delivery in its step, open or closed as it was
 delivered_is : (setting : Setting) (before : List Item) (row n s : ℕ) (body : Body)
-    → IsSentTo setting before n s body
-    → switch_of setting (within_delivery before row n []) s
+    → IsSentTo setting before n s body → switch_of setting (within_delivery before row n []) s
     ≡ record (with_message (switch_of setting before s) n body) {
       is_open = (switch_of setting before s).is_open;
     }
@@ -96,8 +94,7 @@ shut_is setting before row n s body is shut =
 
 -- the items of the step
 abbrev opening : ℕ → ℕ → ℕ → ℕ → List Item
-opening row n s stamp =
-    item.Row row (Deliver n) ∷ item.Delivered n ∷ item.Opened s stamp ∷ []
+opening row n s stamp = item.Row row (Deliver n) ∷ item.Delivered n ∷ item.Opened s stamp ∷ []
 
 same_boot : (before : List Item) (row n s stamp : ℕ)
     → boot_of (before ++ opening row n s stamp) s ≡ boot_of before s
@@ -108,15 +105,13 @@ same_boot before row n s stamp =
 same_up : (before : List Item) (row n s stamp : ℕ)
     → is_up (before ++ opening row n s stamp) s ≡ is_up before s
 unfolding is_up
-same_up before row n s stamp =
-    ap (λ o. unwrap_or o true) (last_given_append (gives_up s) before (opening row n s stamp))
+same_up before row n s stamp = cc (last_given_append (gives_up s) before (opening row n s stamp))
 
 -- the links were kept until it opened
 kept_until : (setting : Setting) (before : List Item) (row n : ℕ)
     → LinksKeep setting before (within_delivery before row n [])
-kept_until setting before row n =
-    links_keep setting before (item.Row row (Deliver n) ∷ item.Delivered n ∷ [])
-    (refl, (refl, tt))
+kept_until setting before row n = links_keep setting before
+    (item.Row row (Deliver n) ∷ item.Delivered n ∷ []) (refl, (refl, tt))
 
 opened_seq : (setting : Setting) (before : List Item) (row n s stamp : ℕ)
     → let now = before ++ opening row n s stamp in
@@ -124,10 +119,9 @@ opened_seq : (setting : Setting) (before : List Item) (row n s stamp : ℕ)
     ≡ own_seq setting (within_delivery before row n []) s + one_if
     (has_changed setting before now s)
 opened_seq setting before row n s stamp =
-    let now : List Item = before ++ opening row n s stamp in
     seq_more setting before row s (Deliver n) (item.Delivered n ∷ item.Opened s stamp ∷ [])
     (tt, (tt, tt)) (same_boot before row n s stamp) (same_up before row n s stamp)
-    ∙ ap (λ k. k + one_if (has_changed setting before now s))
+    ∙ ap (λ k. k + one_if (has_changed setting before (before ++ opening row n s stamp) s))
     (sym ((kept_until setting before row n).seq s))
 
 opened_facts : (setting : Setting) (before : List Item) (row n s stamp : ℕ)
@@ -141,9 +135,7 @@ opened_facts : (setting : Setting) (before : List Item) (row n s stamp : ℕ)
     }
 opened_facts setting before row n s stamp =
     let here : List Item = within_delivery before row n [] in
-    let now : List Item = before ++ opening row n s stamp in
-    let split : now ≡ here ++ item.Opened s stamp ∷ [] =
-    delivering_more before row n (item.Opened s stamp) in
+    let split = delivering_more before row n (item.Opened s stamp) in
     ap (λ js. facts_of setting js s) split
     ∙ facts_opened setting here s stamp
     ∙ ap (λ js. record (facts_of setting here s) {
@@ -154,7 +146,7 @@ opened_facts setting before row n s stamp =
     ∙ ap (λ seq. record (facts_of setting here s) {
       serving = true;
       seq = seq;
-      links = near setting now s;
+      links = near setting (before ++ opening row n s stamp) s;
     }) (opened_seq setting before row n s stamp)
 
 stamp_behind : (setting : Setting) (before : List Item) (row n s stamp : ℕ) (body : Body)
@@ -176,11 +168,9 @@ opening_is : (setting : Setting) (before : List Item) (row n s stamp : ℕ) (bod
 opening_is setting before row n s stamp body is opens =
     by_facts setting now s _ (opened_facts setting before row n s stamp)
     ∙ relinks s (record w { serving = true }) _ _ _ _ (near setting now s)
-    (has_changed setting before now s) same
-    ∙ ap (relinked_switch setting before now s)
-    (ap (λ (switch : SwitchValue). record switch { is_open = true })
-    (sym (switch_is setting here s) ∙ delivered_is setting before row n s body is)
-    ∙ ap (λ b. record heard_now { is_open = b })
+    (has_changed setting before now s) same ∙ ap (relinked_switch setting before now s)
+    (ap (λ (switch : SwitchValue). record switch { is_open = true }) (sym (switch_is setting here s)
+    ∙ delivered_is setting before row n s body is) ∙ ap (λ b. record heard_now { is_open = b })
     (sym (opens_as (switch_of setting before s) n stamp body opens).0))
   where
     here : List Item
@@ -213,10 +203,8 @@ opening_advert setting before row n s stamp body changes =
     let rest = (heard_keeps switch n body).rest in
     let boot : boot_of now s ≡ (with_message switch n body).boot =
     same_boot before row n s stamp ∙ boot_shown setting before s ∙ sym (ap (λ (s : SwitchValue). s.boot) rest) in
-    let number : (with_message switch n body).number ≡ s =
-    ap (λ (s : SwitchValue). s.number) rest ∙ number_shown setting before s in
-    let seq : own_seq setting now s ≡ (with_message switch n body).seq + 1 =
-    opened_seq setting before row n s stamp
+    let number = ap (λ (s : SwitchValue). s.number) rest ∙ number_shown setting before s in
+    let seq = opened_seq setting before row n s stamp
     ∙ ap (λ b. own_seq setting (within_delivery before row n []) s + one_if b) changes
     ∙ ap (λ k. k + 1) ((kept_until setting before row n).seq s ∙ seq_shown setting before s
     ∙ sym (ap (λ (s : SwitchValue). s.seq) rest)) in
@@ -228,13 +216,11 @@ opening_advert setting before row n s stamp body changes =
 linked_small : (count s k : ℕ) (links : List LinkRow) → AllByRecursion (IsLink count) links
     → are_linked links s k ≡ true → k < count
 linked_small count s k [] all is = absurd cc
-linked_small count s k (link ∷ links) all is =
-    by_first (link.one == s && link.two == k) refl (link.one == k && link.two == s) refl
-    (linked_small count s k links all.1) is
+linked_small count s k (link ∷ links) all is = by_first (link.one == s && link.two == k) refl
+    (link.one == k && link.two == s) refl (linked_small count s k links all.1) is
   where
     by_first : (b : Bool) → (link.one == s && link.two == k) ≡ b → (c : Bool)
-        → (link.one == k && link.two == s) ≡ c
-        → (are_linked links s k ≡ true → k < count)
+        → (link.one == k && link.two == s) ≡ c → (are_linked links s k ≡ true → k < count)
         → ((b || c) || are_linked links s k) ≡ true → k < count
     by_first true e c f rest is =
         subst (λ j. j < count) (eqb-true link.two k (and_parts _ _ e).1) all.0.two
@@ -244,31 +230,27 @@ linked_small count s k (link ∷ links) all is =
 
 near_small : (setting : Setting) (journal : List Item) (s k : ℕ) → IsNet setting.net
     → length setting.net.switches ≤ k → has (near setting journal s) k ≡ false
-near_small setting journal s k net past = by_test (has (near setting journal s) k) refl
-  where
-    by_test : (b : Bool) → has (near setting journal s) k ≡ b → b ≡ false
-    by_test true is =
-        let count : ℕ = length setting.net.switches in
-        absurd (omega (
-          arith,
-          past,
-          linked_small count s k setting.net.links
-              (recursion_from_All (IsLink count) setting.net.links net.links)
-              (near_linked setting journal s k is),
-        ))
-    by_test false is = refl
+near_small setting journal s k net past = by_test (has (near setting journal s) k) refl where
+  by_test : (b : Bool) → has (near setting journal s) k ≡ b → b ≡ false
+  by_test true is = let count : ℕ = length setting.net.switches in
+      absurd (omega (
+        arith,
+        past,
+        linked_small count s k setting.net.links
+            (recursion_from_All (IsLink count) setting.net.links net.links)
+            (near_linked setting journal s k is),
+      ))
+  by_test false is = refl
 
 -- numbers that don't pass a test may be left out at the end
 filter_first : (p : ℕ → Bool) (n more : ℕ) → ((k : ℕ) → n ≤ k → p k ≡ false)
     → filter p (range_with_len 0 (n + more)) ≡ filter p (range_with_len 0 n)
 filter_first p n zero none = ap (λ k. filter p (range_with_len 0 k)) (omega arith)
-filter_first p n (suc more) none =
-    ap (λ k. filter p (range_with_len 0 k)) (one_later n more)
+filter_first p n (suc more) none = ap (λ k. filter p (range_with_len 0 k)) (one_later n more)
     ∙ filter_more p (n + more)
     ∙ ap (λ b. filter p (range_with_len 0 (n + more)) ++ cond b ((n + more) ∷ []) [])
     (none (n + more) (omega arith))
-    ∙ append-nil (filter p (range_with_len 0 (n + more)))
-    ∙ filter_first p n more none
+    ∙ append-nil (filter p (range_with_len 0 (n + more))) ∙ filter_first p n more none
   where
     one_later : (n more : ℕ) → n + suc more ≡ n + more + 1
     one_later n more = omega arith
@@ -288,10 +270,7 @@ passed_as : (setting : Setting) (before now : List Item) (s : ℕ) (advert : Adv
     → IsNet setting.net → near setting now s ≡ near setting before s
     → passed_on setting now s advert ≡ flood (near setting before s) (Advertise advert)
 unfolding flood
-passed_as setting before now s advert net same =
-    ap (λ mask. map (λ other. advert_to other advert) (filter (has mask) (switches_of setting)))
-    same
-    ∙ ap (map (λ other. advert_to other advert)) (sym (neighbours_are setting before s net))
+passed_as setting before now s advert net same = cc (same, neighbours_are setting before s net)
 
 -- by its body, which the switch obeys
 sends_nothing : (journal : List Item) → [] ≡ send_items journal []
@@ -300,17 +279,14 @@ sends_nothing journal = refl
 
 obeyed_items : (setting : Setting) (before now : List Item) (s : ℕ) (body : Body)
     → IsNet setting.net → near setting now s ≡ near setting before s
-    → is_for_boot (boot_of before s) body ≡ true
-    → opened_by (switch_of setting before s) body ≡ None
-    → switch_items setting before s body now
+    → is_for_boot (boot_of before s) body ≡ true → opened_by (switch_of setting before s) body
+    ≡ None → switch_items setting before s body now
     ≡ send_items now (replies_to (switch_of setting before s) (near setting before s) body)
 unfolding switch_items switch_of is_news_at
 obeyed_items setting before now s (Install boot tables) net same own shut =
-    ap (λ boot. send_items now (to_controller (Installed s boot tables.version) ∷ []))
-    (eqb-true boot (boot_of before s) own)
+    cc (eqb-true boot (boot_of before s) own)
 obeyed_items setting before now s (Stamp boot version touched) net same own shut =
-    ap (λ boot. send_items now (to_controller (Stamped s boot version) ∷ []))
-    (eqb-true boot (boot_of before s) own)
+    cc (eqb-true boot (boot_of before s) own)
 obeyed_items setting before now s (OpenAt boot version) net same own shut =
     by_open (serves before s) shut
   where
@@ -348,22 +324,19 @@ obeyed_opens setting before now s stamp (OpenAt boot version) is opens =
               now
         ] ≡ items_then (item.Opened s stamp ∷ []) (link_changes setting before) now
     by_open true opens = absurd cc
-    by_open false opens =
-        ap (λ v. items_then (item.Opened s v ∷ []) (link_changes setting before) now) (sym is)
+    by_open false opens = cc is
 obeyed_opens setting before now s stamp _ is opens = absurd cc
 
 -- ---- the items of a delivery
 
 items_are : (setting : Setting) (before now : List Item) (n s : ℕ) (body : Body)
-    → message_of before n ≡ Some (to_switch s body)
-    → delivery_items setting before n now
+    → message_of before n ≡ Some (to_switch s body) → delivery_items setting before n now
     ≡ (if is_meant before s body then switch_items setting before s body now else [])
 unfolding delivery_items
-items_are setting before now n s body sent =
-    ap (λ (o : Option Message). elim o [
-      | None ↦ []
-      | Some message ↦ received_items setting before n message now
-    ]) sent
+items_are setting before now n s body sent = ap (λ (o : Option Message). elim o [
+  | None ↦ []
+  | Some message ↦ received_items setting before n message now
+]) sent
     ∙ ap (λ (o : Option Body). elim o [
       | None ↦ []
       | Some body ↦ switch_items setting before s body now
@@ -381,8 +354,7 @@ opened_as : (setting : Setting) (before : List Item) (s : ℕ) (body : Body)
     → opening_stamp (switch_of setting before s) body
     ≡ (if is_meant before s body then opened_by (switch_of setting before s) body else None)
 unfolding opening_stamp switch_of
-opened_as setting before s body =
-    let switch : SwitchValue = switch_of setting before s in
+opened_as setting before s body = let switch : SwitchValue = switch_of setting before s in
     by_obeying switch body (is_up before s) (is_for_boot (boot_of before s) body)
     (opened_by switch body) None refl refl (controller_shut switch body)
 
@@ -390,22 +362,19 @@ replies_as : (setting : Setting) (before : List Item) (s mask : ℕ) (body : Bod
     → replies (switch_of setting before s) mask body
     ≡ (if is_meant before s body then replies_to (switch_of setting before s) mask body else [])
 unfolding replies switch_of
-replies_as setting before s mask body =
-    let switch : SwitchValue = switch_of setting before s in
+replies_as setting before s mask body = let switch : SwitchValue = switch_of setting before s in
     by_obeying switch body (is_up before s) (is_for_boot (boot_of before s) body)
     (replies_to switch mask body) [] refl refl (controller_silent switch mask body)
 
 shut_items : (setting : Setting) (before : List Item) (row n s : ℕ) (body : Body)
     → IsNet setting.net → IsSentTo setting before n s body
-    → opening_stamp (switch_of setting before s) body ≡ None
-    → delivery_items setting before n (within_delivery before row n [])
-    ≡ send_items (within_delivery before row n [])
+    → opening_stamp (switch_of setting before s) body ≡ None → delivery_items setting before n
+    (within_delivery before row n []) ≡ send_items (within_delivery before row n [])
     (replies (switch_of setting before s) (near setting before s) body)
-shut_items setting before row n s body net is shut =
-    items_are setting before now n s body is.sent
+shut_items setting before row n s body net is shut = items_are setting before now n s body is.sent
     ∙ by_meant (is_up before s) (is_for_boot (boot_of before s) body) refl
-    (sym (opened_as setting before s body) ∙ shut)
-    ∙ ap (send_items now) (sym (replies_as setting before s (near setting before s) body))
+    (sym (opened_as setting before s body) ∙ shut) ∙ ap (send_items now)
+    (sym (replies_as setting before s (near setting before s) body))
   where
     now : List Item
     now = within_delivery before row n []
@@ -423,11 +392,10 @@ shut_items setting before row n s body net is shut =
     by_meant false own_is own shut = sends_nothing now
 
 opening_items : (setting : Setting) (before : List Item) (row n s stamp : ℕ) (body : Body)
-    → IsSentTo setting before n s body → opening_stamp (switch_of setting before s) body
-    ≡ Some stamp
-    → delivery_items setting before n (within_delivery before row n [])
-    ≡ items_then (item.Opened s stamp ∷ []) (link_changes setting before)
-    (within_delivery before row n [])
+    → IsSentTo setting before n s body
+    → opening_stamp (switch_of setting before s) body ≡ Some stamp
+    → delivery_items setting before n (within_delivery before row n []) ≡ items_then
+    (item.Opened s stamp ∷ []) (link_changes setting before) (within_delivery before row n [])
 opening_items setting before row n s stamp body is opens =
     items_are setting before now n s body is.sent
     ∙ by_meant (is_meant before s body) (sym (opened_as setting before s body) ∙ opens)
@@ -458,7 +426,6 @@ hearing_refines = record {
     advert = λ row. opening_advert setting before row n s stamp body;
     items = λ row. opening_items setting before row n s stamp body is opens;
   };
-  other = λ setting before n s apart.
-      kept_is setting s before (item.Delivered n ∷ [])
-      (or-false (is_message_to before s n) ∙ apart, tt) (refl, tt);
+  other = λ setting before n s apart. kept_is setting s before
+      (item.Delivered n ∷ []) (or-false (is_message_to before s n) ∙ apart, tt) (refl, tt);
 }

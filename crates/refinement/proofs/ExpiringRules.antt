@@ -28,32 +28,26 @@ one_item s place None = refl
 one_item s place (Some message) = refl
 
 -- a row leaves the switch
-row_leaves : (setting : Setting) (journal : List Item) (row s place q : ℕ)
-    → switch_of setting (journal ++ item.Row row (Expire s place) ∷ []) q
-    ≡ switch_of setting journal q
+row_leaves : (setting : Setting) (journal : List Item) (row s place q : ℕ) → switch_of setting
+    (journal ++ item.Row row (Expire s place) ∷ []) q ≡ switch_of setting journal q
 row_leaves setting journal row s place q =
     kept_is setting q journal (item.Row row (Expire s place) ∷ []) (refl, tt) (refl, tt)
 
 expire_piece : (setting : Setting) (journal : List Item) (row s place : ℕ)
     → piece setting journal row (Expire s place)
-    ≡ item.Row row (Expire s place)
-    ∷ expired_item s place (message_at setting journal s place) ∷ []
+    ≡ item.Row row (Expire s place) ∷ expired_item s place (message_at setting journal s place) ∷ []
 unfolding piece
-expire_piece setting journal row s place =
-    let first : Item = item.Row row (Expire s place) in
+expire_piece setting journal row s place = let first : Item = item.Row row (Expire s place) in
     ap (λ items. first ∷ items) (lives_refine.expires setting (journal ++ first ∷ []) s place
-    ∙ ap (λ (w : SwitchValue). expired_by s place
-    (option_map entry_message (slice_get w.cache.entries place)))
-    (row_leaves setting journal row s place s)
+    ∙ ap (λ (w : SwitchValue). expired_by s place (option_map entry_message
+    (slice_get w.cache.entries place))) (row_leaves setting journal row s place s)
     ∙ one_item s place (message_at setting journal s place))
 
 -- ---- caches
 
-none_expired : (cache : CacheValue) (place : ℕ)
-    → option_map entry_message (slice_get cache.entries place) ≡ None
-    → after_expire place cache ≡ cache
-none_expired cache place none =
-    ap (λ entries. record cache { entries = entries })
+none_expired : (cache : CacheValue) (place : ℕ) → option_map entry_message
+    (slice_get cache.entries place) ≡ None → after_expire place cache ≡ cache
+none_expired cache place none = ap (λ entries. record cache { entries = entries })
     (none_removed cache.entries place (by_entry (slice_get cache.entries place) none))
   where
     by_entry : (o : Option CacheEntry) → option_map entry_message o ≡ None → o ≡ None
@@ -83,9 +77,8 @@ expired_other : (setting : Setting) (journal : List Item) (row s q place : ℕ) 
     → (s == q) ≡ false
     → switch_of setting (grown journal row (Expire s place) (expired_item s place found)) q
     ≡ switch_of setting journal q
-expired_other setting journal row s q place None other =
-    kept_is setting q journal (item.Row row (Expire s place) ∷ item.Nothing ∷ [])
-    (refl, (refl, tt)) (refl, (refl, tt))
+expired_other setting journal row s q place None other = kept_is setting q journal
+    (item.Row row (Expire s place) ∷ item.Nothing ∷ []) (refl, (refl, tt)) (refl, (refl, tt))
 expired_other setting journal row s q place (Some message) other =
     kept_is setting q journal (item.Row row (Expire s place) ∷ item.Expired s place message ∷ [])
     (refl, (ap (λ b. b || false) other, tt)) (refl, (refl, tt))
@@ -95,9 +88,8 @@ module _ {setting : Setting} {journal : List Item} {state : NetworkState}
   -- the item concerns no packet, no message and no call
   expired_writes : (row s place : ℕ) (changed : SwitchValue) (found : Option ℕ)
       → IsStep setting.net (length setting.files) (Expire s place) → IsBagOf journal state.posts
-      → piece setting journal row (Expire s place)
-      ≡ item.Row row (Expire s place) ∷ expired_item s place found ∷ []
-      → ((q : ℕ) (d : SwitchValue) → q < length state.switches
+      → piece setting journal row (Expire s place) ≡ item.Row row (Expire s place)
+      ∷ expired_item s place found ∷ [] → ((q : ℕ) (d : SwitchValue) → q < length state.switches
       → get_or (set state.switches s changed) q d
       ≡ switch_of setting (grown journal row (Expire s place) (expired_item s place found)) q)
       → WritesOne setting journal row (Expire s place) (expired_item s place found) state.switches
@@ -112,15 +104,9 @@ module _ {setting : Setting} {journal : List Item} {state : NetworkState}
       → found ≡ option_map (λ entry. entry.message) (slice_get own.cache.entries place)
       → WroteOne setting journal row (Expire s place) (expired_item s place found)
       (record state { switches = set state.switches s changed })
-  expired_refines row s place own changed found
-      may
-      own_at changed_is found_is =
-      let there : s < length state.switches =
-      switch_there refines s may.0 in
-      let own_is : own ≡ switch_of setting journal s =
-      switch_is refines s own may.0 own_at in
-      let at : message_at setting journal s place ≡ found =
-      ap (λ (w : SwitchValue). option_map entry_message (slice_get w.cache.entries place))
+  expired_refines row s place own changed found may own_at changed_is found_is =
+      let own_is : own ≡ switch_of setting journal s = switch_is refines s own may.0 own_at in
+      let at = ap (λ (w : SwitchValue). option_map entry_message (slice_get w.cache.entries place))
       (sym own_is) ∙ sym found_is in
       let is : piece setting journal row (Expire s place)
       ≡ item.Row row (Expire s place) ∷ expired_item s place found ∷ [] =
@@ -129,9 +115,9 @@ module _ {setting : Setting} {journal : List Item} {state : NetworkState}
         is,
         refines_one refines state.posts (set state.switches s changed) row (Expire s place)
             (expired_item s place found) (expired_writes row s place changed found may refines.bag
-            is (λ q d below. one_changes setting journal
-            (grown journal row (Expire s place) (expired_item s place found)) state.switches s q
-            changed d (s == q) refl there (changed_is ∙ ap (λ w. entry_expired w place) own_is
+            is (λ q d below. one_changes setting journal (grown journal row (Expire s place)
+            (expired_item s place found)) state.switches s q changed d (s == q) refl
+            (switch_there refines s may.0) (changed_is ∙ ap (λ w. entry_expired w place) own_is
             ∙ expired_own setting journal row s place found at)
             (expired_other setting journal row s q place found) (refines.each q d below))),
       )

@@ -11,8 +11,7 @@ use Rattle.travelling.specs.Travelling.{Flight}
 -- the facts of a packet behind these items
 abbrev pub facts_along : ℕ → List Item → List Item → PacketFacts → PacketFacts
 facts_along i before [] facts = facts
-facts_along i before (item ∷ items) facts =
-    facts_along i (before ++ item ∷ []) items
+facts_along i before (item ∷ items) facts = facts_along i (before ++ item ∷ []) items
     (if is_of_packet i item then facts_after (retired_mark before) item facts else facts)
 
 pub facts_all : (i : ℕ) (before items : List Item)
@@ -57,8 +56,7 @@ flight_by targets i facts = if facts.travels then Some (record {
   rule = unwrap_or (option_map (λ decision. decision.rule) facts.decision) None;
 }) else None
 
-pub flight_now : (setting : Setting) (journal : List Item) (i : ℕ)
-    → flight_in setting journal i
+pub flight_now : (setting : Setting) (journal : List Item) (i : ℕ) → flight_in setting journal i
     ≡ flight_by (targets_of setting journal) i (what_is_known journal i)
 unfolding flight_in flight_of what_is_known
 flight_now setting journal i = refl
@@ -71,13 +69,9 @@ by_targets one other i facts same = rw same refl
 
 -- behind items by which no policy comes
 pub flight_along : (setting : Setting) (before items : List Item) (i : ℕ)
-    → NoneConcern concerns_policies before items
-    → flight_in setting (before ++ items) i
-    ≡ flight_by (targets_of setting before) i
-    (facts_along i before items (what_is_known before i))
-flight_along setting before items i none =
-    flight_now setting (before ++ items) i
+    → NoneConcern concerns_policies before items → flight_in setting (before ++ items) i
+    ≡ flight_by (targets_of setting before) i (facts_along i before items (what_is_known before i))
+flight_along setting before items i none = flight_now setting (before ++ items) i
     ∙ ap (flight_by (targets_of setting (before ++ items)) i) (facts_all i before items)
     ∙ by_targets (targets_of setting (before ++ items)) (targets_of setting before) i
-    (facts_along i before items (what_is_known before i))
-    (same_targets setting before items none _)
+    (facts_along i before items (what_is_known before i)) (same_targets setting before items none _)

@@ -32,22 +32,16 @@ all_first near other count same =
 
 -- the masks of all 64 places tell what those of the network's switches tell
 pub first_near : (net : Net) (near : List ℕ) → IsNet net → AreNear net near
-    → first_adverts near (length net.switches)
-    ≡ first_adverts (map (links_of net.links) (range_with_len 0 (length net.switches)))
-    (length net.switches)
-first_near net near sound are =
-    all_first near (map (links_of net.links) (range_with_len 0 (length net.switches)))
-    (length net.switches)
-    (λ s within.
-    are s (omega (arith, within, sound.few_switches))
-    ∙ sym (get_or-map-range_with_len (links_of net.links) 0 (length net.switches) s s 0 within
-    (omega arith)))
+    → first_adverts near (length net.switches) ≡ first_adverts (map (links_of net.links)
+    (range_with_len 0 (length net.switches))) (length net.switches)
+first_near net near sound are = all_first near
+    (map (links_of net.links) (range_with_len 0 (length net.switches))) (length net.switches)
+    (λ s within. are s (omega (arith, within, sound.few_switches)) ∙ sym (get_or-map-range_with_len
+    (links_of net.links) 0 (length net.switches) s s 0 within (omega arith)))
 
 -- the first controller's tables of version 1 are those of its plan
 pub first_tables : (net : Net) (controller : ControllerValue) (plan : PlanValue)
     (tables : Tables) (s : ℕ) → controller ≡ first_controller (length net.switches) plan
     → kept_tables controller 1 s ≡ Some tables → tables ≡ tables_of plan.hosted 1 s
 first_tables net controller plan tables s is found =
-    let same : Some tables ≡ Some (tables_of plan.hosted 1 s) =
-    sym found ∙ ap (λ (c : ControllerValue). kept_tables c 1 s) is in
-    cc
+    cc (sym found ∙ ap (λ (c : ControllerValue). kept_tables c 1 s) is)

@@ -35,18 +35,16 @@ none_set s = set-replicate None 64 s
 forgets : (setting : Setting) (s : ℕ) (w : SwitchFacts) (boot : ℕ) (up : Bool) (links : ℕ)
     → switch_in setting s (blank w boot up links) false
     ≡ record (crashed_switch (switch_by setting s w)) { boot = boot; is_up = up }
-forgets setting s w boot up links =
-    ap (λ adverts. record (crashed_switch (switch_by setting s w)) {
-      boot = boot;
-      is_up = up;
-      database = adverts;
-    }) (none_set s)
+forgets setting s w boot up links = ap (λ adverts. record (crashed_switch (switch_by setting s w)) {
+  boot = boot;
+  is_up = up;
+  database = adverts;
+}) (none_set s)
 
 -- ---- a crash
 
-pub crash_is : (setting : Setting) (journal : List Item) (s : ℕ)
-    → switch_of setting (journal ++ item.Down s ∷ []) s
-    ≡ crashed_switch (switch_of setting journal s)
+pub crash_is : (setting : Setting) (journal : List Item) (s : ℕ) → switch_of setting
+    (journal ++ item.Down s ∷ []) s ≡ crashed_switch (switch_of setting journal s)
 crash_is setting journal s =
     let next : Item = item.Down s in
     let now : List Item = journal ++ next ∷ [] in
@@ -65,10 +63,9 @@ crash_is setting journal s =
 -- boots are counted from 1
 first_boot : (setting : Setting) (journal : List Item)
     → HaveCauses (HasItemCause setting) [] journal → (s : ℕ) → 1 ≤ boot_of journal s
-first_boot setting journal have s =
-    fact_on (HasItemCause setting) (λ js. 1 ≤ boot_of js s)
-    (λ before next cause one. omega (arith, one, boot_rises setting before next s cause)) []
-    journal have (omega (arith, start_laws.boot s))
+first_boot setting journal have s = fact_on (HasItemCause setting) (λ js. 1 ≤ boot_of js s)
+    (λ before next cause one. omega (arith, one, boot_rises setting before next s cause)) [] journal
+    have (omega (arith, start_laws.boot s))
 
 pub restart_is : (setting : Setting) (journal : List Item) (s : ℕ)
     → HaveCauses (HasItemCause setting) [] journal
@@ -88,8 +85,7 @@ restart_is setting journal s have =
     ))) in
     let past = (steps_past setting journal have).past s in
     let below : boot_of journal s < boot_of now s = omega (arith, boot) in
-    let seq : own_seq setting now s ≡ 0 =
-    seq_is setting now s up
+    let seq : own_seq setting now s ≡ 0 = seq_is setting now s up
     ∙ ap (λ b. count_by (has_change setting s (boot_of now s)) (steps_in now)
     + (if b then 1 else 0)) (ap (λ k. k == 1) boot ∙ later)
     ∙ ap (λ k. k + 0) (none_counted setting s (boot_of journal s) (boot_of now s) (steps_in now)
@@ -113,14 +109,12 @@ pub expiry_is : (setting : Setting) (journal : List Item) (s place message : ℕ
 expiry_is setting journal s place message =
     by_facts setting (journal ++ item.Expired s place message ∷ []) s _
     (facts_expired setting journal s place message)
-    ∙ ap (λ (switch : SwitchValue). entry_expired switch place)
-    (sym (switch_is setting journal s))
+    ∙ ap (λ (switch : SwitchValue). entry_expired switch place) (sym (switch_is setting journal s))
 
 expires_as : (setting : Setting) (journal : List Item) (s place : ℕ)
     → expire_items setting s place journal ≡ expired_by s place (message_at setting journal s place)
 unfolding expire_items switch_of
-expires_as setting journal s place =
-    by_entry (slice_get (cache_of setting journal s).entries place)
+expires_as setting journal s place = by_entry (slice_get (cache_of setting journal s).entries place)
   where
     by_entry : (o : Option CacheEntry) → elim o [
       | None ↦ nothing

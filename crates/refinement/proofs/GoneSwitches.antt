@@ -34,11 +34,9 @@ module _ {setting : Setting} {journal : List Item} {state : NetworkState}
     (may : IsStep setting.net (length setting.files) (Confirm s))
     (own_at : own ≡ get_or state.switches s own) where
   own_up : is_up journal s ≡ own.is_up
-  own_up = sym (up_as setting journal s) ∙ ap (λ (w : SwitchValue). w.is_up)
-      (sym (switch_is refines s own may own_at))
+  own_up = cc (up_as setting journal s, switch_is refines s own may own_at)
 
-  pub still_up : own.is_up ≡ true
-      → WroteOne setting journal row (Confirm s) item.Nothing state
+  pub still_up : own.is_up ≡ true → WroteOne setting journal row (Confirm s) item.Nothing state
   unfolding piece confirm_items
   still_up up =
       let rowed : List Item = journal ++ item.Row row (Confirm s) ∷ [] in
@@ -51,9 +49,8 @@ module _ {setting : Setting} {journal : List Item} {state : NetworkState}
         | false ↦ items_then (item.OverNow s ∷ []) (machine.settling setting) rowed
       ]) here)
 
-  module _ (new : ControllerValue) (down : own.is_up ≡ false)
-      (settles : SettlesWith (at_switch s after_over state.controller.marks)
-      state.controller.plans new) where
+  module _ (new : ControllerValue) (down : own.is_up ≡ false) (settles : SettlesWith (at_switch s
+      after_over state.controller.marks) state.controller.plans new) where
     abbrev acts : List Act
     acts = settling_acts (current_touched new)
         (at_switch s after_over state.controller.marks) new.marks
@@ -64,17 +61,14 @@ module _ {setting : Setting} {journal : List Item} {state : NetworkState}
     bag_behind : IsBagOf (journal ++ first) state.posts
     bag_behind = bag_on journal first state.posts (refl, (refl, tt)) refines.bag
 
-    confirms_so : AreWritten setting journal first acts new
-        (piece setting journal row (Confirm s))
+    confirms_so : AreWritten setting journal first acts new (piece setting journal row (Confirm s))
     confirms_so = confirms setting journal row s state.controller new
         (reached_known setting journal refines.sound refines.reached).caused refines.controller
         (own_up ∙ down) (switch_known refines s may) settles
 
     pub gone_piece : piece setting journal row (Confirm s) ≡ item.Row row (Confirm s)
         ∷ item.OverNow s ∷ act_items (length state.posts + 1) acts
-    gone_piece = confirms_so.same
-        ∙ ap (λ items. first ++ items) (written_is (journal ++ first) acts
-        ∙ ap (λ k. act_items k acts) bag_behind.many)
+    gone_piece = cc (confirms_so.same, written_is (journal ++ first) acts, bag_behind.many)
 
     pub gone_refines : RefineJournal setting (journal ++ item.Row row (Confirm s) ∷ item.OverNow s
         ∷ act_items (length state.posts + 1) acts)

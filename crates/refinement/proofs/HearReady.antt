@@ -23,8 +23,7 @@ module _ {setting : Setting} {journal : List Item} {state : NetworkState}
       → message.to ≡ receiver.Switch s
       → (s < length state.switches) × (s < 64) × IsSoundBody message.body
   hear_ready n s message there to =
-      let sent : message_of journal n ≡ Some (to_switch s message.body) =
-      sent_as journal state.posts n message refines.bag there
+      let sent = sent_as journal state.posts n message refines.bag there
       ∙ ap (λ p. Some (record { to = p; body = message.body })) to in
       let tables : TablesAreKnown setting journal =
       (reached_known setting journal refines.sound refines.reached).tables in
@@ -36,6 +35,5 @@ module _ {setting : Setting} {journal : List Item} {state : NetworkState}
       )
 
   -- the mask of its links
-  pub usable_here : (s : ℕ) → s < 64
-      → get_or state.near s 0 ≡ near setting journal s
+  pub usable_here : (s : ℕ) → s < 64 → get_or state.near s 0 ≡ near setting journal s
   usable_here s below = refines.usable s below

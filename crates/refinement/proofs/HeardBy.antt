@@ -40,19 +40,15 @@ delivered_if setting journal row n may = item.Row row (Deliver n) ∷ elim may [
       (journal ++ item.Row row (Deliver n) ∷ [] ++ item.Delivered n ∷ [])
 ]
 
-pub deliver_piece : (setting : Setting) (journal : List Item) (row n : ℕ)
-    → is_deliverable journal n ≡ true → piece setting journal row (Deliver n)
-    ≡ item.Row row (Deliver n) ∷ item.Delivered n
+pub deliver_piece : (setting : Setting) (journal : List Item) (row n : ℕ) → is_deliverable journal n
+    ≡ true → piece setting journal row (Deliver n) ≡ item.Row row (Deliver n) ∷ item.Delivered n
     ∷ delivery_items setting journal n (grown journal row (Deliver n) (item.Delivered n))
 unfolding piece deliver_items
 deliver_piece setting journal row n may =
-    ap (delivered_if setting journal row n) may
-    ∙ ap (λ js. item.Row row (Deliver n) ∷ item.Delivered n ∷ delivery_items setting journal n js)
-    (append_assoc journal (item.Row row (Deliver n) ∷ []) (item.Delivered n ∷ []))
+    cc (may, append_assoc journal (item.Row row (Deliver n) ∷ []) (item.Delivered n ∷ []))
 
-none_piece : (setting : Setting) (journal : List Item) (row n : ℕ)
-    → is_deliverable journal n ≡ false
-    → piece setting journal row (Deliver n) ≡ item.Row row (Deliver n) ∷ nothing
+none_piece : (setting : Setting) (journal : List Item) (row n : ℕ) → is_deliverable journal n
+    ≡ false → piece setting journal row (Deliver n) ≡ item.Row row (Deliver n) ∷ nothing
 unfolding piece deliver_items
 none_piece setting journal row n may = ap (delivered_if setting journal row n) may
 
@@ -62,8 +58,7 @@ module _ {setting : Setting} {journal : List Item} {state : NetworkState}
   pub undelivered : (row n : ℕ) → IsStep setting.net (length setting.files) (Deliver n)
       → is_post_deliverable state.posts n ≡ false
       → WroteOne setting journal row (Deliver n) item.Nothing state
-  undelivered row n may none =
-      nothing_happens refines row (Deliver n) may (λ q. refl)
+  undelivered row n may none = nothing_happens refines row (Deliver n) may (λ q. refl)
       (none_piece setting journal row n (deliverable_as journal state.posts n refines.bag ∙ none))
 
 -- ---- the message
@@ -83,8 +78,7 @@ module _ {setting : Setting} {journal : List Item} {state : NetworkState}
   is_there row n message there = record {
     sent = sent_as journal state.posts n message refines.bag there;
     deliverable = deliverable_as journal state.posts n refines.bag ∙ ap is_some there.frames_are;
-    bag = subst (λ js. IsBagOf js (with_delivered state.posts n))
-        (append_assoc journal (item.Row row (Deliver n) ∷ []) (item.Delivered n ∷ []))
+    bag = rw (append_assoc journal (item.Row row (Deliver n) ∷ []) (item.Delivered n ∷ [])) at
         (bag_delivered (journal ++ item.Row row (Deliver n) ∷ []) state.posts n
         (within_posts state.posts n _ there.frames_are)
         (bag_on journal (item.Row row (Deliver n) ∷ []) state.posts (refl, tt) refines.bag));
@@ -106,12 +100,10 @@ row_keeps journal row n =
 
 -- a switch to which the message isn't stays
 not_to : (setting : Setting) (journal : List Item) (row n q : ℕ) (message : Message)
-    → message_of journal n ≡ Some message → is_to_switch q message.to ≡ false
-    → switch_of setting (grown journal row (Deliver n) (item.Delivered n)) q
-    ≡ switch_of setting journal q
+    → message_of journal n ≡ Some message → is_to_switch q message.to ≡ false → switch_of setting
+    (grown journal row (Deliver n) (item.Delivered n)) q ≡ switch_of setting journal q
 not_to setting journal row n q message sent other =
-    let to_other : is_message_to (journal ++ item.Row row (Deliver n) ∷ []) q n ≡ false =
-    ap (λ o. option_map_or (λ (m : Message). is_to_switch q m.to) o false)
+    let to_other = ap (λ o. option_map_or (λ (m : Message). is_to_switch q m.to) o false)
     (row_keeps journal row n ∙ sent) ∙ other in
     kept_is setting q journal (item.Row row (Deliver n) ∷ item.Delivered n ∷ [])
     (refl, (ap (λ b. b || false) to_other, tt)) (refl, (refl, tt))
@@ -127,8 +119,7 @@ module _ {setting : Setting} {journal : List Item} {state : NetworkState}
   -- what it names is there
   pub names_known : (n : ℕ) (message : Message) → IsMessageOf state.posts n message
       → message.to ≡ receiver.Controller → NamesThere message.body state.controller.marks
-  names_known n message there to =
-      names_there setting journal n message.body state.controller.marks
+  names_known n message there to = names_there setting journal n message.body state.controller.marks
       (reached_known setting journal refines.sound refines.reached).tables.names
       refines.controller.marks
       (sent_as journal state.posts n message refines.bag there ∙ ap Some (as_told message to))
@@ -156,15 +147,10 @@ module _ {setting : Setting} {journal : List Item} {state : NetworkState}
 
   pub control_piece : piece setting journal row (Deliver n)
       ≡ item.Row row (Deliver n) ∷ item.Delivered n ∷ act_items (length state.posts + 1) acts
-  control_piece = heard_so.same
-      ∙ ap (λ items. first ++ items) (written_is (journal ++ first) acts
-      ∙ ap (λ k. act_items k acts) (its.bag.many ∙ ap (λ k. k + 1) its.as_many))
+  control_piece = cc (heard_so.same, written_is (journal ++ first) acts, its.bag.many, its.as_many)
 
   control_told : IsTold setting journal row (Deliver n) (item.Delivered n ∷ []) acts state
-      (record state {
-        controller = new;
-        posts = with_delivered state.posts n;
-      })
+      (record state { controller = new; posts = with_delivered state.posts n })
   control_told =
       let each : (s : ℕ) (d : SwitchValue) → s < length state.switches → get_or state.switches s d
       ≡ switch_of setting (grown journal row (Deliver n) (item.Delivered n)) s =
@@ -173,8 +159,7 @@ module _ {setting : Setting} {journal : List Item} {state : NetworkState}
       search (rules, control_piece, its.bag, its.as_many, heard_so.after, links_stay, up_stay)
 
   pub control_refines : RefineJournal setting (journal ++ item.Row row (Deliver n)
-      ∷ item.Delivered n
-      ∷ act_items (length state.posts + 1) acts)
+      ∷ item.Delivered n ∷ act_items (length state.posts + 1) acts)
       (record state { controller = new; posts = with_delivered state.posts n ++ act_posts acts })
   control_refines = refines_told refines (record state {
     controller = new;
@@ -182,8 +167,7 @@ module _ {setting : Setting} {journal : List Item} {state : NetworkState}
   }) row (Deliver n) (item.Delivered n ∷ []) acts control_told
 
   -- and it may be written
-  pub control_may : length state.posts < 990_000
-      → MayNote (with_delivered state.posts n) acts
+  pub control_may : length state.posts < 990_000 → MayNote (with_delivered state.posts n) acts
   control_may = may_note refines row (Deliver n) (item.Delivered n ∷ [])
       (with_delivered state.posts n) acts may control_piece its.as_many
 
@@ -227,23 +211,19 @@ module _ {setting : Setting} {journal : List Item} {state : NetworkState}
 
   items_are : delivery_items setting journal n (grown journal row (Deliver n) (item.Delivered n))
       ≡ act_items (length state.posts + 1) reply_acts
-  items_are = hears_shut.items row
-      ∙ ap (λ k. sent_from k (replies (switch_of setting journal s) (near setting journal s)
-      message.body)) number_is
-      ∙ ap (λ w. sent_from (length state.posts + 1) (replies w (near setting journal s)
-      message.body)) (sym own_is)
+  items_are = hears_shut.items row ∙ ap (λ k. sent_from k
+      (replies (switch_of setting journal s) (near setting journal s) message.body)) number_is
+      ∙ ap (λ w. sent_from
+      (length state.posts + 1) (replies w (near setting journal s) message.body)) (sym own_is)
       ∙ ap (λ m. sent_from (length state.posts + 1) (replies own m message.body)) (sym near_is)
       ∙ sym (sent_as_acts (length state.posts + 1) messages)
 
   shut_piece_acts : piece setting journal row (Deliver n)
       ≡ item.Row row (Deliver n) ∷ item.Delivered n ∷ act_items (length state.posts + 1) reply_acts
-  shut_piece_acts = deliver_piece setting journal row n mine.deliverable
-      ∙ ap (λ items. item.Row row (Deliver n) ∷ item.Delivered n ∷ items) items_are
+  shut_piece_acts = cc (deliver_piece setting journal row n mine.deliverable, items_are)
 
   not_controller : is_message_to_controller journal n ≡ false
-  not_controller = ap (λ o. option_map_or (λ (m : Message). is_to_controller m.to) o false)
-      mine.sent
-      ∙ ap is_to_controller to
+  not_controller = cc (mine.sent, to)
 
   shut_told : IsTold setting journal row (Deliver n) (item.Delivered n ∷ []) reply_acts state
       (record state {
@@ -266,9 +246,7 @@ module _ {setting : Setting} {journal : List Item} {state : NetworkState}
 
   pub shut_piece : piece setting journal row (Deliver n)
       ≡ item.Row row (Deliver n) ∷ item.Delivered n ∷ sent_from (length state.posts + 1) messages
-  shut_piece = shut_piece_acts
-      ∙ ap (λ items. item.Row row (Deliver n) ∷ item.Delivered n ∷ items)
-      (sent_as_acts (length state.posts + 1) messages)
+  shut_piece = cc (shut_piece_acts, sent_as_acts (length state.posts + 1) messages)
 
   pub shut_refines : RefineJournal setting (journal ++ item.Row row (Deliver n) ∷ item.Delivered n
       ∷ sent_from (length state.posts + 1) messages) (record state {
@@ -284,14 +262,10 @@ module _ {setting : Setting} {journal : List Item} {state : NetworkState}
       subst (λ items. RefineJournal setting (journal ++ item.Row row (Deliver n)
       ∷ item.Delivered n ∷ items) (with (posts ++ map new_post messages)))
       (sent_as_acts (length state.posts + 1) messages)
-      (subst (λ more. RefineJournal setting (journal ++ item.Row row (Deliver n)
-      ∷ item.Delivered n ∷ act_items (length state.posts + 1) reply_acts) (with (posts ++ more)))
-      (posts_as_acts messages)
-      (refines_told refines (with posts) row (Deliver n) (item.Delivered n ∷ []) reply_acts
-      shut_told))
+      (rw (posts_as_acts messages) at (refines_told refines (with posts) row (Deliver n)
+      (item.Delivered n ∷ []) reply_acts shut_told))
 
-  pub shut_may : length state.posts < 990_000
-      → MaySend (with_delivered state.posts n) messages
+  pub shut_may : length state.posts < 990_000 → MaySend (with_delivered state.posts n) messages
   shut_may room = may_send (with_delivered state.posts n) messages
       (may_note refines row (Deliver n) (item.Delivered n ∷ []) (with_delivered state.posts n)
       reply_acts may shut_piece_acts mine.as_many room)

@@ -29,9 +29,8 @@ unfolding obeys
 by_obeying {X = X} switch body up own obeyed left_so is mine same =
     rw (is, mine) (by_kind up own (is_for_controller body) same)
   where
-    by_kind : (up own kind : Bool) → (kind ≡ true → obeyed ≡ left_so)
-        → (if (up && not kind) && own then obeyed else left_so)
-        ≡ (if up && own then obeyed else left_so)
+    by_kind : (up own kind : Bool) → (kind ≡ true → obeyed ≡ left_so) → (if (up && not kind)
+        && own then obeyed else left_so) ≡ (if up && own then obeyed else left_so)
     by_kind true true true same = sym (same refl)
     by_kind true true false same = refl
     by_kind true false true same = refl
@@ -61,9 +60,8 @@ pub obeyed_by : (switch : SwitchValue) (n : ℕ) (body : Body) (up own : Bool)
     → switch.is_up ≡ up → option_map_or (λ boot. boot == switch.boot) (body_boot body) true ≡ own
     → with_message switch n body ≡ (if up && own then after_body switch n body else switch)
 unfolding with_message
-obeyed_by switch n body up own is mine =
-    by_obeying switch body up own (after_body switch n body) switch is mine
-    (controller_kept switch n body)
+obeyed_by switch n body up own is mine = by_obeying switch body up own (after_body switch n body)
+    switch is mine (controller_kept switch n body)
 
 -- a message that was sent to the switch says its body where it is meant
 pub said_is : (before : List Item) (s n : ℕ) (body : Body)
@@ -78,16 +76,14 @@ abbrev hears_shut : ℕ → Body → SwitchValue → SwitchValue
 hears_shut n body switch = record (with_message switch n body) { is_open = switch.is_open }
 
 pub heard_is : (setting : Setting) (before : List Item) (n s : ℕ) (body : Body)
-    → message_of before n ≡ Some (to_switch s body)
-    → AreVersioned (heard before s) → IsVersioned body
-    → SaysTouched (touched_by setting before) body
+    → message_of before n ≡ Some (to_switch s body) → AreVersioned (heard before s)
+    → IsVersioned body → SaysTouched (touched_by setting before) body
     → switch_of setting (before ++ item.Delivered n ∷ []) s
     ≡ record (with_message (switch_of setting before s) n body) {
       is_open = (switch_of setting before s).is_open;
     }
 heard_is setting before n s body sent olds new says =
-    by_meant (is_meant before s body) refl
-    ∙ ap (hears_shut n body) (sym (switch_is setting before s))
+    cc (by_meant (is_meant before s body) refl, switch_is setting before s)
   where
     now : List Item
     now = before ++ item.Delivered n ∷ []
@@ -102,20 +98,16 @@ heard_is setting before n s body sent olds new says =
         → record (if meant then after_body switch n body else switch) { is_open = w.serving }
         ≡ hears_shut n body switch
     obeyed meant is = ap (λ (after : SwitchValue). record after { is_open = w.serving })
-        (ap (λ b. if b then after_body switch n body else switch) (sym is)
-        ∙ sym (obeyed_by switch n body (is_up before s) (is_for_boot (boot_of before s) body) refl
-        refl))
+        (ap (λ b. if b then after_body switch n body else switch) (sym is) ∙ sym (obeyed_by switch n
+        body (is_up before s) (is_for_boot (boot_of before s) body) refl refl))
 
     by_meant : (meant : Bool) → is_meant before s body ≡ meant
         → switch_of setting now s ≡ hears_shut n body switch
-    by_meant true is =
-        by_facts setting now s _ (facts_delivered setting before s n (Some body)
+    by_meant true is = by_facts setting now s _ (facts_delivered setting before s n (Some body)
         (said_is before s n body sent ∙ ap (λ b. if b then Some body else None) is))
-        ∙ hears_facts setting (touched_by setting before) s n w (w.up && w.boot == 1) body olds
-        new says
-        ∙ obeyed true is
-    by_meant false is =
-        by_facts setting now s _ (facts_delivered setting before s n None
+        ∙ hears_facts setting (touched_by setting before) s n w (w.up && w.boot == 1) body olds new
+        says ∙ obeyed true is
+    by_meant false is = by_facts setting now s _ (facts_delivered setting before s n None
         (said_is before s n body sent ∙ ap (λ b. if b then Some body else None) is))
         ∙ obeyed false is
 
@@ -133,61 +125,55 @@ unfolding with_installed raised_to stamped_with collected_to with_heard
 kept_by switch n (Install boot tables) shut =
     or_kept (holds_version switch tables.version || nat_le tables.version switch.collected) switch
     tables
-kept_by switch n (OpenAt boot version) shut = by_open switch.is_open shut
-  where
-    by_open : (b : Bool) → (if b then None else Some (max switch.stamp version)) ≡ None → true ≡ b
-    by_open true shut = refl
-    by_open false shut = absurd cc
-kept_by switch n (Stamp boot version touched) shut = by_test (nat_lt switch.stamp version)
-  where
-    by_test : (b : Bool) → (if b then record switch {
-      stamp = version;
-      cache = after_carry version touched switch.cache;
-    } else switch).is_open ≡ switch.is_open
-    by_test true = refl
-    by_test false = refl
-kept_by switch n (Advertise advert) shut = by_test (is_news_here switch advert)
-  where
-    by_test : (b : Bool) → (if b then record switch {
-      database = after_hearing switch.database advert;
-    } else switch).is_open ≡ switch.is_open
-    by_test true = refl
-    by_test false = refl
+kept_by switch n (OpenAt boot version) shut = by_open switch.is_open shut where
+  by_open : (b : Bool) → (if b then None else Some (max switch.stamp version)) ≡ None → true ≡ b
+  by_open true shut = refl
+  by_open false shut = absurd cc
+kept_by switch n (Stamp boot version touched) shut = by_test (nat_lt switch.stamp version) where
+  by_test : (b : Bool) → (if b then record switch {
+    stamp = version;
+    cache = after_carry version touched switch.cache;
+  } else switch).is_open ≡ switch.is_open
+  by_test true = refl
+  by_test false = refl
+kept_by switch n (Advertise advert) shut = by_test (is_news_here switch advert) where
+  by_test : (b : Bool) → (if b then record switch {
+    database = after_hearing switch.database advert;
+  } else switch).is_open ≡ switch.is_open
+  by_test true = refl
+  by_test false = refl
 kept_by switch n _ shut = refl
 
 -- a switch that doesn't open is open or closed as before
 pub open_kept : (switch : SwitchValue) (n : ℕ) (body : Body) → opening_stamp switch body ≡ None
     → (with_message switch n body).is_open ≡ switch.is_open
 unfolding with_message opening_stamp
-open_kept switch n body shut = by_test (obeys switch body) shut
-  where
-    by_test : (b : Bool) → (if b then opened_by switch body else None) ≡ None
-        → (if b then after_body switch n body else switch).is_open ≡ switch.is_open
-    by_test true shut = kept_by switch n body shut
-    by_test false shut = refl
+open_kept switch n body shut = by_test (obeys switch body) shut where
+  by_test : (b : Bool) → (if b then opened_by switch body else None) ≡ None
+      → (if b then after_body switch n body else switch).is_open ≡ switch.is_open
+  by_test true shut = kept_by switch n body shut
+  by_test false shut = refl
 
 opens_by : (switch : SwitchValue) (n stamp : ℕ) (body : Body) → opened_by switch body ≡ Some stamp
     → ((after_body switch n body).is_open ≡ true) × (stamp ≡ (after_body switch n body).stamp)
 unfolding raised_to
-opens_by switch n stamp (OpenAt boot version) opens = (refl, by_open switch.is_open opens)
-  where
-    by_test : (b : Bool) → nat_lt switch.stamp version ≡ b → max switch.stamp version
-        ≡ (if b then record switch {
-          stamp = version;
-          cache = after_raise version switch.cache;
-        } else switch).stamp
-    by_test true is = grind (arith, nat_tests)
-    by_test false is = grind (arith, nat_tests)
+opens_by switch n stamp (OpenAt boot version) opens = (refl, by_open switch.is_open opens) where
+  by_test : (b : Bool) → nat_lt switch.stamp version ≡ b → max switch.stamp version
+      ≡ (if b then record switch {
+        stamp = version;
+        cache = after_raise version switch.cache;
+      } else switch).stamp
+  by_test true is = grind (arith, nat_tests)
+  by_test false is = grind (arith, nat_tests)
 
-    by_open : (b : Bool) → (if b then None else Some (max switch.stamp version)) ≡ Some stamp
-        → stamp ≡ (if nat_lt switch.stamp version then record switch {
-          stamp = version;
-          cache = after_raise version switch.cache;
-        } else switch).stamp
-    by_open true opens = absurd cc
-    by_open false opens =
-        let same : max switch.stamp version ≡ stamp = cc in
-        sym same ∙ by_test (nat_lt switch.stamp version) refl
+  by_open : (b : Bool) → (if b then None else Some (max switch.stamp version)) ≡ Some stamp
+      → stamp ≡ (if nat_lt switch.stamp version then record switch {
+        stamp = version;
+        cache = after_raise version switch.cache;
+      } else switch).stamp
+  by_open true opens = absurd cc
+  by_open false opens = let same : max switch.stamp version ≡ stamp = cc in
+      sym same ∙ by_test (nat_lt switch.stamp version) refl
 opens_by switch n stamp _ opens = absurd cc
 
 -- one that opens is open, with this stamp
@@ -195,10 +181,9 @@ pub opens_as : (switch : SwitchValue) (n stamp : ℕ) (body : Body) → opening_
     ≡ Some stamp
     → ((with_message switch n body).is_open ≡ true) × (stamp ≡ (with_message switch n body).stamp)
 unfolding with_message opening_stamp
-opens_as switch n stamp body opens = by_test (obeys switch body) opens
-  where
-    by_test : (b : Bool) → (if b then opened_by switch body else None) ≡ Some stamp
-        → ((if b then after_body switch n body else switch).is_open ≡ true)
-        × (stamp ≡ (if b then after_body switch n body else switch).stamp)
-    by_test true opens = opens_by switch n stamp body opens
-    by_test false opens = absurd cc
+opens_as switch n stamp body opens = by_test (obeys switch body) opens where
+  by_test : (b : Bool) → (if b then opened_by switch body else None) ≡ Some stamp
+      → ((if b then after_body switch n body else switch).is_open ≡ true)
+      × (stamp ≡ (if b then after_body switch n body else switch).stamp)
+  by_test true opens = opens_by switch n stamp body opens
+  by_test false opens = absurd cc

@@ -38,9 +38,7 @@ none_le v one = grind (arith, nat_tests)
 -- a version is collected exactly where it isn't above the mark
 collected_is : (v : ℕ) (bodies : List Body) → 1 ≤ v
     → list_any (collects_version v) bodies ≡ nat_le v (collected_by bodies)
-collected_is v bodies one =
-    ap (λ b. b || list_any (collects_version v) bodies) (sym (none_le v one))
-    ∙ collected_from v 0 bodies
+collected_is v bodies one = cc (none_le v one, collected_from v 0 bodies)
 
 not_le : (v mark : ℕ) → not (nat_le v mark) ≡ nat_lt mark v
 not_le v mark = grind (arith, nat_tests)
@@ -63,8 +61,7 @@ with_each P all (tables ∷ more) have brought = with_each P (with_tables all ta
 -- of these bodies, all of which came
 brought_each : (first : Bool) (all bodies : List Body)
     → ((v : ℕ) → list_any (installs_version v) bodies ≡ true → list_any (installs_version v) all
-    ≡ true)
-    → AreVersioned bodies → AllByRecursion (HasCome first all) (filter_map tables_in bodies)
+    ≡ true) → AreVersioned bodies → AllByRecursion (HasCome first all) (filter_map tables_in bodies)
 brought_each first all [] among versioned = tt
 brought_each first all (Install boot tables ∷ bodies) among versioned =
     let v : ℕ = tables.version in (
@@ -82,9 +79,8 @@ brought_each first all (_ ∷ bodies) among versioned =
 
 all_came : (tables : Tables) (first : Bool) (bodies : List Body) → tables.version ≡ 1
     → AreVersioned bodies → AllByRecursion (HasCome first bodies) (all_by tables first bodies)
-all_came tables first bodies one versioned =
-    with_each (HasCome first bodies) (if first then tables ∷ [] else [])
-    (filter_map tables_in bodies) (begun first refl)
+all_came tables first bodies one versioned = with_each (HasCome first bodies)
+    (if first then tables ∷ [] else []) (filter_map tables_in bodies) (begun first refl)
     (brought_each first bodies bodies (λ v there. there) versioned)
   where
     begun : (b : Bool) → first ≡ b
@@ -104,14 +100,12 @@ all_came tables first bodies one versioned =
 pub tables_are : (tables : Tables) (first : Bool) (bodies : List Body) → tables.version ≡ 1
     → AreVersioned bodies
     → tables_by tables first bodies ≡ above (collected_by bodies) (all_by tables first bodies)
-tables_are tables first bodies one versioned =
-    filter_same_on (HasCome first bodies)
+tables_are tables first bodies one versioned = filter_same_on (HasCome first bodies)
     (λ tables. came_by first bodies tables.version
     && not (list_any (collects_version tables.version) bodies))
     (λ tables. nat_lt (collected_by bodies) tables.version)
     (λ each come. ap (λ b. b && not (list_any (collects_version each.version) bodies)) come.0
-    ∙ ap not (collected_is each.version bodies come.1)
-    ∙ not_le each.version (collected_by bodies))
+    ∙ ap not (collected_is each.version bodies come.1) ∙ not_le each.version (collected_by bodies))
     (all_by tables first bodies) (all_came tables first bodies one versioned)
 
 -- ---- tables above a mark
@@ -121,36 +115,29 @@ pub found_above : (mark v : ℕ) → nat_lt mark v ≡ true → (all : List Tabl
     → is_some (find (λ tables. tables.version == v) (above mark all))
     ≡ list_any (λ other. other.version == v) all
 found_above mark v over [] = refl
-found_above mark v over (tables ∷ all) =
-    by_test (found_above mark v over all) (tables.version == v) refl
-    (nat_lt mark tables.version) refl
+found_above mark v over (tables ∷ all) = by_test (found_above mark v over all) (tables.version == v)
+    refl (nat_lt mark tables.version) refl
   where
     by_test : is_some (find (λ tables. tables.version == v) (above mark all))
         ≡ list_any (λ other. other.version == v) all
-        → (same : Bool) → (tables.version == v) ≡ same → (b : Bool)
-        → nat_lt mark tables.version ≡ b
-        → is_some (find (λ tables. tables.version == v)
-        (if b then tables ∷ above mark all else above mark all))
-        ≡ (same || list_any (λ other. other.version == v) all)
+        → (same : Bool) → (tables.version == v) ≡ same → (b : Bool) → nat_lt mark tables.version ≡ b
+        → is_some (find (λ tables. tables.version == v) (if b then tables ∷ above mark all
+        else above mark all)) ≡ (same || list_any (λ other. other.version == v) all)
     by_test rest true is true e = rw is refl
-    by_test rest true is false e =
-        let v_is : tables.version ≡ v = eqb-true tables.version v is in
-        let no : nat_lt mark v ≡ false = subst (λ w. nat_lt mark w ≡ false) v_is e in
-        absurd cc
+    by_test rest true is false e = let v_is : tables.version ≡ v = eqb-true tables.version v is in
+        absurd (cc (subst (λ w. nat_lt mark w ≡ false) v_is e))
     by_test rest false is true e = rw is rest
     by_test rest false is false e = rest
 
-pub above_more : (mark : ℕ) (all : List Tables) (tables : Tables)
-    → above mark (all ++ tables ∷ [])
+pub above_more : (mark : ℕ) (all : List Tables) (tables : Tables) → above mark (all ++ tables ∷ [])
     ≡ above mark all ++ (if nat_lt mark tables.version then tables ∷ [] else [])
 above_more mark [] tables = refl
 above_more mark (first ∷ all) tables =
     by_test (above_more mark all tables) (nat_lt mark first.version)
   where
-    by_test : above mark (all ++ tables ∷ [])
-        ≡ above mark all ++ (if nat_lt mark tables.version then tables ∷ [] else [])
-        → (b : Bool) → (if b then first ∷ above mark (all ++ tables ∷ [])
-        else above mark (all ++ tables ∷ []))
+    by_test : above mark (all ++ tables ∷ []) ≡ above mark all
+        ++ (if nat_lt mark tables.version then tables ∷ [] else []) → (b : Bool)
+        → (if b then first ∷ above mark (all ++ tables ∷ []) else above mark (all ++ tables ∷ []))
         ≡ (if b then first ∷ above mark all else above mark all)
         ++ (if nat_lt mark tables.version then tables ∷ [] else [])
     by_test same true = ap (λ rest. first ∷ rest) same
@@ -160,16 +147,14 @@ above_more mark (first ∷ all) tables =
 pub above_twice : (mark other : ℕ) (all : List Tables)
     → above (max mark other) (above mark all) ≡ above (max mark other) all
 above_twice mark other [] = refl
-above_twice mark other (tables ∷ all) =
-    by_test (above_twice mark other all) (nat_lt mark tables.version) refl
-    (nat_lt (max mark other) tables.version) refl
+above_twice mark other (tables ∷ all) = by_test (above_twice mark other all)
+    (nat_lt mark tables.version) refl (nat_lt (max mark other) tables.version) refl
   where
     more : ℕ
     more = max mark other
 
-    by_test : above more (above mark all) ≡ above more all → (b : Bool)
-        → nat_lt mark tables.version ≡ b → (c : Bool)
-        → nat_lt more tables.version ≡ c
+    by_test : above more (above mark all) ≡ above more all
+        → (b : Bool) → nat_lt mark tables.version ≡ b → (c : Bool) → nat_lt more tables.version ≡ c
         → above more (if b then tables ∷ above mark all else above mark all)
         ≡ (if c then tables ∷ above more all else above more all)
     by_test rest true is true e = rw e (ap (λ all. tables ∷ all) rest)

@@ -48,16 +48,14 @@ hop_piece setting journal row i t s near w ports can =
     ∙ ap (λ o. item.Row row (Hop i) ∷ move_items setting i (unwrap_or o 0) new)
     (ap (λ (facts : PacketFacts). facts.stands) same ∙ refines.stands.stands)
     ∙ ap (λ items. item.Row row (Hop i) ∷ items)
-    (hop_law setting journal row i refines.switch refines.header refines.ingress refines.leg w
-    near ports can.hops
-    ∙ ap (hop_written (next_message journal) w near ports) (sym refines.is))
+    (hop_law setting journal row i refines.switch refines.header refines.ingress refines.leg w near
+    ports can.hops ∙ ap (hop_written (next_message journal) w near ports) (sym refines.is))
 
 -- a packet that doesn't travel
 pub left_piece : (setting : Setting) (journal : List Item) (row i : ℕ) → travels journal i ≡ false
     → piece setting journal row (Hop i) ≡ item.Row row (Hop i) ∷ item.Nothing ∷ []
 unfolding piece hop_items_of what_is_known
-left_piece setting journal row i off =
-    let new : List Item = begun journal row i in
+left_piece setting journal row i off = let new : List Item = begun journal row i in
     ap (λ b. item.Row row (Hop i) ∷ elim b [
       | false ↦ nothing
       | true ↦ move_items setting i (unwrap_or (standing new i) 0) new
@@ -82,11 +80,10 @@ ended_later number w near ports t (hop.Stuck cause) = (tt, tt)
 
 pub hop_later : (number : ℕ) (w : SwitchValue) (near : ℕ) (ports : Ports) (t : Flight)
     → AreInStep (hop_written number w near ports t)
-hop_later number w near ports t =
-    turned_later t.tunnel.packet w.number (link_found_down near (next t.tunnel))
-    (hop_answer w near t.tunnel).end (hop_answer w near t.tunnel).tunnel.route _
-    (ended_later number (call_counted w) near ports (hopped_flight w near t)
-    (hop_answer w near t.tunnel).end)
+hop_later number w near ports t = turned_later t.tunnel.packet w.number
+    (link_found_down near (next t.tunnel)) (hop_answer w near t.tunnel).end
+    (hop_answer w near t.tunnel).tunnel.route _ (ended_later number (call_counted w) near ports
+    (hopped_flight w near t) (hop_answer w near t.tunnel).end)
 
 pub hop_packets : (row i : ℕ) (items : List Item) → AreInStep items
     → count_of is_packet (item.Row row (Hop i) ∷ items) ≡ 0
@@ -110,9 +107,7 @@ calls_of_hop : (setting : Setting) (journal items : List Item) (row i s k : ℕ)
     else switch_of setting journal k)
 calls_of_hop setting journal items row i s k end b later stays none on stands is =
     let w : SwitchValue = switch_of setting journal k in
-    let at : travels_at journal k i ≡ b =
-    ap (λ x. x && is_at k (standing journal i)) on
-    ∙ ap (is_at k) stands ∙ is in
+    let at = ap (λ x. x && is_at k (standing journal i)) on ∙ ap (is_at k) stands ∙ is in
     calls_refine.hopped setting journal row i k items later none
     ∙ ap (λ x. if x then (if stays_on_way items then call_counted w else call_counted (call_counted w)) else w) at
     ∙ ap (λ x. if b then (if x then call_counted w else call_counted (call_counted w)) else w) stays
@@ -138,8 +133,7 @@ ended_other q number w near ports t (hop.Stuck cause) other = (other, tt)
 
 pub hop_other : (q number : ℕ) (w : SwitchValue) (near : ℕ) (ports : Ports) (t : Flight)
     → (t.tunnel.packet == q) ≡ false → NoneName q (hop_written number w near ports t)
-hop_other q number w near ports t other =
-    let m = hop_answer w near t.tunnel in
+hop_other q number w near ports t other = let m = hop_answer w near t.tunnel in
     none_more q
     (turned_items t.tunnel.packet w.number (link_found_down near (next t.tunnel)) m.end m.tunnel.route)
     (ended_items number (call_counted w) near ports (hopped_flight w near t) m.end)
@@ -166,16 +160,13 @@ module _ (setting : Setting) (journal : List Item) (row i : ℕ) (t : Flight) (s
 
   -- the packet itself
   pub hop_own : hop_flight w near ports t ≡ flight_in setting (journal ++ all) i
-  hop_own =
-      let refines : IsStanding setting journal i t = can.standing in
+  hop_own = let refines : IsStanding setting journal i t = can.standing in
       subst (λ (u : Flight). hop_flight w near ports u ≡ flight_in setting
       (journal ++ item.Row row (Hop i) ∷ hop_written number w near ports u) i) (sym refines.is)
-      (hop_goes setting journal row i refines.switch refines.header refines.ingress refines.leg
-      w near ports can.hops
-      ∙ sym (flight_along setting journal
-      (item.Row row (Hop i) ∷ hop_written number w near ports
-      (on_leg (targets_of setting journal) i (what_is_known journal i) refines.header
-      refines.ingress refines.leg)) i (
+      (hop_goes setting journal row i refines.switch refines.header refines.ingress refines.leg w
+      near ports can.hops ∙ sym (flight_along setting journal
+      (item.Row row (Hop i) ∷ hop_written number w near ports (on_leg (targets_of setting journal) i
+      (what_is_known journal i) refines.header refines.ingress refines.leg)) i (
         refl,
         (are_apart number (begun journal row i)
             (hop_written number w near ports (on_leg (targets_of setting journal) i
@@ -185,8 +176,7 @@ module _ (setting : Setting) (journal : List Item) (row i : ℕ) (t : Flight) (s
       )))
 
   stays : stays_on_way items ≡ stays_by end
-  stays =
-      let refines : IsStanding setting journal i t = can.standing in
+  stays = let refines : IsStanding setting journal i t = can.standing in
       subst (λ (u : Flight). stays_on_way (hop_written number w near ports u)
       ≡ stays_by (hop_answer w near u.tunnel).end) (sym refines.is)
       (hop_stays setting journal row i refines.switch refines.header refines.ingress refines.leg
@@ -195,21 +185,18 @@ module _ (setting : Setting) (journal : List Item) (row i : ℕ) (t : Flight) (s
   pub hop_is_packet : t.tunnel.packet ≡ i
   hop_is_packet = ap (λ (u : Flight). u.tunnel.packet) can.standing.is
 
-  pub hop_called : (k : ℕ) (b : Bool) → (s == k) ≡ b
-      → switch_of setting (journal ++ all) k
+  pub hop_called : (k : ℕ) (b : Bool) → (s == k) ≡ b → switch_of setting (journal ++ all) k
       ≡ (if b then ended_switch (call_counted (switch_of setting journal k)) end
       else switch_of setting journal k)
   unfolding what_is_known
   hop_called k b is =
       calls_of_hop setting journal items row i s k end b (hop_later number w near ports t) stays (
         refl,
-        (are_apart number (begun journal row i) items
-            (hop_sends number w near ports t).0).known k,
+        (are_apart number (begun journal row i) items (hop_sends number w near ports t).0).known k,
       )
       can.standing.stands.on (can.standing.stands.stands ∙ ap Some (sym can.at)) is
 
   pub hop_others : Known setting journal → (q : ℕ) → (i == q) ≡ false
       → flight_in setting (journal ++ all) q ≡ flight_in setting journal q
-  hop_others knows q apart =
-      flight_stays setting journal all q knows
+  hop_others knows q apart = flight_stays setting journal all q knows
       (refl, hop_other q number w near ports t (ap (λ k. k == q) hop_is_packet ∙ apart))

@@ -42,37 +42,30 @@ module _ {setting : Setting} {journal : List Item} {state : NetworkState}
   travels_then : (after : Flights) → WithOne state.travelling i (hop_flight w near ports t) after
       → (q : ℕ) → flight state.travelling q ≡ flight_in setting journal q
       → flight after q ≡ flight_in setting (journal ++ all) q
-  travels_then after with q was = with q ∙ by_test (q == i) refl
-    where
-      by_test : (b : Bool) → (q == i) ≡ b
-          → (if b then hop_flight w near ports t else flight state.travelling q)
-          ≡ flight_in setting (journal ++ all) q
-      by_test true is =
-          hop_own setting journal row i t s near w ports can
-          ∙ ap (flight_in setting (journal ++ all)) (sym (eqb-true q i is))
-      by_test false is =
-          let apart : (i == q) ≡ false = grind (arith, nat_tests) in
-          was ∙ sym (hop_others setting journal row i t s near w ports can knows q apart)
+  travels_then after with q was = with q ∙ by_test (q == i) refl where
+    by_test : (b : Bool) → (q == i) ≡ b
+        → (if b then hop_flight w near ports t else flight state.travelling q)
+        ≡ flight_in setting (journal ++ all) q
+    by_test true is = cc (hop_own setting journal row i t s near w ports can, eqb-true q i is)
+    by_test false is = let apart : (i == q) ≡ false = grind (arith, nat_tests) in
+        was ∙ sym (hop_others setting journal row i t s near w ports can knows q apart)
 
   steps_of : (after : Flights) → WithOne state.travelling i (hop_flight w near ports t) after
       → s < length state.switches → w ≡ switch_of setting journal s
       → ((q : ℕ) → flight state.travelling q ≡ flight_in setting journal q)
       → ((k : ℕ) (d : SwitchValue) → k < length state.switches
-      → get_or state.switches k d ≡ switch_of setting journal k)
-      → Steps setting journal row (Hop i) items state.switches
-      (set state.switches s (hopped_switch w near t)) after
+      → get_or state.switches k d ≡ switch_of setting journal k) → Steps setting journal row (Hop i)
+      items state.switches (set state.switches s (hopped_switch w near t)) after
   steps_of after with there own packets each = record {
     may = may;
     piece_is = hop_piece setting journal row i t s near w ports can;
     not_told = refl;
     sends = sends;
     as_many = length-set state.switches s (hopped_switch w near t);
-    each = λ k d within.
-        one_changes setting journal (journal ++ all) state.switches s k (hopped_switch w near t) d
-        (s == k) refl there
+    each = λ k d within. one_changes setting journal (journal ++ all) state.switches s k
+        (hopped_switch w near t) d (s == k) refl there
         (ap (λ (u : SwitchValue). ended_switch (call_counted u) (hop_answer w near t.tunnel).end)
-        own
-        ∙ sym (hop_called setting journal row i t s near w ports can s true (eq-eqb s s refl)))
+        own ∙ sym (hop_called setting journal row i t s near w ports can s true (eq-eqb s s refl)))
         (hop_called setting journal row i t s near w ports can k false) (each k d within);
     travels = λ q. travels_then after with q (packets q);
   }
@@ -93,22 +86,17 @@ module _ {setting : Setting} {journal : List Item} {state : NetworkState}
         travelling = after;
         posts = state.posts ++ posts;
       } in
-      let kept : RefineJournal setting (journal ++ all) (with last (posts_in items)) =
-      refines_more refines (set state.switches s last) after state.packets row (Hop i) items
-      (steps_of after left there own (packets_are refines) (switches_are refines))
+      let kept = refines_more refines (set state.switches s last) after state.packets row (Hop i)
+      items (steps_of after left there own (packets_are refines) (switches_are refines))
       (omega (arith, hop_packets row i items (hop_later (next_message journal) w near ports t))) in
       subst (λ n. RefineJournal setting (journal ++ item.Row row (Hop i)
       ∷ hop_written n w near ports t) (with other (hop_posts w near ports t))) (numbered refines)
-      (subst (λ u. RefineJournal setting (journal ++ all) (with u (hop_posts w near ports t)))
-      (sym answered) (subst (λ more. RefineJournal setting (journal ++ all) (with last more))
-      (hop_sends (next_message journal) w near ports t).1 kept))
+      (rw answered (rw ((hop_sends (next_message journal) w near ports t).1) at kept))
 
   -- the piece of a hop, by what its switch is told
   pub hop_piece_of : piece setting journal row (Hop i) ≡ item.Row row (Hop i)
       ∷ hop_written (length state.posts + 1) w near ports t
-  hop_piece_of =
-      hop_piece setting journal row i t s near w ports can
-      ∙ ap (λ n. item.Row row (Hop i) ∷ hop_written n w near ports t) (numbered refines)
+  hop_piece_of = cc (hop_piece setting journal row i t s near w ports can, numbered refines)
 
 -- ---- a packet that doesn't travel
 
@@ -118,7 +106,6 @@ module _ {setting : Setting} {journal : List Item} {state : NetworkState}
       → is_some (flight state.travelling i) ≡ false
       → WroteOne setting journal row (Hop i) item.Nothing state
   hop_left row i may resting =
-      let off : travels journal i ≡ false =
-      sym (ap is_some (refines.packet i) ∙ travels_as setting journal i) ∙ resting in
+      let off = sym (ap is_some (refines.packet i) ∙ travels_as setting journal i) ∙ resting in
       nothing_happens refines row (Hop i) may
       (λ s. ap (λ x. x && is_at s (standing journal i)) off) (left_piece setting journal row i off)

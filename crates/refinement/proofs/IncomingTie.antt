@@ -26,8 +26,7 @@ module _ {setting : Setting} {journal : List Item} {state : NetworkState}
     (refines : RefineJournal setting journal state) where
   -- its number has 32 bits
   pub come_fits : next_packet journal ≤ 4000000000 → state.packets + 1 ≤ 4000000000
-  come_fits few = omega
-      (arith, refines.counted, few)
+  come_fits few = omega (arith, refines.counted, few)
 
   pub counted_is : next_packet journal ≡ state.packets + 1
   counted_is = refines.counted
@@ -82,10 +81,7 @@ module _ {setting : Setting} {journal : List Item} {state : NetworkState}
   -- what the switch answers is what the journal's definitions say
   piece_is : piece setting journal row taken ≡ first ∷ items
   unfolding piece
-  piece_is =
-      ap (λ n. first ∷ packet_items setting n s header (journal ++ first ∷ [])) is_new
-      ∙ ap (λ more. first ∷ more)
-      (come_law setting journal row i s taken header own near ports comes)
+  piece_is = cc (is_new, come_law setting journal row i s taken header own near ports comes)
 
   sends : SendFrom number items
   sends = (entered_sends number (coming_in i header s) answer).0
@@ -94,30 +90,26 @@ module _ {setting : Setting} {journal : List Item} {state : NetworkState}
   once_in = entered_once number (coming_in i header s) answer
 
   -- so the tie holds behind it
-  steps_of : (after : Flights) → s < length state.switches
-      → own ≡ switch_of setting journal s → WithOne state.travelling i (entered_flight answer) after
-      → Steps setting journal row taken items state.switches
-      (set state.switches s (call_counted own)) after
+  steps_of : (after : Flights) → s < length state.switches → own ≡ switch_of setting journal s
+      → WithOne state.travelling i (entered_flight answer) after → Steps setting journal row taken
+      items state.switches (set state.switches s (call_counted own)) after
   steps_of after there own_is with = record {
     may = may;
     piece_is = piece_is;
     not_told = refl;
     sends = sends;
     as_many = length-set state.switches s (call_counted own);
-    each = λ q d below.
-        one_changes setting journal (journal ++ first ∷ items) state.switches s q (call_counted own)
-        d (s == q) refl there (ap call_counted own_is
-        ∙ sym (come_called setting journal row number s (coming_in i header s) answer
-        true sends (eq-eqb s s refl)))
+    each = λ q d below. one_changes setting journal (journal ++ first ∷ items) state.switches s q
+        (call_counted own) d (s == q) refl there (ap call_counted own_is ∙ sym (come_called setting
+        journal row number s (coming_in i header s) answer true sends (eq-eqb s s refl)))
         (come_called setting journal row number q (coming_in i header s) answer false sends)
         (switches_are refines q d below);
-    travels = λ q. with q
-        ∙ come_along setting journal row number taken
+    travels = λ q. with q ∙ come_along setting journal row number taken
         (targets_of setting (looking journal row taken i s header)) (coming_in i header s) answer
         (flight state.travelling q) q (q == i) knows refl unknown unknown.found
-        (come_goes setting journal row i s taken header own near ports comes)
-        (λ leg. same_targets setting (journal ++ first ∷ []) (item.Entered i s header ∷ [])
-        (refl, tt) leg ∙ same_targets setting journal (first ∷ []) (refl, tt) leg)
+        (come_goes setting journal row i s taken header own near ports comes) (λ leg. same_targets
+        setting (journal ++ first ∷ []) (item.Entered i s header ∷ []) (refl, tt) leg
+        ∙ same_targets setting journal (first ∷ []) (refl, tt) leg)
         (refl, (are_apart number (journal ++ first ∷ []) items sends).policies)
         (packets_are refines q);
   }
@@ -130,10 +122,7 @@ module _ {setting : Setting} {journal : List Item} {state : NetworkState}
       ≡ item.Row row (PacketStep s header)
       ∷ entered_items (length state.posts + 1) (coming_in (state.packets + 1) header own.number)
       (entry own (slice_index state.near s) ports (state.packets + 1) header)
-  come_piece =
-      piece_is
-      ∙ ap (λ k. first ∷ entered_items number (coming_in i header k) answer) (sym number_is)
-      ∙ ap (λ n. first ∷ entered_items n at answer) (numbered refines)
+  come_piece = cc (piece_is, number_is, numbered refines)
 
   pub come_refines : (after : Flights) (changed : SwitchValue) → s < length state.switches
       → own ≡ switch_of setting journal s → changed ≡ call_counted own
@@ -145,28 +134,23 @@ module _ {setting : Setting} {journal : List Item} {state : NetworkState}
         switches = set state.switches s changed;
         travelling = after;
         packets = state.packets + 1;
-        posts = state.posts
-            ++ entered_posts (coming_in (state.packets + 1) header own.number)
+        posts = state.posts ++ entered_posts (coming_in (state.packets + 1) header own.number)
             (entry own (slice_index state.near s) ports (state.packets + 1) header);
       })
   come_refines after changed there own_is changed_is entered =
-      let sum = sum_by-cons (λ x. cond (is_packet x) 1 0) first items in
       let with : SwitchValue → List Post → NetworkState = λ counted posts. record state {
         switches = set state.switches s counted;
         travelling = after;
         packets = i;
         posts = state.posts ++ posts;
       } in
-      let kept : RefineJournal setting (journal ++ first ∷ items)
-      (with (call_counted own) (posts_in items)) =
-      refines_more refines (set state.switches s (call_counted own)) after i row taken items
-      (steps_of after there own_is entered) (omega (arith, sum, once_in)) in
       subst (λ n. RefineJournal setting (journal ++ first ∷ entered_items n at answer)
       (with changed (entered_posts at answer))) (numbered refines)
-      (subst (λ k. RefineJournal setting
-      (journal ++ first ∷ entered_items number (coming_in i header k) answer)
-      (with changed (entered_posts (coming_in i header k) answer))) (sym number_is)
-      (subst (λ u. RefineJournal setting (journal ++ first ∷ items)
-      (with u (entered_posts (coming_in i header s) answer))) (sym changed_is)
-      (subst (λ more. RefineJournal setting (journal ++ first ∷ items)
-      (with (call_counted own) more)) (entered_sends number (coming_in i header s) answer).1 kept)))
+      (subst (λ k. RefineJournal setting (journal ++ first ∷ entered_items number
+      (coming_in i header k) answer) (with changed (entered_posts (coming_in i header k) answer)))
+      (sym number_is) (subst (λ u. RefineJournal setting (journal ++ first ∷ items) (with u
+      (entered_posts (coming_in i header s) answer))) (sym changed_is) (subst (λ more. RefineJournal
+      setting (journal ++ first ∷ items) (with (call_counted own) more))
+      (entered_sends number (coming_in i header s) answer).1 (refines_more refines
+      (set state.switches s (call_counted own)) after i row taken items (steps_of after there own_is
+      entered) (omega (arith, sum_by-cons (λ x. cond (is_packet x) 1 0) first items, once_in))))))

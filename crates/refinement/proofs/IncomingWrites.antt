@@ -32,13 +32,12 @@ coming_packet : (journal : List Item) (row i s : ℕ) (taken : Step) (header : H
     → IsPacket (looking journal row taken i s header) (coming i header s)
 coming_packet journal row i s taken header unmarked =
     let own : (i == i) ≡ true = eq-eqb i i refl in
-    let first = facts_grow i journal (item.Row row taken) in
     let grown = facts_grow i (journal ++ item.Row row taken ∷ []) (item.Entered i s header) in
     record {
       entered = ap (λ facts. facts.header) grown ∙ rw own refl;
       came = ap (λ facts. facts.ingress) grown ∙ rw own refl;
-      found = ap (λ facts. facts.found) grown
-          ∙ rw own (ap (λ facts. facts.found) first ∙ unmarked);
+      found = ap (λ facts. facts.found) grown ∙ rw own
+          (ap (λ facts. facts.found) (facts_grow i journal (item.Row row taken)) ∙ unmarked);
     }
 
 -- where it enters, and what is known of its switch
@@ -95,58 +94,37 @@ module _ (setting : Setting) (journal : List Item) (row i s : ℕ) (taken : Step
   pub come_law : packet_items setting i s header (journal ++ item.Row row taken ∷ [])
       ≡ entered_items (next_message journal) (coming_in i header s) (entry w mask ports i header)
   unfolding packet_items admitted
-  come_law = by_serving (serves journal s) refl
-    where
-      answer : Bool → Option Answer
-      answer b = if b then Some (looked_up w (around mask ports) packet)
-          else None
+  come_law = by_serving (serves journal s) refl where
+    answer : Bool → Option Answer
+    answer b = if b then Some (looked_up w (around mask ports) packet) else None
 
-      items : Bool → List Item
-      items b = elim b [
-        | false ↦ item.Closed i s ∷ []
-        | true ↦ item.Entered i s header ∷ lookup_items setting i s full
-      ]
+    items : Bool → List Item
+    items b = elim b [
+      | false ↦ item.Closed i s ∷ []
+      | true ↦ item.Entered i s header ∷ lookup_items setting i s full
+    ]
 
-      by_serving : (b : Bool) → serves journal s ≡ b
-          → items (serves begun s)
-          ≡ entered_items (next_message journal) (coming_in i header s)
-          (if serves_now w then Some (looked_up w (around mask ports)
-          (incoming_packet w i header)) else None)
-      by_serving false off =
-          ap items (serving_begun ∙ off)
-          ∙ ap (λ b. entered_items (next_message journal) (coming_in i header s)
-          (if b then Some (looked_up w (around mask ports) (incoming_packet w i header))
-          else None)) (sym (comes.sees.serving ∙ off))
-      by_serving true on =
-          ap items (serving_begun ∙ on)
-          ∙ ap (λ more. item.Entered i s header ∷ more)
-          (looked_law setting full s w mask ports packet (asked on)
-          ∙ ap (λ n. answer_items n (coming_in i header s)
-          (looked_up w (around mask ports) packet)) same_number)
-          ∙ ap (λ (p : Packet). entered_items (next_message journal) (coming_in i header s)
-          (Some (looked_up w (around mask ports) p))) (sym same_packet)
-          ∙ ap (λ b. entered_items (next_message journal) (coming_in i header s)
-          (if b then Some (looked_up w (around mask ports) (incoming_packet w i header))
-          else None)) (sym (comes.sees.serving ∙ on))
+    by_serving : (b : Bool) → serves journal s ≡ b → items (serves begun s)
+        ≡ entered_items (next_message journal) (coming_in i header s) (if serves_now w
+        then Some (looked_up w (around mask ports) (incoming_packet w i header)) else None)
+    by_serving false off = cc (serving_begun, off, comes.sees.serving)
+    by_serving true on = ap items (serving_begun ∙ on) ∙ ap (λ more. item.Entered i s header
+        ∷ more) (looked_law setting full s w mask ports packet (asked on) ∙ ap (λ n. answer_items
+        n (coming_in i header s) (looked_up w (around mask ports) packet)) same_number)
+        ∙ ap (λ (p : Packet). entered_items (next_message journal) (coming_in i header s)
+        (Some (looked_up w (around mask ports) p))) (sym same_packet)
+        ∙ ap (λ b. entered_items (next_message journal) (coming_in i header s)
+        (if b then Some (looked_up w (around mask ports) (incoming_packet w i header)) else None))
+        (sym (comes.sees.serving ∙ on))
 
   -- and it goes on by it
   pub come_goes : GoesIn (targets_of setting (looking journal row taken i s header))
       (coming_in i header s) (entry w mask ports i header)
   unfolding admitted
-  come_goes = by_serving (serves journal s) refl
-    where
-      by_serving : (b : Bool) → serves journal s ≡ b
-          → GoesIn (targets_of setting full) (coming_in i header s)
-          (if serves_now w then Some (looked_up w (around mask ports)
-          (incoming_packet w i header)) else None)
-      by_serving false off =
-          subst (λ b. GoesIn (targets_of setting full) (coming_in i header s)
-          (if b then Some (looked_up w (around mask ports) (incoming_packet w i header))
-          else None)) (sym (comes.sees.serving ∙ off)) tt
-      by_serving true on =
-          subst (λ b. GoesIn (targets_of setting full) (coming_in i header s)
-          (if b then Some (looked_up w (around mask ports) (incoming_packet w i header))
-          else None)) (sym (comes.sees.serving ∙ on))
-          (subst (λ (p : Packet). GoesIn (targets_of setting full) (coming_in i header s)
-          (Some (looked_up w (around mask ports) p))) (sym same_packet)
-          (refl, looked_goes setting full s w mask ports packet (asked on)))
+  come_goes = by_serving (serves journal s) refl where
+    by_serving : (b : Bool) → serves journal s ≡ b
+        → GoesIn (targets_of setting full) (coming_in i header s) (if serves_now w
+        then Some (looked_up w (around mask ports) (incoming_packet w i header)) else None)
+    by_serving false off = rw (comes.sees.serving ∙ off) tt
+    by_serving true on = rw (comes.sees.serving ∙ on) (rw same_packet
+        (refl, looked_goes setting full s w mask ports packet (asked on)))

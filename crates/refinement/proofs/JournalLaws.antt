@@ -1,7 +1,7 @@
 -- What the laws say of a journal of steps of the network, and one more step of it.
 use Rattle.std.proofs.Common.{[], ◌++◌, ◌∙◌, ◌∷◌, ◌≡◌, Bool, List, Option, ap, arith, false, inl, length, refl, subst, sym, true, unwrap_or, ℕ}
 use Rattle.base.proofs.Exports.{All-push}
-use Rattle.update_machine.specs.Exports.{Exit, HaveCauses, IsReached, IsSetting, Item, Leg, Seek, Setting, Step, StepOfRow, after_steps, piece, targets_in, targets_of}
+use Rattle.update_machine.specs.Exports.{Exit, HaveCauses, IsReached, IsSetting, Item, Leg, Seek, Setting, Step, StepOfRow, after_steps, piece, targets_of}
 use Rattle.steps.specs.Exports.{IsStep}
 use Rattle.update_machine.proofs.Exports.{plan_stays}
 use Rattle.control_laws.specs.Exports.{HasItemCause, ServingHold, ServingIsKnown, StampsSayTouched}
@@ -29,9 +29,7 @@ pub reached_known : (setting : Setting) (journal : List Item) → IsSetting sett
     → IsReached setting journal → Known setting journal
 reached_known setting journal is reached =
     let settled : IsSettled setting journal = reached_settled setting journal is reached in
-    let caused : HaveCauses (HasItemCause setting) [] journal =
-    switches_of_all setting [] journal settled.causes in
-    record {
+    let caused = switches_of_all setting [] journal settled.causes in record {
       is = is;
       settled = settled;
       caused = caused;
@@ -50,8 +48,7 @@ reached_known setting journal is reached =
 -- ---- one more step
 
 after_more : (setting : Setting) (before : List Item) (steps : List StepOfRow) (last : StepOfRow)
-    → after_steps setting before (steps ++ last ∷ [])
-    ≡ after_steps setting before steps
+    → after_steps setting before (steps ++ last ∷ []) ≡ after_steps setting before steps
     ++ piece setting (after_steps setting before steps) last.row last.step
 after_more setting before [] last = refl
 after_more setting before (next ∷ steps) last =
@@ -97,21 +94,17 @@ leg_targets : (setting : Setting) (journal items : List Item) (facts : PacketFac
     → IsOnLeg setting journal facts on.under_way.header leg
     → targets_of setting (journal ++ items) leg ≡ targets_of setting journal leg
 leg_targets setting journal items facts (Seek version partition) knows on leg =
-    ap (λ plan. targets_in plan partition)
-    (plan_stays setting journal items version (caused_numbered setting journal knows.caused)
+    cc (plan_stays setting journal items version (caused_numbered setting journal knows.caused)
     (omega (arith, leg.current, (bounded setting journal knows.caused).there)))
 leg_targets setting journal items facts (Exit port) knows on leg = refl
 
 -- whatever items come that name no packet, also new versions: packets stay on their way
-pub flight_stays : (setting : Setting) (journal items : List Item) (i : ℕ)
-    → Known setting journal → NoneName i items
-    → flight_in setting (journal ++ items) i ≡ flight_in setting journal i
-flight_stays setting journal items i knows none =
-    flight_now setting (journal ++ items) i
+pub flight_stays : (setting : Setting) (journal items : List Item) (i : ℕ) → Known setting journal
+    → NoneName i items → flight_in setting (journal ++ items) i ≡ flight_in setting journal i
+flight_stays setting journal items i knows none = flight_now setting (journal ++ items) i
     ∙ ap (flight_by (targets_of setting (journal ++ items)) i)
     (facts_all i journal items ∙ unnamed i journal items (what_is_known journal i) none)
-    ∙ by_travels (what_is_known journal i).travels refl
-    ∙ sym (flight_now setting journal i)
+    ∙ by_travels (what_is_known journal i).travels refl ∙ sym (flight_now setting journal i)
   where
     by_travels : (b : Bool) → (what_is_known journal i).travels ≡ b
         → flight_by (targets_of setting (journal ++ items)) i (what_is_known journal i)
@@ -122,6 +115,5 @@ flight_stays setting journal items i knows none =
         (travels_known setting journal i knows on).way in
         by_targets (targets_of setting (journal ++ items)) (targets_of setting journal) i
         (what_is_known journal i)
-        (subst (λ (o : Option Leg). targets_of setting (journal ++ items) (unwrap_or o (Exit 0))
-        ≡ targets_of setting journal (unwrap_or o (Exit 0))) (sym way.takes)
+        (rw way.takes
         (leg_targets setting journal items (what_is_known journal i) way.leg knows way way.on_leg))

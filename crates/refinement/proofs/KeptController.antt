@@ -23,9 +23,7 @@ pub record StaysKnown (before after : List Item) (s : ℕ) : Type 0 where
 pub known_on : (before after : List Item) (s : ℕ) (known : SwitchRecord)
     → StaysKnown before after s → IsKnown before s known → IsKnown after s known
 known_on before after s known stays is =
-    let member : is_member after s ≡ is_member before s =
-    member_same before after s stays.over stays.opened in
-    record {
+    let member = member_same before after s stays.over stays.opened in record {
       boot = is.boot ∙ sym stays.boot;
       over = is.over ∙ sym stays.over;
       member = is.member ∙ sym member;
@@ -42,9 +40,7 @@ pub quiet_stays : (before : List Item) (next : Item) (s : ℕ)
     → is_over (before ++ next ∷ []) s ≡ is_over before s
     → open_sent s (known_boot before s) next ≡ [] → StaysKnown before (before ++ next ∷ []) s
 quiet_stays before next s heard known over none =
-    let opened : opened_at (before ++ next ∷ []) s ≡ opened_at before s =
-    opened_same before next s known none in
-    record {
+    let opened = opened_same before next s known none in record {
       boot = known;
       over = over;
       opened = opened;
@@ -55,11 +51,10 @@ quiet_stays before next s heard known over none =
 -- ---- all marks
 
 -- what is known of the switches stays, and the marks are what they are now
-pub stay_on : (setting : Setting) (before after : List Item) (marks : MarksValue)
-    (count current retired : ℕ) → ((s : ℕ) → StaysKnown before after s)
-    → count ≡ version_count after → current ≡ current_mark after
-    → retired ≡ retired_mark after → AreMarksOf setting before marks
-    → AreMarksOf setting after
+pub stay_on : (setting : Setting) (before after : List Item)
+    (marks : MarksValue) (count current retired : ℕ) → ((s : ℕ) → StaysKnown before after s)
+    → count ≡ version_count after → current ≡ current_mark after → retired ≡ retired_mark after
+    → AreMarksOf setting before marks → AreMarksOf setting after
     (record marks { count = count; current = current; retired = retired })
 stay_on setting before after marks count current retired stay counts is_current is_retired are =
     record {
@@ -67,16 +62,14 @@ stay_on setting before after marks count current retired stay counts is_current 
       current = is_current;
       retired = is_retired;
       many = are.many;
-      each = λ s there.
-          known_on before after s (record_of marks s) (stay s) (are.each s there);
+      each = λ s there. known_on before after s (record_of marks s) (stay s) (are.each s there);
     }
 
 pub marks_on : (setting : Setting) (before after : List Item) (marks : MarksValue)
     → ControllerKeeps before after → AreMarksOf setting before marks
     → AreMarksOf setting after marks
-marks_on setting before after marks keeps are =
-    stay_on setting before after marks marks.count marks.current marks.retired
-    (λ s. record {
+marks_on setting before after marks keeps are = stay_on setting before after marks marks.count
+    marks.current marks.retired (λ s. record {
       boot = keeps.known s;
       over = keeps.over s;
       opened = keeps.opened s;
@@ -89,8 +82,7 @@ marks_on setting before after marks keeps are =
 pub current_on : (setting : Setting) (journal : List Item) (version : ℕ) (marks : MarksValue)
     → AreMarksOf setting journal marks → AreMarksOf setting
     (journal ++ item.Current version ∷ []) (record marks { current = version })
-current_on setting journal version marks are =
-    let next : Item = item.Current version in
+current_on setting journal version marks are = let next : Item = item.Current version in
     stay_on setting journal (journal ++ next ∷ []) marks marks.count version marks.retired
     (λ s. quiet_stays journal next s (told_more journal next) (known_more journal next s)
     (over_more journal next s) refl) (are.count ∙ sym (count_more journal next))
@@ -100,8 +92,7 @@ current_on setting journal version marks are =
 pub retired_on : (setting : Setting) (journal : List Item) (version : ℕ) (marks : MarksValue)
     → AreMarksOf setting journal marks → AreMarksOf setting
     (journal ++ item.Retired version ∷ []) (record marks { retired = version })
-retired_on setting journal version marks are =
-    let next : Item = item.Retired version in
+retired_on setting journal version marks are = let next : Item = item.Retired version in
     stay_on setting journal (journal ++ next ∷ []) marks marks.count marks.current version
     (λ s. quiet_stays journal next s (told_more journal next) (known_more journal next s)
     (over_more journal next s) refl) (are.count ∙ sym (count_more journal next))
@@ -111,8 +102,7 @@ retired_on setting journal version marks are =
 pub count_on : (setting : Setting) (journal : List Item) (file version : ℕ) (marks : MarksValue)
     → AreMarksOf setting journal marks → AreMarksOf setting
     (journal ++ item.Submitted file version ∷ []) (record marks { count = marks.count + 1 })
-count_on setting journal file version marks are =
-    let next : Item = item.Submitted file version in
+count_on setting journal file version marks are = let next : Item = item.Submitted file version in
     stay_on setting journal (journal ++ next ∷ []) marks (marks.count + 1) marks.current
     marks.retired
     (λ s. quiet_stays journal next s (told_more journal next) (known_more journal next s)
@@ -122,13 +112,12 @@ count_on setting journal file version marks are =
     (are.retired ∙ sym (retired_more journal next)) are
 
 -- an item of which one switch's record is changed
-pub switch_on : (setting : Setting) (journal : List Item) (next : Item) (marks : MarksValue)
-    (s : ℕ) (change : SwitchRecord → SwitchRecord)
+pub switch_on : (setting : Setting) (journal : List Item)
+    (next : Item) (marks : MarksValue) (s : ℕ) (change : SwitchRecord → SwitchRecord)
     → version_count (journal ++ next ∷ []) ≡ version_count journal
     → current_mark (journal ++ next ∷ []) ≡ current_mark journal
     → retired_mark (journal ++ next ∷ []) ≡ retired_mark journal
-    → ((t : ℕ) → t ≢ s → StaysKnown journal (journal ++ next ∷ []) t)
-    → s < length marks.switches
+    → ((t : ℕ) → t ≢ s → StaysKnown journal (journal ++ next ∷ []) t) → s < length marks.switches
     → IsKnown (journal ++ next ∷ []) s (change (record_of marks s))
     → AreMarksOf setting journal marks
     → AreMarksOf setting (journal ++ next ∷ []) (at_switch s change marks)
@@ -138,16 +127,14 @@ switch_on setting journal next marks s change count current retired others there
   retired = are.retired ∙ sym retired;
   many = length-set marks.switches s (change (record_of marks s)) ∙ are.many;
   each = λ t below. elim (cases_eq t s) [
-    | inl same ↦ subst
-        (λ k. IsKnown (journal ++ next ∷ []) k (record_of (at_switch s change marks) k)) (sym same)
-        (subst (IsKnown (journal ++ next ∷ []) s)
-        (sym (get_or-set_same marks.switches s (change (record_of marks s)) unknown_switch there)) own)
+    | inl same ↦ rw same (subst (IsKnown (journal ++ next ∷ []) s)
+        (sym (get_or-set_same marks.switches s (change (record_of marks s)) unknown_switch there))
+        own)
     | inr other ↦
-        let long = length-set marks.switches s (change (record_of marks s)) in
         subst (IsKnown (journal ++ next ∷ []) t)
         (sym (get_or-set_other marks.switches s t (change (record_of marks s)) unknown_switch other))
-        (known_on journal (journal ++ next ∷ []) t (record_of marks t) (others t other)
-        (are.each t (omega (arith, below, long))))
+        (known_on journal (journal ++ next ∷ []) t (record_of marks t) (others t other) (are.each t
+        (omega (arith, below, length-set marks.switches s (change (record_of marks s))))))
   ];
 }
 
@@ -177,6 +164,5 @@ marks_begun setting =
       retired = sym start_laws.retired;
       many = many;
       each = λ s there. subst (IsKnown [] s)
-          (sym (get_or-replicate n s first_record unknown_switch (omega (arith, there, many))))
-          (known_first s);
+          (sym (get_or-replicate n s first_record unknown_switch (omega arith))) (known_first s);
     }

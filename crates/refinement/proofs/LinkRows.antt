@@ -25,33 +25,28 @@ use Rattle.refinement.proofs.LinksChange.{relinked_state, LinksChange, change_pi
 joined_up : (journal : List Item) (s k : ℕ) (link : LinkRow) → joins s k link ≡ true
     → is_up_link journal link ≡ is_link_up journal s k
 unfolding is_link_up
-joined_up journal s k link joined = by_order (link.one == s && link.two == k) refl joined
-  where
-    turned : is_link_up journal k s ≡ is_link_up journal s k
-    turned =
-        let low : min k s ≡ min s k = omega arith in
-        let high : max k s ≡ max s k = omega arith in
-        rw (low, high) refl
+joined_up journal s k link joined = by_order (link.one == s && link.two == k) refl joined where
+  turned : is_link_up journal k s ≡ is_link_up journal s k
+  turned =
+      let low : min k s ≡ min s k = omega arith in
+      let high : max k s ≡ max s k = omega arith in rw (low, high) refl
 
-    by_order : (b : Bool) → (link.one == s && link.two == k) ≡ b
-        → (b || (link.one == k && link.two == s)) ≡ true
-        → is_link_up journal link.one link.two ≡ is_link_up journal s k
-    by_order true e is =
-        let parts = and_parts (link.one == s) (link.two == k) e in
-        ap (λ x. is_link_up journal x link.two) (eqb-true link.one s parts.0)
-        ∙ ap (λ x. is_link_up journal s x) (eqb-true link.two k parts.1)
-    by_order false e is =
-        let parts = and_parts (link.one == k) (link.two == s) is in
-        ap (λ x. is_link_up journal x link.two) (eqb-true link.one k parts.0)
-        ∙ ap (λ x. is_link_up journal k x) (eqb-true link.two s parts.1) ∙ turned
+  by_order : (b : Bool) → (link.one == s && link.two == k) ≡ b
+      → (b || (link.one == k && link.two == s)) ≡ true
+      → is_link_up journal link.one link.two ≡ is_link_up journal s k
+  by_order true e is = let parts = and_parts (link.one == s) (link.two == k) e in
+      ap (λ x. is_link_up journal x link.two) (eqb-true link.one s parts.0)
+      ∙ ap (λ x. is_link_up journal s x) (eqb-true link.two k parts.1)
+  by_order false e is = let parts = and_parts (link.one == k) (link.two == s) is in
+      ap (λ x. is_link_up journal x link.two) (eqb-true link.one k parts.0)
+      ∙ ap (λ x. is_link_up journal k x) (eqb-true link.two s parts.1) ∙ turned
 
 -- two switches have a link that is up where they have one, and it is up
 up_linked : (setting : Setting) (journal : List Item) (s k : ℕ)
     → are_linked (up_links setting journal) s k
     ≡ (are_linked setting.net.links s k && is_link_up journal s k)
-up_linked setting journal s k =
-    any_filter_by (joins s k) (is_up_link journal) (is_link_up journal s k) (joined_up journal s k)
-    setting.net.links
+up_linked setting journal s k = any_filter_by (joins s k) (is_up_link journal)
+    (is_link_up journal s k) (joined_up journal s k) setting.net.links
 
 -- the lower and the higher switch are those of the link
 same_ends : (one two s k : ℕ) → (min one two == min s k && max one two == max s k)
@@ -97,9 +92,8 @@ untold journal one two true = refl
 untold journal one two false = refl
 
 link_piece : (setting : Setting) (journal : List Item) (row one two : ℕ) (up : Bool)
-    → piece setting journal row (link_step up one two)
-    ≡ item.Row row (link_step up one two) ∷ link_items setting journal one two up
-    (journal ++ item.Row row (link_step up one two) ∷ [])
+    → piece setting journal row (link_step up one two) ≡ item.Row row (link_step up one two)
+    ∷ link_items setting journal one two up (journal ++ item.Row row (link_step up one two) ∷ [])
 unfolding piece
 link_piece setting journal row one two true = refl
 link_piece setting journal row one two false = refl
@@ -117,8 +111,7 @@ same_items : (setting : Setting) (before journal : List Item) (one two : ℕ) (u
     → beq (is_link_up before one two) up ≡ true
     → link_items setting before one two up journal ≡ nothing
 unfolding link_items
-same_items setting before journal one two up same =
-    ap (items_if setting before journal one two up) same
+same_items setting before journal one two up same = cc same
 
 -- or it changes
 other_items : (setting : Setting) (before journal : List Item) (one two : ℕ) (up : Bool)
@@ -126,8 +119,7 @@ other_items : (setting : Setting) (before journal : List Item) (one two : ℕ) (
     ≡ item.LinkIs (min one two) (max one two) up
     ∷ link_changes setting before (journal ++ item.LinkIs (min one two) (max one two) up ∷ [])
 unfolding link_items
-other_items setting before journal one two up other =
-    ap (items_if setting before journal one two up) other
+other_items setting before journal one two up other = cc other
 
 -- ---- the tie
 
@@ -159,21 +151,17 @@ module _ {setting : Setting} {journal : List Item} {state : NetworkState}
 
   -- the mask of one end has the other one where the link is up
   end_is : has (get_or state.links one 0) two ≡ is_link_up journal one two
-  end_is =
-      ap (λ mask. has mask two) (refines.up one ends_below.0)
+  end_is = ap (λ mask. has mask two) (refines.up one ends_below.0)
       ∙ has_mask (are_linked (up_links setting journal) one) two ends_below.1
-      ∙ up_linked setting journal one two
-      ∙ ap (λ b. b && is_link_up journal one two) linked
+      ∙ up_linked setting journal one two ∙ ap (λ b. b && is_link_up journal one two) linked
 
   -- nothing happens where it is so already
   pub same_refines : beq (has (get_or state.links one 0) two) up ≡ true
       → WroteOne setting journal row step item.Nothing state
-  same_refines same =
-      nothing_happens refines row step may
-      (λ q. uncalled journal q row one two up) (link_piece setting journal row one two up
-      ∙ ap (λ items. item.Row row step ∷ items)
-      (same_items setting journal (journal ++ item.Row row step ∷ []) one two up
-      (ap (λ b. beq b up) (sym end_is) ∙ same)))
+  same_refines same = nothing_happens refines row step may (λ q. uncalled journal q row one two up)
+      (link_piece setting journal row one two up
+      ∙ ap (λ items. item.Row row step ∷ items) (same_items setting journal
+      (journal ++ item.Row row step ∷ []) one two up (ap (λ b. beq b up) (sym end_is) ∙ same)))
 
   module _ (links : List ℕ) (other : beq (has (get_or state.links one 0) two) up ≡ false)
       (sets : SetsLink state.links one two up links)
@@ -195,11 +183,9 @@ module _ {setting : Setting} {journal : List Item} {state : NetworkState}
 
     piece_so : piece setting journal row step
         ≡ item.Row row step ∷ first ∷ link_changes setting journal now
-    piece_so =
-        link_piece setting journal row one two up
-        ∙ ap (λ items. item.Row row step ∷ items)
-        (other_items setting journal (journal ++ item.Row row step ∷ []) one two up
-        (ap (λ b. beq b up) (sym end_is) ∙ other))
+    piece_so = link_piece setting journal row one two up
+        ∙ ap (λ items. item.Row row step ∷ items) (other_items setting journal
+        (journal ++ item.Row row step ∷ []) one two up (ap (λ b. beq b up) (sym end_is) ∙ other))
         ∙ ap (λ js. item.Row row step ∷ first ∷ link_changes setting journal js) split
 
     -- no switch hears of it but by its links
@@ -212,21 +198,18 @@ module _ {setting : Setting} {journal : List Item} {state : NetworkState}
 
     -- the switches that the link joins have one
     joined : (s k : ℕ) → joins s k link ≡ true → are_linked setting.net.links s k ≡ true
-    joined s k is = by_order (one == s && two == k) refl is
-      where
-        by_order : (b : Bool) → (one == s && two == k) ≡ b
-            → (b || (one == k && two == s)) ≡ true → are_linked setting.net.links s k ≡ true
-        by_order true e is =
-            let parts = and_parts (one == s) (two == k) e in
-            ap (λ x. are_linked setting.net.links x k) (sym (eqb-true one s parts.0))
-            ∙ ap (λ x. are_linked setting.net.links one x) (sym (eqb-true two k parts.1))
-            ∙ linked
-        by_order false e is =
-            let parts = and_parts (one == k) (two == s) is in
-            link_laws.both_ways setting.net.links s k
-            ∙ ap (λ x. are_linked setting.net.links x s) (sym (eqb-true one k parts.0))
-            ∙ ap (λ x. are_linked setting.net.links one x) (sym (eqb-true two s parts.1))
-            ∙ linked
+    joined s k is = by_order (one == s && two == k) refl is where
+      by_order : (b : Bool) → (one == s && two == k) ≡ b
+          → (b || (one == k && two == s)) ≡ true → are_linked setting.net.links s k ≡ true
+      by_order true e is = let parts = and_parts (one == s) (two == k) e in
+          ap (λ x. are_linked setting.net.links x k) (sym (eqb-true one s parts.0))
+          ∙ ap (λ x. are_linked setting.net.links one x) (sym (eqb-true two k parts.1))
+          ∙ linked
+      by_order false e is = let parts = and_parts (one == k) (two == s) is in
+          link_laws.both_ways setting.net.links s k
+          ∙ ap (λ x. are_linked setting.net.links x s) (sym (eqb-true one k parts.0))
+          ∙ ap (λ x. are_linked setting.net.links one x) (sym (eqb-true two s parts.1))
+          ∙ linked
 
     by_end : (j a was : Bool) → (j ≡ true → a ≡ true)
         → (if j then up else (a && was)) ≡ (a && (if j then up else was))
@@ -236,16 +219,13 @@ module _ {setting : Setting} {journal : List Item} {state : NetworkState}
 
     up_now : (s k : ℕ) → s < 64 → k < 64
         → has (get_or links s 0) k ≡ are_linked (up_links setting now) s k
-    up_now s k small below =
-        sets s k small below
+    up_now s k small below = sets s k small below
         ∙ ap (λ b. if joins s k link then up else b) (ap (λ mask. has mask k) (refines.up s small)
         ∙ has_mask (are_linked (up_links setting journal) s) k below
-        ∙ up_linked setting journal s k)
-        ∙ by_end (joins s k link) (are_linked setting.net.links s k) (is_link_up journal s k)
-        (joined s k)
+        ∙ up_linked setting journal s k) ∙ by_end (joins s k link)
+        (are_linked setting.net.links s k) (is_link_up journal s k) (joined s k)
         ∙ ap (λ b. are_linked setting.net.links s k && b)
-        (sym (up_behind journal row step one two s k up))
-        ∙ sym (up_linked setting now s k)
+        (sym (up_behind journal row step one two s k up)) ∙ sym (up_linked setting now s k)
 
     changes : LinksChange setting journal row step told state state.switches links state.posts
     changes = record {
@@ -260,9 +240,8 @@ module _ {setting : Setting} {journal : List Item} {state : NetworkState}
           (λ k small. up_now q k below small);
       relinks = λ q d below. links_refine.relinked setting q journal row step told (leaves q)
           ∙ ap (relinked_switch setting journal now q) (sym (refines.each q d below));
-      own = λ q d below changes.
-          links_refine.advert setting q journal row step told (leaves q) changes
-          ∙ ap (λ w. next_advert w (near setting now q)) (sym (refines.each q d below));
+      own = λ q d below changes. links_refine.advert setting q journal row step told (leaves q)
+          changes ∙ ap (λ w. next_advert w (near setting now q)) (sym (refines.each q d below));
     }
 
     abbrev messages : List Message
@@ -272,8 +251,7 @@ module _ {setting : Setting} {journal : List Item} {state : NetworkState}
         ≡ item.Row row step ∷ first ∷ sent_from (length state.posts + 1) messages
     set_piece = change_piece refines changes
 
-    pub set_may : length state.posts < 990_000
-        → MaySend state.posts messages
+    pub set_may : length state.posts < 990_000 → MaySend state.posts messages
     set_may = change_may refines changes
 
     -- the parts behind the step, where these are the switches

@@ -36,10 +36,9 @@ module _ {setting : Setting} {journal : List Item} {state : NetworkState}
       → IsStep setting.net (length setting.files) step
       → piece setting journal row step ≡ item.Row row step ∷ first ++ rest
       → HaveCauses (HasItemCause setting) [] (journal ++ item.Row row step ∷ first)
-  caused_first row step first rest may is =
-      have_front (HasItemCause setting) [] (journal ++ item.Row row step ∷ first) rest
-      (subst (HaveCauses (HasItemCause setting) []) (ap (λ items. journal ++ items) is
-      ∙ sym (append_assoc journal (item.Row row step ∷ first) rest))
+  caused_first row step first rest may is = have_front (HasItemCause setting) []
+      (journal ++ item.Row row step ∷ first) rest (rw (ap (λ items. journal ++ items) is
+      ∙ sym (append_assoc journal (item.Row row step ∷ first) rest)) at
       (reached_known setting (journal ++ piece setting journal row step) refines.sound
       (reached_more setting journal row step refines.reached may)).caused)
 
@@ -54,9 +53,7 @@ module _ {setting : Setting} {journal : List Item} {state : NetworkState}
 
   pub numbers_left : length state.posts < 990_000
       → All (λ (switch : SwitchValue). switch.seq < 2 ^ 32 - 1) state.switches
-  numbers_left room = λ q d below.
-      subst (λ (w : SwitchValue). w.seq < 2 ^ 32 - 1) (sym (refines.each q d below))
-      (next_left room q below).now
+  numbers_left room = λ q d below. rw (refines.each q d below) (next_left room q below).now
 
 -- ---- one switch is another one behind the first items, and the others hear nothing
 
@@ -82,44 +79,36 @@ module _ {setting : Setting} {journal : List Item} {state : NetworkState}
   pub one_relinks : switch_of setting behind s ≡ relinked_switch setting journal behind s changed
       → (q : ℕ) (d : SwitchValue) → q < length state.switches
       → switch_of setting behind q ≡ relinked_switch setting journal behind q (get_or with_one q d)
-  one_relinks own q d below = by_switch (s == q) refl
-    where
-      by_switch : (b : Bool) → (s == q) ≡ b
-          → switch_of setting behind q ≡ relinked_switch setting journal behind q
-          (get_or with_one q d)
-      by_switch true is =
-          subst (λ k. switch_of setting behind k
-          ≡ relinked_switch setting journal behind k (get_or with_one k d)) (eqb-true s q is)
-          (own ∙ ap (relinked_switch setting journal behind s) (sym (here d)))
-      by_switch false is =
-          links_refine.relinked setting q journal row step first (leaves q is)
-          ∙ ap (relinked_switch setting journal behind q) (stays q d is below)
+  one_relinks own q d below = by_switch (s == q) refl where
+    by_switch : (b : Bool) → (s == q) ≡ b → switch_of setting behind q
+        ≡ relinked_switch setting journal behind q (get_or with_one q d)
+    by_switch true is = subst (λ k. switch_of setting behind k
+        ≡ relinked_switch setting journal behind k (get_or with_one k d)) (eqb-true s q is)
+        (own ∙ ap (relinked_switch setting journal behind s) (sym (here d)))
+    by_switch false is = links_refine.relinked setting q journal row step first (leaves q is)
+        ∙ ap (relinked_switch setting journal behind q) (stays q d is below)
 
   pub one_advert : (has_changed setting journal behind s ≡ true
       → own_advert setting behind s ≡ next_advert changed (near setting behind s))
       → (q : ℕ) (d : SwitchValue) → q < length state.switches
       → has_changed setting journal behind q ≡ true
       → own_advert setting behind q ≡ next_advert (get_or with_one q d) (near setting behind q)
-  one_advert own q d below = by_switch (s == q) refl
-    where
-      by_switch : (b : Bool) → (s == q) ≡ b → has_changed setting journal behind q ≡ true
-          → own_advert setting behind q
-          ≡ next_advert (get_or with_one q d) (near setting behind q)
-      by_switch true is =
-          subst (λ k. has_changed setting journal behind k ≡ true → own_advert setting behind k
-          ≡ next_advert (get_or with_one k d) (near setting behind k)) (eqb-true s q is)
-          (λ changes. own changes ∙ ap (λ w. next_advert w (near setting behind s)) (sym (here d)))
-      by_switch false is = λ changes.
-          links_refine.advert setting q journal row step first (leaves q is) changes
-          ∙ ap (λ w. next_advert w (near setting behind q)) (stays q d is below)
+  one_advert own q d below = by_switch (s == q) refl where
+    by_switch : (b : Bool) → (s == q) ≡ b → has_changed setting journal behind q ≡ true
+        → own_advert setting behind q ≡ next_advert (get_or with_one q d) (near setting behind q)
+    by_switch true is =
+        subst (λ k. has_changed setting journal behind k ≡ true → own_advert setting behind k
+        ≡ next_advert (get_or with_one k d) (near setting behind k)) (eqb-true s q is)
+        (λ changes. own changes ∙ ap (λ w. next_advert w (near setting behind s)) (sym (here d)))
+    by_switch false is = λ changes.
+        links_refine.advert setting q journal row step first (leaves q is) changes
+        ∙ ap (λ w. next_advert w (near setting behind q)) (stays q d is below)
 
   pub one_next : length state.posts < 990_000
       → (HasNextSeq (switch_of setting journal s) → changed.seq < 2 ^ 32 - 1)
       → All (λ (switch : SwitchValue). switch.seq < 2 ^ 32 - 1) with_one
   one_next room own = λ q d below.
-      let there : q < length state.switches =
-      omega (arith, below, length-set state.switches s changed) in
-      by_switch q d (s == q) refl there
+      by_switch q d (s == q) refl (omega (arith, below, length-set state.switches s changed))
     where
       next : (q : ℕ) → q < length state.switches → HasNextSeq (switch_of setting journal q)
       next = next_left refines room
@@ -204,21 +193,17 @@ module _ {setting : Setting} {journal : List Item} {row : ℕ} {step : Step} {fi
 
   changes_are : link_changes setting journal now ≡ sent_from number messages
   unfolding link_changes
-  changes_are =
-      ap (λ k. sent_from k (flat_map (messages_of setting journal now)
+  changes_are = ap (λ k. sent_from k (flat_map (messages_of setting journal now)
       (filter (has_changed setting journal now) (switches_of setting))))
       (changes.bag.many ∙ ap (λ k. k + 1) changes.number)
       ∙ ap (sent_from number) (sym (told_now setting journal now links state.near others any can))
 
-  pub change_piece : piece setting journal row step ≡ item.Row row step ∷ first
-      ++ sent_from (length state.posts + 1)
-      (all_adverts_sent state.near (near_all links others) others)
+  pub change_piece : piece setting journal row step ≡ item.Row row step ∷ first ++ sent_from
+      (length state.posts + 1) (all_adverts_sent state.near (near_all links others) others)
   change_piece = changes.piece_is ∙ ap (λ items. item.Row row step ∷ first ++ items) changes_are
 
-  acts_piece : piece setting journal row step
-      ≡ item.Row row step ∷ first ++ act_items number acts
-  acts_piece = change_piece ∙ ap (λ items. item.Row row step ∷ first ++ items)
-      (sym (sent_as_acts number messages))
+  acts_piece : piece setting journal row step ≡ item.Row row step ∷ first ++ act_items number acts
+  acts_piece = cc (change_piece, sent_as_acts number messages)
 
   pub change_may : length state.posts < 990_000
       → MaySend posts (all_adverts_sent state.near (near_all links others) others)
@@ -241,20 +226,16 @@ module _ {setting : Setting} {journal : List Item} {row : ℕ} {step : Step} {fi
       → flight state.travelling i ≡ flight_in setting (journal ++ (item.Row row step ∷ first
       ++ act_items (length state.posts + 1)
       (map PostAct (all_adverts_sent state.near (near_all links others) others)))) i
-  unmoved none i = refines.packet i
-      ∙ sym (flight_stays setting journal all i
-      (reached_known setting journal refines.sound refines.reached)
-      (none_more i (item.Row row step ∷ first) (act_items number acts) (none i)
-      (acts_unnamed i number acts)))
+  unmoved none i = refines.packet i ∙ sym (flight_stays setting journal all i
+      (reached_known setting journal refines.sound refines.reached) (none_more i
+      (item.Row row step ∷ first) (act_items number acts) (none i) (acts_unnamed i number acts)))
 
-  pub change_refines : (later : List SwitchValue) (after : Flights)
-      → AreRelinked state.near (near_all links others) others later
-      → ((i : ℕ) → flight after i ≡ flight_in setting (journal ++ (item.Row row step ∷ first
-      ++ act_items (length state.posts + 1)
-      (map PostAct (all_adverts_sent state.near (near_all links others) others)))) i)
-      → RefineJournal setting (journal ++ (item.Row row step ∷ first
-      ++ sent_from (length state.posts + 1)
-      (all_adverts_sent state.near (near_all links others) others)))
+  pub change_refines : (later : List SwitchValue) (after : Flights) → AreRelinked state.near
+      (near_all links others) others later → ((i : ℕ) → flight after i
+      ≡ flight_in setting (journal ++ (item.Row row step ∷ first ++ act_items (length state.posts
+      + 1) (map PostAct (all_adverts_sent state.near (near_all links others) others)))) i)
+      → RefineJournal setting (journal ++ (item.Row row step ∷ first ++ sent_from
+      (length state.posts + 1) (all_adverts_sent state.near (near_all links others) others)))
       (relinked_state state others links posts later after)
   change_refines later after are travels =
       let left = links_left setting now number acts links (near_all links others) changes.up
@@ -268,9 +249,8 @@ module _ {setting : Setting} {journal : List Item} {row : ℕ} {step : Step} {fi
         may = changes.may;
         piece_is = acts_piece;
         as_many = are.as_many ∙ changes.as_many;
-        each = λ q d below. switches_now setting journal now links state.near others d can later
-            are q (omega (arith, below, changes.as_many))
-            ∙ sym (acts_leave setting now number acts q)
+        each = λ q d below. switches_now setting journal now links state.near others d can later are
+            q (omega (arith, below, changes.as_many)) ∙ sym (acts_leave setting now number acts q)
             ∙ ap (λ js. switch_of setting js q) split;
         travels = travels;
         counted = omega (
@@ -280,9 +260,7 @@ module _ {setting : Setting} {journal : List Item} {row : ℕ} {step : Step} {fi
           acts_bring_none number acts,
         );
         controller = controller_stays refines row step items acts_piece changes.not_told;
-        bag = subst (λ js. IsBagOf js (posts ++ act_posts acts)) split
-            (subst (λ more. IsBagOf (now ++ act_items number acts) (posts ++ more))
-            (acts_posted number acts)
+        bag = rw split at (rw (acts_posted number acts) at
             (bag_sends number now (act_items number acts) posts (acts_send number acts)
             (ap (λ k. k + 1) (sym changes.number) ∙ sym changes.bag.many) changes.bag));
         up = subst (λ js. AreUp setting js links) split left.0;

@@ -56,10 +56,7 @@ pub targets_are : (setting : Setting) (journal : List Item) (version partition :
     → slice_get (plan_at setting journal version) hosted.0.number ≡ Some hosted
     → hosted.0.number ≡ partition → hosted.1 ≡ targets
     → targets_of setting journal (Seek version partition) ≡ targets
-targets_are setting journal version partition targets hosted at number own =
-    ap (λ (o : Option Hosted). unwrap_or (option_map (λ p. p.1) o) [])
-    (ap (slice_get (plan_at setting journal version)) (sym number) ∙ at)
-    ∙ own
+targets_are setting journal version partition targets hosted at number own = cc (number, at, own)
 
 module _ (setting : Setting) (journal : List Item) (s : ℕ) (w : SwitchValue) (mask : ℕ)
     (ports : Ports) (packet : Packet) (asked : IsAsked setting journal s w mask ports packet) where
@@ -77,14 +74,12 @@ module _ (setting : Setting) (journal : List Item) (s : ℕ) (w : SwitchValue) (
 
   -- a cached rule decides
   cached_law : (tables : Tables) (entry : CacheEntry)
-      → answer_items (next_message journal) at
-      (answer_by w site packet tables (found.Cached entry))
+      → answer_items (next_message journal) at (answer_by w site packet tables (found.Cached entry))
       ≡ found_items setting packet.number s (found.Cached entry) journal
   unfolding answer_by sent_from
   cached_law tables entry =
       let decision : Decision = by_entry entry in
-      let decided : Item = item.Decided packet.number entry.version entry.rule entry.action
-      decision.how in
+      let decided = item.Decided packet.number entry.version entry.rule entry.action decision.how in
       ap (λ items. decided ∷ items)
       (sym (end_law setting (journal ++ decided ∷ []) s w mask
       (sees_one setting journal decided s w mask
@@ -92,9 +87,8 @@ module _ (setting : Setting) (journal : List Item) (s : ℕ) (w : SwitchValue) (
       packet decision (decided_facts journal packet decision asked.of_packet) entry.action refl))
 
   -- a rule of a partition decides, and the cache rule is sent, if one is
-  pub ruled_law : (version partition : ℕ)
-      (ours : IsOurs setting journal s packet.header version partition)
-      → answer_items (next_message journal) (at_switch s packet)
+  pub ruled_law : (version partition : ℕ) (ours : IsOurs setting journal s packet.header version
+      partition) → answer_items (next_message journal) (at_switch s packet)
       (decided_at w (around mask ports) packet version
       (part_numbered (tables_at setting journal version s) partition) ours.finds.place)
       ≡ authority_items setting packet.number s
@@ -106,8 +100,7 @@ module _ (setting : Setting) (journal : List Item) (s : ℕ) (w : SwitchValue) (
       let items_of : ℕ → Partition → Rule → List Item = λ number part rule.
       answer_items (next_message journal) at (Decided (by_rule number version part.number rule)
       (rule_for_cache number packet version part place) (next_of w site packet rule.action)) in
-      let own : part_numbered (tables_at setting journal version s) partition ≡ part =
-      own_numbered (plan_at setting journal version) s version partition ours.hosted
+      let own = own_numbered (plan_at setting journal version) s version partition ours.hosted
       ours.planned.parts.sound.numbers
       (ap (slice_get (plan_at setting journal version)) (sym ours.number) ∙ ours.finds.at)
       ours.number ours.target in
@@ -140,18 +133,16 @@ module _ (setting : Setting) (journal : List Item) (s : ℕ) (w : SwitchValue) (
         target = own.target;
       } in
       subst (λ k. answer_items (next_message journal) at (decided_at w site packet version
-      (part_numbered (tables_at setting journal version s) partition) k)
-      ≡ authority_items setting packet.number s
-      (authority_rule setting journal version partition k) journal) own.found_at
+      (part_numbered (tables_at setting journal version s) partition) k) ≡ authority_items setting
+      packet.number s (authority_rule setting journal version partition k) journal) own.found_at
       (ruled_law version partition ours)
   answer_law (found.Redirect partition targets) answer =
       let version : ℕ = stamp_of journal s in
       let leg : Leg = Seek version partition in
       let own : FindsTargets setting journal s packet.header partition targets =
       redirect_found setting journal s packet.header partition targets its_stamp asked.sound answer in
-      let are : targets_of setting journal leg ≡ targets =
-      targets_are setting journal version partition targets own.part.hosted own.part.finds.at
-      own.part.number own.own in
+      let are = targets_are setting journal version partition targets own.part.hosted
+      own.part.finds.at own.part.number own.own in
       seek_answers (next_message journal) at leg (set_out w mask packet leg targets)
       ∙ ap (λ these. set_item at leg (set_out w mask packet leg these) ∷ []) (sym are)
       ∙ sym (leg_law setting journal s w mask asked.sees packet (found_of journal packet asked.of_packet)
@@ -161,8 +152,7 @@ module _ (setting : Setting) (journal : List Item) (s : ℕ) (w : SwitchValue) (
       ≡ answer_items (next_message journal) (at_switch s packet)
       (looked_up w (around mask ports) packet)
   unfolding lookup_items looked_up
-  looked_law =
-      let what : Found = lookup_at setting journal s packet.header in
+  looked_law = let what : Found = lookup_at setting journal s packet.header in
       ap (λ header. found_items setting packet.number s (lookup_at setting journal s header)
       journal) (header_is journal packet.number packet.header asked.of_packet.entered)
       ∙ sym (answer_law what refl)

@@ -24,11 +24,10 @@ travels_on journal row i step = ap (λ facts. facts.travels)
 pub travels_as : (setting : Setting) (journal : List Item) (i : ℕ)
     → is_some (flight_in setting journal i) ≡ travels journal i
 unfolding flight_in
-travels_as setting journal i = by_case (travels journal i) _
-  where
-    by_case : {X : Type 0} (b : Bool) (x : X) → is_some (if b then Some x else None) ≡ b
-    by_case true x = refl
-    by_case false x = refl
+travels_as setting journal i = by_case (travels journal i) _ where
+  by_case : {X : Type 0} (b : Bool) (x : X) → is_some (if b then Some x else None) ≡ b
+  by_case true x = refl
+  by_case false x = refl
 
 -- what losing a packet writes
 pub lose_piece : (setting : Setting) (journal : List Item) (row i : ℕ)
@@ -36,9 +35,7 @@ pub lose_piece : (setting : Setting) (journal : List Item) (row i : ℕ)
     ≡ item.Row row (Lose i) ∷ (if travels journal i then item.Lost i ∷ [] else nothing)
 unfolding piece lose_items
 lose_piece setting journal row i =
-    ap (λ b. item.Row row (Lose i) ∷ elim b [ false ↦ nothing | true ↦ item.Lost i ∷ [] ])
-    (travels_on journal row i (Lose i))
-    ∙ by_case (travels journal i)
+    cc (travels_on journal row i (Lose i), by_case (travels journal i))
   where
     by_case : (b : Bool) → item.Row row (Lose i) ∷ elim b
         [ false ↦ nothing | true ↦ item.Lost i ∷ [] ]
@@ -69,19 +66,15 @@ module _ {setting : Setting} {journal : List Item} {state : NetworkState}
   -- so this is its piece
   pub lost_piece : is_some (flight state.travelling i) ≡ true
       → piece setting journal row (Lose i) ≡ item.Row row (Lose i) ∷ item.Lost i ∷ []
-  lost_piece travelling =
-      lose_piece setting journal row i
-      ∙ ap (λ b. item.Row row (Lose i) ∷ (if b then item.Lost i ∷ [] else nothing))
-      (travels_there ∙ travelling)
+  lost_piece travelling = cc (lose_piece setting journal row i, travels_there, travelling)
 
   -- without it the table is as the journal says then
   pub lost : (after : Flights) → IsStep setting.net (length setting.files) (Lose i)
       → is_some (flight state.travelling i) ≡ true → WithOne state.travelling i None after
       → RefineJournal setting (journal ++ item.Row row (Lose i) ∷ item.Lost i ∷ [])
       (record state { travelling = after })
-  lost after may travelling without =
-      refines_silent refines state.switches after state.packets row (Lose i) (item.Lost i ∷ [])
-      (record {
+  lost after may travelling without = refines_silent refines state.switches after state.packets row
+      (Lose i) (item.Lost i ∷ []) (record {
         may = may;
         piece_is = lost_piece travelling;
         not_told = refl;
@@ -89,8 +82,7 @@ module _ {setting : Setting} {journal : List Item} {state : NetworkState}
         as_many = refl;
         each = switches_stay refines (item.Row row (Lose i) ∷ item.Lost i ∷ [])
             (λ s. (refl, (refl, tt))) (λ s. (refl, (refl, tt)));
-        travels = λ q. without q
-            ∙ gone setting journal row i state.travelling q (q == i)
+        travels = λ q. without q ∙ gone setting journal row i state.travelling q (q == i)
             (reached_known setting journal refines.sound refines.reached) refl (refines.packet q);
       }) (omega arith) refl
 
@@ -98,7 +90,6 @@ module _ {setting : Setting} {journal : List Item} {state : NetworkState}
   pub not_lost : IsStep setting.net (length setting.files) (Lose i)
       → is_some (flight state.travelling i) ≡ false
       → WroteOne setting journal row (Lose i) item.Nothing state
-  not_lost may resting =
-      nothing_happens refines row (Lose i) may (λ q. refl) (lose_piece setting journal row i
-      ∙ ap (λ b. item.Row row (Lose i) ∷ (if b then item.Lost i ∷ [] else nothing))
-      (travels_there ∙ resting))
+  not_lost may resting = nothing_happens refines row (Lose i) may (λ q. refl)
+      (lose_piece setting journal row i ∙ ap (λ b. item.Row row (Lose i)
+      ∷ (if b then item.Lost i ∷ [] else nothing)) (travels_there ∙ resting))

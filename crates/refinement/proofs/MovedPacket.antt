@@ -118,38 +118,31 @@ module _ (setting : Setting) (journal : List Item) (row i s : ℕ) (header : Hea
   }
 
   stays_met : (two : ℕ) → Stays (met two)
-  stays_met two =
-      let one : Item = item.FoundDown i s two in
-      record {
-        caused = have_append (HasItemCause setting) [] begun (one ∷ []) stays_begun.caused
-            (tt, tt);
-        serving = (switch_keeps setting s begun (one ∷ []) (refl, tt)).serving
-            ∙ stays_begun.serving;
-        sees = sees_one setting begun one s w mask
-            (record { switch = refl; links = refl; policies = refl }) stays_begun.sees;
-        numbered = (messages_keep begun (one ∷ []) (refl, tt)).next ∙ stays_begun.numbered;
-        leads = λ leg. same_targets setting begun (one ∷ []) (refl, tt) leg
-            ∙ stays_begun.leads leg;
-        at_end = λ end. at_end_on setting begun (one ∷ []) s header leg (refl, tt)
-            (stays_begun.at_end end);
-      }
+  stays_met two = let one : Item = item.FoundDown i s two in record {
+    caused = have_append (HasItemCause setting) [] begun (one ∷ []) stays_begun.caused (tt, tt);
+    serving = (switch_keeps setting s begun (one ∷ []) (refl, tt)).serving ∙ stays_begun.serving;
+    sees = sees_one setting begun one s w mask
+        (record { switch = refl; links = refl; policies = refl }) stays_begun.sees;
+    numbered = (messages_keep begun (one ∷ []) (refl, tt)).next ∙ stays_begun.numbered;
+    leads = λ leg. same_targets setting begun (one ∷ []) (refl, tt) leg ∙ stays_begun.leads leg;
+    at_end = λ end. at_end_on setting begun (one ∷ []) s header leg (refl, tt)
+        (stays_begun.at_end end);
+  }
 
   stays_turned : (two : ℕ) (route : List ℕ) → Stays (turned two route)
-  stays_turned two route =
-      let one : Item = item.Rerouted i route in
-      record {
-        caused = have_append (HasItemCause setting) [] (met two) (one ∷ []) (stays_met two).caused
-            (tt, tt);
-        serving = (switch_keeps setting s (met two) (one ∷ []) (refl, tt)).serving
-            ∙ (stays_met two).serving;
-        sees = sees_one setting (met two) one s w mask
-            (record { switch = refl; links = refl; policies = refl }) (stays_met two).sees;
-        numbered = (messages_keep (met two) (one ∷ []) (refl, tt)).next ∙ (stays_met two).numbered;
-        leads = λ leg. same_targets setting (met two) (one ∷ []) (refl, tt) leg
-            ∙ (stays_met two).leads leg;
-        at_end = λ end. at_end_on setting (met two) (one ∷ []) s header leg (refl, tt)
-            ((stays_met two).at_end end);
-      }
+  stays_turned two route = let one : Item = item.Rerouted i route in record {
+    caused = have_append (HasItemCause setting) [] (met two) (one ∷ []) (stays_met two).caused
+        (tt, tt);
+    serving = (switch_keeps setting s (met two) (one ∷ []) (refl, tt)).serving
+        ∙ (stays_met two).serving;
+    sees = sees_one setting (met two) one s w mask
+        (record { switch = refl; links = refl; policies = refl }) (stays_met two).sees;
+    numbered = (messages_keep (met two) (one ∷ []) (refl, tt)).next ∙ (stays_met two).numbered;
+    leads = λ leg. same_targets setting (met two) (one ∷ []) (refl, tt) leg
+        ∙ (stays_met two).leads leg;
+    at_end = λ end. at_end_on setting (met two) (one ∷ []) s header leg (refl, tt)
+        ((stays_met two).at_end end);
+  }
 
   -- ---- the packet's facts there
 
@@ -163,16 +156,11 @@ module _ (setting : Setting) (journal : List Item) (row i s : ℕ) (header : Hea
   met_is two = facts_grow i begun (item.FoundDown i s two) ∙ rw (own i, facts_begun) refl
 
   abbrev facts_turned : ℕ → List ℕ → PacketFacts
-  facts_turned two route = record facts {
-    found = down two;
-    route = route;
-    hops = 0;
-  }
+  facts_turned two route = record facts { found = down two; route = route; hops = 0 }
 
   turned_is : (two : ℕ) (route : List ℕ)
       → what_is_known (turned two route) i ≡ facts_turned two route
-  turned_is two route =
-      facts_grow i (met two) (item.Rerouted i route) ∙ rw (own i, met_is two) refl
+  turned_is two route = facts_grow i (met two) (item.Rerouted i route) ∙ rw (own i, met_is two) refl
 
   -- ---- where it arrives
 
@@ -180,8 +168,7 @@ module _ (setting : Setting) (journal : List Item) (row i s : ℕ) (header : Hea
   AreNow now ws found = AreFactsNow (what_is_known journal i) header ingress leg i now ws found
 
   asked_now : (now : List Item) (ws : PacketFacts) (found : List ℕ) → Stays now
-      → AreNow now ws found
-      → IsAsked setting now s (call_counted w) mask ports (packet found)
+      → AreNow now ws found → IsAsked setting now s (call_counted w) mask ports (packet found)
   asked_now now ws found stays are = record {
     is = hops.stands.knows.is;
     caused = stays.caused;
@@ -199,12 +186,7 @@ module _ (setting : Setting) (journal : List Item) (row i s : ℕ) (header : Hea
 
   of_now : (now : List Item) (ws : PacketFacts) (found : List ℕ) → AreNow now ws found
       → AreOfFacts t.version t.rule ws
-  of_now now ws found are = record {
-    its_version = ap (λ d. unwrap_or (option_map (λ decision. decision.version) d) 0)
-        (sym are.decision);
-    its_rule = ap (λ d. unwrap_or (option_map (λ decision. decision.rule) d) None)
-        (sym are.decision);
-  }
+  of_now now ws found are = record { its_version = cc are.decision; its_rule = cc are.decision }
 
   -- the switch's answer is what the journal's definitions say
   arrival_is : (now : List Item) (ws : PacketFacts) (route : List ℕ) (k : ℕ) (found : List ℕ)
@@ -247,8 +229,7 @@ module _ (setting : Setting) (journal : List Item) (row i s : ℕ) (header : Hea
   arrival_stays : (route : List ℕ) (k : ℕ) (found : List ℕ)
       → stays_on_way (arrival_items number (call_counted w) mask ports (at_place route k found)) ≡ false
   unfolding arrival_items
-  arrival_stays route k found =
-      let u : Flight = at_place route k found in
+  arrival_stays route k found = let u : Flight = at_place route k found in
       arrived_still number (standing_at (call_counted w).number u) u
       (received (call_counted w) (around mask ports) u.tunnel)
 
@@ -258,14 +239,12 @@ module _ (setting : Setting) (journal : List Item) (row i s : ℕ) (header : Hea
   moved_to m = record t { tunnel = m.tunnel }
 
   abbrev written : ℕ → Option ℕ → Moved → List Item
-  written at found m =
-      turned_items i at found m.end m.tunnel.route
+  written at found m = turned_items i at found m.end m.tunnel.route
       ++ ended_items number (call_counted w) mask ports (moved_to m) m.end
 
   -- what it writes, where the packet is then, and how many calls it is
   abbrev Outcome : ℕ → Option ℕ → Moved → Type 0
-  Outcome at found m =
-      (move_items setting i s begun ≡ written at found m)
+  Outcome at found m = (move_items setting i s begun ≡ written at found m)
       × (ended_flight (call_counted w) mask ports (moved_to m) m.end
       ≡ flight_by targets i (facts_along i begun (written at found m) facts))
       × (stays_on_way (written at found m) ≡ stays_by m.end)
@@ -280,8 +259,7 @@ module _ (setting : Setting) (journal : List Item) (row i s : ℕ) (header : Hea
   ]
 
   next_is : next_switch begun i ≡ next t.tunnel
-  next_is = next_in begun i
-      ∙ ap (λ (ws : PacketFacts). slice_get ws.route (ws.hops + 1)) facts_begun
+  next_is = cc (next_in begun i, facts_begun)
 
   moves_are : (o : Option ℕ) → next t.tunnel ≡ o → move_items setting i s begun ≡ move_by o
   unfolding move_items
@@ -296,10 +274,9 @@ module _ (setting : Setting) (journal : List Item) (row i s : ℕ) (header : Hea
   -- it is at the end of its route
   arrives : next t.tunnel ≡ None → Outcome s None (move_answer t.tunnel None)
   arrives last = (
-    moves_are None last
-        ∙ arrival_is begun facts facts.route facts.hops facts.found stays_begun are_begun
-        (stays_begun.at_end (end_of_route setting journal s facts header leg hops.stands.knows
-        hops.stands.sound hops.stands.on_leg hops.stands.here last)),
+    moves_are None last ∙ arrival_is begun facts facts.route facts.hops facts.found stays_begun
+        are_begun (stays_begun.at_end (end_of_route setting journal s facts header leg
+        hops.stands.knows hops.stands.sound hops.stands.on_leg hops.stands.here last)),
     arrival_goes_on begun facts facts.route facts.hops facts.found stays_begun are_begun,
     arrival_stays facts.route facts.hops facts.found,
   )
@@ -308,11 +285,10 @@ module _ (setting : Setting) (journal : List Item) (row i s : ℕ) (header : Hea
   moves : (two : ℕ) → next t.tunnel ≡ Some two → has mask two ≡ true
       → Outcome s None (move_answer t.tunnel (Some two))
   moves two goes usable = (
-    moves_are (Some two) goes
-        ∙ ap (λ b. elim b [
-          | true ↦ item.Hopped i two ∷ []
-          | false ↦ items_then (item.FoundDown i s two ∷ []) (reroute_items setting i s) begun
-        ]) (links_are two true usable),
+    moves_are (Some two) goes ∙ ap (λ b. elim b [
+      | true ↦ item.Hopped i two ∷ []
+      | false ↦ items_then (item.FoundDown i s two ∷ []) (reroute_items setting i s) begun
+    ]) (links_are two true usable),
     search (rules, own i),
     refl,
   )
@@ -363,36 +339,27 @@ module _ (setting : Setting) (journal : List Item) (row i s : ℕ) (header : Hea
       → reroute_items setting i s (met two) ≡ reroute_by_route two o
   unfolding reroute_items
   reroutes two o is =
-      ap (λ l. reroute_by setting i s l (met two))
-      (leg_in_facts (met two) i ∙ ap (λ (ws : PacketFacts). ws.leg) (met_is two)
-      ∙ hops.stands.takes)
-      ∙ ap (reroute_by_route two) (route_met two ∙ is)
+      cc (leg_in_facts (met two) i, met_is two, hops.stands.takes, route_met two, is)
 
   blocked_items : (two : ℕ) (o : Option (List ℕ)) → next t.tunnel ≡ Some two
-      → has mask two ≡ false → route_down two leg ≡ o
-      → move_items setting i s begun
+      → has mask two ≡ false → route_down two leg ≡ o → move_items setting i s begun
       ≡ item.FoundDown i s two ∷ reroute_by_route two o
-  blocked_items two o goes off is =
-      moves_are (Some two) goes
-      ∙ ap (λ b. elim b [
-        | true ↦ item.Hopped i two ∷ []
-        | false ↦ items_then (item.FoundDown i s two ∷ []) (reroute_items setting i s) begun
-      ]) (links_are two false off)
+  blocked_items two o goes off is = moves_are (Some two) goes ∙ ap (λ b. elim b [
+    | true ↦ item.Hopped i two ∷ []
+    | false ↦ items_then (item.FoundDown i s two ∷ []) (reroute_items setting i s) begun
+  ]) (links_are two false off)
       ∙ ap (λ more. item.FoundDown i s two ∷ more) (reroutes two o is)
 
   abbrev written_stuck : ℕ → ℕ → Cause → List ℕ → List Item
-  written_stuck two n cause found =
-      item.FoundDown i s two ∷ item.Stuck i n cause leg found ∷ []
+  written_stuck two n cause found = item.FoundDown i s two ∷ item.Stuck i n cause leg found ∷ []
 
   -- there is no other route
-  stuck : (two : ℕ) → next t.tunnel ≡ Some two → has mask two ≡ false
-      → route_down two leg ≡ None
+  stuck : (two : ℕ) → next t.tunnel ≡ Some two → has mask two ≡ false → route_down two leg ≡ None
       → Outcome s (Some two) (moved_along w mask (tunnel_down two) None)
   stuck two goes off none = (
     blocked_items two None goes off none
         ∙ ap (λ found. written_stuck two s (cause_at setting (met two) s found leg) found)
-        (found_met two)
-        ∙ ap (λ cause. written_stuck two s cause (down two))
+        (found_met two) ∙ ap (λ cause. written_stuck two s cause (down two))
         (cause_law setting (met two) s w mask (stays_met two).sees (down two) leg
         ∙ ap (cause_of w mask (down two) leg) ((stays_met two).leads leg))
         ∙ ap (λ n. written_stuck two n (cause_of w mask (down two) leg (targets leg)) (down two))
@@ -401,11 +368,8 @@ module _ (setting : Setting) (journal : List Item) (row i s : ℕ) (header : Hea
     refl,
   )
 
-  next_turned : (two : ℕ) (route : List ℕ)
-      → next_switch (turned two route) i ≡ slice_get route 1
-  next_turned two route =
-      next_in (turned two route) i
-      ∙ ap (λ (ws : PacketFacts). slice_get ws.route (ws.hops + 1)) (turned_is two route)
+  next_turned : (two : ℕ) (route : List ℕ) → next_switch (turned two route) i ≡ slice_get route 1
+  next_turned two route = cc (next_in (turned two route) i, turned_is two route)
 
   abbrev go_by : ℕ → List ℕ → Option ℕ → List Item
   go_by two route o = elim o [
@@ -419,9 +383,7 @@ module _ (setting : Setting) (journal : List Item) (row i s : ℕ) (header : Hea
       → Outcome s (Some two)
       (move_answer (record (tunnel_down two) { route = route; place = 0 }) (Some other))
   detours two route other goes off is on = (
-    blocked_items two (Some route) goes off is
-        ∙ ap (λ o. item.FoundDown i s two ∷ item.Rerouted i route ∷ go_by two route o)
-        (next_turned two route ∙ on),
+    cc (blocked_items two (Some route) goes off is, next_turned two route, on),
     search (rules, own i),
     refl,
   )
@@ -434,26 +396,21 @@ module _ (setting : Setting) (journal : List Item) (row i s : ℕ) (header : Hea
       → route_down two l ≡ Some route → slice_get route 1 ≡ None
       → IsAtEnd setting journal s header l
   ends_there two route (Exit port) on is last =
-      let way : IsWay setting s (targets (Exit port)) (down two) route =
-      route_way setting journal s (targets (Exit port)) (down two) route links_there.links
+      let way = route_way setting journal s (targets (Exit port)) (down two) route links_there.links
       (sym (hops.sees.route (targets (Exit port)) (down two)) ∙ is) in
-      let home : owner setting port ≡ on.owner = ap (λ o. unwrap_or o no_switch) on.has_port in
-      on.has_port ∙ ap Some (sym home
+      on.has_port ∙ ap Some (sym (ap (λ o. unwrap_or o no_switch) on.has_port)
       ∙ sym (one_target way.leads.ends.target (owner setting port) way.leads.ends.own)
       ∙ sym (last_here route 0 s way.leads.ends.target way.begins last way.leads.ends.last))
   ends_there two route (Seek version partition) on is last =
-      let way : IsWay setting s (targets (Seek version partition)) (down two) route =
-      route_way setting journal s (targets (Seek version partition)) (down two) route
+      let way = route_way setting journal s (targets (Seek version partition)) (down two) route
       links_there.links
       (sym (hops.sees.route (targets (Seek version partition)) (down two)) ∙ is) in
-      let target : way.leads.ends.target ≡ s =
-      sym (last_here route 0 s way.leads.ends.target way.begins last way.leads.ends.last) in
-      let of : targets (Seek version partition) ≡ on.hosted.1 =
-      ap (λ (o : Option Hosted). unwrap_or (option_map (λ p. p.1) o) []) on.own.found in
       ours_of setting journal s facts header version partition hops.stands.knows
       hops.stands.sound on
-      (subst (λ all. IsTrue (list_any (nat_eq s) all)) of
-      (subst (λ k. IsTrue (list_any (nat_eq k) (targets (Seek version partition)))) target
+      (subst (λ all. IsTrue (list_any (nat_eq s) all))
+      (ap (λ (o : Option Hosted). unwrap_or (option_map (λ p. p.1) o) []) on.own.found)
+      (subst (λ k. IsTrue (list_any (nat_eq k) (targets (Seek version partition))))
+      (sym (last_here route 0 s way.leads.ends.target way.begins last way.leads.ends.last))
       way.leads.ends.own))
 
   are_turned : (two : ℕ) (route : List ℕ)
@@ -481,32 +438,27 @@ module _ (setting : Setting) (journal : List Item) (row i s : ℕ) (header : Hea
             (are_turned two route)
             ((stays_turned two route).at_end (ends_there two route leg hops.stands.on_leg is last))),
         arrival_goes_on now (facts_turned two route) route 0 (down two) (stays_turned two route)
-            (are_turned two route)
-            ∙ ap (flight_by targets i) (sym (turned_along two route items)),
+            (are_turned two route) ∙ ap (flight_by targets i) (sym (turned_along two route items)),
         arrival_stays route 0 (down two),
       )
 
   -- ---- all of it
 
   by_route : (two : ℕ) (o : Option (List ℕ)) → next t.tunnel ≡ Some two → has mask two ≡ false
-      → route_down two leg ≡ o
-      → Outcome s (Some two) (moved_along w mask (tunnel_down two) o)
+      → route_down two leg ≡ o → Outcome s (Some two) (moved_along w mask (tunnel_down two) o)
   by_route two None goes off is = stuck two goes off is
-  by_route two (Some route) goes off is = by_next (slice_get route 1) refl
-    where
-      by_next : (o : Option ℕ) → slice_get route 1 ≡ o
-          → Outcome s (Some two)
-          (move_answer (record (tunnel_down two) { route = route; place = 0 }) o)
-      by_next None last = arrives_there two route goes off is last
-      by_next (Some other) on = detours two route other goes off is on
+  by_route two (Some route) goes off is = by_next (slice_get route 1) refl where
+    by_next : (o : Option ℕ) → slice_get route 1 ≡ o → Outcome s (Some two)
+        (move_answer (record (tunnel_down two) { route = route; place = 0 }) o)
+    by_next None last = arrives_there two route goes off is last
+    by_next (Some other) on = detours two route other goes off is on
 
   by_outcome : (found : Option ℕ) (m : Moved) → found_by mask (next t.tunnel) ≡ found
       → hop_answer w mask t.tunnel ≡ m → Outcome s found m
       → Outcome w.number (found_by mask (next t.tunnel)) (hop_answer w mask t.tunnel)
   by_outcome found m found_it moved_it outcome =
       subst (λ n. Outcome n (found_by mask (next t.tunnel)) (hop_answer w mask t.tunnel))
-      (sym hops.sees.number)
-      (subst (λ f. Outcome s f (hop_answer w mask t.tunnel)) (sym found_it)
+      (sym hops.sees.number) (subst (λ f. Outcome s f (hop_answer w mask t.tunnel)) (sym found_it)
       (subst (Outcome s found) (sym moved_it) outcome))
 
   none_found : (o : Option ℕ) → next t.tunnel ≡ o → found_by mask (next t.tunnel) ≡ None
@@ -515,73 +467,53 @@ module _ (setting : Setting) (journal : List Item) (row i s : ℕ) (header : Hea
   none_found o is none = ap (hopped_to w mask t.tunnel) none ∙ ap (move_answer t.tunnel) is
 
   outcome : Outcome w.number (found_by mask (next t.tunnel)) (hop_answer w mask t.tunnel)
-  outcome = by_next (next t.tunnel) refl
-    where
-      by_link : (two : ℕ) (b : Bool) → next t.tunnel ≡ Some two → has mask two ≡ b
-          → Outcome w.number (found_by mask (next t.tunnel)) (hop_answer w mask t.tunnel)
-      by_link two true goes usable =
-          let none : found_by mask (next t.tunnel) ≡ None =
-          ap (found_by mask) goes ∙ rw usable refl in
-          by_outcome None (move_answer t.tunnel (Some two)) none (none_found (Some two) goes none)
-          (moves two goes usable)
-      by_link two false goes off =
-          by_outcome (Some two) (moved_along w mask (tunnel_down two) (route_down two leg))
-          (found_is two goes off) (blocked_is two goes off)
-          (by_route two (route_down two leg) goes off refl)
+  outcome = by_next (next t.tunnel) refl where
+    by_link : (two : ℕ) (b : Bool) → next t.tunnel ≡ Some two → has mask two ≡ b
+        → Outcome w.number (found_by mask (next t.tunnel)) (hop_answer w mask t.tunnel)
+    by_link two true goes usable = let none = ap (found_by mask) goes ∙ rw usable refl in
+        by_outcome None (move_answer t.tunnel (Some two)) none (none_found (Some two) goes none)
+        (moves two goes usable)
+    by_link two false goes off = by_outcome (Some two)
+        (moved_along w mask (tunnel_down two) (route_down two leg)) (found_is two goes off)
+        (blocked_is two goes off) (by_route two (route_down two leg) goes off refl)
 
-      by_next : (o : Option ℕ) → next t.tunnel ≡ o
-          → Outcome w.number (found_by mask (next t.tunnel)) (hop_answer w mask t.tunnel)
-      by_next None last =
-          let none : found_by mask (next t.tunnel) ≡ None = ap (found_by mask) last in
-          by_outcome None (move_answer t.tunnel None) none (none_found None last none)
-          (arrives last)
-      by_next (Some two) goes = by_link two (has mask two) goes refl
+    by_next : (o : Option ℕ) → next t.tunnel ≡ o
+        → Outcome w.number (found_by mask (next t.tunnel)) (hop_answer w mask t.tunnel)
+    by_next None last = let none : found_by mask (next t.tunnel) ≡ None = ap (found_by mask) last in
+        by_outcome None (move_answer t.tunnel None) none (none_found None last none)
+        (arrives last)
+    by_next (Some two) goes = by_link two (has mask two) goes refl
 
   -- where it arrives its switch is asked once more
   pub arrives_at_end : (hop_answer w mask (on_leg (targets_of setting journal) i
       (what_is_known journal i)
       header ingress leg).tunnel).end ≡ hop.Arrive → IsAtEnd setting journal s header leg
-  arrives_at_end arrive = by_next (next t.tunnel) refl
-    where
-      ended : (m : Moved) → hop_answer w mask t.tunnel ≡ m → m.end ≡ hop.Arrive
-      ended m is = ap (λ (m : Moved). m.end) (sym is) ∙ arrive
+  arrives_at_end arrive = by_next (next t.tunnel) refl where
+    ended : (m : Moved) → hop_answer w mask t.tunnel ≡ m → m.end ≡ hop.Arrive
+    ended m is = ap (λ (m : Moved). m.end) (sym is) ∙ arrive
 
-      by_link : (two : ℕ) (b : Bool) → next t.tunnel ≡ Some two → has mask two ≡ b
-          → IsAtEnd setting journal s header leg
-      by_link two true goes usable =
-          let none : found_by mask (next t.tunnel) ≡ None =
-          ap (found_by mask) goes ∙ rw usable refl in
-          let clash : hop.Move two ≡ hop.Arrive =
-          ended (move_answer t.tunnel (Some two)) (none_found (Some two) goes none) in
-          absurd cc
-      by_link two false goes off =
-          by_way (route_down two leg) refl
-        where
-          by_turn : (route : List ℕ) (o : Option ℕ) → route_down two leg ≡ Some route
-              → slice_get route 1 ≡ o → IsAtEnd setting journal s header leg
-          by_turn route None is last = ends_there two route leg hops.stands.on_leg is last
-          by_turn route (Some other) is on =
-              let clash : hop.Move other ≡ hop.Arrive =
-              ended (move_answer (record (tunnel_down two) { route = route; place = 0 })
-              (Some other))
-              (blocked_is two goes off ∙ ap (moved_along w mask (tunnel_down two)) is
-              ∙ ap (move_answer (record (tunnel_down two) { route = route; place = 0 })) on) in
-              absurd cc
+    by_link : (two : ℕ) (b : Bool) → next t.tunnel ≡ Some two → has mask two ≡ b
+        → IsAtEnd setting journal s header leg
+    by_link two true goes usable = absurd (cc (ended (move_answer t.tunnel (Some two))
+        (none_found (Some two) goes (ap (found_by mask) goes ∙ rw usable refl))))
+    by_link two false goes off = by_way (route_down two leg) refl where
+      by_turn : (route : List ℕ) (o : Option ℕ) → route_down two leg ≡ Some route
+          → slice_get route 1 ≡ o → IsAtEnd setting journal s header leg
+      by_turn route None is last = ends_there two route leg hops.stands.on_leg is last
+      by_turn route (Some other) is on =
+          absurd (cc (ended (move_answer (record (tunnel_down two) { route = route; place = 0 })
+          (Some other)) (blocked_is two goes off ∙ ap (moved_along w mask (tunnel_down two)) is
+          ∙ ap (move_answer (record (tunnel_down two) { route = route; place = 0 })) on)))
 
-          by_way : (o : Option (List ℕ)) → route_down two leg ≡ o
-              → IsAtEnd setting journal s header leg
-          by_way None none =
-              let clash : hop.Stuck (cause_of w mask (down two) leg (targets leg)) ≡ hop.Arrive =
-              ended (moved_along w mask (tunnel_down two) None)
-              (blocked_is two goes off ∙ ap (moved_along w mask (tunnel_down two)) none) in
-              absurd cc
-          by_way (Some route) is = by_turn route (slice_get route 1) is refl
+      by_way : (o : Option (List ℕ)) → route_down two leg ≡ o → IsAtEnd setting journal s header leg
+      by_way None none = absurd (cc (ended (moved_along w mask (tunnel_down two) None)
+          (blocked_is two goes off ∙ ap (moved_along w mask (tunnel_down two)) none)))
+      by_way (Some route) is = by_turn route (slice_get route 1) is refl
 
-      by_next : (o : Option ℕ) → next t.tunnel ≡ o → IsAtEnd setting journal s header leg
-      by_next None last =
-          end_of_route setting journal s facts header leg hops.stands.knows hops.stands.sound
-          hops.stands.on_leg hops.stands.here last
-      by_next (Some two) goes = by_link two (has mask two) goes refl
+    by_next : (o : Option ℕ) → next t.tunnel ≡ o → IsAtEnd setting journal s header leg
+    by_next None last = end_of_route setting journal s facts header leg hops.stands.knows
+        hops.stands.sound hops.stands.on_leg hops.stands.here last
+    by_next (Some two) goes = by_link two (has mask two) goes refl
 
   -- what it writes
   pub hop_law : move_items setting i s (journal ++ item.Row row (Hop i) ∷ [])
@@ -592,17 +524,14 @@ module _ (setting : Setting) (journal : List Item) (row i s : ℕ) (header : Hea
   -- where the packet is then
   pub hop_goes : hop_flight w mask ports
       (on_leg (targets_of setting journal) i (what_is_known journal i) header ingress leg)
-      ≡ flight_by (targets_of setting journal) i
-      (facts_along i (journal ++ item.Row row (Hop i) ∷ [])
-      (hop_written (next_message journal) w mask ports
-      (on_leg (targets_of setting journal) i (what_is_known journal i) header ingress leg))
-      (what_is_known journal i))
+      ≡ flight_by (targets_of setting journal) i (facts_along i (journal ++ item.Row row (Hop i)
+      ∷ []) (hop_written (next_message journal) w mask ports (on_leg (targets_of setting journal) i
+      (what_is_known journal i) header ingress leg)) (what_is_known journal i))
   hop_goes = outcome.1
 
   -- and whether its switch is called once or twice
   pub hop_stays : stays_on_way (hop_written (next_message journal) w mask ports
       (on_leg (targets_of setting journal) i (what_is_known journal i) header ingress leg))
       ≡ stays_by (hop_answer w mask (on_leg (targets_of setting journal) i (what_is_known journal i)
-      header
-      ingress leg).tunnel).end
+      header ingress leg).tunnel).end
   hop_stays = outcome.2

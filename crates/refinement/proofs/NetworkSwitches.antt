@@ -8,13 +8,11 @@ use Rattle.refinement.specs.Exports.{NetworkState, RefineJournal, switch_of}
 module _ {setting : Setting} {journal : List Item} {state : NetworkState}
     (refines : RefineJournal setting journal state) where
   -- a switch of the network is there
-  pub switch_there : (s : ℕ) → HasSwitch setting.net s
-      → s < length state.switches
+  pub switch_there : (s : ℕ) → HasSwitch setting.net s → s < length state.switches
   switch_there s own = omega (arith, own, refines.many)
 
   -- the controller knows it
-  pub switch_known : (s : ℕ) → HasSwitch setting.net s
-      → s < length state.controller.marks.switches
+  pub switch_known : (s : ℕ) → HasSwitch setting.net s → s < length state.controller.marks.switches
   switch_known s own = omega (arith, own, refines.controller.marks.many)
 
   -- it is as the journal says

@@ -20,9 +20,8 @@ pub find_kept : (setting : Setting) (journal : List Item) (low many version : �
 find_kept setting journal low zero version above below = absurd (omega (arith, above, below))
 find_kept setting journal low (suc many) version above below = elim (cases_eq low version) [
   | inl same ↦ rw (eq-eqb low version same) (ap (λ v. Some (plan_to_keep setting journal v)) same)
-  | inr apart ↦ rw (ne_eqb low version apart)
-      (find_kept setting journal (low + 1) many version (omega (arith, above, apart))
-      (omega (arith, below)))
+  | inr apart ↦ rw (ne_eqb low version apart) (find_kept setting journal (low + 1) many version
+      (omega (arith, above, apart)) (omega (arith, below)))
 ]
 
 -- the newest version has a plan, so its policy is there
@@ -32,11 +31,9 @@ pub newest_in : (setting : Setting) (journal : List Item) (controller : Controll
 newest_in setting journal controller is have refines =
     ap (option_map (λ (kept : KeptPlan). kept.plan.policy))
     (ap (λ n. find (is_of n) controller.plans) refines.marks.count
-    ∙ ap (find (is_of (version_count journal))) refines.plans
-    ∙ find_kept setting journal (current_mark journal)
-    (version_count journal + 1 - current_mark journal) (version_count journal) marks.there
-    (omega (arith, marks.there)))
-    ∙ sym planned.policy
+    ∙ ap (find (is_of (version_count journal))) refines.plans ∙ find_kept setting journal
+    (current_mark journal) (version_count journal + 1 - current_mark journal)
+    (version_count journal) marks.there (omega (arith, marks.there))) ∙ sym planned.policy
   where
     marks : MarksAreBounded setting journal
     marks = bounded setting journal have

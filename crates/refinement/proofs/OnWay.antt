@@ -23,8 +23,7 @@ tunnel_on targets i header ingress leg route place down = record {
 }
 
 -- what is known of it with these facts, wherever it stands
-abbrev pub on_route_of : Targets → ℕ → PacketFacts → Header → ℕ → Leg → List ℕ → ℕ → List ℕ
-    → Flight
+abbrev pub on_route_of : Targets → ℕ → PacketFacts → Header → ℕ → Leg → List ℕ → ℕ → List ℕ → Flight
 on_route_of targets i facts header ingress leg route place down = record {
   tunnel = tunnel_on targets i header ingress leg route place down;
   version = unwrap_or (option_map (λ decision. decision.version) facts.decision) 0;
@@ -43,15 +42,13 @@ known_by targets i facts header ingress leg on its came takes = rw (on, its, cam
 
 travels_by : (targets : Targets) (i : ℕ) (facts : PacketFacts) (t : Flight)
     → flight_by targets i facts ≡ Some t → facts.travels ≡ true
-travels_by targets i facts t is = by_case facts.travels _ t is
-  where
-    by_case : (b : Bool) (x t : Flight) → (if b then Some x else None) ≡ Some t → b ≡ true
-    by_case true x t is = refl
-    by_case false x t is = absurd cc
+travels_by targets i facts t is = by_case facts.travels _ t is where
+  by_case : (b : Bool) (x t : Flight) → (if b then Some x else None) ≡ Some t → b ≡ true
+  by_case true x t is = refl
+  by_case false x t is = absurd cc
 
 pub got : (xs : List ℕ) (k x : ℕ) → slice_get xs k ≡ Some x → get_or xs k 0 ≡ x
-got xs k x is =
-    let within : k < length xs = slice_get_within xs k x is in
+got xs k x is = let within : k < length xs = slice_get_within xs k x is in
     some_same (slice_get xs k) (get_or xs k 0) x (slice_get-get_or xs k 0 within) is
 
 -- a packet that stands at a place of its route, at a switch that serves
@@ -84,9 +81,8 @@ serves_here : (setting : Setting) (journal : List Item) (i s : ℕ) → IsServed
     → (what_is_known journal i).stands ≡ Some s → IsTrue (serves journal s)
 unfolding what_is_known
 serves_here setting journal i s served stands =
-    let same : served.switch ≡ s =
-    some_same (what_is_known journal i).stands served.switch s served.stands stands in
-    rw (sym same) served.serving
+    rw (sym (some_same (what_is_known journal i).stands served.switch s served.stands stands))
+    served.serving
 
 pub standing_by : (setting : Setting) (journal : List Item) (i : ℕ) (t : Flight)
     → Known setting journal
@@ -97,8 +93,7 @@ standing_by setting journal i t knows by =
     let targets : Targets = targets_of setting journal in
     let on : facts.travels ≡ true = travels_by targets i facts t by in
     let travelling : Travels setting journal i = travels_known setting journal i knows on in
-    let way : IsOnWay setting journal facts = travelling.way in
-    record {
+    let way : IsOnWay setting journal facts = travelling.way in record {
       switch = way.under_way.switch;
       header = way.under_way.header;
       ingress = way.under_way.ingress;

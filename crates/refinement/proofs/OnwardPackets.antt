@@ -25,22 +25,17 @@ use Rattle.refinement.proofs.FactsAlong.{Targets, flight_by, facts_along}
 
 -- ---- once it is decided
 
-exit_goes : (setting : Setting) (journal : List Item) (s : SwitchValue) (near : ℕ) (packet : Packet) (at : ℕ)
-    (port its : ℕ)
-    (decision : Decision) (cause : Cause) (route : Option (List ℕ))
-    → decision.action ≡ action.Out port → owner setting port ≡ its
-    → GoesOnward (targets_of setting journal) (at_switch at packet) packet.ingress decision
-    (exit_by (ok_or (option_map (λ way. tunnel_begun packet.number packet.header packet.ingress
-    (Exit port) (its ∷ []) way packet.down) route) cause))
+exit_goes : (setting : Setting) (journal : List Item) (s : SwitchValue) (near : ℕ) (packet : Packet)
+    (at : ℕ) (port its : ℕ) (decision : Decision) (cause : Cause) (route : Option (List ℕ))
+    → decision.action ≡ action.Out port
+    → owner setting port ≡ its → GoesOnward (targets_of setting journal) (at_switch at packet)
+    packet.ingress decision (exit_by (ok_or (option_map (λ way. tunnel_begun packet.number
+    packet.header packet.ingress (Exit port) (its ∷ []) way packet.down) route) cause))
 exit_goes setting journal s near packet at port its decision cause None acts owns = tt
 exit_goes setting journal s near packet at port its decision cause (Some route) acts owns = (
   port,
   acts,
-  record {
-    route = route;
-    is = ap (λ o. tunnel_begun packet.number packet.header packet.ingress (Exit port) (o ∷ []) route
-        packet.down) (sym owns);
-  },
+  record { route = route; is = cc owns },
 )
 
 leave_goes : (setting : Setting) (journal : List Item) (s : SwitchValue) (near : ℕ) (packet : Packet) (at : ℕ) (port : ℕ)
@@ -51,15 +46,12 @@ leave_goes : (setting : Setting) (journal : List Item) (s : SwitchValue) (near :
 unfolding leave_by set_out
 leave_goes setting journal s near packet at port decision None acts owns = tt
 leave_goes setting journal s near packet at port decision (Some its) acts owns =
-    by_place (its == s.number)
-    (exit_goes setting journal s near packet at port its decision
-    (cause_of s near packet.down (Exit port) (its ∷ []))
-    (route_of s.database s.number (its ∷ []) near packet.down) acts
-    (ap (λ o. unwrap_or o no_switch) owns))
+    by_place (its == s.number) (exit_goes setting journal s near packet at port its decision
+    (cause_of s near packet.down (Exit port) (its ∷ [])) (route_of s.database s.number
+    (its ∷ []) near packet.down) acts (ap (λ o. unwrap_or o no_switch) owns))
   where
-    by_place : (here : Bool)
-        → GoesOnward (targets_of setting journal) (at_switch at packet) packet.ingress decision
-        (exit_by (set_out s near packet (Exit port) (its ∷ [])))
+    by_place : (here : Bool) → GoesOnward (targets_of setting journal) (at_switch at packet)
+        packet.ingress decision (exit_by (set_out s near packet (Exit port) (its ∷ [])))
         → GoesOnward (targets_of setting journal) (at_switch at packet) packet.ingress decision
         (if here then Out port else exit_by (set_out s near packet (Exit port) (its ∷ [])))
     by_place true goes = tt
@@ -102,15 +94,13 @@ seek_goes targets packet s version partition to cause (Some route) is = record {
   version = version;
   partition = partition;
   route = route;
-  is = ap (λ t. tunnel_begun packet.number packet.header packet.ingress (Seek version partition) t route
-      packet.down) (sym is);
+  is = cc is;
 }
 
 -- by a rule of a partition of the switch's own
 pub ruled_goes : (setting : Setting) (journal : List Item) (s version place : ℕ) (w : SwitchValue)
-    (mask : ℕ) (ports : Ports) (packet : Packet) (part : Partition)
-    → AreOwners setting.net.switches ports
-    → IsComing (targets_of setting journal) (at_switch s packet)
+    (mask : ℕ) (ports : Ports) (packet : Packet) (part : Partition) → AreOwners setting.net.switches
+    ports → IsComing (targets_of setting journal) (at_switch s packet)
     (decided_at w (around mask ports) packet version part place)
 unfolding decided_at
 ruled_goes setting journal s version place w mask ports packet part owners =
@@ -124,9 +114,8 @@ module _ (setting : Setting) (journal : List Item) (s : ℕ) (w : SwitchValue) (
   leads = targets_of setting journal
 
   found_goes : (what : Found) → lookup_at setting journal s packet.header ≡ what
-      → IsComing leads (at_switch s packet)
-      (answer_by w (around mask ports) packet (tables_at setting journal (stamp_of journal s) s)
-      what)
+      → IsComing leads (at_switch s packet) (answer_by w (around mask ports) packet
+      (tables_at setting journal (stamp_of journal s) s) what)
   unfolding answer_by set_out
   found_goes (found.Cached entry) answer =
       next_goes setting journal w mask ports packet s (by_entry entry) entry.action asked.owners refl
@@ -135,8 +124,7 @@ module _ (setting : Setting) (journal : List Item) (s : ℕ) (w : SwitchValue) (
       (part_numbered (tables_at setting journal (stamp_of journal s) s) partition) asked.owners
   found_goes (found.Redirect partition to) answer =
       let version : ℕ = stamp_of journal s in
-      let own : FindsTargets setting journal s packet.header partition to =
-      redirect_found setting journal s packet.header partition to
+      let own = redirect_found setting journal s packet.header partition to
       (its_stamp setting journal s w mask ports packet asked) asked.sound answer in
       seek_goes leads packet s version partition to
       (cause_of w mask packet.down (Seek version partition) to)
@@ -147,14 +135,11 @@ module _ (setting : Setting) (journal : List Item) (s : ℕ) (w : SwitchValue) (
   pub looked_goes : IsComing (targets_of setting journal) (at_switch s packet)
       (looked_up w (around mask ports) packet)
   unfolding looked_up
-  looked_goes =
-      let what : Found = lookup_at setting journal s packet.header in
+  looked_goes = let what : Found = lookup_at setting journal s packet.header in
       subst (λ f. IsComing leads (at_switch s packet)
       (answer_by w (around mask ports) packet (stamp_tables w) f))
       (sym (asked.sees.lookup packet.header asked.serving))
-      (subst (λ t. IsComing leads (at_switch s packet)
-      (answer_by w (around mask ports) packet t what)) (sym (asked.sees.stamped asked.serving))
-      (found_goes what refl))
+      (rw (asked.sees.stamped asked.serving) (found_goes what refl))
 
 -- ---- so what is known of it then is what the items say
 
@@ -172,18 +157,15 @@ by_way : (targets : Targets) (before : List Item) (number : ℕ) (at : Standing)
     ≡ flight_by targets at.packet
     (facts_along at.packet before (answer_items number at (answer.Seek tunnel)) facts))
 by_way targets before number at version partition route facts seen =
-    let own : (at.packet == at.packet) ≡ true = eq-eqb _ _ refl in
-    rw (own, seen.on, seen.header, seen.came, seen.found) refl
+    rw ((eq-eqb _ _ refl), seen.on, seen.header, seen.came, seen.found) refl
 
 pub answer_goes : (targets : Targets) (before : List Item) (number : ℕ) (at : Standing)
     (version : ℕ) (rule : Option ℕ) (what : Answer) (facts : PacketFacts)
     → IsSeen at at.ingress facts → AreOfFacts version rule facts → IsComing targets at what
     → answer_flight version rule what
-    ≡ flight_by targets at.packet
-    (facts_along at.packet before (answer_items number at what) facts)
+    ≡ flight_by targets at.packet (facts_along at.packet before (answer_items number at what) facts)
 answer_goes targets before number at version rule (answer.Decided decision cache onward) facts seen
-    of comes =
-    decided_goes targets before
+    of comes = decided_goes targets before
     (sent_from number (message_list (cache_message at.ingress cache))) at at.ingress decision onward
     facts (sends_unnamed at.packet number (cache_message at.ingress cache)) seen comes
 answer_goes targets before number at version rule (answer.Seek tunnel) facts seen of comes =
@@ -191,41 +173,30 @@ answer_goes targets before number at version rule (answer.Seek tunnel) facts see
     ≡ flight_by targets at.packet
     (facts_along at.packet before (answer_items number at (answer.Seek t)) facts) in
     subst (λ v. P v rule tunnel) (sym of.its_version)
-    (subst (λ r. P (unwrap_or (option_map (λ decision. decision.version) facts.decision) 0) r
-    tunnel) (sym of.its_rule)
-    (subst (P (unwrap_or (option_map (λ decision. decision.version) facts.decision) 0)
-    (unwrap_or (option_map (λ decision. decision.rule) facts.decision) None)) (sym comes.is)
+    (rw of.its_rule (rw comes.is
     (by_way targets before number at comes.version comes.partition comes.route facts seen)))
 answer_goes targets before number at version rule (answer.Stuck cause leg) facts seen of comes =
-    let own : (at.packet == at.packet) ≡ true = eq-eqb _ _ refl in
-    rw own refl
+    rw (eq-eqb _ _ refl) refl
 
 -- a packet that just entered
 abbrev pub GoesIn : Targets → Standing → Option Answer → Type 0
 GoesIn targets at None = ⊤
-GoesIn targets at (Some what) =
-    (at.ingress ≡ at.switch) × IsComing targets at what
+GoesIn targets at (Some what) = (at.ingress ≡ at.switch) × IsComing targets at what
 
-pub entered_goes : (targets : Targets) (before : List Item) (number : ℕ) (at : Standing)
-    (what : Option Answer) (facts : PacketFacts) → IsUnknown facts → facts.found ≡ at.down
-    → GoesIn targets at what
-    → entered_flight what
-    ≡ flight_by targets at.packet
-    (facts_along at.packet before (entered_items number at what) facts)
-entered_goes targets before number at None facts unknown unmarked comes =
-    rw unknown.travels refl
+pub entered_goes : (targets : Targets) (before : List Item)
+    (number : ℕ) (at : Standing) (what : Option Answer) (facts : PacketFacts) → IsUnknown facts
+    → facts.found ≡ at.down → GoesIn targets at what → entered_flight what ≡ flight_by targets
+    at.packet (facts_along at.packet before (entered_items number at what) facts)
+entered_goes targets before number at None facts unknown unmarked comes = rw unknown.travels refl
 entered_goes targets before number at (Some what) facts unknown unmarked comes =
-    let own : (at.packet == at.packet) ≡ true = eq-eqb _ _ refl in
     let came : Item = item.Entered at.packet at.switch at.header in
     let seen : PacketFacts = facts_after (retired_mark before) came facts in
-    let P : Bool → Type 0 = λ b. answer_flight 0 None what
-    ≡ flight_by targets at.packet (facts_along at.packet (before ++ came ∷ [])
-    (answer_items number at what)
+    let P : Bool → Type 0 = λ b. answer_flight 0 None what ≡ flight_by targets at.packet
+    (facts_along at.packet (before ++ came ∷ []) (answer_items number at what)
     (if b then facts_after (retired_mark before) came facts else facts)) in
-    subst P (sym own)
+    subst P (sym (eq-eqb _ _ refl))
     (answer_goes targets (before ++ came ∷ []) number at 0 None what seen
-    (record { on = refl; header = refl; came = ap Some (sym comes.0); found = unmarked })
-    (record {
+    (record { on = refl; header = refl; came = ap Some (sym comes.0); found = unmarked }) (record {
       its_version = rw unknown.decision refl;
       its_rule = rw unknown.decision refl;
     }) comes.1)

@@ -62,22 +62,13 @@ module _ {setting : Setting} {journal : List Item} {state : NetworkState}
 
   piece_so : piece setting journal row (Deliver n)
       ≡ item.Row row (Deliver n) ∷ told ++ link_changes setting journal now
-  piece_so = deliver_piece setting journal row n its.deliverable
-      ∙ ap (λ items. item.Row row (Deliver n) ∷ item.Delivered n ∷ items) (hears_open.items row
-      ∙ ap (λ js. item.Opened s stamp ∷ link_changes setting journal js) split)
+  piece_so = cc (deliver_piece setting journal row n its.deliverable, hears_open.items row, split)
 
   -- another switch hears nothing
   leaves : (q : ℕ) → (s == q) ≡ false → LeavesSwitch q journal row (Deliver n) told
   leaves q other = record {
     in_step = (tt, (tt, tt));
-    apart = (
-      refl,
-      (
-        ap (λ o. option_map_or (λ (m : Message). is_to_switch q m.to) o false)
-            (row_keeps journal row n ∙ its.sent) ∙ ap (is_to_switch q) to ∙ other,
-        (other, tt),
-      ),
-    );
+    apart = (refl, (cc (row_keeps journal row n, its.sent, to, other), (other, tt)));
     calls = (refl, (refl, (refl, tt)));
   }
 
@@ -95,14 +86,12 @@ module _ {setting : Setting} {journal : List Item} {state : NetworkState}
   changes = record {
     may = may;
     piece_is = piece_so;
-    not_told = ap (λ o. option_map_or (λ (m : Message). is_to_controller m.to) o false) its.sent
-        ∙ ap is_to_controller to;
+    not_told = cc (its.sent, to);
     none_come = refl;
     as_many = length-set state.switches s changed;
     number = its.as_many;
-    bag = subst (λ js. IsBagOf js posts) split
-        (bag_on (grown journal row (Deliver n) (item.Delivered n)) (item.Opened s stamp ∷ [])
-        posts (refl, tt) its.bag);
+    bag = rw split at (bag_on (grown journal row (Deliver n) (item.Delivered n))
+        (item.Opened s stamp ∷ []) posts (refl, tt) its.bag);
     up = λ q below. refines.up q below ∙ ap (λ rows. links_of rows q) (sym same);
     relinks = one_relinks refines row (Deliver n) told s changed within leaves
         (hears_open.record_of row ∙ ap (relinked_switch setting journal now s) (sym changed_so));
@@ -114,21 +103,18 @@ module _ {setting : Setting} {journal : List Item} {state : NetworkState}
   abbrev messages : List Message
   messages = all_adverts_sent state.near (near_all state.links others) others
 
-  pub opening_piece : piece setting journal row (Deliver n)
-      ≡ item.Row row (Deliver n) ∷ item.Delivered n ∷ item.Opened s stamp
-      ∷ sent_from (length state.posts + 1) messages
+  pub opening_piece : piece setting journal row (Deliver n) ≡ item.Row row (Deliver n)
+      ∷ item.Delivered n ∷ item.Opened s stamp ∷ sent_from (length state.posts + 1) messages
   opening_piece = change_piece refines changes
 
-  pub opening_may : length state.posts < 990_000
-      → MaySend (with_delivered state.posts n) messages
+  pub opening_may : length state.posts < 990_000 → MaySend (with_delivered state.posts n) messages
   opening_may = change_may refines changes
 
   -- each switch has a next number for its own advert
   pub opening_next : length state.posts < 990_000
       → All (λ (switch : SwitchValue). switch.seq < 2 ^ 32 - 1) others
   opening_next room = one_next refines row (Deliver n) told s changed within leaves room
-      (λ next. subst (λ (w : SwitchValue). w.seq < 2 ^ 32 - 1) (sym changed_so)
-      (next.then n message.body))
+      (λ next. rw changed_so (next.then n message.body))
 
   -- the parts behind the step, where these are the switches
   pub opening_refines : (relinked_switch : List SwitchValue)

@@ -1,6 +1,6 @@
 -- What a switch's answer to one packet says of all others: nothing.
 use Rattle.base.proofs.Exports.{⊤}
-use Rattle.std.proofs.Common.{[], if◌then◌else◌, ◌++◌, ◌==◌, ◌∙◌, ◌∷◌, ◌≡◌, List, None, Option, Some, ap, append-nil, append_assoc, false, refl, sym, ℕ}
+use Rattle.std.proofs.Common.{[], if◌then◌else◌, ◌++◌, ◌==◌, ◌∙◌, ◌∷◌, ◌≡◌, List, None, Option, Some, ap, append-nil, append_assoc, false, refl, ℕ}
 use Rattle.update_machine.specs.Exports.{Exit, Item, Leg, Message, Seek, retired_mark, sent_from, takes_route}
 use Rattle.switch_core.specs.Exports.{Answer, Arrival}
 use Rattle.switch_core.specs.Answers as answer
@@ -27,11 +27,9 @@ unnamed i before (first ∷ items) facts none =
 pub unnamed_first : (i : ℕ) (before first items : List Item) (facts : PacketFacts)
     → NoneName i first
     → facts_along i before (first ++ items) facts ≡ facts_along i (before ++ first) items facts
-unnamed_first i before [] items facts none =
-    ap (λ js. facts_along i js items facts) (sym (append-nil before))
-unnamed_first i before (one ∷ first) items facts none =
-    ap (λ b. facts_along i (before ++ one ∷ []) (first ++ items)
-    (if b then facts_after (retired_mark before) one facts else facts)) none.0
+unnamed_first i before [] items facts none = cc (append-nil before)
+unnamed_first i before (one ∷ first) items facts none = ap (λ b. facts_along i (before ++ one ∷ [])
+    (first ++ items) (if b then facts_after (retired_mark before) one facts else facts)) none.0
     ∙ unnamed_first i (before ++ one ∷ []) first items facts none.1
     ∙ ap (λ js. facts_along i js items facts) (append_assoc before (one ∷ []) first)
 
@@ -65,8 +63,7 @@ answer_other : (q number : ℕ) (at : Standing) (what : Answer) → (at.packet =
 answer_other q number at (answer.Decided decision cache onward) other = (
   other,
   none_more q (sent_from number (message_list (cache_message at.ingress cache)))
-      (end_item at decision onward ∷ [])
-      (sends_unnamed q number (cache_message at.ingress cache))
+      (end_item at decision onward ∷ []) (sends_unnamed q number (cache_message at.ingress cache))
       (end_other q at decision onward other, tt),
 )
 answer_other q number at (answer.Seek tunnel) other =
@@ -76,12 +73,10 @@ answer_other q number at (answer.Stuck cause leg) other = (other, tt)
 pub entered_other : (q number : ℕ) (at : Standing) (what : Option Answer) → (at.packet == q) ≡ false
     → NoneName q (entered_items number at what)
 entered_other q number at None other = (refl, tt)
-entered_other q number at (Some what) other =
-    (other, answer_other q number at what other)
+entered_other q number at (Some what) other = (other, answer_other q number at what other)
 
 pub arrived_other : (q number : ℕ) (at : Standing) (flight : Flight) (what : Arrival)
     → (at.packet == q) ≡ false → NoneName q (arrived_items number at flight.version flight.rule
     what)
 arrived_other q number at flight (answer.Out port) other = (other, tt)
-arrived_other q number at flight (answer.Answered what) other =
-    answer_other q number at what other
+arrived_other q number at flight (answer.Answered what) other = answer_other q number at what other

@@ -47,31 +47,24 @@ GoesOnward targets at ingress decision _ = ⊤
 -- what becomes of it once its decision is known
 by_port : (targets : Targets) (before : List Item) (at : Standing) (ingress : ℕ)
     (decision : Decision) (route : List ℕ) (port : ℕ) (facts : PacketFacts)
-    → IsSeen at ingress facts → decision.action ≡ action.Out port
-    → (let tunnel : TunnelValue = tunnel_begun at.packet at.header ingress (Exit port)
-    (targets (Exit port)) route at.down in
+    → IsSeen at ingress facts → decision.action ≡ action.Out port → (let tunnel : TunnelValue =
+    tunnel_begun at.packet at.header ingress (Exit port) (targets (Exit port)) route at.down in
     decided_flight decision (next.Exit tunnel)
     ≡ flight_by targets at.packet (facts_along at.packet before
     (end_item at decision (next.Exit tunnel) ∷ []) (decided_facts decision facts)))
 by_port targets before at ingress decision route port facts seen acts =
-    let own : (at.packet == at.packet) ≡ true = eq-eqb _ _ refl in
-    rw (own, acts, seen.on, seen.header, seen.came, seen.found) refl
+    rw ((eq-eqb _ _ refl), acts, seen.on, seen.header, seen.came, seen.found) refl
 
 end_goes : (targets : Targets) (before : List Item) (at : Standing) (ingress : ℕ)
-    (decision : Decision) (onward : Next) (facts : PacketFacts)
-    → IsSeen at ingress facts → GoesOnward targets at ingress decision onward
-    → decided_flight decision onward
-    ≡ flight_by targets at.packet (facts_along at.packet before
-    (end_item at decision onward ∷ []) (decided_facts decision facts))
-end_goes targets before at ingress decision next.Dropped facts seen goes =
-    let own : (at.packet == at.packet) ≡ true = eq-eqb _ _ refl in
-    rw own refl
+    (decision : Decision) (onward : Next) (facts : PacketFacts) → IsSeen at ingress facts
+    → GoesOnward targets at ingress decision onward
+    → decided_flight decision onward ≡ flight_by targets at.packet
+    (facts_along at.packet before (end_item at decision onward ∷ []) (decided_facts decision facts))
+end_goes targets before at ingress decision next.Dropped facts seen goes = rw (eq-eqb _ _ refl) refl
 end_goes targets before at ingress decision (next.Out port) facts seen goes =
-    let own : (at.packet == at.packet) ≡ true = eq-eqb _ _ refl in
-    rw own refl
+    rw (eq-eqb _ _ refl) refl
 end_goes targets before at ingress decision (next.Stuck cause) facts seen goes =
-    let own : (at.packet == at.packet) ≡ true = eq-eqb _ _ refl in
-    rw own refl
+    rw (eq-eqb _ _ refl) refl
 end_goes targets before at ingress decision (next.Exit tunnel) facts seen goes =
     let P : TunnelValue → Type 0 = λ t. decided_flight decision (next.Exit t)
     ≡ flight_by targets at.packet (facts_along at.packet before
@@ -81,22 +74,16 @@ end_goes targets before at ingress decision (next.Exit tunnel) facts seen goes =
 
 -- what is sent meanwhile names no packet
 pub decided_goes : (targets : Targets) (before sends : List Item) (at : Standing) (ingress : ℕ)
-    (decision : Decision) (onward : Next) (facts : PacketFacts)
-    → NoneName at.packet sends → IsSeen at ingress facts
-    → GoesOnward targets at ingress decision onward
-    → decided_flight decision onward
-    ≡ flight_by targets at.packet
+    (decision : Decision) (onward : Next) (facts : PacketFacts) → NoneName at.packet sends
+    → IsSeen at ingress facts → GoesOnward targets at ingress decision onward
+    → decided_flight decision onward ≡ flight_by targets at.packet
     (facts_along at.packet before (decided_items at decision sends onward) facts)
 decided_goes targets before sends at ingress decision onward facts none seen goes =
-    let own : (at.packet == at.packet) ≡ true = eq-eqb _ _ refl in
     let decided : Item = item.Decided at.packet decision.version decision.rule decision.action
     decision.how in
     let end : List Item = end_item at decision onward ∷ [] in
-    let said : facts_along at.packet before (decided_items at decision sends onward) facts
-    ≡ facts_along at.packet (before ++ decided ∷ [] ++ sends) end (decided_facts decision facts) =
-    ap (λ b. facts_along at.packet (before ++ decided ∷ []) (sends ++ end)
-    (if b then decided_facts decision facts else facts)) own
-    ∙ unnamed_first at.packet (before ++ decided ∷ []) sends end (decided_facts decision facts)
-    none in
+    let said = ap (λ b. facts_along at.packet (before ++ decided ∷ []) (sends ++ end) (if b
+    then decided_facts decision facts else facts)) (eq-eqb _ _ refl) ∙ unnamed_first at.packet
+    (before ++ decided ∷ []) sends end (decided_facts decision facts) none in
     end_goes targets (before ++ decided ∷ [] ++ sends) at ingress decision onward facts seen goes
     ∙ sym (ap (flight_by targets at.packet) said)

@@ -12,11 +12,9 @@ use Rattle.control_laws.proofs.Exports.{AreKept, FromCauses, HeardAreKnown, IsKn
 pub record AcksArePast (journal : List Item) : Type 0 where
   pub boots : IsKnown journal
   pub heard : HeardAreKnown journal
-  pub sent : (s boot v n : ℕ)
-      → message_of journal n ≡ Some (to_controller (Installed s boot v))
+  pub sent : (s boot v n : ℕ) → message_of journal n ≡ Some (to_controller (Installed s boot v))
       → boot ≤ known_boot journal s
-  pub told : (s boot : ℕ) → known_boot journal s < boot
-      → told_by (installed_in s boot) journal ≡ []
+  pub told : (s boot : ℕ) → known_boot journal s < boot → told_by (installed_in s boot) journal ≡ []
 
 -- ---- acknowledgements
 
@@ -24,11 +22,9 @@ sent_on : (setting : Setting) (before : List Item) (next : Item) (s boot v n : �
     → HasItemCause setting before next → AcksArePast before
     → message_of (before ++ next ∷ []) n ≡ Some (to_controller (Installed s boot v))
     → boot ≤ known_boot (before ++ next ∷ []) s
-sent_on setting before next s boot v n cause past is =
-    let rises = known_rises before next s in
+sent_on setting before next s boot v n cause past is = let rises = known_rises before next s in
     elim (by_number before next n (to_controller (Installed s boot v)) is) [
-      | inl new ↦
-          let right = subst (HasItemCause setting before) new cause in
+      | inl new ↦ let right = subst (HasItemCause setting before) new cause in
           omega (arith, past.heard s v right.heard, right.present.own, rises)
       | inr old ↦ omega (arith, past.sent s boot v n old, rises)
     ]
@@ -44,9 +40,8 @@ told_one before (item.Delivered number) s boot past later =
         → option_to_list o ≡ []
     by_told None e = refl
     by_told (Some v) e =
-        let is = past.sent s boot v number
-        (told_sent (installed_in s boot) (Installed s boot) (installed_is s boot) before number v
-        e) in
+        let is = past.sent s boot v number (told_sent (installed_in s boot) (Installed s boot)
+        (installed_is s boot) before number v e) in
         absurd (omega (arith, is, later))
 told_one before next s boot past later = refl
 
@@ -72,9 +67,7 @@ unfolding controller_heard
 past_at_first = record {
   boots = known_at_first;
   heard = λ s v is. let no : false ≡ true = rw (start_laws.heard s) at is in absurd cc;
-  sent = λ s boot v n is.
-      let no : None ≡ Some (to_controller (Installed s boot v)) =
-      rw (start_laws.message n).message at is in absurd cc;
+  sent = λ s boot v n is. absurd (cc (rw (start_laws.message n).message at is));
   told = λ s boot later. refl;
 }
 

@@ -51,54 +51,40 @@ sent_facts : (before : List Item) (n : ℕ) (message : Message)
     → message_of (before ++ item.Sent n message ∷ []) n ≡ Some message
 unfolding message_of
 sent_facts before n message =
-    last_given_append (gives_message n) before (item.Sent n message ∷ [])
-    ∙ ap (λ b. option_or (if b then Some message else None)
-    (last_given (gives_message n) before)) (eq-eqb n n refl)
+    cc (last_given_append (gives_message n) before (item.Sent n message ∷ []), eq-eqb n n refl)
 
 sent_post : (n : ℕ) (before : List Item) (posts : List Post) (message : Message) (b : Bool)
     → (n == length posts + 1) ≡ b → IsBagOf before posts
     → (if b then Some (new_post message) else item_numbered posts n)
     ≡ post_in (before ++ item.Sent (length posts + 1) message ∷ []) n
 unfolding post_in was_delivered is_forgotten
-sent_post n before posts message true is bag =
-    let k : ℕ = length posts + 1 in
-    let same : n ≡ k = eqb-true n k is in
+sent_post n before posts message true is bag = let k : ℕ = length posts + 1 in
     rw (
-      same,
+      (eqb-true n k is),
       sent_facts before k message,
       some_more (is_delivery k) before (item.Sent k message),
       some_more (is_forgetting k) before (item.Sent k message),
       bag.undelivered k (omega arith),
       bag.remembered k (omega arith),
     ) refl
-sent_post n before posts message false is bag =
-    bag.each n ∙ sym (same_post n before (before ++ item.Sent (length posts + 1) message ∷ [])
-    (number_on n before (item.Sent (length posts + 1) message)
-    (other_number n (length posts + 1) is)))
+sent_post n before posts message false is bag = bag.each n
+    ∙ sym (same_post n before (before ++ item.Sent (length posts + 1) message ∷ []) (number_on n
+    before (item.Sent (length posts + 1) message) (other_number n (length posts + 1) is)))
 
 pub bag_sent : (before : List Item) (posts : List Post) (message : Message)
     → BagGoesOn before posts (item.Sent (length posts + 1) message) (posts ++ new_post message ∷ [])
 bag_sent before posts message bag =
     let k : ℕ = length posts + 1 in
     let sent : Item = item.Sent k message in
-    let more : length (posts ++ new_post message ∷ []) ≡ k =
-    length-append posts (new_post message ∷ []) in
+    let more = length-append posts (new_post message ∷ []) in
     let keeps : (n : ℕ) → length (posts ++ new_post message ∷ []) < n
     → MessageKeeps n before (before ++ sent ∷ []) =
-    λ n past. number_on n before sent (ne_eqb k n (λ same. absurd (omega (
-      arith,
-      more,
-      past,
-      same,
-    ))))
-    in record {
+    λ n past. number_on n before sent (ne_eqb k n (λ same. absurd (omega arith))) in record {
       many = omega (arith, next_sent before k message, bag.many, more);
       each = λ n. numbered_pushed posts (new_post message) n
           ∙ sent_post n before posts message (n == k) refl bag;
-      undelivered = λ n past. (keeps n past).delivered
-          ∙ bag.undelivered n (omega (arith, more, past));
-      remembered = λ n past. (keeps n past).forgotten
-          ∙ bag.remembered n (omega (arith, more, past));
+      undelivered = λ n past. (keeps n past).delivered ∙ bag.undelivered n (omega arith);
+      remembered = λ n past. (keeps n past).forgotten ∙ bag.remembered n (omega arith);
     }
 
 -- ---- a message is delivered or forgotten
@@ -107,21 +93,19 @@ bag_sent before posts message bag =
 pub within_posts : (posts : List Post) (n : ℕ) (fs : List (List ℕ))
     → frames_posted posts n ≡ Some fs → n ≤ length posts
 within_posts posts zero fs is = omega arith
-within_posts posts (suc place) fs is = by_post (slice_get posts place) refl is
-  where
-    by_post : (o : Option Post) → slice_get posts place ≡ o
-        → option_and_then remembered_frames o ≡ Some fs → suc place ≤ length posts
-    by_post None e none = absurd cc
-    by_post (Some post) e some = omega (arith, slice_get_within posts place post e)
+within_posts posts (suc place) fs is = by_post (slice_get posts place) refl is where
+  by_post : (o : Option Post) → slice_get posts place ≡ o
+      → option_and_then remembered_frames o ≡ Some fs → suc place ≤ length posts
+  by_post None e none = absurd cc
+  by_post (Some post) e some = omega (arith, slice_get_within posts place post e)
 
 pub some_within : (posts : List Post) (n : ℕ) → is_post_deliverable posts n ≡ true
     → n ≤ length posts
-some_within posts n there = by_frames (frames_posted posts n) refl there
-  where
-    by_frames : (o : Option (List (List ℕ))) → frames_posted posts n ≡ o → is_some o ≡ true
-        → n ≤ length posts
-    by_frames None e none = absurd cc
-    by_frames (Some fs) e some = within_posts posts n fs e
+some_within posts n there = by_frames (frames_posted posts n) refl there where
+  by_frames : (o : Option (List (List ℕ))) → frames_posted posts n ≡ o → is_some o ≡ true
+      → n ≤ length posts
+  by_frames None e none = absurd cc
+  by_frames (Some fs) e some = within_posts posts n fs e
 
 -- the post of one number changes as the item changes its facts
 abbrev ChangesOne : (Post → Post) → ℕ → List Item → Item → Type 0
@@ -130,43 +114,36 @@ ChangesOne change k before item =
     × (post_in (before ++ item ∷ []) k ≡ option_map change (post_in before k))
 
 changed_post : (change : Post → Post) (k n : ℕ) (before : List Item) (posts : List Post)
-    (item : Item) (b : Bool) → (n == k) ≡ b → ChangesOne change k before item
-    → IsBagOf before posts
+    (item : Item) (b : Bool) → (n == k) ≡ b → ChangesOne change k before item → IsBagOf before posts
     → (if b then option_map change (item_numbered posts n) else item_numbered posts n)
     ≡ post_in (before ++ item ∷ []) n
 changed_post change k n before posts item true is changes bag =
     let P : ℕ → Type 0 = λ m. option_map change (item_numbered posts m)
     ≡ post_in (before ++ item ∷ []) m in
     subst P (sym (eqb-true n k is)) (ap (option_map change) (bag.each k) ∙ sym changes.1)
-changed_post change k n before posts item false is changes bag =
-    bag.each n ∙ sym (same_post n before (before ++ item ∷ [])
-    (number_on n before item (changes.0 n (other_number n k is))))
+changed_post change k n before posts item false is changes bag = bag.each n ∙ sym (same_post n
+    before (before ++ item ∷ []) (number_on n before item (changes.0 n (other_number n k is))))
 
 bag_changed : (change : Post → Post) (k : ℕ) (before : List Item) (posts : List Post)
     (item : Item) → ChangesOne change k before item → k ≤ length posts
     → next_message (before ++ item ∷ []) ≡ next_message before
     → BagGoesOn before posts item (with_changed change posts k)
 bag_changed change k before posts item changes posted_it as_many bag =
-    let same : length (with_changed change posts k) ≡ length posts =
-    length_changed change posts k in
+    let same = length_changed change posts k in
     let keeps : (n : ℕ) → length (with_changed change posts k) < n
-    → MessageKeeps n before (before ++ item ∷ []) =
-    λ n past. number_on n before item (changes.0 n
+    → MessageKeeps n before (before ++ item ∷ []) = λ n past. number_on n before item (changes.0 n
     (ne_eqb k n (λ own. absurd (omega (arith, same, past, own, posted_it))))) in record {
       many = as_many ∙ bag.many ∙ ap (λ count. count + 1) (sym same);
       each = λ n. numbered_changed change posts k n
           ∙ changed_post change k n before posts item (n == k) refl changes bag;
-      undelivered = λ n past. (keeps n past).delivered
-          ∙ bag.undelivered n (omega (arith, same, past));
-      remembered = λ n past. (keeps n past).forgotten
-          ∙ bag.remembered n (omega (arith, same, past));
+      undelivered = λ n past. (keeps n past).delivered ∙ bag.undelivered n (omega arith);
+      remembered = λ n past. (keeps n past).forgotten ∙ bag.remembered n (omega arith);
     }
 
 -- an item that sends no message raises flags of one
-bag_flagged : (change : Post → Post) (k : ℕ) (before : List Item) (posts : List Post)
-    (item : Item) → ((n : ℕ) → (k == n) ≡ false → IsFalse (concerns_message n before item))
-    → gives_message k item ≡ None → is_sending item ≡ false
-    → ((m : Message) → (
+bag_flagged : (change : Post → Post) (k : ℕ) (before : List Item) (posts : List Post) (item : Item)
+    → ((n : ℕ) → (k == n) ≡ false → IsFalse (concerns_message n before item))
+    → gives_message k item ≡ None → is_sending item ≡ false → ((m : Message) → (
       posted_frames m,
       record {
         delivered = is_delivery k item || was_delivered before k;
@@ -174,10 +151,7 @@ bag_flagged : (change : Post → Post) (k : ℕ) (before : List Item) (posts : L
       },
     ) ≡ change (
       posted_frames m,
-      record {
-        delivered = was_delivered before k;
-        forgotten = is_forgotten before k;
-      },
+      record { delivered = was_delivered before k; forgotten = is_forgotten before k },
     ))
     → k ≤ length posts → BagGoesOn before posts item (with_changed change posts k)
 unfolding post_in message_of was_delivered is_forgotten next_message
@@ -201,10 +175,7 @@ bag_flagged change k before posts item apart untold unsent flags posted_it bag =
       },
     )) o ≡ option_map change (option_map (λ (m : Message). (
       posted_frames m,
-      record {
-        delivered = was_delivered before k;
-        forgotten = is_forgotten before k;
-      },
+      record { delivered = was_delivered before k; forgotten = is_forgotten before k },
     )) o)
     by_told None = refl
     by_told (Some m) = ap Some (flags m)
@@ -273,18 +244,15 @@ are_apart number before (item.Booted switch boot ∷ items) of = absurd of
 are_apart number before (item.Opened switch version ∷ items) of = absurd of
 are_apart number before (item.LinkIs one two up ∷ items) of = absurd of
 are_apart number before (item.Submitted file version ∷ items) of = absurd of
-are_apart number before (x ∷ items) of =
-    apart_next before items x (λ s. refl) refl refl
+are_apart number before (x ∷ items) of = apart_next before items x (λ s. refl) refl refl
     (are_apart number (before ++ x ∷ []) items of)
 
 -- behind an item that concerns no message
 bag_next : (before items : List Item) (item : Item) (posts more : List Post)
-    → IsFalse (concerns_messages before item)
-    → (number : ℕ) → (number ≡ next_message (before ++ item ∷ [])
-    → IsBagOf (before ++ item ∷ []) posts
-    → IsBagOf ((before ++ item ∷ []) ++ items) (posts ++ more))
-    → number ≡ next_message before → IsBagOf before posts
-    → IsBagOf (before ++ item ∷ items) (posts ++ more)
+    → IsFalse (concerns_messages before item) → (number : ℕ)
+    → (number ≡ next_message (before ++ item ∷ []) → IsBagOf (before ++ item ∷ []) posts
+    → IsBagOf ((before ++ item ∷ []) ++ items) (posts ++ more)) → number ≡ next_message before
+    → IsBagOf before posts → IsBagOf (before ++ item ∷ items) (posts ++ more)
 bag_next before items item posts more apart number rest is bag =
     subst (λ js. IsBagOf js (posts ++ more)) (append_assoc before (item ∷ []) items)
     (rest (is ∙ sym (messages_keep before (item ∷ []) (apart, tt)).next)
@@ -293,23 +261,16 @@ bag_next before items item posts more apart number rest is bag =
 pub bag_sends : (number : ℕ) (before items : List Item) (posts : List Post)
     → SendFrom number items → number ≡ next_message before → IsBagOf before posts
     → IsBagOf (before ++ items) (posts ++ posts_in items)
-bag_sends number before [] posts of is bag =
-    subst (λ js. IsBagOf js (posts ++ [])) (sym (append-nil before))
-    (subst (IsBagOf before) (sym (append-nil posts)) bag)
+bag_sends number before [] posts of is bag = rw (append-nil before) (rw (append-nil posts) bag)
 bag_sends number before (item.Sent n message ∷ items) posts of is bag =
-    let at : n ≡ length posts + 1 = of.0 ∙ is ∙ bag.many in
     let sent : Item = item.Sent n message in
-    let one : IsBagOf (before ++ sent ∷ []) (posts ++ new_post message ∷ []) =
-    subst (λ k. IsBagOf (before ++ item.Sent k message ∷ []) (posts ++ new_post message ∷ []))
-    (sym at) (bag_sent before posts message bag) in
-    let rest : IsBagOf ((before ++ sent ∷ []) ++ items)
-    ((posts ++ new_post message ∷ []) ++ posts_in items) =
-    bag_sends (number + 1) (before ++ sent ∷ []) items (posts ++ new_post message ∷ []) of.1
-    (ap (λ k. k + 1) is ∙ sym (next_sent before n message)) one in
+    let rest = bag_sends (number + 1) (before ++ sent ∷ []) items
+    (posts ++ new_post message ∷ []) of.1 (ap (λ k. k + 1) is ∙ sym (next_sent before n message))
+    (subst (λ k. IsBagOf (before ++ item.Sent k message ∷ []) (posts ++ new_post message ∷ []))
+    (sym (of.0 ∙ is ∙ bag.many)) (bag_sent before posts message bag)) in
     subst (λ js. IsBagOf js (posts ++ new_post message ∷ posts_in items))
     (append_assoc before (sent ∷ []) items)
-    (subst (IsBagOf ((before ++ sent ∷ []) ++ items))
-    (append_assoc posts (new_post message ∷ []) (posts_in items)) rest)
+    (rw (append_assoc posts (new_post message ∷ []) (posts_in items)) at rest)
 bag_sends number before (item.Delivered n ∷ items) posts of is bag = absurd of
 bag_sends number before (item.Forgotten n ∷ items) posts of is bag = absurd of
 bag_sends number before (item.Expired switch place message ∷ items) posts of is bag = absurd of
@@ -318,9 +279,8 @@ bag_sends number before (item.Booted switch boot ∷ items) posts of is bag = ab
 bag_sends number before (item.Opened switch version ∷ items) posts of is bag = absurd of
 bag_sends number before (item.LinkIs one two up ∷ items) posts of is bag = absurd of
 bag_sends number before (item.Submitted file version ∷ items) posts of is bag = absurd of
-bag_sends number before (x ∷ items) posts of is bag =
-    bag_next before items x posts (posts_in items) refl number
-    (λ next more. bag_sends number (before ++ x ∷ []) items posts of next more) is bag
+bag_sends number before (x ∷ items) posts of is bag = bag_next before items x posts (posts_in items)
+    refl number (λ next more. bag_sends number (before ++ x ∷ []) items posts of next more) is bag
 
 -- ---- the start
 

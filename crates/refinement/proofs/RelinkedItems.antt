@@ -25,24 +25,21 @@ same_mask test other same = mask_of_is (mask_of test) other (mask_of_lt test)
 joined_usable : (journal : List Item) (s k : ℕ) (link : LinkRow) → joins s k link ≡ true
     → is_usable journal link
     ≡ (is_up_link journal link && serves_in journal s && serves_in journal k)
-joined_usable journal s k link joined = by_order (link.one == s && link.two == k) refl joined
-  where
-    up : Bool
-    up = is_up_link journal link
+joined_usable journal s k link joined = by_order (link.one == s && link.two == k) refl joined where
+  up : Bool
+  up = is_up_link journal link
 
-    swap : (a b c : Bool) → (a && b && c) ≡ (a && c && b)
-    swap a b c = grind arith
+  swap : (a b c : Bool) → (a && b && c) ≡ (a && c && b)
+  swap a b c = grind arith
 
-    by_order : (b : Bool) → (link.one == s && link.two == k) ≡ b
-        → (b || (link.one == k && link.two == s)) ≡ true
-        → is_usable journal link ≡ (up && serves_in journal s && serves_in journal k)
-    by_order true e is =
-        let parts = and_parts (link.one == s) (link.two == k) e in
-        rw (eqb-true link.one s parts.0, eqb-true link.two k parts.1) refl
-    by_order false e is =
-        let parts = and_parts (link.one == k) (link.two == s) is in
-        rw (eqb-true link.one k parts.0, eqb-true link.two s parts.1)
-        (swap _ (serves_in journal k) (serves_in journal s))
+  by_order : (b : Bool) → (link.one == s && link.two == k) ≡ b
+      → (b || (link.one == k && link.two == s)) ≡ true
+      → is_usable journal link ≡ (up && serves_in journal s && serves_in journal k)
+  by_order true e is = let parts = and_parts (link.one == s) (link.two == k) e in
+      rw (eqb-true link.one s parts.0, eqb-true link.two k parts.1) refl
+  by_order false e is = let parts = and_parts (link.one == k) (link.two == s) is in
+      rw (eqb-true link.one k parts.0, eqb-true link.two s parts.1)
+      (swap _ (serves_in journal k) (serves_in journal s))
 
 spread : (p b x y : Bool) → ((p && x && y) || (b && x && y)) ≡ ((p || b) && x && y)
 spread p b x y = grind arith
@@ -72,24 +69,18 @@ usable_joins journal s k (link ∷ links) =
     kept true rest e = rw e refl
     kept false rest e = refl
 
-    by_joins : (joined : Bool) → joins s k link ≡ joined
-        → list_any (joins s k) usable
+    by_joins : (joined : Bool) → joins s k link ≡ joined → list_any (joins s k) usable
         ≡ (list_any (joins s k) up && serves_in journal s && serves_in journal k)
         → list_any (joins s k) (cond (is_usable journal link) (link ∷ usable) usable)
         ≡ (list_any (joins s k) (cond (is_up_link journal link) (link ∷ up) up)
         && serves_in journal s && serves_in journal k)
     by_joins false e rest =
-        skipped (is_usable journal link) usable e ∙ rest
-        ∙ ap (λ b. b && serves_in journal s && serves_in journal k)
-        (sym (skipped (is_up_link journal link) up e))
-    by_joins true e rest =
-        kept (is_usable journal link) usable e
-        ∙ ap (λ b. b || list_any (joins s k) usable) (joined_usable journal s k link e)
-        ∙ ap (λ b. (is_up_link journal link && serves_in journal s && serves_in journal k) || b)
-        rest
+        cc (skipped (is_usable journal link) usable e, rest, skipped (is_up_link journal link) up e)
+    by_joins true e rest = kept (is_usable journal link) usable e
+        ∙ ap (λ b. b || list_any (joins s k) usable) (joined_usable journal s k link e) ∙ ap
+        (λ b. (is_up_link journal link && serves_in journal s && serves_in journal k) || b) rest
         ∙ spread (is_up_link journal link) (list_any (joins s k) up) (serves_in journal s)
-        (serves_in journal k)
-        ∙ ap (λ b. b && serves_in journal s && serves_in journal k)
+        (serves_in journal k) ∙ ap (λ b. b && serves_in journal s && serves_in journal k)
         (sym (kept (is_up_link journal link) up e))
 
 -- links of the network join two switches of it
@@ -101,16 +92,14 @@ linked_ends count s k (link ∷ links) all is =
   where
     by_order : (b : Bool) → (link.one == s && link.two == k) ≡ b
         → (b || (link.one == k && link.two == s)) ≡ true → (s < count) × (k < count)
-    by_order true e is =
-        let parts = and_parts (link.one == s) (link.two == k) e in (
-          subst (λ j. j < count) (eqb-true link.one s parts.0) all.0.one,
-          subst (λ j. j < count) (eqb-true link.two k parts.1) all.0.two,
-        )
-    by_order false e is =
-        let parts = and_parts (link.one == k) (link.two == s) is in (
-          subst (λ j. j < count) (eqb-true link.two s parts.1) all.0.two,
-          subst (λ j. j < count) (eqb-true link.one k parts.0) all.0.one,
-        )
+    by_order true e is = let parts = and_parts (link.one == s) (link.two == k) e in (
+      subst (λ j. j < count) (eqb-true link.one s parts.0) all.0.one,
+      subst (λ j. j < count) (eqb-true link.two k parts.1) all.0.two,
+    )
+    by_order false e is = let parts = and_parts (link.one == k) (link.two == s) is in (
+      subst (λ j. j < count) (eqb-true link.two s parts.1) all.0.two,
+      subst (λ j. j < count) (eqb-true link.one k parts.0) all.0.one,
+    )
 
     by_joins : (b : Bool) → joins s k link ≡ b
         → (are_linked links s k ≡ true → (s < count) × (k < count))
@@ -121,8 +110,7 @@ linked_ends count s k (link ∷ links) all is =
 pub up_ends : (setting : Setting) (journal : List Item) (s k : ℕ) → IsNet setting.net
     → are_linked (up_links setting journal) s k ≡ true
     → (s < length setting.net.switches) × (k < length setting.net.switches)
-up_ends setting journal s k net is =
-    linked_ends (length setting.net.switches) s k setting.net.links
+up_ends setting journal s k net is = linked_ends (length setting.net.switches) s k setting.net.links
     (recursion_from_All (IsLink (length setting.net.switches)) setting.net.links net.links)
     (any_filter (joins s k) (is_up_link journal) setting.net.links is)
 
@@ -142,9 +130,8 @@ pub record CanRelink (setting : Setting) (before now : List Item) (links had : L
   pub serving : (s : ℕ) → serves_in now s ≡ true → is_up now s ≡ true
   pub relinks : (s : ℕ) (d : SwitchValue) → s < length switches
       → switch_of setting now s ≡ relinked_switch setting before now s (get_or switches s d)
-  pub own : (s : ℕ) (d : SwitchValue) → s < length switches
-      → has_changed setting before now s ≡ true
-      → own_advert setting now s ≡ next_advert (get_or switches s d) (near setting now s)
+  pub own : (s : ℕ) (d : SwitchValue) → s < length switches → has_changed setting before now s
+      ≡ true → own_advert setting now s ≡ next_advert (get_or switches s d) (near setting now s)
 
 module _ (setting : Setting) (before now : List Item) (links had : List ℕ)
     (switches : List SwitchValue) (d : SwitchValue)
@@ -153,21 +140,19 @@ module _ (setting : Setting) (before now : List Item) (links had : List ℕ)
   lives : (s : ℕ) → s < length switches → ((get_or switches s d).is_up ≡ is_up now s)
       × ((get_or switches s d).is_open ≡ serves_in now s)
   unfolding switch_of
-  lives s there = by_test (has_changed setting before now s) (can.relinks s d there)
-    where
-      by_test : (b : Bool) → switch_of setting now s
-          ≡ (if b then near_changed (get_or switches s d) (near setting now s)
-          else get_or switches s d)
-          → ((get_or switches s d).is_up ≡ is_up now s)
-          × ((get_or switches s d).is_open ≡ serves_in now s)
-      by_test true is = (
-        sym (ap (λ (w : SwitchValue). w.is_up) is),
-        sym (ap (λ (w : SwitchValue). w.is_open) is),
-      )
-      by_test false is = (
-        sym (ap (λ (w : SwitchValue). w.is_up) is),
-        sym (ap (λ (w : SwitchValue). w.is_open) is),
-      )
+  lives s there = by_test (has_changed setting before now s) (can.relinks s d there) where
+    by_test : (b : Bool) → switch_of setting now s ≡ (if b
+        then near_changed (get_or switches s d) (near setting now s) else get_or switches s d)
+        → ((get_or switches s d).is_up ≡ is_up now s)
+        × ((get_or switches s d).is_open ≡ serves_in now s)
+    by_test true is = (
+      sym (ap (λ (w : SwitchValue). w.is_up) is),
+      sym (ap (λ (w : SwitchValue). w.is_open) is),
+    )
+    by_test false is = (
+      sym (ap (λ (w : SwitchValue). w.is_up) is),
+      sym (ap (λ (w : SwitchValue). w.is_open) is),
+    )
 
   both_serve : (up serving : Bool) → (serving ≡ true → up ≡ true) → (up && serving) ≡ serving
   both_serve true serving so = refl
@@ -175,8 +160,7 @@ module _ (setting : Setting) (before now : List Item) (links had : List ℕ)
   both_serve false false so = refl
 
   serves_here : (s : ℕ) → s < length switches → serves_at switches s ≡ serves_in now s
-  serves_here s there =
-      ap (λ o. option_map_or serves o false) (slice_get-get_or switches s d there)
+  serves_here s there = ap (λ o. option_map_or serves o false) (slice_get-get_or switches s d there)
       ∙ ap (λ b. b && (get_or switches s d).is_open) (lives s there).0
       ∙ ap (λ b. is_up now s && b) (lives s there).1
       ∙ both_serve (is_up now s) (serves_in now s) (can.serving s)
@@ -190,21 +174,18 @@ module _ (setting : Setting) (before now : List Item) (links had : List ℕ)
       ∙ sym (usable_joins now s k setting.net.links)
     where
       by_link : (b : Bool) → are_linked (up_links setting now) s k ≡ b
-          → (are_linked (up_links setting now) s k && serves_at switches s
-          && serves_at switches k)
+          → (are_linked (up_links setting now) s k && serves_at switches s && serves_at switches k)
           ≡ (are_linked (up_links setting now) s k && serves_in now s && serves_in now k)
       by_link false e = rw e refl
-      by_link true e =
-          ap (λ c. are_linked (up_links setting now) s k && c && serves_at switches k)
+      by_link true e = ap (λ c. are_linked (up_links setting now) s k && c && serves_at switches k)
           (serves_here s (omega (arith, (can.within s k e).0, can.many)))
-          ∙ ap (λ c. are_linked (up_links setting now) s k && serves_in now s && c)
-          (serves_here k (omega (arith, (can.within s k e).1, can.many)))
+          ∙ ap (λ c. are_linked (up_links setting now) s k && serves_in now s && c) (serves_here k
+          (omega (arith, (can.within s k e).1, can.many)))
 
   -- which links each switch can use now
   pub near_now : (s : ℕ) → s < 64 → get_or (near_all links switches) s 0 ≡ near setting now s
   unfolding near near_all near_by
-  near_now s fits =
-      get_or-map-range_with_len (near_by links switches) 0 64 s s 0 fits (omega arith)
+  near_now s fits = get_or-map-range_with_len (near_by links switches) 0 64 s s 0 fits (omega arith)
       ∙ same_mask (λ k. has (get_or links s 0) k && serves_at switches s && serves_at switches k)
       (are_linked (usable_links setting now) s) (λ k small. linked_so s k fits small)
 
@@ -215,24 +196,14 @@ module _ (setting : Setting) (before now : List Item) (links had : List ℕ)
   changes_so : (s : ℕ) → s < length switches
       → links_change (get_or had s 0) (get_or (near_all links switches) s 0) (get_or switches s d)
       ≡ has_changed setting before now s
-  changes_so s there =
-      ap (λ b. b && not (get_or had s 0 == get_or (near_all links switches) s 0)) (lives s there).0
-      ∙ ap (λ n. is_up now s && not (n == get_or (near_all links switches) s 0))
-      (can.had_is s there)
-      ∙ ap (λ n. is_up now s && not (near setting before s == n)) (near_there s there)
+  changes_so s there = cc ((lives s there).0, can.had_is s there, near_there s there)
 
   -- what each switch is now
   pub switches_now : (others : List SwitchValue)
       → AreRelinked had (near_all links switches) switches others
       → (s : ℕ) → s < length switches → get_or others s d ≡ switch_of setting now s
   switches_now others are s there =
-      are.each s d there
-      ∙ ap (λ b. if b
-      then near_changed (get_or switches s d) (get_or (near_all links switches) s 0)
-      else get_or switches s d) (changes_so s there)
-      ∙ ap (λ n. if has_changed setting before now s
-      then near_changed (get_or switches s d) n else get_or switches s d) (near_there s there)
-      ∙ sym (can.relinks s d there)
+      cc (are.each s d there, changes_so s there, near_there s there, can.relinks s d there)
 
   -- what a switch whose links changed tells
   told_changed : (s : ℕ) → s < length switches → has_changed setting before now s ≡ true
@@ -241,9 +212,6 @@ module _ (setting : Setting) (before now : List Item) (links had : List ℕ)
   told_changed s there changed =
       let w : SwitchValue = get_or switches s d in
       let links_now : ℕ = near setting now s in
-      let is : switch_of setting now s ≡ near_changed w links_now =
-      can.relinks s d there
-      ∙ ap (λ b. if b then near_changed w links_now else w) changed in
       let send_adverts : ℕ → ℕ → List Message = λ had_s n. flat_map
       (λ other. adverts_over (near_changed w n) (next_advert w n) (has had_s other) other)
       (filter (has n) (switches_of setting)) in
@@ -261,38 +229,34 @@ module _ (setting : Setting) (before now : List Item) (links had : List ℕ)
       ∙ ap (λ own. link_messages setting (near setting before s) links_now own
       (near_changed w links_now)) (sym (can.own s d there changed))
       ∙ ap (λ switch. link_messages setting (near setting before s) links_now
-      (own_advert setting now s) switch) (sym is)
+      (own_advert setting now s) switch)
+      (sym (can.relinks s d there ∙ ap (λ b. if b then near_changed w links_now else w) changed))
       ∙ sym (links_refine.told setting before now s)
 
   told_here : (s : ℕ) → s < length switches
       → adverts_at (length switches) had (near_all links switches) switches s
       ≡ (if has_changed setting before now s then messages_of setting before now s else [])
-  told_here s there =
-      ap (λ o. elim o [
-        | None ↦ []
-        | Some switch ↦ adverts_on_change (length switches) (get_or had s 0)
-            (get_or (near_all links switches) s 0) switch
-      ]) (slice_get-get_or switches s d there)
+  told_here s there = ap (λ o. elim o [
+    | None ↦ []
+    | Some switch ↦ adverts_on_change (length switches) (get_or had s 0)
+        (get_or (near_all links switches) s 0) switch
+  ]) (slice_get-get_or switches s d there)
       ∙ by_test (has_changed setting before now s) refl
     where
       by_test : (b : Bool) → has_changed setting before now s ≡ b
-          → adverts_on_change (length switches) (get_or had s 0)
-          (get_or (near_all links switches) s 0)
-          (get_or switches s d) ≡ (if b then messages_of setting before now s else [])
+          → adverts_on_change (length switches) (get_or had s 0) (get_or (near_all links switches) s
+          0) (get_or switches s d) ≡ (if b then messages_of setting before now s else [])
       by_test true is = told_changed s there is
-      by_test false is =
-          (told_nothing (get_or switches s d) (length switches) (get_or had s 0)
+      by_test false is = (told_nothing (get_or switches s d) (length switches) (get_or had s 0)
           (get_or (near_all links switches) s 0) (changes_so s there ∙ is)).1
 
   below : (n : ℕ) → n ≤ length switches
       → flat_map (adverts_at (length switches) had (near_all links switches) switches)
-      (range_with_len 0 n)
-      ≡ flat_map (messages_of setting before now)
+      (range_with_len 0 n) ≡ flat_map (messages_of setting before now)
       (filter (has_changed setting before now) (range_with_len 0 n))
   below zero there = refl
   below (suc n) there =
-      let f : ℕ → List Message =
-      adverts_at (length switches) had (near_all links switches) switches in
+      let f = adverts_at (length switches) had (near_all links switches) switches in
       let g : ℕ → List Message = messages_of setting before now in
       let p : ℕ → Bool = has_changed setting before now in
       let next : ◌≡◌ {A = ℕ} (suc n) (n + 1) = omega arith in
@@ -316,6 +280,4 @@ module _ (setting : Setting) (before now : List Item) (links had : List ℕ)
       ≡ flat_map (messages_of setting before now)
       (filter (has_changed setting before now) (switches_of setting))
   unfolding all_adverts_sent
-  told_now = below (length switches) (omega arith)
-      ∙ ap (λ n. flat_map (messages_of setting before now)
-      (filter (has_changed setting before now) (range_with_len 0 n))) can.many
+  told_now = cc (below (length switches) (omega arith), can.many)

@@ -30,8 +30,7 @@ pub record Sees (setting : Setting) (journal : List Item) (s : ℕ) (w : SwitchV
       ≡ is_cut_off setting journal s down target
   pub usable : mask ≡ near setting journal s
 
-serving_of : (up serving : Bool) → (serving ≡ true → up ≡ true)
-    → (up && serving) ≡ serving
+serving_of : (up serving : Bool) → (serving ≡ true → up ≡ true) → (up && serving) ≡ serving
 serving_of true serving is = refl
 serving_of false true is = let clash : false ≡ true = is refl in absurd cc
 serving_of false false is = refl
@@ -43,8 +42,7 @@ sees setting journal s knows there =
     let w : SwitchValue = switch_of setting journal s in
     let mask : ℕ = near setting journal s in
     let stamp : w.stamp ≡ stamp_of journal s = stamp_shown setting journal s in
-    let number : w.number ≡ s = number_shown setting journal s in
-    record {
+    let number : w.number ≡ s = number_shown setting journal s in record {
       number = number;
       serving = open_shown setting journal s
           ∙ serving_of (is_up journal s) (serves_in journal s) (knows.serving.up s);
@@ -53,8 +51,7 @@ sees setting journal s knows there =
       tables = λ v. knowledge_refines.tables setting journal s v knows.tables;
       lookup = λ header serving. knowledge_refines.lookup setting journal s header knows.tables
           (knows.holds s there serving).stamp;
-      stamped = λ serving.
-          ap (λ o. unwrap_or o no_tables) (ap (held_tables w) stamp
+      stamped = λ serving. ap (λ o. unwrap_or o no_tables) (ap (held_tables w) stamp
           ∙ knowledge_refines.tables setting journal s (stamp_of journal s) knows.tables
           ∙ ap (λ b. if b then Some (tables_at setting journal (stamp_of journal s) s) else None)
           (knows.holds s there serving).stamp);
@@ -84,8 +81,7 @@ pub sees_one : (setting : Setting) (before : List Item) (next : Item) (s : ℕ) 
     → Sees setting (before ++ next ∷ []) s w mask
 sees_one setting before next s w mask spares sees =
     let after : List Item = before ++ next ∷ [] in
-    let keeps : SwitchKeeps setting s before after =
-    switch_keeps setting s before (next ∷ []) (spares.switch, tt) in
+    let keeps = switch_keeps setting s before (next ∷ []) (spares.switch, tt) in
     let knows : KnownKeeps setting s before after =
     known_keeps setting s before (next ∷ []) (neither _ _ spares.switch spares.links, tt) in
     let plans : (v : ℕ) → plan_at setting after v ≡ plan_at setting before v =
@@ -93,19 +89,16 @@ sees_one setting before next s w mask spares sees =
     let same : (v : ℕ) → tables_at setting before v s ≡ tables_at setting after v s =
     λ v. ap (λ plan. tables_of plan v s) (sym (plans v)) in
     let was : IsTrue (serves_in after s) → IsTrue (serves_in before s) =
-    λ serving. sym keeps.serving ∙ serving in
-    record {
+    λ serving. sym keeps.serving ∙ serving in record {
       number = sees.number;
       serving = sees.serving ∙ sym keeps.serving;
       stamp = sees.stamp ∙ sym keeps.stamp;
       held = λ v. sees.held v ∙ sym (keeps.versions v);
-      tables = λ v. sees.tables v
-          ∙ ap (λ b. if b then Some (tables_at setting before v s) else None)
-          (sym (keeps.versions v))
+      tables = λ v. sees.tables v ∙ ap (λ b. if b then Some (tables_at setting before v s)
+          else None) (sym (keeps.versions v))
           ∙ ap (λ (t : Tables). if holds_in after s v then Some t else None) (same v);
-      lookup = λ header serving. sees.lookup header (was serving)
-          ∙ sym (lookup_stays setting s header before (next ∷ [])
-          (neither _ _ spares.switch spares.policies, tt));
+      lookup = λ header serving. sees.lookup header (was serving) ∙ sym (lookup_stays setting s
+          header before (next ∷ []) (neither _ _ spares.switch spares.policies, tt));
       stamped = λ serving. sees.stamped (was serving) ∙ same (stamp_of before s)
           ∙ ap (λ v. tables_at setting after v s) (sym keeps.stamp);
       route = λ targets down. sees.route targets down ∙ sym (knows.route targets down);

@@ -35,8 +35,7 @@ sent_there : (before : List Item) (number : ℕ) (message : Message) (acts : Lis
     → message_of (before ++ item.Sent number message ∷ act_items (number + 1) acts) number
     ≡ Some message
 unfolding message_of
-sent_there before number message acts =
-    last_given_append (gives_message number) before
+sent_there before number message acts = last_given_append (gives_message number) before
     (item.Sent number message ∷ act_items (number + 1) acts)
     ∙ rw (untold number (number + 1) acts (omega arith), eq-eqb number number refl) refl
 
@@ -46,21 +45,18 @@ unfolding act_items
 acts_spelled before number [] all = tt
 acts_spelled before number (act.Current v ∷ acts) all = (
   tt,
-  acts_spelled (before ++ item.Current v ∷ []) number acts
-      (subst AreSpelled (sym (append_assoc before (item.Current v ∷ []) (act_items number acts)))
-      all),
+  acts_spelled (before ++ item.Current v ∷ []) number acts (subst AreSpelled
+      (sym (append_assoc before (item.Current v ∷ []) (act_items number acts))) all),
 )
 acts_spelled before number (act.Retired v ∷ acts) all = (
   tt,
-  acts_spelled (before ++ item.Retired v ∷ []) number acts
-      (subst AreSpelled (sym (append_assoc before (item.Retired v ∷ []) (act_items number acts)))
-      all),
+  acts_spelled (before ++ item.Retired v ∷ []) number acts (subst AreSpelled
+      (sym (append_assoc before (item.Retired v ∷ []) (act_items number acts))) all),
 )
 acts_spelled before number (act.Post message ∷ acts) all = (
   all number message (sent_there before number message acts),
   acts_spelled (before ++ item.Sent number message ∷ []) (number + 1) acts
-      (subst AreSpelled (sym (append_assoc before (item.Sent number message ∷ [])
-      (act_items (number + 1) acts))) all),
+      (rw (append_assoc before (item.Sent number message ∷ []) (act_items (number + 1) acts)) all),
 )
 
 -- ---- what a step sends
@@ -72,22 +68,18 @@ module _ {setting : Setting} {journal : List Item} {state : NetworkState}
       → IsStep setting.net (length setting.files) step → piece setting journal row step
       ≡ item.Row row step ∷ first ++ act_items (length state.posts + 1) acts
       → length posts ≡ length state.posts → length state.posts < 990_000 → MayNote posts acts
-  may_note row step first posts acts may is
-      as_many room =
+  may_note row step first posts acts may is as_many room =
       let number = length state.posts + 1 in
       let begun : List Item = item.Row row step ∷ first in
-      let spelled : AreSpelled (journal ++ (begun ++ act_items number acts)) =
-      subst (λ items. AreSpelled (journal ++ items)) is
+      let spelled = subst (λ items. AreSpelled (journal ++ items)) is
       (reached_spelled setting (journal ++ piece setting journal row step) refines.sound
-      (reached_more setting journal row step refines.reached may)) in
-      record {
+      (reached_more setting journal row step refines.reached may)) in record {
         few = omega (
           arith,
           as_many,
           room,
-          acts_fit setting journal row step first number acts
-              (sends_few setting journal (reached_known setting journal refines.sound
-              refines.reached)) is,
+          acts_fit setting journal row step first number acts (sends_few setting journal
+              (reached_known setting journal refines.sound refines.reached)) is,
         );
         spelled = All-from_recursion IsSpelled acts (acts_spelled (journal ++ begun) number acts
             (subst AreSpelled (sym (append_assoc journal begun (act_items number acts))) spelled));
@@ -97,14 +89,8 @@ module _ {setting : Setting} {journal : List Item} {state : NetworkState}
 pub may_send : (posts : List Post) (messages : List Message)
     → MayNote posts (map act.Post messages) → MaySend posts messages
 may_send posts messages may = record {
-  few = omega (
-    arith,
-    may.few,
-    ap length (posts_as_acts messages),
-    length-map messages new_post,
-  );
-  spelled = messages_spelled messages []
-      (subst (λ acts. All IsSpelled acts) (sym (append-nil (map act.Post messages))) may.spelled);
+  few = omega (arith, may.few, ap length (posts_as_acts messages), length-map messages new_post);
+  spelled = messages_spelled messages [] (rw (append-nil (map act.Post messages)) may.spelled);
 }
 
 -- a hello of a switch below 64

@@ -40,17 +40,12 @@ pub acts_same : (controller : ControllerValue) (s n count near had : ℕ) (own :
     → had ≡ near → acts ≡ resend_acts controller s
     → map Post told ++ acts ≡ map Post (adverts_again s count near own) ++ resend_acts controller s
 acts_same controller s n count near had own told acts told_is count_is near_is acts_is =
-    ap (λ more. map Post told ++ more) acts_is
-    ∙ ap (λ first. map Post first ++ resend_acts controller s)
-    (told_is ∙ ap (λ k. adverts_again s k had own) count_is
-    ∙ ap (λ k. adverts_again s count k own) near_is)
+    cc (acts_is, told_is, count_is, near_is)
 
 -- what it tells these neighbours, where it holds these adverts
 abbrev told_by : SwitchValue → ℕ → List ℕ → List Advert → List Message
-told_by switch s neighbours adverts = if switch.is_up
-    then to_controller (Hello s switch.boot)
-    ∷ flat_map (λ other. map (advert_to other) adverts) neighbours
-    else []
+told_by switch s neighbours adverts = if switch.is_up then to_controller (Hello s switch.boot)
+    ∷ flat_map (λ other. map (advert_to other) adverts) neighbours else []
 
 as_journal : (setting : Setting) (journal : List Item) (s : ℕ) (neighbours : List ℕ)
     (adverts : List Advert) → told_by (switch_of setting journal s) s neighbours adverts
@@ -60,17 +55,15 @@ as_journal : (setting : Setting) (journal : List Item) (s : ℕ) (neighbours : L
           ∷ flat_map (λ other. map (advert_to other) adverts) neighbours
     ]
 unfolding switch_of
-as_journal setting journal s neighbours adverts = by_test (is_up journal s)
-  where
-    by_test : (b : Bool) → (if b then to_controller (Hello s (boot_of journal s))
-        ∷ flat_map (λ other. map (advert_to other) adverts) neighbours
-        else []) ≡ elim b [
-          | false ↦ []
-          | true ↦ to_controller (Hello s (boot_of journal s))
-              ∷ flat_map (λ other. map (advert_to other) adverts) neighbours
-        ]
-    by_test true = refl
-    by_test false = refl
+as_journal setting journal s neighbours adverts = by_test (is_up journal s) where
+  by_test : (b : Bool) → (if b then to_controller (Hello s (boot_of journal s))
+      ∷ flat_map (λ other. map (advert_to other) adverts) neighbours else []) ≡ elim b [
+        | false ↦ []
+        | true ↦ to_controller (Hello s (boot_of journal s))
+            ∷ flat_map (λ other. map (advert_to other) adverts) neighbours
+      ]
+  by_test true = refl
+  by_test false = refl
 
 module _ {setting : Setting} {journal : List Item} {state : NetworkState}
     (refines : RefineJournal setting journal state) where
@@ -106,9 +99,8 @@ module _ {setting : Setting} {journal : List Item} {state : NetworkState}
       (switch_of setting rowed s) ≡ resent_by_switch setting rowed s
   by_switch =
       ap (told_by (switch_of setting rowed s) s (switches_in setting (near setting rowed s)))
-      (sym (links_refine.held setting rowed s))
-      ∙ as_journal setting rowed s (switches_in setting (near setting rowed s))
-      (held_adverts setting rowed s)
+      (sym (links_refine.held setting rowed s)) ∙ as_journal setting rowed s
+      (switches_in setting (near setting rowed s)) (held_adverts setting rowed s)
 
   acts_are : acts ≡ acts_of_resend setting rowed s state.controller
   acts_are = ap (λ told. map Post told ++ resend_acts state.controller s)
@@ -121,9 +113,8 @@ module _ {setting : Setting} {journal : List Item} {state : NetworkState}
 
   pub silent : (length acts == 0) ≡ true
       → WroteOne setting journal row (Resend s) item.Nothing state
-  silent none =
-      nothing_happens refines row (Resend s) may
-      (λ q. refl) (resends_nothing setting journal row s state.controller
+  silent none = nothing_happens refines row (Resend s) may (λ q. refl)
+      (resends_nothing setting journal row s state.controller
       (reached_known setting journal refines.sound refines.reached).caused refines.controller
       (switch_known refines s may) (sym acts_are ∙ none_there acts none)).same
 
@@ -142,8 +133,7 @@ module _ {setting : Setting} {journal : List Item} {state : NetworkState}
 
     pub again_piece : piece setting journal row (Resend s)
         ≡ item.Row row (Resend s) ∷ act_items (length state.posts + 1) acts
-    again_piece = resent_so.same
-        ∙ ap (λ items. item.Row row (Resend s) ∷ items)
+    again_piece = resent_so.same ∙ ap (λ items. item.Row row (Resend s) ∷ items)
         (written_is rowed (acts_of_resend setting rowed s state.controller)
         ∙ ap (λ k. act_items k (acts_of_resend setting rowed s state.controller)) bag_behind.many
         ∙ ap (act_items (length state.posts + 1)) (sym acts_are))

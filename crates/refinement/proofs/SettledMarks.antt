@@ -59,8 +59,7 @@ all_same setting journal value v low are =
     ∙ ap (list_all (λ b. b))
     (members_made (λ known. has_acked known v) (λ s. machine.has_acked journal s v) setting journal
     value are (λ s is member. is.acked (member_parts journal s member).0 v low))
-    ∙ list_all-map (λ b. b) (λ s. machine.has_acked journal s v)
-    (machine.members setting journal)
+    ∙ list_all-map (λ b. b) (λ s. machine.has_acked journal s v) (machine.members setting journal)
 
 -- what switches are told that pass a test
 pub told_posted : (f : ℕ → Act) (g : ℕ → Message) (passes : SwitchRecord → Bool) (q : ℕ → Bool)
@@ -75,8 +74,7 @@ told_posted f g passes q setting journal value many tests makes =
     ap (written_items journal)
     (ap (λ n. map f (filter p (range_with_len 0 n))) many
     ∙ picked_same f (λ s. Post (g s)) p q 0 (length setting.net.switches)
-    (λ s above below.
-    let there : s < length value.switches = omega (arith, below, many) in
+    (λ s above below. let there : s < length value.switches = omega (arith, below, many) in
     ap (λ o. option_map_or passes o false) (slice_get-get_or value.switches s unknown_switch there)
     ∙ tests s there)
     (λ s above below is. makes s (omega (arith, below, many)))
@@ -88,35 +86,28 @@ pub leave_on : (setting : Setting) (journal : List Item) (value : MarksValue)
     (message : ℕ → Message) (switches : List ℕ)
     → ((s : ℕ) → ReopensAlone journal (message s)) → AreMarksOf setting journal value
     → AreMarksOf setting (journal ++ send_items journal (map message switches)) value
-leave_on setting journal value message switches leaves are =
-    marks_on setting journal (journal ++ send_items journal (map message switches)) value
+leave_on setting journal value message switches leaves are = marks_on setting journal
+    (journal ++ send_items journal (map message switches)) value
     (leaves_keep journal (send_items journal (map message switches))
-    (sends_leave journal (map message switches)
-    (each_map (ReopensAlone journal) message switches
+    (sends_leave journal (map message switches) (each_map (ReopensAlone journal) message switches
     (each_always (λ s. ReopensAlone journal (message s)) leaves switches)))) are
 
 -- ---- current rises
 
 rises_same : (setting : Setting) (now : List Item) (before : MarksValue) (current : ℕ)
-    → AreMarksOf setting now before → RisesTo before current
-    → current ≡ next_current setting now
+    → AreMarksOf setting now before → RisesTo before current → current ≡ next_current setting now
 unfolding next_current
 rises_same setting now before current are rises =
     let first = are.current in
     let last = are.count in
-    let many = passing_is (machine.all_acked setting now) (current_mark now + 1)
-    (version_count now - current_mark now) (current - before.current)
-    (omega (arith, first, last, rises.bound, rises.rises))
-    (λ v above below.
-    subst IsTrue (all_same setting now before v (omega (arith, above)) are)
-    (rises.acknowledged v (omega (arith, first, above))
-    (omega (arith, first, below, rises.rises))))
-    (λ more.
-    let next : current_mark now + 1 + (current - before.current) ≡ current + 1 =
-    omega (arith, first, rises.rises) in
-    subst (λ v. IsFalse (machine.all_acked setting now v)) (sym next)
+    let many = passing_is (machine.all_acked setting now)
+    (current_mark now + 1) (version_count now - current_mark now) (current - before.current)
+    (omega (arith, first, rises.bound, rises.rises))
+    (λ v above below. subst IsTrue (all_same setting now before v (omega arith) are)
+    (rises.acknowledged v (omega (arith, first)) (omega (arith, first, rises.rises)))) (λ more.
+    subst (λ v. IsFalse (machine.all_acked setting now v)) (sym (omega (arith, first, rises.rises)))
     (sym (all_same setting now before (current + 1) (omega arith) are)
-    ∙ rises.stopped (omega (arith, first, last, more, rises.rises)))) in
+    ∙ rises.stopped (omega (arith, first, rises.rises)))) in
     omega (arith, first, many, rises.rises)
 
 -- the boots that are known stay so
@@ -137,12 +128,11 @@ risen_items setting journal next body b = elim b [
 
 -- then the marks are the risen ones
 rises_by : (setting : Setting) (journal : List Item) (after value risen : MarksValue) (act : Act)
-    (body : ℕ → Body)
-    → AreMarksOf setting journal value → SameBoots journal after (length value.switches)
+    (body : ℕ → Body) → AreMarksOf setting journal value
+    → SameBoots journal after (length value.switches)
     → ((s : ℕ) → ReopensAlone (journal ++ item_of journal act ∷ []) (adverts_over body journal s))
     → AreMarksOf setting (journal ++ item_of journal act ∷ []) risen
-    → (b : Bool) → (b ≡ false → AreMarksOf setting journal risen)
-    → (written_items journal (if b
+    → (b : Bool) → (b ≡ false → AreMarksOf setting journal risen) → (written_items journal (if b
     then act ∷ posts_to after body (switches_where (λ known. is_member known.phase) value.switches)
     else []) ≡ risen_items setting journal (item_of journal act) body b)
     × AreMarksOf setting (journal ++ risen_items setting journal (item_of journal act) body b) risen
@@ -154,14 +144,12 @@ rises_by setting journal after value risen act body are boots leaves rises true 
     let next : Item = item_of journal act in
     let raised : List Item = journal ++ next ∷ [] in
     let message : ℕ → Message = adverts_over body journal in (
-      ap (λ items. next ∷ items)
-          (told_posted (λ s. acts.post_act s (body (boot_recorded after s))) message
-          (λ known. is_member known.phase) (machine.is_member journal) setting raised value are.many
-          (λ s there. (are.each s there).member)
+      ap (λ items. next ∷ items) (told_posted (λ s. acts.post_act s (body (boot_recorded after s)))
+          message (λ known. is_member known.phase) (machine.is_member journal) setting raised value
+          are.many (λ s there. (are.each s there).member)
           (λ s there. ap (λ boot. Post (to_switch s (body boot))) (boots s there))),
-      subst (λ js. AreMarksOf setting js risen)
-          (append_assoc journal (next ∷ [])
-          (send_items raised (map message (machine.members setting journal))))
+      rw (append_assoc journal
+          (next ∷ []) (send_items raised (map message (machine.members setting journal)))) at
           (leave_on setting raised risen message (machine.members setting journal) leaves rises),
     )
 
@@ -169,21 +157,18 @@ rises_by setting journal after value risen act body are boots leaves rises true 
 rises_on : (setting : Setting) (journal : List Item) (after value : MarksValue)
     (risen : ℕ → MarksValue) (act : ℕ → Act) (body : ℕ → ℕ → Body) (low high mark version : ℕ)
     → low ≡ mark → high ≡ version → AreMarksOf setting journal value
-    → SameBoots journal after (length value.switches)
-    → ((s : ℕ) → ReopensAlone (journal ++ item_of journal (act version) ∷ [])
-    (adverts_over (body version) journal s))
+    → SameBoots journal after (length value.switches) → ((s : ℕ) → ReopensAlone
+    (journal ++ item_of journal (act version) ∷ []) (adverts_over (body version) journal s))
     → AreMarksOf setting (journal ++ item_of journal (act version) ∷ []) (risen version)
     → (nat_lt mark version ≡ false → AreMarksOf setting journal (risen version))
     → (let items = risen_items setting journal (item_of journal (act version)) (body version)
     (nat_lt mark version) in
-    (written_items journal (if nat_lt low high
-    then act high ∷ posts_to after (body high)
-    (switches_where (λ known. is_member known.phase) value.switches)
-    else []) ≡ items) × AreMarksOf setting (journal ++ items) (risen high))
+    (written_items journal (if nat_lt low high then act high ∷ posts_to after (body high)
+    (switches_where (λ known. is_member known.phase) value.switches) else []) ≡ items)
+    × AreMarksOf setting (journal ++ items) (risen high))
 rises_on setting journal after value risen act body low high mark version low_is high_is are boots
-    leaves rises stays =
-    rw (low_is, high_is) (rises_by setting journal after value (risen version) (act version)
-    (body version) are boots leaves rises (nat_lt mark version) stays)
+    leaves rises stays = rw (low_is, high_is) (rises_by setting journal after value (risen version)
+    (act version) (body version) are boots leaves rises (nat_lt mark version) stays)
 
 raises_on : (setting : Setting) (now : List Item) (before after : MarksValue)
     (touched : List WordValue) → touched ≡ touched_by setting now after.current
@@ -194,16 +179,14 @@ raises_on : (setting : Setting) (now : List Item) (before after : MarksValue)
     × AreMarksOf setting (now ++ current_items setting now)
     (record before { current = after.current })
 unfolding current_items
-raises_on setting now before after touched says are up is boots =
-    subst (λ words. (written_items now (acts.stamp_acts words before after)
-    ≡ current_items setting now)
+raises_on setting now before after touched says are up is boots = subst
+    (λ words. (written_items now (acts.stamp_acts words before after) ≡ current_items setting now)
     × AreMarksOf setting (now ++ current_items setting now)
-    (record before { current = after.current })) (sym says)
-    (rises_on setting now after before (λ v. record before { current = v }) Current
-    (λ v boot. Stamp boot v (touched_by setting now v)) before.current after.current (current_mark now)
-    (next_current setting now) are.current is are boots (λ s. tt)
-    (current_on setting now (next_current setting now) before are) (λ e.
-    let stays : next_current setting now ≡ current_mark now =
+    (record before { current = after.current })) (sym says) (rises_on setting now after before
+    (λ v. record before { current = v }) Current (λ v boot. Stamp boot v (touched_by setting now v))
+    before.current after.current (current_mark now) (next_current setting now) are.current is are
+    boots (λ s. tt) (current_on setting now (next_current setting now) before are)
+    (λ e. let stays : next_current setting now ≡ current_mark now =
     let first = are.current in grind (arith, nat_tests) in
     search (rules, are.each)))
 
@@ -223,10 +206,7 @@ opens_same : (journal : List Item) (s version : ℕ) (value : SwitchRecord)
     → IsKnown journal s value → 1 ≤ version → opens_at version value
     ≡ (machine.is_joining journal s && machine.has_acked journal s version)
 opens_same journal s version value is low =
-    ap (λ j. j && has_acked value version)
-    (phase_joins value.phase ∙ ap (λ o. not o && not (is_member value.phase)) is.over
-    ∙ ap (λ m. not (machine.is_over journal s) && not m) is.member)
-    ∙ by_joining (machine.is_joining journal s) refl
+    cc (phase_joins value.phase, is.over, is.member, by_joining (machine.is_joining journal s) refl)
   where
     by_joining : (b : Bool) → machine.is_joining journal s ≡ b
         → (b && has_acked value version) ≡ (b && machine.has_acked journal s version)
@@ -270,9 +250,8 @@ abbrev some_if : Bool → ℕ → Option ℕ
 some_if true version = Some version
 some_if false version = None
 
-or_twice : (o : Option ℕ) (b c : Bool) (version : ℕ)
-    → option_or (option_or o (some_if b version)) (some_if c version)
-    ≡ option_or o (some_if (b || c) version)
+or_twice : (o : Option ℕ) (b c : Bool) (version : ℕ) → option_or (option_or o (some_if b version))
+    (some_if c version) ≡ option_or o (some_if (b || c) version)
 or_twice None true true version = refl
 or_twice None true false version = refl
 or_twice None false c version = refl
@@ -305,27 +284,20 @@ opened_many base journal n version s (t ∷ switches) same =
     messages : List Message
     messages = map (open_for base version) switches
 
-    opens : (b : Bool) → (t == s) ≡ b
-        → first_number (if b then open_in (known_boot journal s) (OpenAt (known_boot base t) version)
-        else []) ≡ some_if b version
-    opens true e =
-        let own : known_boot base t ≡ known_boot journal s =
-        ap (known_boot base) (eqb-true t s e) ∙ sym (same s) in
-        ap (λ b. first_number (if b then version ∷ [] else []))
-        (eq-eqb (known_boot base t) (known_boot journal s) own)
+    opens : (b : Bool) → (t == s) ≡ b → first_number (if b then open_in (known_boot journal s)
+        (OpenAt (known_boot base t) version) else []) ≡ some_if b version
+    opens true e = cc (eq-eqb (known_boot base t) (known_boot journal s)
+        (ap (known_boot base) (eqb-true t s e) ∙ sym (same s)))
     opens false e = refl
 
 -- a switch behind its opening
-opened_known : (one two : List Item) (s version : ℕ) (value : SwitchRecord)
-    → IsKnown one s value → 1 ≤ version → SentStay one two
-    → opened_at two s ≡ option_or (opened_at one s)
+opened_known : (one two : List Item) (s version : ℕ) (value : SwitchRecord) → IsKnown one s value
+    → 1 ≤ version → SentStay one two → opened_at two s ≡ option_or (opened_at one s)
     (some_if (machine.is_joining one s && machine.has_acked one s version) version)
     → acked_stamp two s ≤ version → IsKnown two s (known.opened_record version value)
-opened_known one two s version value is low stay now most =
-    by_opens (opens_at version value) refl
+opened_known one two s version value is low stay now most = by_opens (opens_at version value) refl
   where
-    tests : opens_at version value
-        ≡ (machine.is_joining one s && machine.has_acked one s version)
+    tests : opens_at version value ≡ (machine.is_joining one s && machine.has_acked one s version)
     tests = opens_same one s version value is low
 
     joins : (b c : Bool) → IsTrue (b && c) → IsTrue b
@@ -335,19 +307,16 @@ opened_known one two s version value is low stay now most =
     acked : (v : ℕ) → machine.has_acked two s v ≡ machine.has_acked one s v
     acked v = acked_same two one s v stay.heard
 
-    by_opens : (b : Bool) → opens_at version value ≡ b → IsKnown two s
-        (if b then record value { phase = Member; open_version = version; acked_stamp = version }
-        else value)
+    by_opens : (b : Bool) → opens_at version value ≡ b → IsKnown two s (if b then record value
+        { phase = Member; open_version = version; acked_stamp = version } else value)
     by_opens true e =
         let passes = sym tests ∙ e in
         let parts = joining_parts one s
         (joins (machine.is_joining one s) (machine.has_acked one s version) passes) in
-        let opened : opened_at two s ≡ Some version = now
-        ∙ ap (λ b. option_or (opened_at one s) (some_if b version)) passes
+        let opened = now ∙ ap (λ b. option_or (opened_at one s) (some_if b version)) passes
         ∙ ap (λ o. option_or o (Some version)) parts.1 in
         let over : machine.is_over two s ≡ false = stay.over s ∙ parts.0 in
-        let member : machine.is_member two s ≡ true =
-        member_of two s over (ap (λ o. is_some o) opened) in
+        let member = member_of two s over (ap (λ o. is_some o) opened) in
         let opening_switches : open_version two s ≡ version = ap (λ o. unwrap_or o 0) opened in
         record {
           boot = is.boot ∙ sym (stay.known s);
@@ -358,8 +327,7 @@ opened_known one two s version value is low stay now most =
           stamp = λ is. omega (arith, opening_switches, acked_stamp_opened two s, most);
         }
     by_opens false e =
-        let same : opened_at two s ≡ opened_at one s = now
-        ∙ ap (λ b. option_or (opened_at one s) (some_if b version)) (sym tests ∙ e)
+        let same = now ∙ ap (λ b. option_or (opened_at one s) (some_if b version)) (sym tests ∙ e)
         ∙ or_none (opened_at one s) in
         known_on one two s value
         (record {
@@ -391,59 +359,50 @@ unfolding open_items
 opens_on setting one before after are low count current switches boots bounds = (
   told_posted (λ s. acts.post_act s (OpenAt (boot_recorded after s) after.current))
       (open_for one (current_mark one)) (opens_at after.current) test setting one before are.many
-      (λ s there.
-      ap (λ v. opens_at v (record_of before s)) (current ∙ are.current)
-      ∙ opens_same one s (current_mark one) (record_of before s) (are.each s there) first)
-      (λ s there.
-      ap (λ boot. Post (to_switch s (OpenAt boot after.current))) (boots s there)
+      (λ s there. ap (λ v. opens_at v (record_of before s)) (current ∙ are.current) ∙ opens_same one
+      s (current_mark one) (record_of before s) (are.each s there) first)
+      (λ s there. ap (λ boot. Post (to_switch s (OpenAt boot after.current))) (boots s there)
       ∙ ap (λ v. Post (open_for one v s)) (current ∙ are.current)),
   record {
     count = count ∙ are.count ∙ sym stay.count;
     current = current ∙ are.current ∙ sym stay.current;
     retired = are.retired ∙ sym stay.retired;
     many = long ∙ are.many;
-    each = λ s there.
-        let below : s < length before.switches = omega (arith, there, long) in
+    each = λ s there. let below : s < length before.switches = omega (arith, there, long) in
         subst (IsKnown two s) (sym (record_opened before after before.current s switches below))
-        (subst (λ v. IsKnown two s (known.opened_record v (record_of before s))) (sym are.current)
-        (opened_known one two s (current_mark one) (record_of before s) (are.each s below) first
-        stay (now s below) (omega (arith, bounds.known s, stay.current))));
+        (rw are.current (opened_known one two s (current_mark one) (record_of before s)
+        (are.each s below) first stay (now s below) (omega (arith, bounds.known s, stay.current))));
   },
-)
-  where
-    test : ℕ → Bool
-    test s = machine.is_joining one s && machine.has_acked one s (current_mark one)
+) where
+  test : ℕ → Bool
+  test s = machine.is_joining one s && machine.has_acked one s (current_mark one)
 
-    two : List Item
-    two = one ++ send_items one (map (open_for one (current_mark one))
-        (opening_switches setting one))
+  two : List Item
+  two = one ++ send_items one (map (open_for one (current_mark one)) (opening_switches setting one))
 
-    first : 1 ≤ current_mark one
-    first = let is = are.current in omega (arith, low, is)
+  first : 1 ≤ current_mark one
+  first = let is = are.current in omega (arith, low, is)
 
-    stay : SentStay one two
-    stay = sent_stay (map (open_for one (current_mark one)) (opening_switches setting one)) one
-        (next_message one)
+  stay : SentStay one two
+  stay = sent_stay (map (open_for one (current_mark one)) (opening_switches setting one)) one
+      (next_message one)
 
-    long : length after.switches ≡ length before.switches
-    long = ap length switches ∙ length-map before.switches (known.opened_record before.current)
+  long : length after.switches ≡ length before.switches
+  long = ap length switches ∙ length-map before.switches (known.opened_record before.current)
 
-    now : (s : ℕ) → s < length before.switches → opened_at two s
-        ≡ option_or (opened_at one s) (some_if (test s) (current_mark one))
-    now s below =
-        opened_many one one (next_message one) (current_mark one) s (opening_switches setting one)
-        (λ t. refl)
-        ∙ ap (λ b. option_or (opened_at one s) (some_if b (current_mark one)))
-        (any_picked test s 0 (length setting.net.switches) (omega arith)
-        (omega (arith, below, are.many)))
+  now : (s : ℕ) → s < length before.switches → opened_at two s
+      ≡ option_or (opened_at one s) (some_if (test s) (current_mark one))
+  now s below = opened_many one one (next_message one) (current_mark one) s
+      (opening_switches setting one) (λ t. refl)
+      ∙ ap (λ b. option_or (opened_at one s) (some_if b (current_mark one))) (any_picked test s 0
+      (length setting.net.switches) (omega arith) (omega (arith, below, are.many)))
 
 -- ---- retired rises
 
 retires_same : (setting : Setting) (two : List Item) (value : MarksValue)
     → AreMarksOf setting two value → marks.retired_of value ≡ next_retired setting two
 unfolding next_retired
-retires_same setting two value are =
-    ap (λ xs. unwrap_or (least_number xs) value.current - 1)
+retires_same setting two value are = ap (λ xs. unwrap_or (least_number xs) value.current - 1)
     (members_made (λ known. known.acked_stamp) (acked_stamp two) setting two value are
     (λ s is member. is.stamp member))
     ∙ ap (λ c. unwrap_or (least_number (map (acked_stamp two) (machine.members setting two))) c - 1)
@@ -451,26 +410,22 @@ retires_same setting two value are =
 
 retires_on : (setting : Setting) (two : List Item) (before after : MarksValue)
     → AreMarksOf setting two (record after { retired = before.retired })
-    → after.retired ≡ next_retired setting two
-    → retired_mark two ≤ next_retired setting two
+    → after.retired ≡ next_retired setting two → retired_mark two ≤ next_retired setting two
     → SameBoots two after (length after.switches)
     → (written_items two (acts.collect_acts before after) ≡ retired_items setting two)
     × AreMarksOf setting (two ++ retired_items setting two) after
 unfolding retired_items
-retires_on setting two before after are is least_is boots =
-    rises_on setting two after (record after { retired = before.retired })
-    (λ v. record after { retired = v }) Retired (λ v boot. Collect boot v) before.retired
-    after.retired (retired_mark two) (next_retired setting two) are.retired is are boots (λ s. tt)
-    (retired_on setting two (next_retired setting two) (record after { retired = before.retired })
-    are) (λ e.
-    let stays : next_retired setting two ≡ retired_mark two = grind (arith, nat_tests) in
-    search (rules, are.each))
+retires_on setting two before after are is least_is boots = rises_on setting two after
+    (record after { retired = before.retired }) (λ v. record after { retired = v }) Retired
+    (λ v boot. Collect boot v) before.retired after.retired (retired_mark two)
+    (next_retired setting two) are.retired is are boots (λ s. tt) (retired_on setting two
+    (next_retired setting two) (record after { retired = before.retired }) are)
+    (λ e. search (rules, are.each))
 
 -- ---- together
 
-boot_opened : (b : Bool) (version : ℕ) (value : SwitchRecord)
-    → (if b then record value { phase = Member; open_version = version; acked_stamp = version }
-    else value).boot ≡ value.boot
+boot_opened : (b : Bool) (version : ℕ) (value : SwitchRecord) → (if b then record value
+    { phase = Member; open_version = version; acked_stamp = version } else value).boot ≡ value.boot
 boot_opened true version value = refl
 boot_opened false version value = refl
 
@@ -488,9 +443,8 @@ settled_boot before after answer s is there =
 
 pub settling_caused : (setting : Setting) (now : List Item) → AreCaused setting now
     → AreCaused setting (now ++ settling setting now)
-settling_caused setting now have =
-    have_append (HasItemCause setting) [] now (settling setting now) have
-    (settling_have setting now)
+settling_caused setting now have = have_append (HasItemCause setting) [] now (settling setting now)
+    have (settling_have setting now)
 
 pub settles_so : (setting : Setting) (now : List Item) (before after : MarksValue)
     (answer : Settled) (touched : List WordValue)
@@ -501,51 +455,43 @@ pub settles_so : (setting : Setting) (now : List Item) (before after : MarksValu
 unfolding settling
 settles_so setting now before after answer touched says have are is = (
   written_in_three now (current_items setting) (open_items setting) (retired_items setting)
-      (acts.stamp_acts touched before after) (acts.open_acts before after) (acts.collect_acts before after)
-      raises.0
-      opens.0 retires.0,
-  subst (λ js. AreMarksOf setting js after)
-      (sym (in_three (current_items setting) (open_items setting) (retired_items setting) now))
-      retires.1,
-)
-  where
-    one : List Item
-    one = now ++ current_items setting now
+      (acts.stamp_acts touched before after) (acts.open_acts before after)
+      (acts.collect_acts before after) raises.0 opens.0 retires.0,
+  rw (in_three (current_items setting) (open_items setting) (retired_items setting) now) retires.1,
+) where
+  one : List Item
+  one = now ++ current_items setting now
 
-    two : List Item
-    two = one ++ open_items setting one
+  two : List Item
+  two = one ++ open_items setting one
 
-    two_have : AreCaused setting two
-    two_have = have_front (HasItemCause setting) [] two (retired_items setting two)
-        (subst (AreCaused setting)
-        (in_three (current_items setting) (open_items setting) (retired_items setting) now)
-        (settling_caused setting now have))
+  two_have : AreCaused setting two
+  two_have = have_front (HasItemCause setting) [] two (retired_items setting two)
+      (subst (AreCaused setting) (in_three (current_items setting) (open_items setting)
+      (retired_items setting) now) (settling_caused setting now have))
 
-    low : 1 ≤ after.current
-    low =
-        let first = are.current in
-        omega (arith, first, (bounded setting now have).first, is.current.rises)
+  low : 1 ≤ after.current
+  low = omega (arith, are.current, (bounded setting now have).first, is.current.rises)
 
-    boots : SameBoots now after (length before.switches)
-    boots s there = settled_boot before after answer s is there ∙ (are.each s there).boot
+  boots : SameBoots now after (length before.switches)
+  boots s there = settled_boot before after answer s is there ∙ (are.each s there).boot
 
-    raises : (written_items now (acts.stamp_acts touched before after)
-        ≡ current_items setting now)
-        × AreMarksOf setting one (record before { current = after.current })
-    raises = raises_on setting now before after touched says are is.current.rises
-        (rises_same setting now before after.current are is.current) boots
+  raises : (written_items now (acts.stamp_acts touched before after) ≡ current_items setting now)
+      × AreMarksOf setting one (record before { current = after.current })
+  raises = raises_on setting now before after touched says are is.current.rises
+      (rises_same setting now before after.current are is.current) boots
 
-    same : (s : ℕ) → s < length before.switches → known_boot one s ≡ known_boot now s
-    same s there = sym (raises.1.each s there).boot ∙ (are.each s there).boot
+  same : (s : ℕ) → s < length before.switches → known_boot one s ≡ known_boot now s
+  same s there = sym (raises.1.each s there).boot ∙ (are.each s there).boot
 
-    opens : (written_items one (acts.open_acts before after) ≡ open_items setting one)
-        × AreMarksOf setting two (record after { retired = before.retired })
-    opens = opens_on setting one (record before { current = after.current }) after raises.1 low
-        is.count refl is.switches (λ s there. boots s there ∙ sym (same s there))
-        (bounded setting two two_have)
+  opens : (written_items one (acts.open_acts before after) ≡ open_items setting one)
+      × AreMarksOf setting two (record after { retired = before.retired })
+  opens = opens_on setting one (record before { current = after.current }) after raises.1 low
+      is.count refl is.switches (λ s there. boots s there ∙ sym (same s there))
+      (bounded setting two two_have)
 
-    retires : (written_items two (acts.collect_acts before after) ≡ retired_items setting two)
-        × AreMarksOf setting (two ++ retired_items setting two) after
-    retires = retires_on setting two before after opens.1
-        (is.retired ∙ retires_same setting two (record after { retired = before.retired }) opens.1)
-        (behind setting two two_have) (λ s there. (opens.1.each s there).boot)
+  retires : (written_items two (acts.collect_acts before after) ≡ retired_items setting two)
+      × AreMarksOf setting (two ++ retired_items setting two) after
+  retires = retires_on setting two before after opens.1
+      (is.retired ∙ retires_same setting two (record after { retired = before.retired }) opens.1)
+      (behind setting two two_have) (λ s there. (opens.1.each s there).boot)

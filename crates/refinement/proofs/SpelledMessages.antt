@@ -18,14 +18,13 @@ use Rattle.ternary.specs.Exports.{WordValue}
 tables_short : (to : Place) (boot : ℕ) (t : Tables) → AreSmall t
     → length (message.spell (record { to = to; body = Install boot t })) < 2 ^ 40
 unfolding install_form
-tables_short to boot t are =
-    omega (
-      arith,
-      length_message (record { to = to; body = Install boot t }),
-      length-append (n4.spell boot) (tables.spell t),
-      length_n4 boot,
-      tables_len t are,
-    )
+tables_short to boot t are = omega (
+  arith,
+  length_message (record { to = to; body = Install boot t }),
+  length-append (n4.spell boot) (tables.spell t),
+  length_n4 boot,
+  tables_len t are,
+)
 
 module _ (setting : Setting) (journal : List Item) (is : IsSetting setting)
     (reached : IsReached setting journal) where
@@ -41,8 +40,7 @@ module _ (setting : Setting) (journal : List Item) (is : IsSetting setting)
       ((always _ versions_planned).behind.ends.stepped setting reached.steps)
 
   planned : TablesArePlanned setting journal
-  planned = subst (TablesArePlanned setting) (sym reached.written)
-      ((always _ tables_planned).behind.ends.stepped setting reached.steps)
+  planned = rw reached.written ((always _ tables_planned).behind.ends.stepped setting reached.steps)
 
   installed : (n s boot : ℕ) (t : Tables)
       → message_of journal n ≡ Some (to_switch s (Install boot t)) → AreShort t × AreSmall t
@@ -57,14 +55,11 @@ module _ (setting : Setting) (journal : List Item) (is : IsSetting setting)
       )
 
   touches : StampsSayTouched setting journal
-  touches = subst (StampsSayTouched setting) (sym reached.written)
-      ((always _ stamps_touched).behind.ends.stepped setting reached.steps)
+  touches = rw reached.written ((always _ stamps_touched).behind.ends.stepped setting reached.steps)
 
   few : (n s boot version : ℕ) (touched : List WordValue)
       → message_of journal n ≡ Some (stamp_to s boot version touched) → length touched ≤ 16
-  few n s boot version touched sent =
-      subst (λ words. length words ≤ 16)
-      (sym (touches.sent n s boot version touched sent).says)
+  few n s boot version touched sent = rw ((touches.sent n s boot version touched sent).says)
       (touched_few setting journal version)
 
   below : (s : ℕ) → s < length setting.net.switches → s < 64
@@ -74,8 +69,7 @@ module _ (setting : Setting) (journal : List Item) (is : IsSetting setting)
       → message_of journal n ≡ Some (record { to = to; body = body }) → IsAddressed setting to body
       → HasShortSpelling (record { to = to; body = body })
   spelled n (receiver.Switch s) (Install boot t) sent named =
-      let its = installed n s boot t sent in
-      record {
+      let its = installed n s boot t sent in record {
         spelling = record { switch = below s named.0; suits = refl; fields = its.0 };
         short = tables_short (receiver.Switch s) boot t its.1;
       }

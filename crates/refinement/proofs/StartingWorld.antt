@@ -1,7 +1,7 @@
 -- A world in which nothing happened yet is as its journal says.
-use Rattle.std.proofs.Common.{[], ◌<◌, ◌∙◌, ◌∷◌, ◌≡◌, ◌≤◌, All, List, Ok, Some, ap, arith, cond, filter, get_or, length, map, refl, slice_get, subst, sym, ℕ}
+use Rattle.std.proofs.Common.{[], ◌<◌, ◌∙◌, ◌∷◌, ◌≡◌, ◌≤◌, All, List, Ok, Some, ap, arith, cond, filter, get_or, length, map, refl, slice_get, sym, ℕ}
 use Rattle.base.proofs.Exports.{All-nil, get_or-map-range_with_len, length-map-range_with_len, range_with_len}
-use Rattle.refinement.specs.Exports.{IsControllerOf, RefineJournal, flight_in, is_up_link, plan_to_keep, switch_begun, switch_of}
+use Rattle.refinement.specs.Exports.{RefineJournal, flight_in, is_up_link, plan_to_keep, switch_begun, switch_of}
 use Rattle.refinement.proofs.ControllerCalls.{begins}
 use Rattle.controller.specs.Exports.{ControllerValue, PlanValue, first_controller}
 use Rattle.net_file.specs.Exports.{IsNet, links_of}
@@ -19,19 +19,18 @@ switch_first : (setting : Setting) (s : ℕ) → s < length setting.net.switches
     → length setting.net.switches ≤ 64
     → switch_of setting [] s ≡ switch_begun setting.net (plan_at setting [] 1) s
 unfolding switch_of
-switch_first setting s there few =
-    rw (
-      start_laws.boot s,
-      start_laws.up s,
-      start_laws.serving s,
-      start_laws.stamp s,
-      start_laws.heard s,
-      start_laws.adverts setting s there few,
-      start_laws.seq setting s,
-      start_laws.versions s 1,
-      start_laws.cache setting s,
-      start_laws.handled s,
-    ) refl
+switch_first setting s there few = rw (
+  start_laws.boot s,
+  start_laws.up s,
+  start_laws.serving s,
+  start_laws.stamp s,
+  start_laws.heard s,
+  start_laws.adverts setting s there few,
+  start_laws.seq setting s,
+  start_laws.versions s 1,
+  start_laws.cache setting s,
+  start_laws.handled s,
+) refl
 
 -- the controller's plan is that of the first version
 of_first : (net : Net) (files : List PolicyFile) (plan : PlanValue)
@@ -48,10 +47,7 @@ of_first net files plan whole is =
 -- all links are up
 all_up : (links : List LinkRow) → filter (is_up_link []) links ≡ links
 all_up [] = refl
-all_up (link ∷ links) =
-    ap (λ b. cond b (link ∷ filter (is_up_link []) links) (filter (is_up_link []) links))
-    (start_laws.links link.one link.two)
-    ∙ ap (λ rest. link ∷ rest) (all_up links)
+all_up (link ∷ links) = cc (start_laws.links link.one link.two, all_up links)
 
 pub begun_refines : (net : Net) (files : List PolicyFile) (plan : PlanValue)
     (switches : List SwitchValue) (controller : ControllerValue) (near : List ℕ) → IsNet net
@@ -73,14 +69,11 @@ unfolding flight_in travels next_packet
 begun_refines net files plan switches controller near sound whole given ports is made first_is
     masks =
     let setting : Setting = setting_of net files in
-    let own : IsSetting setting =
-    setting_begun net files plan.policy plan.hosted sound whole given ports is in
+    let own = setting_begun net files plan.policy plan.hosted sound whole given ports is in
     let first : plan_at setting [] 1 ≡ plan.hosted =
     (first_version_is net files plan.policy plan.hosted whole is).1 in
-    let many : length switches ≡ length net.switches =
-    ap length made
-    ∙ length-map-range_with_len (switch_begun net plan.hosted) 0 (length net.switches) in
-    record {
+    let many = ap length made
+    ∙ length-map-range_with_len (switch_begun net plan.hosted) 0 (length net.switches) in record {
       sound = own;
       reached = record {
         steps = [];
@@ -88,8 +81,7 @@ begun_refines net files plan switches controller near sound whole given ports is
         written = refl;
       };
       many = many;
-      each = λ s d there.
-          let own : s < length net.switches = omega (arith, there, many) in
+      each = λ s d there. let own : s < length net.switches = omega (arith, there, many) in
           ap (λ all. get_or all s d) made
           ∙ get_or-map-range_with_len (switch_begun net plan.hosted) 0 (length net.switches) s s d
           own (omega arith)
@@ -97,8 +89,7 @@ begun_refines net files plan switches controller near sound whole given ports is
           ∙ ap (λ hosted. switch_begun net hosted s) first);
       packet = λ i. refl;
       counted = refl;
-      controller = subst (IsControllerOf setting []) (sym first_is)
-          (begins setting plan (of_first net files plan whole is));
+      controller = rw first_is (begins setting plan (of_first net files plan whole is));
       bag = bag_begun;
       up = λ s below. masks s below ∙ ap (λ rows. links_of rows s) (sym (all_up net.links));
       usable = λ s below. masks s below ∙ sym (start_laws.near setting s);

@@ -61,19 +61,17 @@ module _ (setting : Setting) (journal : List Item) (row s : ℕ) (header : Heade
 
   piece_is : piece setting journal row taken ≡ first ∷ items
   unfolding piece
-  piece_is = ap (λ more. first ∷ more)
-      (come_law setting journal row i s taken header w mask ports comes)
+  piece_is = cc (come_law setting journal row i s taken header w mask ports comes)
 
   along : (q : ℕ) (b : Bool) → (q == i) ≡ b
       → (if b then entered_flight answer else flight_in setting journal q)
       ≡ flight_in setting (journal ++ first ∷ items) q
-  along q b is =
-      come_along setting journal row (next_message journal) taken
+  along q b is = come_along setting journal row (next_message journal) taken
       (targets_of setting (looking journal row taken i s header)) (coming_in i header s) answer
       (flight_in setting journal q) q b knows is unknown unknown.found
       (come_goes setting journal row i s taken header w mask ports comes)
-      (λ leg. same_targets setting (journal ++ first ∷ []) (item.Entered i s header ∷ [])
-      (refl, tt) leg ∙ same_targets setting journal (first ∷ []) (refl, tt) leg) (
+      (λ leg. same_targets setting (journal ++ first ∷ []) (item.Entered i s header ∷ []) (refl, tt)
+      leg ∙ same_targets setting journal (first ∷ []) (refl, tt) leg) (
         refl,
         (are_apart (next_message journal) (journal ++ first ∷ []) items
             (entered_sends (next_message journal) (coming_in i header s) answer).0).policies,
@@ -83,8 +81,7 @@ module _ (setting : Setting) (journal : List Item) (row s : ℕ) (header : Heade
   come = record {
     may = looks_up_as setting journal s w knows there refl;
     written = piece_is;
-    goes = ap (λ more. flight_in setting (journal ++ more) i) piece_is
-        ∙ sym (along i true (eq-eqb i i refl));
+    goes = cc (piece_is, along i true (eq-eqb i i refl));
     others = λ q apart. ap (λ more. flight_in setting (journal ++ more) q) piece_is
         ∙ sym (along q false apart);
   }
@@ -104,8 +101,7 @@ hops_refine setting journal row i t ports of its =
     standing_by setting journal i t knows (sym (flight_now setting journal i) ∙ its) in
     let can : CanAsk setting journal i t s mask w ports =
     can_be_asked setting journal i t s mask w ports knows of.owners standing refl refl refl in
-    let written = hop_piece setting journal row i t s mask w ports can in
-    record {
+    let written = hop_piece setting journal row i t s mask w ports can in record {
       may = record {
         there = omega (arith, can.at, can.standing.stands.there);
         stands = can.stands;
@@ -114,8 +110,7 @@ hops_refine setting journal row i t ports of its =
         authority = can.authority;
       };
       written = written;
-      goes = ap (λ more. flight_in setting (journal ++ more) i) written
-          ∙ sym (hop_own setting journal row i t s mask w ports can);
+      goes = cc (written, hop_own setting journal row i t s mask w ports can);
       others = λ k apart. ap (λ more. flight_in setting (journal ++ more) k) written
           ∙ hop_others setting journal row i t s mask w ports can knows k apart;
     }

@@ -41,10 +41,8 @@ module _ {setting : Setting} {journal : List Item} {state : NetworkState}
       → piece setting journal row step ≡ item.Row row step ∷ items
       → IsFalse (asks_controller journal step)
       → IsControllerOf setting (stepped journal row step items) state.controller
-  controller_stays row step items is not_told =
-      subst (λ more. IsControllerOf setting (journal ++ more) state.controller) is
-      (steps_leave setting journal row step state.controller
-      (reached_known setting journal refines.sound refines.reached).caused not_told
+  controller_stays row step items is not_told = rw is at (steps_leave setting journal row step
+      state.controller (reached_known setting journal refines.sound refines.reached).caused not_told
       refines.controller)
 
 -- links that are up as before are the same
@@ -52,11 +50,7 @@ pub same_links : (now before : List Item) (links : List LinkRow)
     → ((link : LinkRow) → is_up_link now link ≡ is_up_link before link)
     → filter (is_up_link now) links ≡ filter (is_up_link before) links
 same_links now before [] same = refl
-same_links now before (link ∷ links) same =
-    ap (λ b. cond b (link ∷ filter (is_up_link now) links) (filter (is_up_link now) links))
-    (same link)
-    ∙ ap (λ rest. cond (is_up_link before link) (link ∷ rest) rest)
-    (same_links now before links same)
+same_links now before (link ∷ links) same = cc (same link, same_links now before links same)
 
 pub up_stays : (setting : Setting) (journal items : List Item) (links : List ℕ)
     → NoneConcern concerns_links journal items → AreUp setting journal links
@@ -112,8 +106,7 @@ pub record Steps (setting : Setting) (journal : List Item) (row : ℕ) (step : S
   pub as_many : length others ≡ length switches
   pub each : (s : ℕ) (d : SwitchValue) → s < length switches
       → get_or others s d ≡ switch_of setting (stepped journal row step items) s
-  pub travels : (i : ℕ) → flight after i
-      ≡ flight_in setting (stepped journal row step items) i
+  pub travels : (i : ℕ) → flight after i ≡ flight_in setting (stepped journal row step items) i
 
 reached_on : (setting : Setting) (journal : List Item) (row : ℕ) (step : Step) (items : List Item)
     → IsReached setting journal → IsStep setting.net (length setting.files) step
@@ -126,29 +119,26 @@ reached_on setting journal row step items reached may is =
 next_on : (journal items : List Item) (count next : ℕ) → next_packet journal ≡ count + 1
     → next ≡ count + count_of is_packet items → next_packet (journal ++ items) ≡ next + 1
 unfolding next_packet
-next_on journal items count next is more =
-    rw (count_of_append is_packet journal items) (omega (arith, is, more))
+next_on journal items count next is more = rw count_of_append (omega arith)
 
 module _ {setting : Setting} {journal : List Item} {state : NetworkState}
     (refines : RefineJournal setting journal state) where
   pub refines_taken : (later : NetworkState) (row : ℕ) (step : Step) (items : List Item)
       → IsTaken setting journal row step items state later
       → RefineJournal setting (journal ++ item.Row row step ∷ items) later
-  refines_taken later row step items taken =
-      record {
-        sound = refines.sound;
-        reached = reached_on setting journal row step items refines.reached taken.may
-            taken.piece_is;
-        many = taken.as_many ∙ refines.many;
-        each = λ s d there. taken.each s d (omega (arith, there, taken.as_many));
-        packet = taken.travels;
-        counted = next_on journal (item.Row row step ∷ items) state.packets later.packets
-            refines.counted taken.counted;
-        controller = taken.controller;
-        bag = taken.bag;
-        up = taken.up;
-        usable = taken.usable;
-      }
+  refines_taken later row step items taken = record {
+    sound = refines.sound;
+    reached = reached_on setting journal row step items refines.reached taken.may taken.piece_is;
+    many = taken.as_many ∙ refines.many;
+    each = λ s d there. taken.each s d (omega (arith, there, taken.as_many));
+    packet = taken.travels;
+    counted = next_on journal (item.Row row step ∷ items) state.packets later.packets
+        refines.counted taken.counted;
+    controller = taken.controller;
+    bag = taken.bag;
+    up = taken.up;
+    usable = taken.usable;
+  }
 
 -- what the tie says of one packet, of one switch and of the next message's number
 module _ {setting : Setting} {journal : List Item} {state : NetworkState}
@@ -211,7 +201,5 @@ module _ {setting : Setting} {journal : List Item} {state : NetworkState}
       → RefineJournal setting (journal ++ item.Row row step ∷ items)
       (record state { switches = others; travelling = after; packets = next })
   refines_silent others after next row step items steps counted none =
-      subst (λ posts. RefineJournal setting (journal ++ item.Row row step ∷ items)
-      (record state { switches = others; travelling = after; packets = next; posts = posts }))
-      (ap (λ more. state.posts ++ more) none ∙ append-nil state.posts)
+      rw (ap (λ more. state.posts ++ more) none ∙ append-nil state.posts) at
       (refines_more others after next row step items steps counted)

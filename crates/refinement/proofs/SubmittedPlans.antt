@@ -37,8 +37,7 @@ next_on : (setting : Setting) (before : List Item) (row file : ℕ) (step : Step
     (plan : PlanValue) (touched : List WordValue) → IsPlanOfNext setting before file plan touched
     → IsPlanOfNext setting (before ++ item.Row row step ∷ []) file plan touched
 next_on setting before row file step plan touched of = record {
-  policy = (policies_keep before (item.Row row step ∷ []) (refl, tt)).next setting file
-      ∙ of.policy;
+  policy = (policies_keep before (item.Row row step ∷ []) (refl, tt)).next setting file ∙ of.policy;
   hosted = of.hosted;
   touches = of.touches ∙ sym (next_stays setting before row file step);
 }
@@ -47,10 +46,9 @@ next_on setting before row file step plan touched of = record {
 abbrev code_of : ℕ → ℕ → Option ℕ
 code_of live count = if live == 8 then Some 16 else if count == 64 then Some 17 else None
 
-code_is : (setting : Setting) (journal : List Item) (file : ℕ) (plan : PlanValue)
-    (touched : List WordValue) (old : ControllerValue)
-    → IsPlanOfNext setting journal file plan touched
-    → IsControllerOf setting journal old
+code_is : (setting : Setting) (journal : List Item)
+    (file : ℕ) (plan : PlanValue) (touched : List WordValue) (old : ControllerValue)
+    → IsPlanOfNext setting journal file plan touched → IsControllerOf setting journal old
     → update_code setting journal file
     ≡ code_of (old.marks.count - old.marks.retired) old.marks.count
 code_is setting journal file plan touched old of is =
@@ -69,9 +67,8 @@ refused setting before row file code old have is coded =
     let here : List Item = before ++ item.Row row (Update file) ∷ [] in
     subst (λ o. AreWritten setting before items [] old (item.Row row (Update file) ∷ elim o [
       | Some code ↦ item.Refused file code ∷ []
-      | None ↦
-          items_then (item.Submitted file (version_count here + 1) ∷ []) (submitted_items setting)
-          here
+      | None ↦ items_then
+          (item.Submitted file (version_count here + 1) ∷ []) (submitted_items setting) here
     ])) (sym coded)
     (record {
       same = refl;
@@ -79,20 +76,17 @@ refused setting before row file code old have is coded =
           (controller_keeps before items (refl, (refl, tt))) is;
     })
 
-pub too_many_live : (setting : Setting) (before : List Item) (row file : ℕ)
-    (old : ControllerValue) (plan : PlanValue) (touched : List WordValue)
+pub too_many_live : (setting : Setting) (before : List Item)
+    (row file : ℕ) (old : ControllerValue) (plan : PlanValue) (touched : List WordValue)
     → AreCaused setting before → IsControllerOf setting before old
-    → IsPlanOfNext setting before file plan touched
-    → old.marks.count - old.marks.retired ≡ 8
+    → IsPlanOfNext setting before file plan touched → old.marks.count - old.marks.retired ≡ 8
     → AreWritten setting before (item.Row row (Update file) ∷ item.Refused file 16 ∷ []) [] old
     (piece setting before row (Update file))
-too_many_live setting before row file old plan touched have is of live =
-    refused setting before row file 16 old have is
-    (code_is setting (before ++ item.Row row (Update file) ∷ []) file plan touched old
-    (next_on setting before row file (Update file) plan touched of)
-    (row_on setting before row (Update file) old have is)
-    ∙ ap (λ b. if b then Some 16 else if old.marks.count == 64 then Some 17 else None)
-    (eq-eqb (old.marks.count - old.marks.retired) 8 live))
+too_many_live setting before row file old plan touched have is of live = refused setting before row
+    file 16 old have is (code_is setting (before ++ item.Row row (Update file) ∷ []) file plan
+    touched old (next_on setting before row file (Update file) plan touched of) (row_on setting
+    before row (Update file) old have is) ∙ ap (λ b. if b then Some 16 else if old.marks.count == 64
+    then Some 17 else None) (eq-eqb (old.marks.count - old.marks.retired) 8 live))
 
 pub too_many_versions : (setting : Setting) (before : List Item) (row file : ℕ)
     (old : ControllerValue) (plan : PlanValue) (touched : List WordValue)
@@ -101,13 +95,11 @@ pub too_many_versions : (setting : Setting) (before : List Item) (row file : ℕ
     → old.marks.count - old.marks.retired ≢ 8 → old.marks.count ≡ 64
     → AreWritten setting before (item.Row row (Update file) ∷ item.Refused file 17 ∷ []) [] old
     (piece setting before row (Update file))
-too_many_versions setting before row file old plan touched have is of live count =
-    refused setting before row file 17 old have is
-    (code_is setting (before ++ item.Row row (Update file) ∷ []) file plan touched old
-    (next_on setting before row file (Update file) plan touched of)
-    (row_on setting before row (Update file) old have is)
-    ∙ ap (λ b. if b then Some 16 else if old.marks.count == 64 then Some 17 else None)
-    (ne_eqb (old.marks.count - old.marks.retired) 8 live)
+too_many_versions setting before row file old plan touched have is of live count = refused setting
+    before row file 17 old have is (code_is setting (before ++ item.Row row (Update file) ∷ []) file
+    plan touched old (next_on setting before row file (Update file) plan touched of) (row_on setting
+    before row (Update file) old have is) ∙ ap (λ b. if b then Some 16 else if old.marks.count == 64
+    then Some 17 else None) (ne_eqb (old.marks.count - old.marks.retired) 8 live)
     ∙ ap (λ b. if b then Some 17 else None) (eq-eqb old.marks.count 64 count))
 
 -- ---- a plan that is taken in
@@ -142,17 +134,14 @@ module _ (setting : Setting) (before : List Item) (row file : ℕ) (old new : Co
   number = ap (λ k. k + 1) here_is.marks.count
 
   cause : SubmitsRightly setting here file version
-  cause =
-      let count = here_is.marks.count in
-      let retired = here_is.marks.retired in
-      record {
-        next = number;
-        rows = plan.policy;
-        policy = here_of.policy;
-        planned = subst IsOk (sym here_of.hosted) refl;
-        live = λ e. live (omega (arith, e, count, retired));
-        few = λ e. few (omega (arith, e, count));
-      }
+  cause = let count = here_is.marks.count in record {
+    next = number;
+    rows = plan.policy;
+    policy = here_of.policy;
+    planned = subst IsOk (sym here_of.hosted) refl;
+    live = λ e. live (omega (arith, e, count, here_is.marks.retired));
+    few = λ e. few (omega (arith, e, count));
+  }
 
   now_have : AreCaused setting now
   now_have = have_append (HasItemCause setting) [] here (item.Submitted file version ∷ [])
@@ -214,17 +203,14 @@ module _ (setting : Setting) (before : List Item) (row file : ℕ) (old new : Co
       (sym one_marks.count ∙ now_marks.count) (sym one_marks.current ∙ now_marks.current)
       now_plans) taken
 
-  behind_row_written : AreWritten setting before
-      (item.Row row (Update file) ∷ item.Submitted file version ∷ [])
-      (submit_acts old.marks kept new) new
+  behind_row_written : AreWritten setting before (item.Row row (Update file)
+      ∷ item.Submitted file version ∷ []) (submit_acts old.marks kept new) new
       (item.Row row (Update file) ∷ item.Submitted file version ∷ submitted_items setting now)
   behind_row_written = are_written setting before (item.Row row (Update file))
-      (item.Submitted file version) (submitted_items setting now)
-      (submit_acts old.marks kept new) new
-      (written_in_two now (installs_to_all setting) (settling setting) _
-      (acts.settling_acts (current_touched new) (with_version old.marks) new.marks) installed settled.0)
-      (subst (λ js. IsControllerOf setting js new)
-      (sym (in_two (installs_to_all setting) (settling setting) now)) settled.1)
+      (item.Submitted file version) (submitted_items setting now) (submit_acts old.marks kept new)
+      new (written_in_two now (installs_to_all setting) (settling setting) _
+      (acts.settling_acts (current_touched new) (with_version old.marks) new.marks) installed
+      settled.0) (rw (in_two (installs_to_all setting) (settling setting) now) settled.1)
 
   coded : update_code setting here file ≡ None
   coded = code_is setting here file plan touched old here_of here_is
@@ -241,9 +227,8 @@ module _ (setting : Setting) (before : List Item) (row file : ℕ) (old new : Co
       let acts : List Act = submit_acts old.marks kept new in
       subst (λ o. AreWritten setting before first acts new (item.Row row (Update file) ∷ elim o [
         | Some code ↦ item.Refused file code ∷ []
-        | None ↦ items_then (item.Submitted file (version_count here + 1) ∷ [])
-            (submitted_items setting)
-            here
+        | None ↦ items_then
+            (item.Submitted file (version_count here + 1) ∷ []) (submitted_items setting) here
       ])) (sym coded)
       (subst (λ k. AreWritten setting before first acts new (item.Row row (Update file)
       ∷ items_then (item.Submitted file k ∷ []) (submitted_items setting) here)) number

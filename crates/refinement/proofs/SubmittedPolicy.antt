@@ -35,12 +35,10 @@ module _ {setting : Setting} {journal : List Item} {state : NetworkState}
       (version_count (journal ++ item.Row row step ∷ [])) ≡ Some newest)
   newest_refines row step newest is =
       let here : List Item = journal ++ item.Row row step ∷ [] in
-      let keep : PoliciesKeep journal here =
-      policies_keep journal (item.Row row step ∷ []) (refl, tt) in
+      let keep = policies_keep journal (item.Row row step ∷ []) (refl, tt) in
       let own : policy_in setting journal (version_count journal) ≡ Some newest =
-      sym (newest_in setting journal state.controller refines.sound
-      (reached_known setting journal refines.sound refines.reached).caused refines.controller)
-      ∙ is in (
+      sym (newest_in setting journal state.controller refines.sound (reached_known setting journal
+      refines.sound refines.reached).caused refines.controller) ∙ is in (
         own,
         ap (policy_in setting here) keep.count ∙ keep.rows setting (version_count journal) ∙ own,
       )
@@ -56,8 +54,7 @@ pub planned_next : (net : Net) (files : List PolicyFile) (journal : List Item) (
 planned_next net files journal file newest plan touched first is made planned told = record {
   policy = next_by (setting_of net files) journal file newest first is ∙ made;
   hosted = planned;
-  touches =
-      let later : (file == 0) ≡ false = grind (arith, nat_tests) in
+  touches = let later : (file == 0) ≡ false = grind (arith, nat_tests) in
       told ∙ ap (touched_of (slice_get files (file - 1))) (sym is)
       ∙ ap (λ b. touched_of (if b then None else slice_get files (file - 1))
       (policy_in (setting_of net files) journal (version_count journal))) (sym later);
@@ -104,17 +101,15 @@ module _ {setting : Setting} {journal : List Item} {state : NetworkState}
   first one = item.Row row (Update file) ∷ one ∷ []
 
   -- nothing is sent, and the controller stays
-  pub refused_refines : (code : ℕ)
-      → piece setting journal row (Update file)
+  pub refused_refines : (code : ℕ) → piece setting journal row (Update file)
       ≡ item.Row row (Update file) ∷ item.Refused file code ∷ []
       → RefineJournal setting (grown journal row (Update file) (item.Refused file code)) state
   unfolding act_items act_posts
   refused_refines code is =
       let one : Item = item.Refused file code in
       let controller = subst (λ more. IsControllerOf setting (journal ++ more) state.controller)
-      (sym is) (items_leave setting journal (first one) state.controller
-      (reached_known setting journal refines.sound refines.reached).caused (refl, (refl, tt))
-      refines.controller) in
+      (sym is) (items_leave setting journal (first one) state.controller (reached_known setting
+      journal refines.sound refines.reached).caused (refl, (refl, tt)) refines.controller) in
       subst (λ posts. RefineJournal setting (grown journal row (Update file) one)
       (record state { posts = posts })) (append-nil state.posts)
       (refines_told refines state row (Update file) (one ∷ []) []
@@ -146,9 +141,8 @@ module _ {setting : Setting} {journal : List Item} {state : NetworkState}
 
       pub submitted_piece : piece setting journal row (Update file)
           ≡ item.Row row (Update file) ∷ one ∷ act_items (length state.posts + 1) acts
-      submitted_piece = submits_so.same
-          ∙ ap (λ items. first one ++ items) (written_is (journal ++ first one) acts
-          ∙ ap (λ k. act_items k acts) bag_behind.many)
+      submitted_piece =
+          cc (submits_so.same, written_is (journal ++ first one) acts, bag_behind.many)
 
       pub submitted_refines : RefineJournal setting (journal ++ item.Row row (Update file) ∷ one
           ∷ act_items (length state.posts + 1) acts)
@@ -177,7 +171,6 @@ module _ {setting : Setting} {journal : List Item} {state : NetworkState}
   pub versions_piece : state.controller.marks.count - state.controller.marks.retired ≢ 8
       → state.controller.marks.count ≡ 64 → piece setting journal row (Update file)
       ≡ item.Row row (Update file) ∷ item.Refused file 17 ∷ []
-  versions_piece live many =
-      (too_many_versions setting journal row file state.controller plan touched
-      (reached_known setting journal refines.sound refines.reached).caused refines.controller
-      of_next live many).same
+  versions_piece live many = (too_many_versions setting journal row file state.controller plan
+      touched (reached_known setting journal refines.sound refines.reached).caused
+      refines.controller of_next live many).same

@@ -13,36 +13,29 @@ use Rattle.refinement.proofs.SwitchFacts.{SwitchFacts, stamp_by, facts_of}
 
 -- they leave its facts as they are, but for its calls
 pub facts_kept : (setting : Setting) (s : ℕ) (before items : List Item)
-    → NoneConcern (concerns_known s) before items
-    → facts_of setting (before ++ items) s
+    → NoneConcern (concerns_known s) before items → facts_of setting (before ++ items) s
     ≡ record (facts_of setting before s) { handled = handled_count (before ++ items) s }
 facts_kept setting s before items none =
-    let own = switch_keeps setting s before items
-    (fewer (concerns_switch s) (concerns_known s)
-    (λ js item none. (or_parts (concerns_switch s js item) (concerns_links js item) none).0)
-    before items none) in
-    let links = links_keep setting before items
-    (fewer concerns_links (concerns_known s)
-    (λ js item none. (or_parts (concerns_switch s js item) (concerns_links js item) none).1)
-    before items none) in
-    let boot = own.boot in
+    let own = switch_keeps setting s before items (fewer (concerns_switch s) (concerns_known s)
+    (λ js item none. (or_parts (concerns_switch s js item) (concerns_links js item) none).0) before
+    items none) in
+    let links = links_keep setting before items (fewer concerns_links (concerns_known s)
+    (λ js item none. (or_parts (concerns_switch s js item) (concerns_links js item) none).1) before
+    items none) in
     let up = own.up in
     let serving = own.serving in
     let bodies = own.heard in
     let cache = own.cache in
     let seq = links.seq s in
-    let near = links.near s in
-    rw (boot, up, serving, bodies, cache, seq, near) refl
+    let near = links.near s in rw (own.boot, up, serving, bodies, cache, seq, near) refl
 
 -- ---- the cache
 
-cache_more : (setting : Setting) (before : List Item) (next : Item) (s : ℕ)
-    → cache_of setting (before ++ next ∷ []) s
-    ≡ changes_cache setting s before (cache_of setting before s) next
+cache_more : (setting : Setting) (before : List Item) (next : Item) (s : ℕ) → cache_of setting
+    (before ++ next ∷ []) s ≡ changes_cache setting s before (cache_of setting before s) next
 unfolding cache_of
-cache_more setting before next s =
-    folded_append (changes_cache setting s) (record { entries = []; capacity = setting.net.cache }) before
-    (next ∷ [])
+cache_more setting before next s = folded_append (changes_cache setting s)
+    (record { entries = []; capacity = setting.net.cache }) before (next ∷ [])
 
 -- the facts behind one more item, each by its own fold
 pub facts_more : (setting : Setting) (before : List Item) (next : Item) (s : ℕ)
@@ -58,14 +51,8 @@ pub facts_more : (setting : Setting) (before : List Item) (next : Item) (s : ℕ
       links = near setting now s;
       handled = handled_count now s;
     }
-facts_more setting before next s =
-    rw (
-      boot_more before next s,
-      up_more before next s,
-      serving_more before next s,
-      heard_more before next s,
-      cache_more setting before next s,
-    ) refl
+facts_more setting before next s = rw (boot_more, up_more, serving_more, heard_more, cache_more)
+    refl
 
 -- ---- a delivery
 
@@ -76,8 +63,7 @@ stamp_is journal s = refl
 
 -- a message that says nothing to the switch leaves its facts, and a body that is said is heard
 pub facts_delivered : (setting : Setting) (before : List Item) (s n : ℕ) (said : Option Body)
-    → body_to_switch before s n ≡ said
-    → let w = facts_of setting before s in
+    → body_to_switch before s n ≡ said → let w = facts_of setting before s in
     facts_of setting (before ++ item.Delivered n ∷ []) s
     ≡ option_map_or
     (λ body. heard_facts (touched_by setting before) n body (w.up && w.boot == 1) w) said w
@@ -88,7 +74,6 @@ facts_delivered setting before s n said is =
     let up : is_up now s ≡ is_up before s = up_more before next s in
     let serving : serves now s ≡ serves before s = serving_more before next s in
     let keep = links_keep setting before (next ∷ []) (refl, tt) in
-    let seq : own_seq setting now s ≡ own_seq setting before s = keep.seq s in
     let near : near setting now s ≡ near setting before s = keep.near s in
     let handled : handled_count now s ≡ handled_count before s =
     calls_stay s before (next ∷ []) (refl, tt) in
@@ -98,16 +83,14 @@ facts_delivered setting before s n said is =
     ∙ ap (λ o. option_map_or (λ body. heard before s ++ body ∷ []) o (heard before s)) is in
     let cache : cache_of setting now s
     ≡ option_map_or (cache_after (touched_by setting before) (stamp_of before s) (stamp_of now s) n
-    (cache_of setting before s)) said (cache_of setting before s) =
-    cache_more setting before next s
+    (cache_of setting before s)) said (cache_of setting before s) = cache_more setting before next s
     ∙ ap (λ o. option_map_or (cache_after (touched_by setting before) (stamp_of before s)
     (stamp_of now s) n (cache_of setting before s)) o (cache_of setting before s)) is in
     let stamp : stamp_of now s ≡ stamp_by (is_up before s && boot_of before s == 1)
     (option_map_or (λ body. heard before s ++ body ∷ []) said (heard before s)) =
     stamp_is now s ∙ rw (up, boot, bodies) refl in
-    let earlier : stamp_of before s
-    ≡ stamp_by (is_up before s && boot_of before s == 1) (heard before s) = stamp_is before s in
-    rw (boot, up, serving, seq, near, handled, bodies, cache, stamp, earlier) (by_said said)
+    let earlier = stamp_is before s in
+    rw (boot, up, serving, keep.seq s, near, handled, bodies, cache, stamp, earlier) (by_said said)
   where
     w : SwitchFacts
     w = facts_of setting before s
@@ -115,13 +98,12 @@ facts_delivered setting before s n said is =
     first : Bool
     first = w.up && w.boot == 1
 
-    by_said : (said : Option Body)
-        → record w {
-          bodies = option_map_or (λ body. w.bodies ++ body ∷ []) said w.bodies;
-          cache = option_map_or (cache_after (touched_by setting before)
-              (stamp_by first w.bodies) (stamp_by first (option_map_or (λ body. w.bodies ++ body ∷ []) said w.bodies)) n w.cache) said
-              w.cache;
-        }
+    by_said : (said : Option Body) → record w {
+      bodies = option_map_or (λ body. w.bodies ++ body ∷ []) said w.bodies;
+      cache = option_map_or (cache_after (touched_by setting before)
+          (stamp_by first w.bodies) (stamp_by first (option_map_or (λ body. w.bodies ++ body ∷ []) said w.bodies)) n w.cache) said
+          w.cache;
+    }
         ≡ option_map_or (λ body. heard_facts (touched_by setting before) n body first w) said w
     by_said None = refl
     by_said (Some body) = refl
@@ -137,8 +119,7 @@ pub facts_opened : (setting : Setting) (before : List Item) (s v : ℕ)
       seq = own_seq setting now s;
       links = near setting now s;
     }
-facts_opened setting before s v =
-    let next : Item = item.Opened s v in
+facts_opened setting before s v = let next : Item = item.Opened s v in
     facts_more setting before next s
     ∙ rw (eq-eqb s s refl, calls_stay s before (next ∷ []) (refl, tt)) refl
 
@@ -146,9 +127,7 @@ facts_opened setting before s v =
 
 pub facts_expired : (setting : Setting) (before : List Item) (s place message : ℕ)
     → facts_of setting (before ++ item.Expired s place message ∷ []) s
-    ≡ record (facts_of setting before s) {
-      cache = after_expire place (cache_of setting before s);
-    }
+    ≡ record (facts_of setting before s) { cache = after_expire place (cache_of setting before s) }
 facts_expired setting before s place message =
     let next : Item = item.Expired s place message in
     let keep = links_keep setting before (next ∷ []) (refl, tt) in

@@ -51,17 +51,14 @@ abbrev pub came_by : Bool → List Body → ℕ → Bool
 came_by first bodies v = list_any (installs_version v) bodies || (v == 1 && first)
 
 abbrev pub tables_by : Tables → Bool → List Body → List Tables
-tables_by tables first bodies =
-    filter (λ tables. came_by first bodies tables.version
+tables_by tables first bodies = filter (λ tables. came_by first bodies tables.version
     && not (list_any (collects_version tables.version) bodies)) (all_by tables first bodies)
 
 -- the adverts of others
 abbrev pub others_by : Setting → ℕ → Bool → List Body → List (Option Advert)
-others_by setting s first bodies =
-    after_hearing_all (if first
+others_by setting s first bodies = after_hearing_all (if first
     then first_adverts (map (links_of setting.net.links) (switches_of setting))
-    (length setting.net.switches)
-    else no_adverts) (filter_map (other_advert s) bodies)
+    (length setting.net.switches) else no_adverts) (filter_map (other_advert s) bodies)
 
 -- ---- the record
 
@@ -89,8 +86,7 @@ first_tables setting s = tables_at setting [] 1 s
 
 -- in the first boot or in a later one
 abbrev pub switch_in : Setting → ℕ → SwitchFacts → Bool → SwitchValue
-switch_in setting s w first =
-    filled s w (stamp_by first w.bodies) (collected_by w.bodies)
+switch_in setting s w first = filled s w (stamp_by first w.bodies) (collected_by w.bodies)
     (tables_by (first_tables setting s) first w.bodies) (others_by setting s first w.bodies)
 
 abbrev pub switch_by : Setting → ℕ → SwitchFacts → SwitchValue
@@ -104,8 +100,7 @@ switch_is setting journal s = rw (first_plan_stays setting journal) refl
 
 pub by_facts : (setting : Setting) (after : List Item) (s : ℕ) (w : SwitchFacts)
     → facts_of setting after s ≡ w → switch_of setting after s ≡ switch_by setting s w
-by_facts setting after s w is =
-    switch_is setting after s ∙ ap (switch_by setting s) is
+by_facts setting after s w is = cc (switch_is setting after s, is)
 
 -- ---- single parts
 

@@ -14,28 +14,23 @@ use Rattle.ternary.specs.Exports.{WordValue}
 -- ---- one body more
 
 -- what is folded over what bodies give
-fold_one : {X Y : Type 0} (gives : Body → Option X) (f : Y → X → Y) (start : Y)
-    (bodies : List Body) (body : Body)
-    → let first = fold f start (filter_map gives bodies) in
+fold_one : {X Y : Type 0} (gives : Body → Option X) (f : Y → X → Y) (start : Y) (bodies : List Body)
+    (body : Body) → let first = fold f start (filter_map gives bodies) in
     fold f start (filter_map gives (bodies ++ body ∷ []))
     ≡ option_map_or (f first) (gives body) first
 fold_one {X = X} {Y = Y} gives f start bodies body =
-    ap (fold f start) (filter_map-append gives bodies (body ∷ []))
-    ∙ fold-append f start (filter_map gives bodies) (filter_map gives (body ∷ []))
-    ∙ by_given (gives body) refl
+    ap (fold f start) (filter_map-append gives bodies (body ∷ [])) ∙ fold-append f start
+    (filter_map gives bodies) (filter_map gives (body ∷ [])) ∙ by_given (gives body) refl
   where
-    by_given : (o : Option X) → gives body ≡ o
-        → fold f (fold f start (filter_map gives bodies)) (filter_map gives (body ∷ []))
-        ≡ option_map_or (f (fold f start (filter_map gives bodies))) o
-        (fold f start (filter_map gives bodies))
+    by_given : (o : Option X) → gives body ≡ o → fold f (fold f start (filter_map gives bodies))
+        (filter_map gives (body ∷ [])) ≡ option_map_or (f (fold f start (filter_map gives bodies)))
+        o (fold f start (filter_map gives bodies))
     by_given None is = rw is refl
     by_given (Some x) is = rw is refl
 
-stamp_one : (first : Bool) (bodies : List Body) (body : Body)
-    → stamp_by first (bodies ++ body ∷ [])
+stamp_one : (first : Bool) (bodies : List Body) (body : Body) → stamp_by first (bodies ++ body ∷ [])
     ≡ option_map_or (max (stamp_by first bodies)) (stamp_in body) (stamp_by first bodies)
-stamp_one first bodies body =
-    let begun : List ℕ = if first then 1 ∷ [] else [] in
+stamp_one first bodies body = let begun : List ℕ = if first then 1 ∷ [] else [] in
     fold-append max 0 begun (filter_map stamp_in (bodies ++ body ∷ []))
     ∙ fold_one stamp_in max (fold max 0 begun) bodies body
     ∙ ap (λ stamp. option_map_or (max stamp) (stamp_in body) stamp)
@@ -69,30 +64,25 @@ hears_tables s w stamp collected boot all others tables =
     old = above collected all
 
     kept : Bool → List Tables → SwitchValue
-    kept there news = filled s w stamp collected
-        (if there then old else old ++ news) others
+    kept there news = filled s w stamp collected (if there then old else old ++ news) others
 
     came : Bool
     came = list_any (λ other. other.version == tables.version) all
 
-    by_came : (past : Bool) → nat_lt collected tables.version ≡ not past → (b : Bool)
-        → filled s w stamp collected
-        (above collected (if b then all else all ++ tables ∷ [])) others
+    by_came : (past : Bool) → nat_lt collected tables.version ≡ not past → (b : Bool) → filled s w
+        stamp collected (above collected (if b then all else all ++ tables ∷ [])) others
         ≡ kept (b || past) (tables ∷ [])
     by_came past over true = refl
-    by_came true over false =
-        ap (λ list. filled s w stamp collected list others)
+    by_came true over false = ap (λ list. filled s w stamp collected list others)
         (above_more collected all tables ∙ rw over (append-nil old))
-    by_came false over false =
-        ap (λ list. filled s w stamp collected list others)
+    by_came false over false = ap (λ list. filled s w stamp collected list others)
         (above_more collected all tables ∙ rw over refl)
 
     held : Bool
     held = is_some (find (λ other. other.version == tables.version) old)
 
-    by_held : (past b : Bool) → kept (b || past) (tables ∷ [])
-        ≡ (if b || past then filled s w stamp collected old others
-        else filled s w stamp collected (old ++ tables ∷ []) others)
+    by_held : (past b : Bool) → kept (b || past) (tables ∷ []) ≡ (if b || past then filled s w stamp
+        collected old others else filled s w stamp collected (old ++ tables ∷ []) others)
     by_held true true = refl
     by_held false true = refl
     by_held true false = refl
@@ -111,42 +101,32 @@ hears_tables s w stamp collected boot all others tables =
     same : (past : Bool) → nat_le tables.version collected ≡ past
         → kept (came || past) (tables ∷ []) ≡ kept (held || past) (tables ∷ [])
     same true is = past_any came held
-    same false is = ap (λ b. kept (b || false) (tables ∷ []))
-        (sym (found_above collected tables.version (over_mark false is) all))
+    same false is = cc (found_above collected tables.version (over_mark false is) all)
 
     by_mark : (past : Bool) → nat_le tables.version collected ≡ past
         → filled s w stamp collected (above collected (with_tables all tables)) others
-        ≡ (if held || nat_le tables.version collected
-        then filled s w stamp collected old others
+        ≡ (if held || nat_le tables.version collected then filled s w stamp collected old others
         else filled s w stamp collected (old ++ tables ∷ []) others)
     by_mark past is = rw is (by_came past (over_mark past is) came ∙ same past is
         ∙ by_held past held)
 
 -- at the greater of a stamp and a version, by whether the version is greater
-at_greater : (f : ℕ → Bool → SwitchValue) (stamp version : ℕ)
-    → f (max stamp version) (nat_lt stamp version)
-    ≡ (if nat_lt stamp version then f version true else f stamp false)
-at_greater f stamp version = by_test (nat_lt stamp version) refl
-  where
-    by_test : (b : Bool) → nat_lt stamp version ≡ b
-        → f (max stamp version) b ≡ (if b then f version true else f stamp false)
-    by_test true is =
-        let greater : max stamp version ≡ version = grind (arith, nat_tests) in
-        ap (λ after. f after true) greater
-    by_test false is =
-        let least : max stamp version ≡ stamp = grind (arith, nat_tests) in
-        ap (λ after. f after false) least
+at_greater : (f : ℕ → Bool → SwitchValue) (stamp version : ℕ) → f (max stamp version)
+    (nat_lt stamp version) ≡ (if nat_lt stamp version then f version true else f stamp false)
+at_greater f stamp version = by_test (nat_lt stamp version) refl where
+  by_test : (b : Bool) → nat_lt stamp version ≡ b
+      → f (max stamp version) b ≡ (if b then f version true else f stamp false)
+  by_test true is = ap (λ after. f after true) (grind (arith, nat_tests))
+  by_test false is = ap (λ after. f after false) (grind (arith, nat_tests))
 
 -- a greater stamp raises the cache
 hears_stamp : (s : ℕ) (w : SwitchFacts) (stamp collected version : ℕ) (tables : List Tables)
-    (others : List (Option Advert))
-    → filled s (record w {
+    (others : List (Option Advert)) → filled s (record w {
       cache = raised_from stamp (max stamp version) w.cache;
     }) (max stamp version) collected tables others
     ≡ raised_to (filled s w stamp collected tables others) version
 unfolding raised_to
-hears_stamp s w stamp collected version tables others =
-    ap (by (max stamp version)) rises ∙ at_greater by stamp version
+hears_stamp s w stamp collected version tables others = cc (rises, at_greater by stamp version)
   where
     by : ℕ → Bool → SwitchValue
     by after rises = filled s (record w {
@@ -158,8 +138,7 @@ hears_stamp s w stamp collected version tables others =
 
 -- .. or carries it, past what is touched
 hears_told : (s : ℕ) (w : SwitchFacts) (stamp collected version : ℕ) (touched : List WordValue)
-    (tables : List Tables) (others : List (Option Advert))
-    → filled s (record w {
+    (tables : List Tables) (others : List (Option Advert)) → filled s (record w {
       cache = carried_from touched stamp version w.cache;
     }) (max stamp version) collected tables others
     ≡ stamped_with (filled s w stamp collected tables others) version touched
@@ -175,9 +154,7 @@ hears_beside : (others : List (Option Advert)) (own : Option Advert) (s : ℕ) (
     → set (after_hearing others advert) s own ≡ after_hearing (set others s own) advert
 unfolding after_hearing is_news
 hears_beside others own s advert other =
-    let as_held : held_advert (set others s own) advert.origin ≡ held_advert others advert.origin =
-    get_or-set_other others s advert.origin own None other in
-    rw as_held (by_test (nat_lt advert.origin 64
+    rw (get_or-set_other others s advert.origin own None other) (by_test (nat_lt advert.origin 64
     && option_map_or (is_newer advert) (held_advert others advert.origin) true))
   where
     by_test : (b : Bool) → set (if b then set others advert.origin (Some advert) else others) s own
@@ -186,35 +163,31 @@ hears_beside others own s advert other =
     by_test false = refl
 
 hears_advert : (s : ℕ) (w : SwitchFacts) (stamp collected : ℕ) (tables : List Tables)
-    (others : List (Option Advert)) (advert : Advert)
-    → filled s w stamp collected tables
+    (others : List (Option Advert)) (advert : Advert) → filled s w stamp collected tables
     (option_map_or (after_hearing others) (other_advert s (Advertise advert)) others)
     ≡ with_heard (filled s w stamp collected tables others) advert
 unfolding with_heard is_news_here
-hears_advert s w stamp collected tables others advert = by_origin (advert.origin == s) refl
-  where
-    switch : SwitchValue
-    switch = filled s w stamp collected tables others
+hears_advert s w stamp collected tables others advert = by_origin (advert.origin == s) refl where
+  switch : SwitchValue
+  switch = filled s w stamp collected tables others
 
-    kept : List (Option Advert) → SwitchValue
-    kept database = record switch { database = database }
+  kept : List (Option Advert) → SwitchValue
+  kept database = record switch { database = database }
 
-    by_news : (b : Bool) → is_news switch.database advert ≡ b
-        → kept (after_hearing switch.database advert)
-        ≡ (if b then kept (after_hearing switch.database advert) else switch)
-    by_news true is = refl
-    by_news false is = ap kept (after_no_news switch.database advert is)
+  by_news : (b : Bool) → is_news switch.database advert ≡ b
+      → kept (after_hearing switch.database advert)
+      ≡ (if b then kept (after_hearing switch.database advert) else switch)
+  by_news true is = refl
+  by_news false is = ap kept (after_no_news switch.database advert is)
 
-    by_origin : (same : Bool) → (advert.origin == s) ≡ same
-        → filled s w stamp collected tables
-        (option_map_or (after_hearing others) (if same then None else Some advert) others)
-        ≡ (if not same && is_news switch.database advert
-        then kept (after_hearing switch.database advert) else switch)
-    by_origin true is = refl
-    by_origin false is =
-        ap kept (hears_beside others _ s advert (λ e.
-        let yes : (advert.origin == s) ≡ true = eq-eqb advert.origin s e in absurd cc))
-        ∙ by_news (is_news switch.database advert) refl
+  by_origin : (same : Bool) → (advert.origin == s) ≡ same → filled s w stamp collected tables
+      (option_map_or (after_hearing others) (if same then None else Some advert) others)
+      ≡ (if not same && is_news switch.database advert
+      then kept (after_hearing switch.database advert) else switch)
+  by_origin true is = refl
+  by_origin false is = ap kept (hears_beside others _ s advert
+      (λ e. let yes : (advert.origin == s) ≡ true = eq-eqb advert.origin s e in absurd cc))
+      ∙ by_news (is_news switch.database advert) refl
 
 -- a body that lets the switch stamp with a version says what the version's change touches
 abbrev pub SaysTouched : (ℕ → List WordValue) → Body → Type 0
@@ -224,8 +197,7 @@ SaysTouched touched_of body = ⊤
 -- but for whether it is open, which the journal tells by an item of its own
 hears : (touched_of : ℕ → List WordValue) (s number : ℕ) (w : SwitchFacts) (body : Body)
     (stamp collected : ℕ) (all : List Tables) (others : List (Option Advert))
-    → SaysTouched touched_of body
-    → heard_as touched_of s number w body stamp collected all others
+    → SaysTouched touched_of body → heard_as touched_of s number w body stamp collected all others
     ≡ record (after_body (was s w stamp collected all others) number body) { is_open = w.serving }
 unfolding collected_to
 hears touched_of s number w (Install boot tables) stamp collected all others says =
@@ -266,8 +238,7 @@ pub hears_facts : (setting : Setting) (touched_of : ℕ → List WordValue) (s n
     ≡ record (after_body (switch_in setting s w first) number body) { is_open = w.serving }
 hears_facts setting touched_of s number w first body olds new says =
     ap (λ these. filled s (heard_facts touched_of number body first w) (stamp_by first more)
-    (collected_by more) these (others_by setting s first more))
-    (tables_are tables first more refl
+    (collected_by more) these (others_by setting s first more)) (tables_are tables first more refl
     (each_append IsVersioned w.bodies (body ∷ []) olds (new, tt)))
     ∙ ap (λ stamp. now stamp (collected_by more) (all_by tables first more)
     (others_by setting s first more)) (stamp_one first w.bodies body)

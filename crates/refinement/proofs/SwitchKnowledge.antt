@@ -18,32 +18,25 @@ abbrev of_version : ℕ → Tables → Bool
 of_version v tables = tables.version == v
 
 -- one more, where there is none of its version
-with_one : (v : ℕ) (all : List Tables) (tables : Tables)
-    → list_any (of_version v) (with_tables all tables)
-    ≡ (list_any (of_version v) all || (tables.version == v))
+with_one : (v : ℕ) (all : List Tables) (tables : Tables) → list_any (of_version v)
+    (with_tables all tables) ≡ (list_any (of_version v) all || (tables.version == v))
 with_one v all tables =
     by_there (list_any (of_version tables.version) all) refl (tables.version == v) refl
   where
     by_there : (there : Bool) → list_any (of_version tables.version) all ≡ there → (same : Bool)
-        → (tables.version == v) ≡ same
-        → list_any (of_version v) (if there then all else all ++ tables ∷ [])
-        ≡ (list_any (of_version v) all || same)
+        → (tables.version == v) ≡ same → list_any (of_version v)
+        (if there then all else all ++ tables ∷ []) ≡ (list_any (of_version v) all || same)
     by_there true is true e =
-        let v_is : tables.version ≡ v = eqb-true tables.version v e in
-        let yes : list_any (of_version v) all ≡ true =
-        subst (λ w. list_any (of_version w) all ≡ true) v_is is in
-        rw yes refl
+        rw (subst (λ w. list_any (of_version w) all ≡ true) (eqb-true tables.version v e) is) refl
     by_there true is false e = sym (or-false (list_any (of_version v) all))
     by_there false is same e =
-        list_any-append (of_version v) all (tables ∷ [])
-        ∙ ap (λ b. list_any (of_version v) all || b) (or-false (tables.version == v) ∙ e)
+        cc (list_any-append (of_version v) all (tables ∷ []), or-false (tables.version == v), e)
 
 came_as : (v : ℕ) (all : List Tables) (bodies : List Body)
     → list_any (of_version v) (fold with_tables all (filter_map tables_in bodies))
     ≡ (list_any (of_version v) all || list_any (installs_version v) bodies)
 came_as v all [] = sym (or-false (list_any (of_version v) all))
-came_as v all (Install boot tables ∷ bodies) =
-    came_as v (with_tables all tables) bodies
+came_as v all (Install boot tables ∷ bodies) = came_as v (with_tables all tables) bodies
     ∙ ap (λ b. b || list_any (installs_version v) bodies) (with_one v all tables)
     ∙ or_assoc (list_any (of_version v) all) (tables.version == v)
     (list_any (installs_version v) bodies)
@@ -51,22 +44,19 @@ came_as v all (_ ∷ bodies) = came_as v all bodies
 
 all_came : (tables : Tables) (first : Bool) (bodies : List Body) (v : ℕ) → tables.version ≡ 1
     → list_any (of_version v) (all_by tables first bodies) ≡ came_by first bodies v
-all_came tables first bodies v one =
-    came_as v (if first then tables ∷ [] else []) bodies
+all_came tables first bodies v one = came_as v (if first then tables ∷ [] else []) bodies
     ∙ or_comm (list_any (of_version v) (if first then tables ∷ [] else []))
     (list_any (installs_version v) bodies)
     ∙ ap (λ b. list_any (installs_version v) bodies || b) (begun first)
   where
     begun : (b : Bool) → list_any (of_version v) (if b then tables ∷ [] else []) ≡ (v == 1 && b)
-    begun true = or-false (tables.version == v) ∙ turned
-      where
-        turned : (tables.version == v) ≡ (v == 1 && true)
-        turned = rw one (grind (arith, nat_tests))
-    begun false = none (v == 1)
-      where
-        none : (b : Bool) → false ≡ (b && false)
-        none true = refl
-        none false = refl
+    begun true = or-false (tables.version == v) ∙ turned where
+      turned : (tables.version == v) ≡ (v == 1 && true)
+      turned = rw one (grind (arith, nat_tests))
+    begun false = none (v == 1) where
+      none : (b : Bool) → false ≡ (b && false)
+      none true = refl
+      none false = refl
 
 -- of tables whose versions pass a test
 found_in : (p : ℕ → Bool) (v : ℕ) (all : List Tables)
@@ -86,16 +76,11 @@ found_in p v (tables ∷ all) =
     none true = refl
     none false = refl
 
-    by_test : is_some (find (of_version v) kept) ≡ (rest && p v) → (same : Bool)
-        → (tables.version == v) ≡ same → (b : Bool) → p tables.version ≡ b
-        → is_some (find (of_version v) (if b then tables ∷ kept else kept))
-        ≡ ((same || rest) && p v)
-    by_test found true is true e =
-        let passes : p v ≡ true = subst (λ w. p w ≡ true) (eqb-true tables.version v is) e in
-        rw (is, passes) refl
-    by_test found true is false e =
-        let fails : p v ≡ false = subst (λ w. p w ≡ false) (eqb-true tables.version v is) e in
-        found ∙ rw fails (none rest)
+    by_test : is_some (find (of_version v) kept) ≡ (rest && p v)
+        → (same : Bool) → (tables.version == v) ≡ same → (b : Bool) → p tables.version ≡ b → is_some
+        (find (of_version v) (if b then tables ∷ kept else kept)) ≡ ((same || rest) && p v)
+    by_test found true is true e = rw (is, rw (eqb-true tables.version v is) at e) refl
+    by_test found true is false e = found ∙ rw (rw (eqb-true tables.version v is) at e) (none rest)
     by_test found false is true e = rw is found
     by_test found false is false e = found
 
@@ -103,8 +88,7 @@ twice : (a b : Bool) → (a && (a && b)) ≡ (a && b)
 twice true b = refl
 twice false b = refl
 
-holds_facts : (journal : List Item) (s v : ℕ)
-    → holds_in journal s v
+holds_facts : (journal : List Item) (s v : ℕ) → holds_in journal s v
     ≡ (came_by (is_up journal s && boot_of journal s == 1) (heard journal s) v
     && not (list_any (collects_version v) (heard journal s)))
 unfolding holds_in
@@ -152,8 +136,7 @@ tables_sound setting journal version s known first last =
 -- ---- the tables of a version
 
 -- tables as they are planned for the switch
-record IsPlanned (setting : Setting) (journal : List Item) (s : ℕ) (tables : Tables)
-    : Type 0 where
+record IsPlanned (setting : Setting) (journal : List Item) (s : ℕ) (tables : Tables) : Type 0 where
   first : 1 ≤ tables.version
   last : tables.version ≤ version_count journal
   planned : tables ≡ tables_at setting journal tables.version s
@@ -184,14 +167,11 @@ all_planned setting journal s known =
     let first : Bool = is_up journal s && boot_of journal s == 1 in
     let P : Tables → Type 0 = IsPlanned setting journal s in
     subst (All P) (sym (ap (λ (switch : SwitchValue). switch.tables) (switch_is setting journal s)))
-    (All-from_recursion P _ (each_kept P
-    (λ tables. came_by first bodies tables.version
-    && not (list_any (collects_version tables.version) bodies))
-    (all_by (first_tables setting s) first bodies)
-    (with_each P (if first then first_tables setting s ∷ [] else []) (filter_map tables_in bodies)
-    (begun first)
-    (brought setting journal s bodies (recursion_from_All (BringsTables setting journal s) bodies
-    (known.tables.heard s))))))
+    (All-from_recursion P _ (each_kept P (λ tables. came_by first bodies tables.version
+    && not (list_any (collects_version tables.version) bodies)) (all_by (first_tables setting s)
+    first bodies) (with_each P (if first then first_tables setting s ∷ [] else [])
+    (filter_map tables_in bodies) (begun first) (brought setting journal s bodies
+    (recursion_from_All (BringsTables setting journal s) bodies (known.tables.heard s))))))
   where
     begun : (b : Bool) → AllByRecursion (IsPlanned setting journal s)
         (if b then first_tables setting s ∷ [] else [])
@@ -207,8 +187,7 @@ pub planned_tables : (setting : Setting) (journal : List Item) (s version : ℕ)
 planned_tables setting journal s version tables known is =
     let there = find-there (λ (tables : Tables). tables.version == version)
     (switch_of setting journal s).tables tables is in
-    let are : IsPlanned setting journal s tables =
-    All-contains (IsPlanned setting journal s) (switch_of setting journal s).tables tables
+    let are = All-contains (IsPlanned setting journal s) (switch_of setting journal s).tables tables
     (all_planned setting journal s known) there.0 in
     let v_is : tables.version ≡ version = eqb-true tables.version version there.1 in (
       are.planned ∙ ap (λ v. tables_at setting journal v s) v_is,
@@ -225,9 +204,7 @@ held_are setting journal s v known =
     by_held : (o : Option Tables) → held_tables (switch_of setting journal s) v ≡ o
         → is_some (held_tables (switch_of setting journal s) v) ≡ holds_in journal s v
         → o ≡ (if holds_in journal s v then Some (tables_at setting journal v s) else None)
-    by_held None is holds =
-        let none : holds_in journal s v ≡ false = sym holds ∙ ap (λ o. is_some o) is in
-        rw none refl
+    by_held None is holds = rw (sym holds ∙ ap (λ o. is_some o) is) refl
     by_held (Some tables) is holds =
         let some : holds_in journal s v ≡ true = sym holds ∙ ap (λ o. is_some o) is in
         rw some (ap Some (planned_tables setting journal s v tables known is).0)
@@ -241,9 +218,8 @@ knowledge_refines = record {
   tables = held_are;
   lookup = λ setting journal s header known holds.
       let switch : SwitchValue = switch_of setting journal s in
-      let stamp : switch.stamp ≡ stamp_of journal s = stamp_shown setting journal s in
       ap (λ tables. lookup_of switch.cache.entries tables header)
-      (ap (λ v. unwrap_or (held_tables switch v) no_tables) stamp
+      (ap (λ v. unwrap_or (held_tables switch v) no_tables) (stamp_shown setting journal s)
       ∙ ap (λ o. unwrap_or o no_tables) (held_are setting journal s (stamp_of journal s) known)
       ∙ ap (λ b. unwrap_or (if b then Some (tables_at setting journal (stamp_of journal s) s)
       else None) no_tables) holds);

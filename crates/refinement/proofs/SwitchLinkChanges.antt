@@ -26,42 +26,37 @@ pub seq_more : (setting : Setting) (before : List Item) (row s : ℕ) (step : St
     boot_of now s ≡ boot_of before s → is_up now s ≡ is_up before s
     → own_seq setting now s
     ≡ own_seq setting before s + one_if (has_changed setting before now s)
-seq_more setting before row s step items none boot up = by_up (is_up before s) refl
-  where
-    now : List Item
-    now = before ++ item.Row row step ∷ items
+seq_more setting before row s step items none boot up = by_up (is_up before s) refl where
+  now : List Item
+  now = before ++ item.Row row step ∷ items
 
-    first : StepItems
-    first = record { before = before; items = item.Row row step ∷ items }
+  first : StepItems
+  first = record { before = before; items = item.Row row step ∷ items }
 
-    test : StepItems → Bool
-    test = has_change setting s (boot_of before s)
+  test : StepItems → Bool
+  test = has_change setting s (boot_of before s)
 
-    changed : Bool
-    changed = not (near setting before s == near setting now s)
+  changed : Bool
+  changed = not (near setting before s == near setting now s)
 
-    first_counts : test first ≡ changed
-    first_counts = ap (λ b. b && changed) (eq-eqb (boot_of before s) (boot_of before s) refl)
+  first_counts : test first ≡ changed
+  first_counts = ap (λ b. b && changed) (eq-eqb (boot_of before s) (boot_of before s) refl)
 
-    counts : count_by test (steps_in now) ≡ one_if changed + count_by test (steps_in before)
-    counts =
-        ap (count_by test) (steps_more before row step items none)
-        ∙ sum_by-cons (λ x. cond (test x) 1 0) first (steps_in before)
-        ∙ ap (λ b. cond b 1 0 + count_by test (steps_in before)) first_counts
+  counts : count_by test (steps_in now) ≡ one_if changed + count_by test (steps_in before)
+  counts = ap (count_by test) (steps_more before row step items none)
+      ∙ sum_by-cons (λ x. cond (test x) 1 0) first (steps_in before)
+      ∙ ap (λ b. cond b 1 0 + count_by test (steps_in before)) first_counts
 
-    by_up : (b : Bool) → is_up before s ≡ b → own_seq setting now s
-        ≡ own_seq setting before s + one_if (is_up now s && changed)
-    by_up false e =
-        let down : is_up now s ≡ false = up ∙ e in
-        rw down (down_none setting now s down
-        ∙ ap (λ k. k + 0) (sym (down_none setting before s e)))
-    by_up true e =
-        let is : is_up now s ≡ true = up ∙ e in
-        rw is (seq_is setting now s is
-        ∙ ap (λ b. count_by (has_change setting s b) (steps_in now) + one_if (b == 1)) boot
-        ∙ ap (λ k. k + one_if (boot_of before s == 1)) counts
-        ∙ apart (count_by test (steps_in before)) (one_if changed) (one_if (boot_of before s == 1))
-        ∙ ap (λ k. k + one_if changed) (sym (seq_is setting before s e)))
+  by_up : (b : Bool) → is_up before s ≡ b → own_seq setting now s
+      ≡ own_seq setting before s + one_if (is_up now s && changed)
+  by_up false e = let down : is_up now s ≡ false = up ∙ e in
+      rw down (down_none setting now s down ∙ ap (λ k. k + 0) (sym (down_none setting before s e)))
+  by_up true e = let is : is_up now s ≡ true = up ∙ e in
+      rw is (seq_is setting now s is
+      ∙ ap (λ b. count_by (has_change setting s b) (steps_in now) + one_if (b == 1)) boot
+      ∙ ap (λ k. k + one_if (boot_of before s == 1)) counts
+      ∙ apart (count_by test (steps_in before)) (one_if changed) (one_if (boot_of before s == 1))
+      ∙ ap (λ k. k + one_if changed) (sym (seq_is setting before s e)))
 
 -- ---- the own advert in the record
 
@@ -78,28 +73,24 @@ pub relinks : (s : ℕ) (w : SwitchFacts) (stamp mark : ℕ) (tables : List Tabl
     else filled s w stamp mark tables others)
 relinks s w stamp mark tables others links true same =
     let own : Advert = told_by_facts s (record w { seq = w.seq + 1; links = links }) in
-    let told : own_if_sent own ≡ Some own =
-    ap (λ b. if b then None else Some own) (is_told w.seq) in
     ap (λ adverts. record (filled s w stamp mark tables others) {
       seq = w.seq + 1;
       database = adverts;
     })
-    (ap (set others s) told
+    (ap (set others s) (ap (λ b. if b then None else Some own) (is_told w.seq))
     ∙ sym (set-set others s (own_if_sent (told_by_facts s w)) (Some own)))
 relinks s w stamp mark tables others links false same = elim (same refl) [
   | inl links_same ↦ as_before (w.seq + 0) (omega arith) links_same
   | inr none ↦ untold (w.seq + 0) (omega (arith, none)) none
-]
-  where
-    as_before : (seq : ℕ) → seq ≡ w.seq → links ≡ w.links
-        → filled s (record w { seq = seq; links = links }) stamp mark tables others
-        ≡ filled s w stamp mark tables others
-    as_before seq e links_same = rw (e, links_same) refl
+] where
+  as_before : (seq : ℕ) → seq ≡ w.seq → links ≡ w.links
+      → filled s (record w { seq = seq; links = links }) stamp mark tables others
+      ≡ filled s w stamp mark tables others
+  as_before seq e links_same = rw (e, links_same) refl
 
-    untold : (seq : ℕ) → seq ≡ 0 → w.seq ≡ 0
-        → filled s (record w { seq = seq; links = links }) stamp mark tables others
-        ≡ filled s w stamp mark tables others
-    untold seq e none = rw (e, none) refl
+  untold : (seq : ℕ) → seq ≡ 0 → w.seq ≡ 0 → filled s (record w { seq = seq; links = links })
+      stamp mark tables others ≡ filled s w stamp mark tables others
+  untold seq e none = rw (e, none) refl
 
 -- ---- a step that isn't the switch's own
 
@@ -115,32 +106,28 @@ facts_relinked : (setting : Setting) (s : ℕ) (before : List Item) (row : ℕ) 
 facts_relinked setting s before row step items leaves =
     let all : List Item = item.Row row step ∷ items in
     let own = switch_keeps setting s before all leaves.apart in
-    let boot = own.boot in
-    let up = own.up in
     let serving = own.serving in
     let bodies = own.heard in
     let cache = own.cache in
     let seq = seq_more setting before row s step items leaves.in_step own.boot own.up in
     let handled : handled_count (before ++ all) s ≡ handled_count before s =
     calls_stay s before all leaves.calls in
-    rw (seq, boot, up, serving, bodies, cache, handled) refl
+    rw (seq, own.boot, own.up, serving, bodies, cache, handled) refl
 
 -- where nothing changed, its links are the same, or it is down
 pub unchanged : (setting : Setting) (before now : List Item) (s : ℕ)
     → is_up now s ≡ is_up before s → has_changed setting before now s ≡ false
     → (near setting now s ≡ near setting before s) ⊎ (own_seq setting before s ≡ 0)
-unchanged setting before now s up none = by_up (is_up now s) refl none
-  where
-    by_same : (b : Bool) → (near setting before s == near setting now s) ≡ b → not b ≡ false
-        → near setting now s ≡ near setting before s
-    by_same true e is = sym (eqb-true (near setting before s) (near setting now s) e)
-    by_same false e is = absurd cc
+unchanged setting before now s up none = by_up (is_up now s) refl none where
+  by_same : (b : Bool) → (near setting before s == near setting now s) ≡ b → not b ≡ false
+      → near setting now s ≡ near setting before s
+  by_same true e is = sym (eqb-true (near setting before s) (near setting now s) e)
+  by_same false e is = absurd cc
 
-    by_up : (b : Bool) → is_up now s ≡ b
-        → (b && not (near setting before s == near setting now s)) ≡ false
-        → (near setting now s ≡ near setting before s) ⊎ (own_seq setting before s ≡ 0)
-    by_up true e is = inl (by_same (near setting before s == near setting now s) refl is)
-    by_up false e is = inr (down_none setting before s (sym up ∙ e))
+  by_up : (b : Bool) → is_up now s ≡ b → (b && not (near setting before s == near setting now s))
+      ≡ false → (near setting now s ≡ near setting before s) ⊎ (own_seq setting before s ≡ 0)
+  by_up true e is = inl (by_same (near setting before s == near setting now s) refl is)
+  by_up false e is = inr (down_none setting before s (sym up ∙ e))
 
 relink_is : (setting : Setting) (s : ℕ) (before : List Item) (row : ℕ) (step : Step)
     (items : List Item) → LeavesSwitch s before row step items
@@ -164,11 +151,9 @@ unfolding own_advert switch_of
 advert_is setting s before row step items leaves changes =
     let now : List Item = before ++ item.Row row step ∷ items in
     let own = switch_keeps setting s before (item.Row row step ∷ items) leaves.apart in
-    let boot = own.boot in
-    let seq : own_seq setting now s ≡ own_seq setting before s + 1 =
-    seq_more setting before row s step items leaves.in_step own.boot own.up
+    let seq = seq_more setting before row s step items leaves.in_step own.boot own.up
     ∙ ap (λ b. own_seq setting before s + one_if b) changes in
-    rw (seq, boot) refl
+    rw (seq, own.boot) refl
 
 -- ---- items that do nothing to it
 
@@ -178,15 +163,13 @@ pub kept_is : (setting : Setting) (s : ℕ) (before items : List Item)
 kept_is setting s before items none calls =
     by_facts setting (before ++ items) s _ (facts_kept setting s before items none)
     ∙ ap (λ count. record (switch_by setting s (facts_of setting before s)) { handled = count })
-    (calls_stay s before items calls)
-    ∙ sym (switch_is setting before s)
+    (calls_stay s before items calls) ∙ sym (switch_is setting before s)
 
 -- messages concern no switch until they are delivered
 sent_apart : (concerns : List Item → Item → Bool)
-    → ((before : List Item) (n : ℕ) (message : Message)
-    → concerns before (item.Sent n message) ≡ false)
-    → (messages : List Message) (before : List Item) (n : ℕ)
-    → NoneConcern concerns before (sent_from n messages)
+    → ((before : List Item) (n : ℕ) (message : Message) → concerns before (item.Sent n message)
+    ≡ false) → (messages : List Message) (before : List Item) (n : ℕ) → NoneConcern concerns before
+    (sent_from n messages)
 unfolding sent_from
 sent_apart concerns none [] before n = tt
 sent_apart concerns none (message ∷ messages) before n = (
@@ -202,8 +185,7 @@ links_refine = record {
   advert = advert_is;
   held = λ setting journal s. refl;
   told = λ setting before now s. refl;
-  sent = λ setting before messages s.
-      kept_is setting s before (send_items before messages)
+  sent = λ setting before messages s. kept_is setting s before (send_items before messages)
       (sent_apart (concerns_known s) (λ js n message. refl) messages before (next_message before))
       (sent_apart (concerns_calls s) (λ js n message. refl) messages before (next_message before));
 }

@@ -12,8 +12,7 @@ use Rattle.refinement.proofs.FactsAlong.{Targets, flight_by, facts_along}
 -- what losses don't concern stays
 pub losts_apart : (concerns : List Item → Item → Bool)
     → ((before : List Item) (k : ℕ) → IsFalse (concerns before (item.Lost k)))
-    → (before : List Item) (packets : List ℕ)
-    → NoneConcern concerns before (map item.Lost packets)
+    → (before : List Item) (packets : List ℕ) → NoneConcern concerns before (map item.Lost packets)
 losts_apart concerns spares before [] = tt
 losts_apart concerns spares before (k ∷ packets) =
     (spares before k, losts_apart concerns spares (before ++ item.Lost k ∷ []) packets)
@@ -51,21 +50,15 @@ facts_lost i before (k ∷ packets) more facts none =
     still true = refl
     still false = refl
 
-    by_same : (b : Bool) → (k == i) ≡ b
-        → ((now : PacketFacts) → facts_along i after (map item.Lost packets ++ more) now
-        ≡ (if among i packets then ended now else now))
+    by_same : (b : Bool) → (k == i) ≡ b → ((now : PacketFacts) → facts_along i after
+        (map item.Lost packets ++ more) now ≡ (if among i packets then ended now else now))
         → facts_along i before (item.Lost k ∷ map item.Lost packets ++ more) facts
         ≡ (if among i (k ∷ packets) then ended facts else facts)
-    by_same true e rest =
-        ap (λ b. facts_along i after (map item.Lost packets ++ more)
-        (if b then facts_after (retired_mark before) (item.Lost k) facts else facts)) e
-        ∙ rest (ended facts)
-        ∙ still (among i packets)
-        ∙ sym (rw e refl)
-    by_same false e rest =
-        ap (λ b. facts_along i after (map item.Lost packets ++ more)
-        (if b then facts_after (retired_mark before) (item.Lost k) facts else facts)) e
-        ∙ rest facts
+    by_same true e rest = ap (λ b. facts_along i after (map item.Lost packets ++ more) (if b
+        then facts_after (retired_mark before) (item.Lost k) facts else facts)) e
+        ∙ rest (ended facts) ∙ still (among i packets) ∙ sym (rw e refl)
+    by_same false e rest = ap (λ b. facts_along i after (map item.Lost packets ++ more) (if b
+        then facts_after (retired_mark before) (item.Lost k) facts else facts)) e ∙ rest facts
         ∙ sym (rw e refl)
 
 -- a packet is gone where it is among them, behind items that don't name it
@@ -74,15 +67,11 @@ pub flight_lost : (targets : Targets) (i : ℕ) (before first : List Item) (pack
     → flight_by targets i (facts_along i before (first ++ map item.Lost packets ++ more) facts)
     ≡ (if among i packets then None else flight_by targets i facts)
 flight_lost targets i before [] packets more facts none last =
-    ap (flight_by targets i) (facts_lost i before packets more facts last)
-    ∙ by_among (among i packets)
+    cc (facts_lost i before packets more facts last, by_among (among i packets))
   where
     by_among : (b : Bool) → flight_by targets i (if b then ended facts else facts)
         ≡ (if b then None else flight_by targets i facts)
     by_among true = refl
     by_among false = refl
 flight_lost targets i before (one ∷ first) packets more facts none last =
-    ap (λ b. flight_by targets i (facts_along i (before ++ one ∷ [])
-    (first ++ map item.Lost packets ++ more)
-    (if b then facts_after (retired_mark before) one facts else facts))) none.0
-    ∙ flight_lost targets i (before ++ one ∷ []) first packets more facts none.1 last
+    cc (none.0, flight_lost targets i (before ++ one ∷ []) first packets more facts none.1 last)

@@ -11,27 +11,23 @@ use Rattle.refinement.proofs.SwitchFacts.{by_facts, switch_by, switch_is, facts_
 
 -- ---- steps
 
-with_more : (before : List Item) (newest : StepItems) (steps : List StepItems)
-    (items : List Item) → NoRows items
-    → folded_from changes_steps before (newest ∷ steps) items
+with_more : (before : List Item) (newest : StepItems) (steps : List StepItems) (items : List Item)
+    → NoRows items → folded_from changes_steps before (newest ∷ steps) items
     ≡ record newest { items = newest.items ++ items } ∷ steps
 with_more before newest steps [] none = ap (λ items. (record newest { items = items }) ∷ steps)
     (sym (append-nil newest.items))
 with_more before newest steps (item.Row row step ∷ items) none = absurd none.0
 with_more before newest steps (first ∷ items) none =
     with_more (before ++ first ∷ []) (record newest { items = newest.items ++ first ∷ [] }) steps
-    items none.1
-    ∙ ap (λ all. (record newest { items = all }) ∷ steps)
-    (append_assoc newest.items (first ∷ []) items)
+    items none.1 ∙ ap (λ all. (record newest { items = all }) ∷ steps) (append_assoc newest.items
+    (first ∷ []) items)
 
-pub steps_more : (journal : List Item) (row : ℕ) (step : Step) (items : List Item)
-    → NoRows items
+pub steps_more : (journal : List Item) (row : ℕ) (step : Step) (items : List Item) → NoRows items
     → steps_in (journal ++ item.Row row step ∷ items)
     ≡ record { before = journal; items = item.Row row step ∷ items } ∷ steps_in journal
 unfolding steps_in
-steps_more journal row step items none =
-    folded_append changes_steps [] journal (item.Row row step ∷ items)
-    ∙ with_more (journal ++ item.Row row step ∷ [])
+steps_more journal row step items none = folded_append changes_steps [] journal
+    (item.Row row step ∷ items) ∙ with_more (journal ++ item.Row row step ∷ [])
     (record { before = journal; items = item.Row row step ∷ [] }) (steps_in journal) items none
 
 -- ---- calls
@@ -41,29 +37,23 @@ abbrev pub calls_in : ℕ → List Item → List Item → ℕ
 calls_in s before items =
     count_of (is_entry_at s) items + hop_calls s (record { before = before; items = items }) items
 
-clipped : (a b : ℕ) (more other : ℕ)
-    → min most_handled (a + more + (other + b))
-    ≡ min most_handled (min most_handled (a + b) + (more + other))
+clipped : (a b : ℕ) (more other : ℕ) → min most_handled (a + more + (other + b)) ≡ min most_handled
+    (min most_handled (a + b) + (more + other))
 clipped a b more other = omega arith
 
 pub handled_more : (s : ℕ) (journal : List Item) (row : ℕ) (step : Step) (items : List Item)
-    → NoRows items
-    → handled_count (journal ++ item.Row row step ∷ items) s
-    ≡ min most_handled
-    (handled_count journal s + calls_in s journal (item.Row row step ∷ items))
+    → NoRows items → handled_count (journal ++ item.Row row step ∷ items) s
+    ≡ min most_handled (handled_count journal s + calls_in s journal (item.Row row step ∷ items))
 unfolding handled_count
 handled_more s journal row step items none =
     let all : List Item = item.Row row step ∷ items in
     let calls : StepItems → ℕ = λ one. hop_calls s one one.items in
     let first : StepItems = record { before = journal; items = all } in
-    let sum : sum_by calls (steps_in (journal ++ all))
-    ≡ hop_calls s first all + sum_by calls (steps_in journal) =
-    ap (sum_by calls) (steps_more journal row step items none)
-    ∙ sum_by-cons calls first (steps_in journal) in
     ap (λ count. min most_handled (count + sum_by calls (steps_in (journal ++ all))))
     (count_of_append (is_entry_at s) journal all)
-    ∙ ap (λ more. min most_handled
-    (count_of (is_entry_at s) journal + count_of (is_entry_at s) all + more)) sum
+    ∙ ap (λ more. min most_handled (count_of (is_entry_at s) journal + count_of (is_entry_at s) all
+    + more)) (ap (sum_by calls) (steps_more journal row step items none)
+    ∙ sum_by-cons calls first (steps_in journal))
     ∙ clipped (count_of (is_entry_at s) journal) (sum_by calls (steps_in journal))
     (count_of (is_entry_at s) all) (hop_calls s first all)
 
@@ -72,11 +62,10 @@ handled_more s journal row step items none =
 pub no_rows : (items : List Item) → AreInStep items → NoRows items
 no_rows [] all = tt
 no_rows (item.Row row step ∷ items) all = absurd all.0
-no_rows (first ∷ items) all = (no_row first all.0, no_rows items all.1)
-  where
-    no_row : (one : Item) → IsInStep one → NoRow one
-    no_row (item.Row row step) is = absurd is
-    no_row _ is = tt
+no_rows (first ∷ items) all = (no_row first all.0, no_rows items all.1) where
+  no_row : (one : Item) → IsInStep one → NoRow one
+  no_row (item.Row row step) is = absurd is
+  no_row _ is = tt
 
 no_entry : (s : ℕ) (one : Item) → IsInStep one → is_entry_at s one ≡ false
 no_entry s (item.Entered packet switch header) is = absurd is
@@ -85,18 +74,11 @@ no_entry s _ is = refl
 
 no_entries : (s : ℕ) (items : List Item) → AreInStep items → count_of (is_entry_at s) items ≡ 0
 no_entries s [] all = refl
-no_entries s (first ∷ items) all =
-    sum_by-cons (λ x. cond (is_entry_at s x) 1 0) first items
+no_entries s (first ∷ items) all = sum_by-cons (λ x. cond (is_entry_at s x) 1 0) first items
     ∙ ap (λ b. cond b 1 0 + count_of (is_entry_at s) items) (no_entry s first all.0)
     ∙ omega (arith, no_entries s items all.1)
 
 -- ---- the record of a switch in a step of packets
-
--- a count that is less than the most is one or two more
-counted_as : (handled more : ℕ) (w : SwitchValue) → w.handled ≡ handled
-    → record w { handled = min most_handled (handled + more) }
-    ≡ record w { handled = min most_handled (w.handled + more) }
-counted_as handled more w is = rw is refl
 
 called_by : (setting : Setting) (before : List Item) (row t : ℕ) (step : Step) (items : List Item)
     → NoRows items → NoneConcern (concerns_known t) before (item.Row row step ∷ items)
@@ -117,22 +99,17 @@ called_by setting before row t step items none apart =
 -- by how many calls there were
 one_call : (w : SwitchValue) (calls : ℕ) → calls ≡ 1
     → record w { handled = min most_handled (w.handled + calls) } ≡ call_counted w
-one_call w calls one =
-    ap (λ count. record w { handled = count }) (clips w.handled calls one)
-  where
-    clips : (handled calls : ℕ) → calls ≡ 1
-        → min most_handled (handled + calls) ≡ min (handled + 1) most_handled
-    clips handled calls one = omega (arith, one)
+one_call w calls one = ap (λ count. record w { handled = count }) (clips w.handled calls one) where
+  clips : (handled calls : ℕ) → calls ≡ 1
+      → min most_handled (handled + calls) ≡ min (handled + 1) most_handled
+  clips handled calls one = omega (arith, one)
 
 two_calls : (w : SwitchValue) (calls : ℕ) → calls ≡ 2
     → record w { handled = min most_handled (w.handled + calls) } ≡ call_counted (call_counted w)
-two_calls w calls two =
-    ap (λ count. record w { handled = count }) (clips w.handled calls two)
-  where
-    clips : (handled calls : ℕ) → calls ≡ 2
-        → min most_handled (handled + calls)
-        ≡ min (min (handled + 1) most_handled + 1) most_handled
-    clips handled calls two = omega (arith, two)
+two_calls w calls two = ap (λ count. record w { handled = count }) (clips w.handled calls two) where
+  clips : (handled calls : ℕ) → calls ≡ 2
+      → min most_handled (handled + calls) ≡ min (min (handled + 1) most_handled + 1) most_handled
+  clips handled calls two = omega (arith, two)
 
 most_clips : (most : ℕ) (counted : ℕ) → min most (min most counted + 0) ≡ min most counted
 most_clips most counted = omega arith
@@ -152,12 +129,9 @@ no_call setting before t calls none =
 -- ---- packets
 
 entry_calls : (s t : ℕ) (one : Item) (items : List Item) → AreInStep items
-    → is_entry_at t one ≡ (s == t)
-    → count_of (is_entry_at t) (one ∷ items) ≡ cond (s == t) 1 0
-entry_calls s t one items all is =
-    sum_by-cons (λ x. cond (is_entry_at t x) 1 0) one items
-    ∙ ap (λ b. cond b 1 0 + count_of (is_entry_at t) items) is
-    ∙ omega (arith, no_entries t items all)
+    → is_entry_at t one ≡ (s == t) → count_of (is_entry_at t) (one ∷ items) ≡ cond (s == t) 1 0
+entry_calls s t one items all is = sum_by-cons (λ x. cond (is_entry_at t x) 1 0) one items
+    ∙ ap (λ b. cond b 1 0 + count_of (is_entry_at t) items) is ∙ omega (arith, no_entries)
 
 came_in : (setting : Setting) (before : List Item) (row s t : ℕ) (header : Header)
     (one : Item) (items : List Item) → NoRow one → AreInStep items
@@ -177,10 +151,9 @@ came_in setting before row s t header one items begins all is apart =
 
     calls_are : calls ≡ cond (s == t) 1 0
     calls_are =
-        let entries = entry_calls s t one items all is in
         let first = sum_by-cons (λ x. cond (is_entry_at t x) 1 0) (item.Row row (Packet s header))
         (one ∷ items) in
-        omega (arith, entries, first)
+        omega (arith, entry_calls s t one items all is, first)
 
     by_test : (b : Bool) → (s == t) ≡ b
         → record switch { handled = min most_handled (switch.handled + calls) }
@@ -190,9 +163,8 @@ came_in setting before row s t header one items begins all is apart =
 
 went_on : (setting : Setting) (before : List Item) (row i t : ℕ) (items : List Item)
     → AreInStep items → NoneConcern (concerns_known t) before (item.Row row (Hop i) ∷ items)
-    → switch_of setting (before ++ item.Row row (Hop i) ∷ items) t
-    ≡ (if travels_at before t i then (if stays_on_way items
-    then call_counted (switch_of setting before t)
+    → switch_of setting (before ++ item.Row row (Hop i) ∷ items) t ≡ (if travels_at before t i
+    then (if stays_on_way items then call_counted (switch_of setting before t)
     else call_counted (call_counted (switch_of setting before t))) else switch_of setting before t)
 went_on setting before row i t items all apart =
     called_by setting before row t (Hop i) items (no_rows items all) apart
@@ -206,9 +178,8 @@ went_on setting before row i t items all apart =
 
     calls_are : calls ≡ (if travels_at before t i then (if stays_on_way items then 1 else 2) else 0)
     calls_are =
-        let entries = no_entries t items all in
         let first = sum_by-cons (λ x. cond (is_entry_at t x) 1 0) (item.Row row (Hop i)) items in
-        omega (arith, entries, first)
+        omega (arith, no_entries t items all, first)
 
     by_test : (b : Bool) → travels_at before t i ≡ b → (c : Bool) → stays_on_way items ≡ c
         → record switch { handled = min most_handled (switch.handled + calls) }

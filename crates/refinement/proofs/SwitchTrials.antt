@@ -41,10 +41,8 @@ unfolding holds_version heard is_up boot_of message_of
 third_is_left = refl
 
 -- tables of another boot aren't kept, nor those that came to another switch
-not_of_boot_2 :
-    map (λ tables. tables.version)
-    (tables_kept open_net (told 1 (Install 2 (tables_of plan_p 2 0))) 0)
-    ≡ 1 ∷ []
+not_of_boot_2 : map (λ tables. tables.version)
+    (tables_kept open_net (told 1 (Install 2 (tables_of plan_p 2 0))) 0) ≡ 1 ∷ []
 unfolding holds_version heard is_up boot_of message_of
 not_of_boot_2 = refl
 
@@ -119,8 +117,7 @@ ends_at_b = record {
 
 not_at_a : EndsAt open_net [] 0 one (Seek 1 0) → ⊥
 not_at_a ends =
-    let found : Some only ≡ Some ends.hosted =
-    sym (ap (λ plan. slice_get plan 0) (first_plan [])) ∙ ends.found in
+    let found = sym (ap (λ plan. slice_get plan 0) (first_plan [])) ∙ ends.found in
     let same : only ≡ ends.hosted = cc in
     let target : list_any (nat_eq 0) (1 ∷ []) ≡ true =
     subst (λ (hosted : Hosted). list_any (nat_eq 0) hosted.1 ≡ true) (sym same) ends.target in

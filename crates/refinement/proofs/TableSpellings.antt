@@ -28,45 +28,41 @@ region_len row few =
       count_len (length row.targets),
       length-append (word.spell row.region)
           (target_count.spell (length row.targets) ++ flat_map switch.spell row.targets),
-      length-append (target_count.spell (length row.targets))
-          (flat_map switch.spell row.targets),
+      length-append (target_count.spell (length row.targets)) (flat_map switch.spell row.targets),
     )
 
 -- ---- partitions
 
 one_rule : (r : Rule) → length (rule.spell r) ≤ 46
 unfolding rule
-one_rule r =
-    omega (
-      arith,
-      length-append (word.spell r.word)
-          (n4.spell r.rank ++ (rule_name.spell r.rule ++ action.spell r.action)),
-      length-append (n4.spell r.rank) (rule_name.spell r.rule ++ action.spell r.action),
-      length-append (rule_name.spell r.rule) (action.spell r.action),
-      word_len r.word,
-      length_n4 r.rank,
-      rule_len r.rule,
-      action_len r.action,
-    )
+one_rule r = omega (
+  arith,
+  length-append (word.spell r.word)
+      (n4.spell r.rank ++ (rule_name.spell r.rule ++ action.spell r.action)),
+  length-append (n4.spell r.rank) (rule_name.spell r.rule ++ action.spell r.action),
+  length-append (rule_name.spell r.rule) (action.spell r.action),
+  word_len r.word,
+  length_n4 r.rank,
+  rule_len r.rule,
+  action_len r.action,
+)
 
 partition_len : (part : Partition) → length part.rules ≤ 8192
     → length (partition.spell part) ≤ 376872
 unfolding partition
-partition_len part few =
-    let all = each_short rule.spell 46 part.rules (λ k d lt. one_rule _) in
-    omega (
-      arith,
-      few,
-      all,
-      length_n4 part.number,
-      word_len part.region,
-      length_n4 (length part.rules),
-      length-append (n4.spell part.number)
-          (word.spell part.region ++ (n4.spell (length part.rules) ++ flat_map rule.spell part.rules)),
-      length-append (word.spell part.region)
-          (n4.spell (length part.rules) ++ flat_map rule.spell part.rules),
-      length-append (n4.spell (length part.rules)) (flat_map rule.spell part.rules),
-    )
+partition_len part few = omega (
+  arith,
+  few,
+  (each_short rule.spell 46 part.rules (λ k d lt. one_rule _)),
+  length_n4 part.number,
+  word_len part.region,
+  length_n4 (length part.rules),
+  length-append (n4.spell part.number)
+      (word.spell part.region ++ (n4.spell (length part.rules) ++ flat_map rule.spell part.rules)),
+  length-append (word.spell part.region)
+      (n4.spell (length part.rules) ++ flat_map rule.spell part.rules),
+  length-append (n4.spell (length part.rules)) (flat_map rule.spell part.rules),
+)
 
 -- ---- tables
 
@@ -79,23 +75,19 @@ pub record AreSmall (t : Tables) : Type 0 where
 
 pub tables_len : (t : Tables) → AreSmall t → length (tables.spell t) < 2 ^ 39
 unfolding tables
-tables_len t small =
-    let rows = each_short region.spell 37 t.parts (λ k d lt. region_len _ (small.targets k d lt)) in
-    let parts = each_short partition.spell 376872 t.auth
-    (λ k d lt. partition_len _ (small.rules k d lt)) in
-    omega (
-      arith,
-      rows,
-      parts,
-      small.regions,
-      small.partitions,
-      length_n4 t.version,
-      length_n4 (length t.parts),
-      length_n4 (length t.auth),
-      length-append (n4.spell t.version) ((n4.spell (length t.parts) ++ flat_map region.spell t.parts)
-          ++ (n4.spell (length t.auth) ++ flat_map partition.spell t.auth)),
-      length-append (n4.spell (length t.parts) ++ flat_map region.spell t.parts)
-          (n4.spell (length t.auth) ++ flat_map partition.spell t.auth),
-      length-append (n4.spell (length t.parts)) (flat_map region.spell t.parts),
-      length-append (n4.spell (length t.auth)) (flat_map partition.spell t.auth),
-    )
+tables_len t small = omega (
+  arith,
+  (each_short region.spell 37 t.parts (λ k d lt. region_len _ (small.targets k d lt))),
+  (each_short partition.spell 376872 t.auth (λ k d lt. partition_len _ (small.rules k d lt))),
+  small.regions,
+  small.partitions,
+  length_n4 t.version,
+  length_n4 (length t.parts),
+  length_n4 (length t.auth),
+  length-append (n4.spell t.version) ((n4.spell (length t.parts) ++ flat_map region.spell t.parts)
+      ++ (n4.spell (length t.auth) ++ flat_map partition.spell t.auth)),
+  length-append (n4.spell (length t.parts) ++ flat_map region.spell t.parts)
+      (n4.spell (length t.auth) ++ flat_map partition.spell t.auth),
+  length-append (n4.spell (length t.parts)) (flat_map region.spell t.parts),
+  length-append (n4.spell (length t.auth)) (flat_map partition.spell t.auth),
+)

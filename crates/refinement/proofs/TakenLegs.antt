@@ -23,9 +23,7 @@ at_switch s packet = record {
 all_same : (one other : ℕ → Bool) → ((x : ℕ) → one x ≡ other x) → (xs : List ℕ)
     → list_all one xs ≡ list_all other xs
 all_same one other same [] = refl
-all_same one other same (x ∷ xs) =
-    ap (λ b. b && list_all one xs) (same x)
-    ∙ ap (λ b. other x && b) (all_same one other same xs)
+all_same one other same (x ∷ xs) = cc (same x, all_same one other same xs)
 
 pub cause_law : (setting : Setting) (journal : List Item) (s : ℕ) (w : SwitchValue) (mask : ℕ)
     → Sees setting journal s w mask → (down : List ℕ) (leg : Leg)
@@ -33,17 +31,14 @@ pub cause_law : (setting : Setting) (journal : List Item) (s : ℕ) (w : SwitchV
     ≡ cause_of w mask down leg (targets_of setting journal leg)
 unfolding cause_of are_isolated
 cause_law setting journal s w mask sees down (Seek version partition) =
-    ap (λ b. if b then NoAuthority else NoRoute)
-    (all_same (is_cut_off setting journal s down)
-    (λ target. is_isolated w.database w.number target mask down)
-    (λ target. sym (sees.cut_off target down))
-    (targets_of setting journal (Seek version partition)))
+    ap (λ b. if b then NoAuthority else NoRoute) (all_same (is_cut_off setting journal s down)
+    (λ target. is_isolated w.database w.number target mask down) (λ target. sym
+    (sees.cut_off target down)) (targets_of setting journal (Seek version partition)))
 cause_law setting journal s w mask sees down (Exit port) = refl
 
 -- by the route that the switch knows
-by_route : (s : ℕ) (packet : Packet) (leg : Leg) (targets : List ℕ) (cause : Cause)
-    (route : Option (List ℕ)) →
-    elim route [
+by_route : (s : ℕ) (packet : Packet) (leg : Leg) (targets : List ℕ)
+    (cause : Cause) (route : Option (List ℕ)) → elim route [
       | None ↦ item.Stuck packet.number s cause leg packet.down ∷ []
       | Some way ↦ takes_route packet.number leg way ∷ []
     ]
@@ -54,11 +49,10 @@ by_route s packet leg targets cause None = refl
 by_route s packet leg targets cause (Some route) = refl
 
 pub leg_law : (setting : Setting) (journal : List Item) (s : ℕ) (w : SwitchValue) (mask : ℕ)
-    → Sees setting journal s w mask → (packet : Packet)
-    → found_down journal packet.number ≡ packet.down → (leg : Leg)
-    → leg_items setting journal packet.number s leg
-    ≡ set_item (at_switch s packet) leg
-    (set_out w mask packet leg (targets_of setting journal leg)) ∷ []
+    → Sees setting journal s w mask → (packet : Packet) → found_down journal packet.number
+    ≡ packet.down → (leg : Leg) → leg_items setting journal packet.number s leg
+    ≡ set_item (at_switch s packet) leg (set_out w mask packet leg (targets_of setting journal leg))
+    ∷ []
 unfolding leg_items set_out
 leg_law setting journal s w mask sees packet found leg =
     let targets : List ℕ = targets_of setting journal leg in
@@ -70,8 +64,7 @@ leg_law setting journal s w mask sees packet found leg =
     (route_from setting journal s targets down)) found
     ∙ ap (by (cause_at setting journal s packet.down leg) packet.down)
     (sym (sees.route targets packet.down))
-    ∙ ap (λ cause. by cause packet.down
-    (route_of w.database w.number targets mask packet.down))
+    ∙ ap (λ cause. by cause packet.down (route_of w.database w.number targets mask packet.down))
     (cause_law setting journal s w mask sees packet.down leg)
     ∙ by_route s packet leg targets (cause_of w mask packet.down leg targets)
     (route_of w.database w.number targets mask packet.down)

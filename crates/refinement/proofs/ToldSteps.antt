@@ -68,8 +68,7 @@ spares_calls s = record {
 -- marks and messages leave a switch
 pub acts_leave : (setting : Setting) (journal : List Item) (number : ℕ) (acts : List Act) (s : ℕ)
     → switch_of setting (journal ++ act_items number acts) s ≡ switch_of setting journal s
-acts_leave setting journal number acts s =
-    kept_is setting s journal (act_items number acts)
+acts_leave setting journal number acts s = kept_is setting s journal (act_items number acts)
     (acts_apart (concerns_known s) (spares_known s) journal number acts)
     (acts_apart (concerns_calls s) (spares_calls s) journal number acts)
 
@@ -128,21 +127,15 @@ module _ {setting : Setting} {journal : List Item} {state : NetworkState}
         each = λ s d there. told.each s d (omega (arith, there, told.as_many))
             ∙ sym (acts_leave setting (journal ++ begun) number acts s)
             ∙ ap (λ js. switch_of setting js s) split;
-        packet = λ i. refines.packet i
-            ∙ sym (flight_stays setting journal all i
-            (reached_known setting journal refines.sound refines.reached)
-            (none_more i begun (act_items number acts) (told.packet i)
-            (acts_unnamed i number acts)));
+        packet = λ i. refines.packet i ∙ sym (flight_stays setting journal all i
+            (reached_known setting journal refines.sound refines.reached) (none_more i begun
+            (act_items number acts) (told.packet i) (acts_unnamed i number acts)));
         counted = (packets_keep journal all
             (all_apart concerns_packets spares_packets journal begun number acts
             told.packets)).next ∙ refines.counted;
-        controller = subst (λ more. IsControllerOf setting (journal ++ more) later.controller)
-            told.piece_is told.controller;
-        bag = subst (λ js. IsBagOf js (later.posts ++ act_posts acts)) split
-            (subst (λ more. IsBagOf ((journal ++ begun) ++ act_items number acts)
-            (later.posts ++ more)) (acts_posted number acts)
-            (bag_sends number (journal ++ begun) (act_items number acts) later.posts
-            (acts_send number acts)
+        controller = rw told.piece_is at told.controller;
+        bag = rw split at (rw (acts_posted number acts) at (bag_sends number
+            (journal ++ begun) (act_items number acts) later.posts (acts_send number acts)
             (ap (λ n. n + 1) (sym told.number) ∙ sym told.bag.many) told.bag));
         up = subst (λ js. AreUp setting js later.links) split linked.0;
         usable = subst (λ js. AreUsable setting js later.near) split linked.1;
@@ -154,7 +147,6 @@ pub acts_fit : (setting : Setting) (journal : List Item) (row : ℕ) (step : Ste
     → piece setting journal row step ≡ item.Row row step ∷ first ++ act_items number acts
     → length (act_posts acts) ≤ 10_000
 acts_fit setting journal row step first number acts few is =
-    let all : count_of is_sending (item.Row row step ∷ first ++ act_items number acts) ≤ 10_000 =
-    subst (λ items. count_of is_sending items ≤ 10_000) is (few row step) in
+    let all = subst (λ items. count_of is_sending items ≤ 10_000) is (few row step) in
     let sum = count_of_append is_sending (item.Row row step ∷ first) (act_items number acts) in
     omega (arith, all, sum, acts_counted number acts)

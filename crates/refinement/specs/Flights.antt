@@ -30,5 +30,4 @@ flight_of setting journal i = record {
 }
 
 unfoldable pub flight_in : Setting → List Item → ℕ → Option Flight
-flight_in setting journal i =
-    if travels journal i then Some (flight_of setting journal i) else None
+flight_in setting journal i = if travels journal i then Some (flight_of setting journal i) else None

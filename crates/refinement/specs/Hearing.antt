@@ -10,8 +10,7 @@ use Rattle.refinement.specs.SwitchOf.{switch_of}
 
 -- the message of this number was sent to the switch, and has this body; it may be for any boot,
 -- and the switch may be down
-pub record IsSentTo (setting : Setting) (before : List Item) (n s : ℕ) (body : Body)
-    : Type 0 where
+pub record IsSentTo (setting : Setting) (before : List Item) (n s : ℕ) (body : Body) : Type 0 where
   pub sent : message_of before n ≡ Some (to_switch s body)
   pub names : BodiesNameThere setting before
   pub touched : StampsSayTouched setting before
@@ -21,8 +20,7 @@ abbrev pub within_delivery : List Item → ℕ → ℕ → List Item → List It
 within_delivery before row n items = before ++ item.Row row (Deliver n) ∷ item.Delivered n ∷ items
 
 -- it hears the message and stays closed or open as it was
-pub record HearsShut (setting : Setting) (before : List Item) (n s : ℕ) (body : Body)
-    : Type 0 where
+pub record HearsShut (setting : Setting) (before : List Item) (n s : ℕ) (body : Body) : Type 0 where
   pub record_of : (row : ℕ) → switch_of setting (within_delivery before row n []) s
       ≡ with_message (switch_of setting before s) n body
   pub items : (row : ℕ) → delivery_items setting before n (within_delivery before row n [])
@@ -32,12 +30,10 @@ pub record HearsShut (setting : Setting) (before : List Item) (n s : ℕ) (body 
 -- it hears the message and opens with this stamp, so that its own links may change too
 pub record HearsOpening (setting : Setting) (before : List Item) (n s : ℕ) (body : Body)
     (stamp : ℕ) : Type 0 where
-  pub record_of : (row : ℕ) →
-      let now = within_delivery before row n (item.Opened s stamp ∷ []) in
+  pub record_of : (row : ℕ) → let now = within_delivery before row n (item.Opened s stamp ∷ []) in
       switch_of setting now s
       ≡ relinked_switch setting before now s (with_message (switch_of setting before s) n body)
-  pub advert : (row : ℕ) →
-      let now = within_delivery before row n (item.Opened s stamp ∷ []) in
+  pub advert : (row : ℕ) → let now = within_delivery before row n (item.Opened s stamp ∷ []) in
       IsTrue (has_changed setting before now s) →
       own_advert setting now s
       ≡ next_advert (with_message (switch_of setting before s) n body) (near setting now s)

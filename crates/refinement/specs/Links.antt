@@ -29,11 +29,10 @@ relinked_switch setting before now s switch =
 -- what it sends about these links, if it had those before: its own advert, and over a link that
 -- became usable all that it has
 abbrev pub link_messages : Setting → ℕ → ℕ → Advert → SwitchValue → List Message
-link_messages setting had has_now own switch =
-    flat_map (λ neighbour. elim (has had neighbour) [
-      | true ↦ advert_to neighbour own ∷ []
-      | false ↦ map (advert_to neighbour) (all_held switch)
-    ]) (switches_in setting has_now)
+link_messages setting had has_now own switch = flat_map (λ neighbour. elim (has had neighbour) [
+  | true ↦ advert_to neighbour own ∷ []
+  | false ↦ map (advert_to neighbour) (all_held switch)
+]) (switches_in setting has_now)
 
 pub record LinksRefine : Type 0 where
   -- items that concern neither the switch, nor links, nor calls of it don't change it

@@ -18,8 +18,7 @@ pub record IsKnown (items : List Item) (s : ℕ) (known : SwitchRecord) : Type 0
       (v : ℕ) → 1 ≤ v → has_acked known v ≡ machine.has_acked items s v
   pub opened : IsTrue (machine.is_member items s) →
       known.open_version ≡ machine.open_version items s
-  pub stamp : IsTrue (machine.is_member items s) →
-      known.acked_stamp ≡ machine.acked_stamp items s
+  pub stamp : IsTrue (machine.is_member items s) → known.acked_stamp ≡ machine.acked_stamp items s
 
 -- the marks are those that the journal says
 pub record AreMarksOf (setting : Setting) (items : List Item) (marks : MarksValue) : Type 0 where

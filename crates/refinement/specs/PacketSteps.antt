@@ -88,11 +88,9 @@ pub record BagsRefine : Type 0 where
       → IsBagOf (before ++ item.Sent (length posts + 1) message ∷ [])
       (posts ++ new_post message ∷ [])
   pub delivered : (before : List Item) (posts : List Post) (n : ℕ) → n ≤ length posts
-      → IsBagOf before posts
-      → IsBagOf (before ++ item.Delivered n ∷ []) (with_delivered posts n)
+      → IsBagOf before posts → IsBagOf (before ++ item.Delivered n ∷ []) (with_delivered posts n)
   pub forgotten : (before : List Item) (posts : List Post) (n : ℕ) → n ≤ length posts
-      → IsBagOf before posts
-      → IsBagOf (before ++ item.Forgotten n ∷ []) (with_forgotten posts n)
+      → IsBagOf before posts → IsBagOf (before ++ item.Forgotten n ∷ []) (with_forgotten posts n)
   pub others : (before items : List Item) (posts : List Post)
       → NoneConcern concerns_messages before items → IsBagOf before posts
       → IsBagOf (before ++ items) posts

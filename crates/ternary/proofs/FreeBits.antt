@@ -44,18 +44,14 @@ Contains-cons xs y x (i, low, same) = (suc i, omega arith, same)
 
 kept_has : (p : ℕ → Bool) (a n k : ℕ) → IsKept p a n k → Contains (kept p a n) k
 kept_has p a zero k h = absurd (omega arith)
-kept_has p a (suc n) k h =
-    elim (cases_eq k a) [
-      | inl here ↦
-          let passes : p a ≡ true = ap p (sym here) ∙ h.2 in
-          subst (λ xs. Contains xs k)
-          (sym (cond-true (p a) (a ∷ kept p (a + 1) n) (kept p (a + 1) n) passes))
-          (0, omega arith, sym here)
-      | inr away ↦
-          let rest = kept_has p (a + 1) n k (omega arith, omega arith, h.2) in
-          cond_both (p a) (a ∷ kept p (a + 1) n) (kept p (a + 1) n) (λ xs. Contains xs k)
-          (λ _. Contains-cons (kept p (a + 1) n) a k rest) (λ _. rest)
-    ]
+kept_has p a (suc n) k h = elim (cases_eq k a) [
+  | inl here ↦ subst (λ xs. Contains xs k)
+      (sym (cond-true (p a) (a ∷ kept p (a + 1) n) (kept p (a + 1) n) (ap p (sym here) ∙ h.2)))
+      (0, omega arith, sym here)
+  | inr away ↦ let rest = kept_has p (a + 1) n k (omega arith, omega arith, h.2) in
+      cond_both (p a) (a ∷ kept p (a + 1) n) (kept p (a + 1) n) (λ xs. Contains xs k)
+      (λ _. Contains-cons (kept p (a + 1) n) a k rest) (λ _. rest)
+]
 
 abbrev weight : Bool → ℕ
 weight true = 1
@@ -69,10 +65,8 @@ length_step false x xs = omega arith
 module _ (p q : ℕ → Bool) (k : ℕ) (agree : (j : ℕ) → j ≢ k → q j ≡ p j) where
   same_past : (a n : ℕ) → k < a → kept q a n ≡ kept p a n
   same_past a zero past = refl
-  same_past a (suc n) past =
-      let here = agree a (λ e. omega arith) in
-      let rest = same_past (a + 1) n (omega arith) in
-      λ i. cond (here i) (a ∷ rest i) (rest i)
+  same_past a (suc n) past = let rest = same_past (a + 1) n (omega arith) in
+      λ i. cond ((agree a (λ e. omega arith)) i) (a ∷ rest i) (rest i)
 
   one_less : p k ≡ true → q k ≡ false → (a n : ℕ) → a ≤ k → k < a + n
       → length (kept q a n) + 1 ≡ length (kept p a n)
@@ -81,20 +75,16 @@ module _ (p q : ℕ → Bool) (k : ℕ) (agree : (j : ℕ) → j ≢ k → q j �
       let at_p = length_step (p a) a (kept p (a + 1) n) in
       let at_q = length_step (q a) a (kept q (a + 1) n) in
       elim (cases_eq k a) [
-        | inl here ↦
-            let one = ap weight (ap p (sym here) ∙ passes) in
+        | inl here ↦ let one = ap weight (ap p (sym here) ∙ passes) in
             let none = ap weight (ap q (sym here) ∙ fails) in
             omega (arith, at_p, at_q, one, none, ap length (same_past (a + 1) n (omega arith)))
-        | inr away ↦
-            let same = ap weight (agree a (λ e. away (sym e))) in
-            omega (
-              arith,
-              at_p,
-              at_q,
-              same,
-              one_less passes fails (a + 1) n (omega arith)
-                  (omega arith),
-            )
+        | inr away ↦ omega (
+          arith,
+          at_p,
+          at_q,
+          (ap weight (agree a (λ e. away (sym e)))),
+          one_less passes fails (a + 1) n (omega arith) (omega arith),
+        )
       ]
 
 filter_cond : (q : ℕ → Bool) (b : Bool) (x : ℕ) (xs ys : List ℕ) → filter q xs ≡ ys
@@ -122,12 +112,7 @@ free_bits_member w k = (
 )
 
 run_rises : (a n : ℕ) → IsStrictlyIncreasing (range_with_len a n)
-run_rises a n i low = omega (
-  arith,
-  length-range_with_len a n,
-  get_or-range_with_len a n i 0,
-  get_or-range_with_len a n (i + 1) 0,
-)
+run_rises a n i low = omega (arith, length-range_with_len, get_or-range_with_len)
 
 pub free_bits_ascending : (w : WordValue) → IsStrictlyIncreasing (free_bits w)
 unfolding free_bits
@@ -136,8 +121,7 @@ free_bits_ascending w = IsStrictlyIncreasing-filter (is_free w) (range_with_len 
 
 all_pass : (p : ℕ → Bool) → ((k : ℕ) → p k ≡ true) → (xs : List ℕ) → filter p xs ≡ xs
 all_pass p passes [] = refl
-all_pass p passes (x ∷ xs) = cond-true (p x) _ _ (passes x)
-    ∙ ap (λ ys. x ∷ ys) (all_pass p passes xs)
+all_pass p passes (x ∷ xs) = cc (cond-true (p x) _ _ (passes x), all_pass p passes xs)
 
 pub any_free_bits : length (free_bits any_word) ≡ 104
 unfolding free_bits
@@ -151,16 +135,13 @@ empty_list [] none = refl
 empty_list (x ∷ xs) none = absurd (none x (0, omega arith, refl))
 
 pub exact_free_bits : (h : ℕ) → free_bits (exact_word h) ≡ []
-exact_free_bits h =
-    empty_list (free_bits (exact_word h))
-    (λ k has. let free = (free_bits_member (exact_word h) k).0 has in both_ways _ free.1
-    (exact_fixed h k free.0))
+exact_free_bits h = empty_list (free_bits (exact_word h)) (λ k has. let free =
+    (free_bits_member (exact_word h) k).0 has in both_ways _ free.1 (exact_fixed h k free.0))
 
 module _ (w : WordValue) (k : ℕ) (one : Bool) where
   pub free_bits_fixed : free_bits (fix_of w k one) ≡ filter (λ j. not (j == k)) (free_bits w)
   unfolding free_bits
-  free_bits_fixed =
-      filter_agree (is_free (fix_of w k one)) (λ j. is_free w j && not (j == k)) same
+  free_bits_fixed = filter_agree (is_free (fix_of w k one)) (λ j. is_free w j && not (j == k)) same
       (range_with_len 0 104)
       ∙ sym (filter_twice (is_free w) (λ j. not (j == k)) (range_with_len 0 104))
     where
@@ -175,7 +156,6 @@ module _ (w : WordValue) (k : ℕ) (one : Bool) where
   pub free_bits_shorter : k < 104 → IsFalse (is_fixed_of w k)
       → length (free_bits (fix_of w k one)) + 1 ≡ length (free_bits w)
   unfolding free_bits
-  free_bits_shorter low free =
-      one_less (is_free w) (is_free (fix_of w k one)) k
-      (λ j away. ap not (fix_other w k one j away)) (ap not free) (ap not (fix_fixed w k one)) 0
-      104 (omega arith) (omega arith)
+  free_bits_shorter low free = one_less (is_free w) (is_free (fix_of w k one)) k
+      (λ j away. ap not (fix_other w k one j away)) (ap not free) (ap not (fix_fixed w k one)) 0 104
+      (omega arith) (omega arith)

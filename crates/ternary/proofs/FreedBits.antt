@@ -26,9 +26,8 @@ IncludesAt a b k = bit_at a.mask k ≡ 1 → (bit_at b.mask k ≡ 1)
 
 includes_decides : (a b : WordValue) (k : ℕ) → Decides (includes_at a b k) (IncludesAt a b k)
 unfolding includes_at
-includes_decides a b k =
-    implies_decides (is_fixed_of a k) (is_fixed_of b k && (bit_at b.value k == bit_at a.value k))
-    (is_fixed_decides a k)
+includes_decides a b k = implies_decides (is_fixed_of a k)
+    (is_fixed_of b k && (bit_at b.value k == bit_at a.value k)) (is_fixed_decides a k)
     (Decides-and _ _ (is_fixed_decides b k) (Decides-eqb (bit_at b.value k) (bit_at a.value k)))
 
 -- ---- the other bits of two words
@@ -44,21 +43,17 @@ IncludesOff k a b = (j : ℕ) → j ≢ k → bit_at a.mask j ≡ 1 → (bit_at 
 module _ (a b : WordValue) (k : ℕ) where
   freed_meets_decides : Decides (meets (free_of a k) b) (AgreesOff k a b)
   unfolding free_of
-  freed_meets_decides =
-      Decides-like _
-      (λ bits j away p q. sym (without_bit-other a.value k j away)
+  freed_meets_decides = Decides-like _ (λ bits j away p q. sym (without_bit-other a.value k j away)
       ∙ bits j (without_bit-other a.mask k j away ∙ p) q)
       (λ bits. by_place k (λ j. bit_at (without_bit a.mask k) j ≡ 1 → bit_at b.mask j ≡ 1
-      → bit_at (without_bit a.value k) j ≡ bit_at b.value j)
-      (λ s _. absurd (not_set _ k (without_bit-same a.mask k) s))
-      (λ j away s q. without_bit-other a.value k j away
+      → bit_at (without_bit a.value k) j ≡ bit_at b.value j) (λ s _. absurd
+      (not_set _ k (without_bit-same a.mask k) s)) (λ j away s q. without_bit-other a.value k j away
       ∙ bits j away (sym (without_bit-other a.mask k j away) ∙ s) q))
       (meets_decides (free_of a k) b)
 
   freed_covers_decides : Decides (covers_of (free_of a k) b) (IncludesOff k a b)
   unfolding free_of
-  freed_covers_decides =
-      Decides-like _
+  freed_covers_decides = Decides-like _
       (λ bits j away p. let f = bits j (without_bit-other a.mask k j away ∙ p) in
       (f.0, f.1 ∙ without_bit-other a.value k j away))
       (λ bits. by_place k (λ j. bit_at (without_bit a.mask k) j ≡ 1 → (bit_at b.mask j ≡ 1)
@@ -82,73 +77,54 @@ module _ (a b : WordValue) (k : ℕ) where
   )
 
   pub meets_bit : meets a b ≡ (meets (free_of a k) b && agrees_at a b k)
-  meets_bit =
-      same_from_decides _ _
-      (Decides-like _ (λ bits. (λ j _ p q. bits j p q, λ both. bits k both.0 both.1))
-      (λ all. by_place k (λ j. bit_at a.mask j ≡ 1 → bit_at b.mask j ≡ 1
-      → bit_at a.value j ≡ bit_at b.value j) (λ p q. all.1 (p, q)) all.0)
-      (meets_decides a b))
+  meets_bit = same_from_decides _ _ (Decides-like _
+      (λ bits. (λ j _ p q. bits j p q, λ both. bits k both.0 both.1)) (λ all. by_place k
+      (λ j. bit_at a.mask j ≡ 1 → bit_at b.mask j ≡ 1 → bit_at a.value j ≡ bit_at b.value j)
+      (λ p q. all.1 (p, q)) all.0) (meets_decides a b))
       (Decides-and _ _ freed_meets_decides (agrees_decides a b k))
 
   pub covers_bit : covers_of a b ≡ (covers_of (free_of a k) b && includes_at a b k)
-  covers_bit =
-      same_from_decides _ _
-      (Decides-like _ (λ bits. (λ j _ p. bits j p, bits k))
-      (λ all. by_place k (λ j. bit_at a.mask j ≡ 1 → (bit_at b.mask j ≡ 1)
-      × (bit_at b.value j ≡ bit_at a.value j)) all.1 all.0)
-      (covers_decides a b))
+  covers_bit = same_from_decides _ _
+      (Decides-like _ (λ bits. (λ j _ p. bits j p, bits k)) (λ all. by_place k
+      (λ j. bit_at a.mask j ≡ 1 → (bit_at b.mask j ≡ 1) × (bit_at b.value j ≡ bit_at a.value j))
+      all.1 all.0) (covers_decides a b))
       (Decides-and _ _ freed_covers_decides (includes_decides a b k))
 
 module _ (a b : WordValue) (k : ℕ) where
   pub meets_freed : meets (free_of a k) b ≡ meets (free_of a k) (free_of b k)
   unfolding free_of
-  meets_freed =
-      same_from_decides _ _ (freed_meets_decides a b k)
-      (Decides-like _
-      (λ bits j away p q. bits j away p (without_bit-other b.mask k j away ∙ q)
-      ∙ without_bit-other b.value k j away)
+  meets_freed = same_from_decides _ _ (freed_meets_decides a b k) (Decides-like _ (λ bits j away p
+      q. bits j away p (without_bit-other b.mask k j away ∙ q) ∙ without_bit-other b.value k j away)
       (λ bits j away p s. bits j away p (sym (without_bit-other b.mask k j away) ∙ s)
-      ∙ sym (without_bit-other b.value k j away))
-      (freed_meets_decides a (free_of b k) k))
+      ∙ sym (without_bit-other b.value k j away)) (freed_meets_decides a (free_of b k) k))
 
   pub covers_freed : covers_of (free_of a k) b ≡ covers_of (free_of a k) (free_of b k)
   unfolding free_of
-  covers_freed =
-      same_from_decides _ _ (freed_covers_decides a b k)
-      (Decides-like _
-      (λ bits j away p. let f =
-      bits j away p in (
-        sym (without_bit-other b.mask k j away)
-            ∙ f.0,
+  covers_freed = same_from_decides _ _ (freed_covers_decides a b k)
+      (Decides-like _ (λ bits j away p. let f = bits j away p in (
+        cc (without_bit-other b.mask k j away, f.0),
         sym (without_bit-other b.value k j away) ∙ f.1,
       ))
-      (λ bits j away p. let f =
-      bits j away p in (
+      (λ bits j away p. let f = bits j away p in (
         without_bit-other b.mask k j away ∙ f.0,
-        without_bit-other b.value k j
-            away ∙ f.1,
+        without_bit-other b.value k j away ∙ f.1,
       ))
       (freed_covers_decides a (free_of b k) k))
 
   pub freed_covered : covers_of a (free_of b k) ≡ (not (is_fixed_of a k) && covers_of a b)
   unfolding free_of
-  freed_covered =
-      same_from_decides _ _
-      (Decides-like _
-      (λ bits. (
-        λ p. not_set _ k (without_bit-same b.mask k) (bits k p).0,
-        by_place k (λ j. bit_at a.mask j ≡ 1 → (bit_at b.mask j ≡ 1)
-            × (bit_at b.value j ≡ bit_at a.value j))
-            (λ p. absurd (not_set _ k (without_bit-same b.mask k) (bits k p).0))
-            (λ j away p. let f = bits j p in (
-              sym (without_bit-other b.mask k j away)
-                  ∙ f.0,
-              sym (without_bit-other b.value k j away) ∙ f.1,
-            )),
-      ))
+  freed_covered = same_from_decides _ _ (Decides-like _ (λ bits. (
+    λ p. not_set _ k (without_bit-same b.mask k) (bits k p).0,
+    by_place k (λ j. bit_at a.mask j ≡ 1 → (bit_at b.mask j ≡ 1)
+        × (bit_at b.value j ≡ bit_at a.value j))
+        (λ p. absurd (not_set _ k (without_bit-same b.mask k) (bits k p).0))
+        (λ j away p. let f = bits j p in (
+          cc (without_bit-other b.mask k j away, f.0),
+          sym (without_bit-other b.value k j away) ∙ f.1,
+        )),
+  ))
       (λ both. by_place k (λ j. bit_at a.mask j ≡ 1 → (bit_at (without_bit b.mask k) j ≡ 1)
-      × (bit_at (without_bit b.value k) j ≡ bit_at a.value j))
-      (λ p. absurd (both.0 p))
+      × (bit_at (without_bit b.value k) j ≡ bit_at a.value j)) (λ p. absurd (both.0 p))
       (λ j away p. let f = both.1 j p in
       (without_bit-other b.mask k j away ∙ f.0, without_bit-other b.value k j away ∙ f.1)))
       (covers_decides a (free_of b k)))
@@ -167,15 +143,12 @@ module _ (w : WordValue) (w_word : IsWord w) (k : ℕ) where
 
   pub free_fix : (one : Bool) → IsFalse (is_fixed_of w k) → free_of (fix_of w k one) k ≡ w
   unfolding free_of fix_of
-  free_fix one free =
-      same_word _ _
-      (same_from_bits _ _ (by_place k
-      (λ j. bit_at (without_bit (with_bit w.value k one) k) j ≡ bit_at w.value j)
+  free_fix one free = same_word _ _ (same_from_bits _ _
+      (by_place k (λ j. bit_at (without_bit (with_bit w.value k one) k) j ≡ bit_at w.value j)
       (without_bit-same _ k ∙ sym (unset_digit w.value (unset_value free)))
       (λ j away. without_bit-other _ k j away ∙ with_bit-other w.value k one j away)))
-      (same_from_bits _ _ (by_place k
-      (λ j. bit_at (without_bit (bit_or w.mask (2 ^ k)) k) j ≡ bit_at w.mask j)
-      (without_bit-same _ k ∙ sym (unset_digit w.mask (free_bit w k free)))
+      (same_from_bits _ _ (by_place k (λ j. bit_at (without_bit (bit_or w.mask (2 ^ k)) k) j
+      ≡ bit_at w.mask j) (without_bit-same _ k ∙ sym (unset_digit w.mask (free_bit w k free)))
       (λ j away. without_bit-other _ k j away ∙ or_pow-other w.mask k j away)))
     where
       unset_digit : (n : ℕ) → (bit_at n k ≡ 1 → ⊥) → bit_at n k ≡ 0
@@ -185,13 +158,10 @@ module _ (w : WordValue) (w_word : IsWord w) (k : ℕ) where
   pub fix_free : (one : Bool) → IsTrue (is_fixed_of w k) → bit_at w.value k ≡ from_bool one
       → fix_of (free_of w k) k one ≡ w
   unfolding free_of fix_of
-  fix_free one fixed same =
-      same_word _ _
-      (same_from_bits _ _ (by_place k
-      (λ j. bit_at (with_bit (without_bit w.value k) k one) j ≡ bit_at w.value j)
+  fix_free one fixed same = same_word _ _ (same_from_bits _ _
+      (by_place k (λ j. bit_at (with_bit (without_bit w.value k) k one) j ≡ bit_at w.value j)
       (with_bit-same _ k one ∙ sym same)
       (λ j away. with_bit-other _ k one j away ∙ without_bit-other w.value k j away)))
-      (same_from_bits _ _ (by_place k
-      (λ j. bit_at (bit_or (without_bit w.mask k) (2 ^ k)) j ≡ bit_at w.mask j)
-      (or_pow-same _ k ∙ sym ((is_fixed_decides w k).0 fixed))
+      (same_from_bits _ _ (by_place k (λ j. bit_at (bit_or (without_bit w.mask k) (2 ^ k)) j
+      ≡ bit_at w.mask j) (or_pow-same _ k ∙ sym ((is_fixed_decides w k).0 fixed))
       (λ j away. or_pow-other _ k j away ∙ without_bit-other w.mask k j away)))

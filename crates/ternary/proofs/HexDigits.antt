@@ -17,8 +17,7 @@ pub hex_digits-parts : (k j m n : ℕ) → m ≡ k + j
 unfolding hex_digits
 hex_digits-parts zero j m n e =
     let whole : n / 2 ^ (4 * 0) ≡ n = omega arith in
-    let same : m ≡ j = omega arith in
-    (λ i. hex_digits (same i) (sym whole i)) ∙ sym (append-nil _)
+    let same : m ≡ j = omega arith in (λ i. hex_digits (same i) (sym whole i)) ∙ sym (append-nil _)
 hex_digits-parts (suc k) j zero n e = absurd (omega arith)
 hex_digits-parts (suc k) j (suc m) n e =
     let width : 4 * k + 4 ≡ 4 * suc k = omega arith in
@@ -49,16 +48,13 @@ shown_step most n acc more = cond-false (n / 16 == 0) _ _ (ne_eqb _ _ more)
 
 shown_onto : (most n : ℕ) (acc : List ℕ) → digits_onto most 16 false n acc ≡ shown most n ++ acc
 shown_onto zero n acc = refl
-shown_onto (suc most) n acc =
-    elim (cases_eq (n / 16) 0) [
-      | inl one ↦ shown_last most n acc one ∙ ap (λ ds. ds ++ acc) (sym (shown_last most n [] one))
-      | inr more ↦
-          shown_step most n acc more
-          ∙ shown_onto most (n / 16) (digit_glyph false (n % 16) ∷ acc)
-          ∙ sym (append_assoc (shown most (n / 16)) (last_digit n) acc)
-          ∙ ap (λ ds. ds ++ acc) (sym
-          (shown_step most n [] more ∙ shown_onto most (n / 16) (last_digit n)))
-    ]
+shown_onto (suc most) n acc = elim (cases_eq (n / 16) 0) [
+  | inl one ↦ shown_last most n acc one ∙ ap (λ ds. ds ++ acc) (sym (shown_last most n [] one))
+  | inr more ↦ shown_step most n acc more
+      ∙ shown_onto most (n / 16) (digit_glyph false (n % 16) ∷ acc)
+      ∙ sym (append_assoc (shown most (n / 16)) (last_digit n) acc) ∙ ap (λ ds. ds ++ acc)
+      (sym (shown_step most n [] more ∙ shown_onto most (n / 16) (last_digit n)))
+]
 
 abbrev zeros : ℕ → List ℕ
 zeros k = replicate {A = ℕ} k 48
@@ -79,26 +75,21 @@ record IsPadded (k n : ℕ) (ds : List ℕ) : Type 0 where
 
 padded_last : (k n : ℕ) → n / 16 ≡ 0 → IsPadded (suc k) n (last_digit n)
 unfolding hex_digits
-padded_last k n one =
-    let rest : suc k - 1 ≡ k = omega arith in
-    record {
-      short = omega arith;
-      same = ap (λ ds. ds ++ last_digit n)
-          (ap zeros rest ∙ zeros_are k ∙ ap (hex_digits k) (sym one));
-    }
+padded_last k n one = record {
+  short = omega arith;
+  same = ap (λ ds. ds ++ last_digit n)
+      (ap zeros (omega arith) ∙ zeros_are k ∙ ap (hex_digits k) (sym one));
+}
 
 padded_more : (k n : ℕ) (ds : List ℕ) → IsPadded k (n / 16) ds
     → IsPadded (suc k) n (ds ++ last_digit n)
 unfolding hex_digits
-padded_more k n ds padded =
-    let longer = length-append ds (last_digit n) in
-    let rest : suc k - length (ds ++ last_digit n) ≡ k - length ds = omega (arith, longer) in
-    record {
-      short = omega (arith, longer, padded.short);
-      same = ap (λ z. zeros z ++ (ds ++ last_digit n)) rest
-          ∙ sym (append_assoc (zeros (k - length ds)) ds (last_digit n))
-          ∙ ap (λ text. text ++ last_digit n) padded.same;
-    }
+padded_more k n ds padded = let longer = length-append ds (last_digit n) in record {
+  short = omega (arith, longer, padded.short);
+  same = ap (λ z. zeros z ++ (ds ++ last_digit n)) (omega (arith, longer))
+      ∙ sym (append_assoc (zeros (k - length ds)) ds (last_digit n))
+      ∙ ap (λ text. text ++ last_digit n) padded.same;
+}
 
 shown_padded : (most k n : ℕ) → 0 < k → k ≤ most → n < 2 ^ (4 * k) → IsPadded k n (shown most n)
 shown_padded zero k n some within fits = absurd (omega arith)
@@ -108,12 +99,10 @@ shown_padded (suc most) (suc k) n some within fits =
     let wide = ap (λ w. 2 ^ w) width ∙ pow-add 2 (4 * k) 4 in
     elim (cases_eq (n / 16) 0) [
       | inl one ↦ subst (IsPadded (suc k) n) (sym (shown_last most n [] one)) (padded_last k n one)
-      | inr more ↦
-          let large : 0 < k = elim (cases_eq k 0) [
-            | inl none ↦ absurd (more (omega (arith, wide, ap (λ j. 2 ^ (4 * j)) none)))
-            | inr
-                some ↦ omega arith
-          ] in
+      | inr more ↦ let large : 0 < k = elim (cases_eq k 0) [
+        | inl none ↦ absurd (more (omega (arith, wide, ap (λ j. 2 ^ (4 * j)) none)))
+        | inr some ↦ omega arith
+      ] in
           subst (IsPadded (suc k) n)
           (sym (shown_step most n [] more ∙ shown_onto most (n / 16) (last_digit n)))
           (padded_more k n (shown most (n / 16))
@@ -124,8 +113,7 @@ shown_padded (suc most) (suc k) n some within fits =
 filled : (k : ℕ) (ds : List ℕ) → padded_integral (format_spec 32 0 4 k (2 ^ 64 - 1)) false [] ds
     ≡ zeros (k - length ds) ++ ds
 unfolding padded_integral char_count
-filled k ds =
-    let none : k - length ds - 0 - 0 ≡ k - length ds = omega arith in
+filled k ds = let none : k - length ds - 0 - 0 ≡ k - length ds = omega arith in
     (λ i. zeros (none i) ++ append-nil ds i)
 
 shown_are : (n : ℕ) → shown 64 n ≡ digits 16 false n

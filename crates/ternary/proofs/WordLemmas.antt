@@ -15,8 +15,7 @@ pub same_word : (a b : WordValue) → a.value ≡ b.value → a.mask ≡ b.mask 
 same_word a b p q = λ i. record { value = p i; mask = q i }
 
 pub word_eq_decides : (a b : WordValue) → Decides (word_eq a b) (a ≡ b)
-word_eq_decides a b =
-    Decides-like _ (λ both. same_word a b both.0 both.1)
+word_eq_decides a b = Decides-like _ (λ both. same_word a b both.0 both.1)
     (λ e. (ap (λ (w : WordValue). w.value) e, ap (λ (w : WordValue). w.mask) e))
     (Decides-and _ _ (Decides-eqb a.value b.value) (Decides-eqb a.mask b.mask))
 
@@ -43,8 +42,7 @@ unfolding covers_of
 covers_decides a b = (
   λ t k p. let h = and_parts _ _ t in (
     of_part a.mask b.mask (eqb-true _ _ h.0) k p,
-    unmasked b.value a.value a.mask
-        (eqb-true _ _ h.1) k p,
+    unmasked b.value a.value a.mask (eqb-true _ _ h.1) k p,
   ),
   λ bits. and_from _ _ (eq-eqb _ _ (part _ _ (λ k p. (bits k p).0)))
       (eq-eqb _ _ (masked b.value a.value a.mask (λ k p. (bits k p).1))),
@@ -59,11 +57,9 @@ pub any_holds : (h : ℕ) → IsTrue (holds any_word h)
 any_holds h = (holds_decides any_word h).1 (λ k set. absurd (not_set 0 k (bit_at-zero k) set))
 
 pub exact_holds : (h x : ℕ) → h < 2 ^ 104 → x < 2 ^ 104 → Decides (holds (exact_word h) x) (x ≡ h)
-exact_holds h x h_fits x_fits =
-    Decides-like _
+exact_holds h x h_fits x_fits = Decides-like _
     (λ bits. same_from_bits_below 104 x h x_fits h_fits (λ k low. bits k (bit_at_ones 104 k low)))
-    (λ e k set. ap (λ n. bit_at n k) e)
-    (holds_decides (exact_word h) x)
+    (λ e k set. ap (λ n. bit_at n k) e) (holds_decides (exact_word h) x)
 
 pub exact_is_word : (h : ℕ) → h < 2 ^ 104 → IsWord (exact_word h)
 exact_is_word h fits = record { within = and_mask h 104 ∙ mod-eq_of_lt fits; bounded = omega arith }
@@ -93,8 +89,7 @@ covers_antisymmetric a b a_word b_word ab ba =
     let f = (covers_decides a b).0 ab in
     let g = (covers_decides b a).0 ba in
     let mask : a.mask ≡ b.mask = same_set _ _ (λ k p. (f k p).0) (λ k p. (g k p).0) in
-    let value : fixed_value a ≡ fixed_value b = masked a.value b.value a.mask (λ k p. sym (f k p).1)
-    ∙ ap (bit_and b.value) mask in
+    let value = masked a.value b.value a.mask (λ k p. sym (f k p).1) ∙ ap (bit_and b.value) mask in
     same_word a b (sym a_word.within ∙ value ∙ b_word.within) mask
 
 pub any_covers : (w : WordValue) → IsTrue (covers_of any_word w)
@@ -102,12 +97,9 @@ any_covers w = (covers_decides any_word w).1 (λ k set. absurd (not_set 0 k (bit
 
 pub covers_exact : (w : WordValue) (h : ℕ) → IsWord w → h < 2 ^ 104 → covers_of w (exact_word h)
     ≡ holds w h
-covers_exact w h w_word fits =
-    same_from_decides _ _
-    (Decides-like _ (λ fixed k p. (fixed k p).1)
+covers_exact w h w_word fits = same_from_decides _ _ (Decides-like _ (λ fixed k p. (fixed k p).1)
     (λ bits k p. (bit_at_ones 104 k (set_below 104 w.mask k w_word.bounded p), bits k p))
-    (covers_decides w (exact_word h)))
-    (holds_decides w h)
+    (covers_decides w (exact_word h))) (holds_decides w h)
 
 -- the value of a word has 104 bits
 pub value_below : (w : WordValue) → IsWord w → w.value < 2 ^ 104
@@ -128,32 +120,24 @@ includes_covers a b a_word b_word inside = (covers_decides a b).1
 
     either : (k : ℕ) → bit_at a.mask k ≡ 1 → bit_at b.mask k ≡ 0 → (one : Bool)
         → bit_at a.value k ≡ from_bool one
-    either k p unset one =
-        sym (agrees (with_bit b.value k one)
-        (with_bit-lt 104 b.value k one (value_below b b_word)
-        (set_below 104 a.mask k a_word.bounded p))
-        (by_place k (λ j. bit_at b.mask j ≡ 1 → bit_at (with_bit b.value k one) j ≡ bit_at b.value
-        j)
-        (λ set. absurd (not_set b.mask k unset set))
-        (λ j apart set. with_bit-other b.value k one j apart))
-        k p)
-        ∙ with_bit-same b.value k one
+    either k p unset one = sym (agrees (with_bit b.value k one) (with_bit-lt 104 b.value k one
+        (value_below b b_word) (set_below 104 a.mask k a_word.bounded p)) (by_place k
+        (λ j. bit_at b.mask j ≡ 1 → bit_at (with_bit b.value k one) j ≡ bit_at b.value j) (λ set.
+        absurd (not_set b.mask k unset set)) (λ j apart set. with_bit-other b.value k one j apart))
+        k p) ∙ with_bit-same b.value k one
 
     fixed : (k : ℕ) → bit_at a.mask k ≡ 1 → bit_at b.mask k ≡ 1
-    fixed k p =
-        elim (digit_cases b.mask k) [
-          | inr set ↦ set
-          | inl unset ↦ absurd
-              (zero_not_one _ (either k p unset false) (either k p unset true))
-        ]
+    fixed k p = elim (digit_cases b.mask k) [
+      | inr set ↦ set
+      | inl unset ↦ absurd (zero_not_one _ (either k p unset false) (either k p unset true))
+    ]
 
 -- words of the same headers are equal
 pub same_headers : (a b : WordValue) → IsWord a → IsWord b
     → ((h : ℕ) → h < 2 ^ 104 → holds a h ≡ holds b h) → a ≡ b
-same_headers a b a_word b_word same =
-    covers_antisymmetric a b a_word b_word
-    (includes_covers a b a_word b_word (λ h fits held. same h fits ∙ held))
-    (includes_covers b a b_word a_word (λ h fits held. sym (same h fits) ∙ held))
+same_headers a b a_word b_word same = covers_antisymmetric a b a_word b_word
+    (includes_covers a b a_word b_word (λ h fits held. same h fits ∙ held)) (includes_covers b a
+    b_word a_word (λ h fits held. sym (same h fits) ∙ held))
 
 -- ---- what is in both
 
@@ -165,44 +149,35 @@ module _ (a b : WordValue) (agree : AgreesOnBoth a b) where
   joined_right : IsFixedIn b (meeting_word a b)
   joined_right k q = (
     or_right a.mask b.mask k q,
-    masked_sum-right a.value a.mask b.value b.mask k q
-        (λ p. agree k p q),
+    masked_sum-right a.value a.mask b.value b.mask k q (λ p. agree k p q),
   )
 
   -- a fact of each bit of either word is one of each bit of the joined word
   joined_bits : (P : ℕ → ℕ → Type 0) → ((k : ℕ) → bit_at a.mask k ≡ 1 → P k (bit_at a.value k))
       → ((k : ℕ) → bit_at b.mask k ≡ 1 → P k (bit_at b.value k))
       → (k : ℕ) → bit_at (meeting_word a b).mask k ≡ 1 → P k (bit_at (meeting_word a b).value k)
-  joined_bits P of_a of_b k s =
-      elim (or_from a.mask b.mask k s) [
-        | inl p ↦ subst (P k) (sym (joined_left k p).1) (of_a k p)
-        | inr q ↦ subst (P k)
-            (sym (joined_right k q).1) (of_b k q)
-      ]
+  joined_bits P of_a of_b k s = elim (or_from a.mask b.mask k s) [
+    | inl p ↦ subst (P k) (sym (joined_left k p).1) (of_a k p)
+    | inr q ↦ rw ((joined_right k q).1) (of_b k q)
+  ]
 
   -- a test of a word's fixed bits is true of the joined word where it is of both
-  joined_test : (P : ℕ → ℕ → Type 0) (test : WordValue → Bool)
-      → ((w : WordValue)
-      → Decides (test w) ((k : ℕ) → bit_at w.mask k ≡ 1 → P k (bit_at w.value k)))
+  joined_test : (P : ℕ → ℕ → Type 0) (test : WordValue → Bool) → ((w : WordValue) → Decides (test w)
+      ((k : ℕ) → bit_at w.mask k ≡ 1 → P k (bit_at w.value k)))
       → test (meeting_word a b) ≡ (test a && test b)
-  joined_test P test decides =
-      same_from_decides _ _
-      (Decides-like _
-      (λ bits. (
-        λ k p. let l = joined_left k p in subst (P k) l.1 (bits k l.0),
-        λ k q. let r = joined_right k q in subst (P k) r.1 (bits k r.0),
-      ))
+  joined_test P test decides = same_from_decides _ _ (Decides-like _ (λ bits. (
+    λ k p. let l = joined_left k p in subst (P k) l.1 (bits k l.0),
+    λ k q. let r = joined_right k q in subst (P k) r.1 (bits k r.0),
+  ))
       (λ both. joined_bits P both.0 both.1)
       (decides (meeting_word a b)))
       (Decides-and _ _ (decides a) (decides b))
 
   joined_holds : (h : ℕ) → holds (meeting_word a b) h ≡ (holds a h && holds b h)
-  joined_holds h =
-      joined_test (λ k d. bit_at h k ≡ d) (λ w. holds w h) (λ w. holds_decides w h)
+  joined_holds h = joined_test (λ k d. bit_at h k ≡ d) (λ w. holds w h) (λ w. holds_decides w h)
 
   joined_meets : (c : WordValue) → meets (meeting_word a b) c ≡ (meets a c && meets b c)
-  joined_meets c =
-      joined_test (λ k d. bit_at c.mask k ≡ 1 → d ≡ bit_at c.value k) (λ w. meets w c)
+  joined_meets c = joined_test (λ k d. bit_at c.mask k ≡ 1 → d ≡ bit_at c.value k) (λ w. meets w c)
       (λ w. meets_decides w c)
 
   joined_covers : (c : WordValue) → covers_of (meeting_word a b) c
@@ -213,24 +188,19 @@ module _ (a b : WordValue) (agree : AgreesOnBoth a b) where
 
 -- the joined value has no bit outside the joined mask
 joined_within : (a b : WordValue) → fixed_value (meeting_word a b) ≡ (meeting_word a b).value
-joined_within a b = part _ _ (λ k s.
-    elim (or_from (fixed_value a) (fixed_value b) k s) [
-      | inl p ↦ or_left a.mask b.mask k (right_set a.value a.mask k p)
-      | inr q ↦ or_right a.mask
-          b.mask k (right_set b.value b.mask k q)
-    ])
+joined_within a b = part _ _ (λ k s. elim (or_from (fixed_value a) (fixed_value b) k s) [
+  | inl p ↦ or_left a.mask b.mask k (right_set a.value a.mask k p)
+  | inr q ↦ or_right a.mask b.mask k (right_set b.value b.mask k q)
+])
 
 joined_word : (a b : WordValue) → IsWord a → IsWord b → IsWord (meeting_word a b)
-joined_word a b a_word b_word =
-    record {
-      within = joined_within a b;
-      bounded = or_lt 104 a.mask b.mask a_word.bounded
-          b_word.bounded;
-    }
+joined_word a b a_word b_word = record {
+  within = joined_within a b;
+  bounded = or_lt 104 a.mask b.mask a_word.bounded b_word.bounded;
+}
 
 pub meets_comm : (a b : WordValue) → meets a b ≡ meets b a
-meets_comm a b =
-    same_from_decides _ _ (Decides-like _ (λ bits k p q. sym (bits k q p))
+meets_comm a b = same_from_decides _ _ (Decides-like _ (λ bits k p q. sym (bits k q p))
     (λ bits k q p. sym (bits k p q)) (meets_decides a b)) (meets_decides b a)
 
 joined_comm : (a b : WordValue) → meeting_word a b ≡ meeting_word b a
@@ -238,20 +208,15 @@ joined_comm a b = same_word _ _ (or_comm (fixed_value a) (fixed_value b)) (or_co
 
 joined_assoc : (a b c : WordValue) → meeting_word (meeting_word a b) c
     ≡ meeting_word a (meeting_word b c)
-joined_assoc a b c =
-    same_word _ _
-    (ap (λ n. bit_or n (fixed_value c)) (joined_within a b)
+joined_assoc a b c = same_word _ _ (ap (λ n. bit_or n (fixed_value c)) (joined_within a b)
     ∙ or_assoc (fixed_value a) (fixed_value b) (fixed_value c)
-    ∙ ap (bit_or (fixed_value a)) (sym (joined_within b c)))
-    (or_assoc a.mask b.mask c.mask)
+    ∙ ap (bit_or (fixed_value a)) (sym (joined_within b c))) (or_assoc a.mask b.mask c.mask)
 
 -- what a covers adds nothing to a word that fixes it
 joined_covered : (a b : WordValue) → IsFixedIn a b
     → meeting_word a b ≡ record { value = fixed_value b; mask = b.mask }
-joined_covered a b fixed =
-    same_word _ _
-    (absorbed _ _ (λ k s.
-    let p = right_set a.value a.mask k s in
+joined_covered a b fixed = same_word _ _
+    (absorbed _ _ (λ k s. let p = right_set a.value a.mask k s in
     both_set b.value b.mask k ((fixed k p).1 ∙ left_set a.value a.mask k s) (fixed k p).0))
     (absorbed _ _ (λ k p. (fixed k p).0))
 
@@ -271,20 +236,17 @@ unfolding meet_of
 apart_none a b f = cond-false (meets a b) _ _ f
 
 pub meet_is_some : (a b : WordValue) → is_some (meet_of a b) ≡ meets a b
-meet_is_some a b =
-    elim (cases_Bool (meets a b)) [
-      | inl t ↦ ap is_some (met_joined a b t) ∙ sym t
-      | inr f ↦ ap is_some (apart_none a b f)
-          ∙ sym f
-    ]
+meet_is_some a b = elim (cases_Bool (meets a b)) [
+  | inl t ↦ ap is_some (met_joined a b t) ∙ sym t
+  | inr f ↦ ap is_some (apart_none a b f) ∙ sym f
+]
 
 -- where the meet is none the words do not agree
 pub meet_none : (a b : WordValue) → meet_of a b ≡ None → meets a b ≡ false
 meet_none a b e = sym (meet_is_some a b) ∙ ap is_some e
 
 pub meet_both : (a b m : WordValue) → meet_of a b ≡ Some m → IsMeet a b m
-meet_both a b m e h =
-    let found = meet_some a b m e in
+meet_both a b m e h = let found = meet_some a b m e in
     ap (λ w. holds w h) (sym found.1) ∙ joined_holds a b ((meets_decides a b).0 found.0) h
 
 pub meet_word : (a b m : WordValue) → IsWord a → IsWord b → meet_of a b ≡ Some m → IsWord m
@@ -296,9 +258,8 @@ held_meets a b h p q =
 
 pub meet_disjoint : (a b : WordValue) (h : ℕ) → meet_of a b ≡ None
     → (holds a h && holds b h) ≡ false
-meet_disjoint a b h e =
-    false_from_ne_true _ (λ t. let both = and_parts _ _ t in both_ways _ (meet_none a b e)
-    (held_meets a b h both.0 both.1))
+meet_disjoint a b h e = false_from_ne_true _ (λ t. let both = and_parts _ _ t in both_ways _
+    (meet_none a b e) (held_meets a b h both.0 both.1))
 
 pub meet_comm : (a b : WordValue) → meet_of a b ≡ meet_of b a
 unfolding meet_of
@@ -336,9 +297,8 @@ left_decides a b c = (
       let ab = (meets_decides a b).0 two.0 in
       let rest = and_parts _ _ (sym (joined_meets a b ab c) ∙ two.1) in
       (ab, (meets_decides a c).0 rest.0, (meets_decides b c).0 rest.1),
-  λ all. and_from _ _ ((meets_decides a b).1 all.0)
-      (joined_meets a b all.0 c ∙ and_from _ _ ((meets_decides a c).1 all.1)
-      ((meets_decides b c).1 all.2)),
+  λ all. and_from _ _ ((meets_decides a b).1 all.0) (joined_meets a b all.0 c
+      ∙ and_from _ _ ((meets_decides a c).1 all.1) ((meets_decides b c).1 all.2)),
 )
 
 right_decides : (a b c : WordValue) → Decides (meets b c && meets a (meeting_word b c))
@@ -352,33 +312,26 @@ right_decides a b c = (
         (meets_decides a c).0 (meets_comm a c ∙ rest.1),
         bc,
       ),
-  λ all. and_from _ _ ((meets_decides b c).1 all.2)
-      (meets_comm a (meeting_word b c) ∙ joined_meets b c all.2 a
-      ∙ and_from _ _ (meets_comm b a ∙ (meets_decides a b).1 all.0)
+  λ all. and_from _ _ ((meets_decides b c).1 all.2) (meets_comm a (meeting_word b c)
+      ∙ joined_meets b c all.2 a ∙ and_from _ _ (meets_comm b a ∙ (meets_decides a b).1 all.0)
       (meets_comm c a ∙ (meets_decides a c).1 all.1)),
 )
 
 pub meet_assoc : (a b c : WordValue) → option_and_then (λ m. meet_of m c) (meet_of a b)
     ≡ option_and_then (meet_of a) (meet_of b c)
-meet_assoc a b c =
-    meet_left a b c
+meet_assoc a b c = meet_left a b c
     ∙ (λ i. cond (same_from_decides _ _ (left_decides a b c) (right_decides a b c) i)
-    (Some (joined_assoc a b c i)) None)
-    ∙ sym (meet_right a b c)
+    (Some (joined_assoc a b c i)) None) ∙ sym (meet_right a b c)
 
 pub meet_exact : (w : WordValue) (h : ℕ) → IsWord w → h < 2 ^ 104 → meets w (exact_word h) ≡ holds w
     h
-meet_exact w h w_word fits =
-    same_from_decides _ _
-    (Decides-like _ (λ bits k p.
-    sym (bits k p (bit_at_ones 104 k (set_below 104 w.mask k w_word.bounded p))))
-    (λ bits k p s. sym (bits k p)) (meets_decides w (exact_word h)))
-    (holds_decides w h)
+meet_exact w h w_word fits = same_from_decides _ _ (Decides-like _
+    (λ bits k p. sym (bits k p (bit_at_ones 104 k (set_below 104 w.mask k w_word.bounded p))))
+    (λ bits k p s. sym (bits k p)) (meets_decides w (exact_word h))) (holds_decides w h)
 
 pub meet_greatest : (a b m c : WordValue) → meet_of a b ≡ Some m
     → covers_of m c ≡ (covers_of a c && covers_of b c)
-meet_greatest a b m c e =
-    let found = meet_some a b m e in
+meet_greatest a b m c e = let found = meet_some a b m e in
     ap (λ w. covers_of w c) (sym found.1) ∙ joined_covers a b ((meets_decides a b).0 found.0) c
 
 pub meet_within : (a b m : WordValue) → meet_of a b ≡ Some m → IsTrue (covers_of a m)
@@ -387,16 +340,14 @@ meet_within a b m e = and_parts _ _ (sym (meet_greatest a b m m e) ∙ covers_re
 
 -- a word agrees with what it covers, and with less of what that meets
 covers_meets : (a b c : WordValue) → IsTrue (covers_of a b) → meets b c ≡ true → meets a c ≡ true
-covers_meets a b c ab bc =
-    let fixed = (covers_decides a b).0 ab in
+covers_meets a b c ab bc = let fixed = (covers_decides a b).0 ab in
     (meets_decides a c).1 (λ k p q. sym (fixed k p).1 ∙ (meets_decides b c).0 bc k (fixed k p).0 q)
 
 meets_itself : (a : WordValue) → meets a a ≡ true
 meets_itself a = (meets_decides a a).1 (λ k p q. refl)
 
 pub meet_covered : (a b : WordValue) → IsWord b → IsTrue (covers_of a b) → meet_of a b ≡ Some b
-meet_covered a b b_word ab =
-    met_joined a b (covers_meets a b b ab (meets_itself b))
+meet_covered a b b_word ab = met_joined a b (covers_meets a b b ab (meets_itself b))
     ∙ ap Some (joined_covered a b ((covers_decides a b).0 ab) ∙ same_word _ _ b_word.within refl)
 
 pub meets_cover : (a b : WordValue) → IsTrue (covers_of a b) → IsTrue (meets b a)
@@ -407,9 +358,8 @@ meet_any a a_word = meet_comm a any_word ∙ meet_covered any_word a a_word (any
 
 pub meet_monotone : (a b c : WordValue) → IsTrue (covers_of a b) → meet_of a c ≡ None
     → meet_of b c ≡ None
-meet_monotone a b c ab none =
-    apart_none b c (false_from_ne_true _
-    (λ t. both_ways _ (meet_none a c none) (covers_meets a b c ab t)))
+meet_monotone a b c ab none = apart_none b c
+    (false_from_ne_true _ (λ t. both_ways _ (meet_none a c none) (covers_meets a b c ab t)))
 
 pub meet_narrowed : (w a b : WordValue) → IsTrue (covers_of a b)
     → option_and_then (λ m. meet_of m b) (meet_of w a) ≡ meet_of w b
@@ -417,12 +367,10 @@ unfolding meet_of
 meet_narrowed w a b ab =
     let fixed = (covers_decides a b).0 ab in
     let agree = (meets_decides a b).0 (covers_meets a b b ab (meets_itself b)) in
-    let test : (meets w a && meets (meeting_word w a) b) ≡ meets w b = same_from_decides _ _
-    (Decides-like _ (λ all. all.1)
+    let test = same_from_decides _ _ (Decides-like _ (λ all. all.1)
     (λ wb. (λ k p q. wb k p (fixed k q).0 ∙ (fixed k q).1, wb, agree)) (left_decides w a b))
     (meets_decides w b) in
-    let word : meeting_word (meeting_word w a) b ≡ meeting_word w b =
-    joined_assoc w a b ∙ ap (meeting_word w) (joined_covered a b fixed)
+    let word = joined_assoc w a b ∙ ap (meeting_word w) (joined_covered a b fixed)
     ∙ same_word _ _ (ap (bit_or (fixed_value w))
     (and_assoc b.mask b.value b.mask ∙ ap (bit_and b.value) (and_self b.mask))) refl in
     meet_left w a b ∙ (λ i. cond (test i) (Some (word i)) None)
@@ -449,17 +397,15 @@ implies_decides false q of_p of_q = (λ _ x. absurd (both_ways false refl (of_p.
 admits_decides : (w : WordValue) (k : ℕ) (one : Bool)
     → Decides (admits w k one) (bit_at w.mask k ≡ 1 → bit_at w.value k ≡ from_bool one)
 unfolding admits
-admits_decides w k one =
-    implies_decides (is_fixed_of w k) (bit_at w.value k == from_bool one) (is_fixed_decides w k)
-    (Decides-eqb (bit_at w.value k) (from_bool one))
+admits_decides w k one = implies_decides (is_fixed_of w k) (bit_at w.value k == from_bool one)
+    (is_fixed_decides w k) (Decides-eqb (bit_at w.value k) (from_bool one))
 
 -- A word that fixes each of the 104 bits fixes what any word does, so what agrees with it covers
 -- it.
 pub covers_full : (a b : WordValue) → IsWord a → ((k : ℕ) → k < 104 → IsTrue (is_fixed_of b k))
     → IsTrue (meets a b) → IsTrue (covers_of a b)
-covers_full a b a_word full agree =
-    (covers_decides a b).1 (λ k p.
-    let q = (is_fixed_decides b k).0 (full k (set_below 104 a.mask k a_word.bounded p)) in
+covers_full a b a_word full agree = (covers_decides a b).1
+    (λ k p. let q = (is_fixed_decides b k).0 (full k (set_below 104 a.mask k a_word.bounded p)) in
     (q, sym ((meets_decides a b).0 agree k p q)))
 
 pub held_admits : (w : WordValue) (k : ℕ) (one : Bool) (h : ℕ) → IsTrue (holds w h)
@@ -479,12 +425,10 @@ module _ (w : WordValue) (k : ℕ) (one : Bool) where
   pub fix_word : IsWord w → k < 104 → IsWord (fix_of w k one)
   unfolding fix_of
   fix_word w_word within = record {
-    within = part (with_bit w.value k one) (bit_or w.mask (2 ^ k))
-        (by_place k (λ j. bit_at (with_bit w.value k one) j ≡ 1 → bit_at (bit_or w.mask (2 ^ k)) j
-        ≡ 1)
-        (λ _. or_pow-same w.mask k)
-        (λ j away set. or_pow-other w.mask k j away ∙ of_part w.value w.mask w_word.within j
-        (sym (with_bit-other w.value k one j away) ∙ set)));
+    within = part (with_bit w.value k one) (bit_or w.mask (2 ^ k)) (by_place k
+        (λ j. bit_at (with_bit w.value k one) j ≡ 1 → bit_at (bit_or w.mask (2 ^ k)) j ≡ 1) (λ _.
+        or_pow-same w.mask k) (λ j away set. or_pow-other w.mask k j away ∙ of_part w.value w.mask
+        w_word.within j (sym (with_bit-other w.value k one j away) ∙ set)));
     bounded = or_lt 104 w.mask (2 ^ k) w_word.bounded (pow_below k 104 within);
   }
 
@@ -492,28 +436,22 @@ module _ (w : WordValue) (k : ℕ) (one : Bool) where
     pub fix_holds : (h : ℕ) → holds (fix_of w k one) h
         ≡ (holds w h && (bit_at h k == from_bool one))
     unfolding fix_of
-    fix_holds h =
-        same_from_decides _ _
-        (Decides-like _
-        (λ bits. (
-          by_place k (λ j. bit_at w.mask j ≡ 1 → bit_at h j ≡ bit_at w.value j)
-              (λ p. absurd (free_bit w k free p))
-              (λ j away p. bits j (or_pow-other w.mask k j away ∙ p)
-              ∙ with_bit-other w.value k one j away),
-          bits k (or_pow-same w.mask k) ∙ with_bit-same w.value k one,
-        ))
-        (λ both. by_place k (λ j. bit_at (bit_or w.mask (2 ^ k)) j ≡ 1
-        → bit_at h j ≡ bit_at (with_bit w.value k one) j)
-        (λ _. both.1 ∙ sym (with_bit-same w.value k one))
-        (λ j away s. both.0 j (sym (or_pow-other w.mask k j away) ∙ s)
-        ∙ sym (with_bit-other w.value k one j away)))
+    fix_holds h = same_from_decides _ _ (Decides-like _ (λ bits. (
+      by_place k (λ j. bit_at w.mask j ≡ 1 → bit_at h j ≡ bit_at w.value j)
+          (λ p. absurd (free_bit w k free p)) (λ j away p. bits j
+          (or_pow-other w.mask k j away ∙ p) ∙ with_bit-other w.value k one j away),
+      bits k (or_pow-same w.mask k) ∙ with_bit-same w.value k one,
+    ))
+        (λ both. by_place k
+        (λ j. bit_at (bit_or w.mask (2 ^ k)) j ≡ 1 → bit_at h j ≡ bit_at (with_bit w.value k one) j)
+        (λ _. both.1 ∙ sym (with_bit-same w.value k one)) (λ j away s. both.0 j
+        (sym (or_pow-other w.mask k j away) ∙ s) ∙ sym (with_bit-other w.value k one j away)))
         (holds_decides (fix_of w k one) h))
         (Decides-and _ _ (holds_decides w h) (Decides-eqb (bit_at h k) (from_bool one)))
 
     pub fix_within : IsTrue (covers_of w (fix_of w k one))
     unfolding fix_of
-    fix_within =
-        (covers_decides w (fix_of w k one)).1
+    fix_within = (covers_decides w (fix_of w k one)).1
         (by_place k (λ j. bit_at w.mask j ≡ 1 → (bit_at (bit_or w.mask (2 ^ k)) j ≡ 1)
         × (bit_at (with_bit w.value k one) j ≡ bit_at w.value j))
         (λ p. absurd (free_bit w k free p))
@@ -529,73 +467,59 @@ parted false x y h = refl
 bit_parts : (h k : ℕ) → (((bit_at h k == from_bool false) ≡ true)
     × ((bit_at h k == from_bool true) ≡ false))
     ⊎ (((bit_at h k == from_bool false) ≡ false) × ((bit_at h k == from_bool true) ≡ true))
-bit_parts h k =
-    elim (digit_cases h k) [
-      | inl zero_bit ↦ inl (eq-eqb _ _ zero_bit, ne_eqb _ _ (zero_not_one _ zero_bit))
-      | inr one_bit ↦
-          inr (ne_eqb _ _ (λ e. zero_not_one _ e one_bit), eq-eqb _ _ one_bit)
-    ]
+bit_parts h k = elim (digit_cases h k) [
+  | inl zero_bit ↦ inl (eq-eqb _ _ zero_bit, ne_eqb _ _ (zero_not_one _ zero_bit))
+  | inr one_bit ↦ inr (ne_eqb _ _ (λ e. zero_not_one _ e one_bit), eq-eqb _ _ one_bit)
+]
 
 pub halves_split : (w : WordValue) (k h : ℕ) → IsFalse (is_fixed_of w k)
     → holds w h ≡ (holds (fix_of w k false) h || holds (fix_of w k true) h)
-halves_split w k h free =
-    parted (holds w h) _ _ (bit_parts h k)
+halves_split w k h free = parted (holds w h) _ _ (bit_parts h k)
     ∙ (λ i. sym (fix_holds w k false free h) i || sym (fix_holds w k true free h) i)
 
 pub halves_apart : (w : WordValue) (k : ℕ) → meet_of (fix_of w k false) (fix_of w k true) ≡ None
 unfolding fix_of
-halves_apart w k =
-    apart_none _ _ (false_from_ne_true _ (λ t.
-    zero_not_one _ refl (sym (with_bit-same w.value k false)
-    ∙ (meets_decides (fix_of w k false) (fix_of w k true)).0 t k (or_pow-same w.mask k)
-    (or_pow-same w.mask k) ∙ with_bit-same w.value k true)))
+halves_apart w k = apart_none _ _ (false_from_ne_true _ (λ t. zero_not_one _ refl
+    (sym (with_bit-same w.value k false) ∙ (meets_decides (fix_of w k false) (fix_of w k true)).0 t
+    k (or_pow-same w.mask k) (or_pow-same w.mask k) ∙ with_bit-same w.value k true)))
 
 module _ (w r : WordValue) (k : ℕ) (one : Bool) where
   pub meets_half : IsFalse (is_fixed_of r k)
       → meets w (fix_of r k one) ≡ (meets w r && admits w k one)
   unfolding fix_of
-  meets_half free =
-      same_from_decides _ _
-      (Decides-like _
-      (λ bits. (
-        by_place k (λ j. bit_at w.mask j ≡ 1 → bit_at r.mask j ≡ 1
-            → bit_at w.value j ≡ bit_at r.value j)
-            (λ _ q. absurd (free_bit r k free q))
-            (λ j away p q. bits j p (or_pow-other r.mask k j away ∙ q)
-            ∙ with_bit-other r.value k one j away),
-        λ p. bits k p (or_pow-same r.mask k) ∙ with_bit-same r.value k one,
-      ))
+  meets_half free = same_from_decides _ _ (Decides-like _ (λ bits. (
+    by_place k
+        (λ j. bit_at w.mask j ≡ 1 → bit_at r.mask j ≡ 1 → bit_at w.value j ≡ bit_at r.value j)
+        (λ _ q. absurd (free_bit r k free q)) (λ j away p q. bits j p
+        (or_pow-other r.mask k j away ∙ q) ∙ with_bit-other r.value k one j away),
+    λ p. bits k p (or_pow-same r.mask k) ∙ with_bit-same r.value k one,
+  ))
       (λ both. by_place k (λ j. bit_at w.mask j ≡ 1 → bit_at (bit_or r.mask (2 ^ k)) j ≡ 1
       → bit_at w.value j ≡ bit_at (with_bit r.value k one) j)
-      (λ p _. both.1 p ∙ sym (with_bit-same r.value k one))
-      (λ j away p s. both.0 j p (sym (or_pow-other r.mask k j away) ∙ s)
-      ∙ sym (with_bit-other r.value k one j away)))
+      (λ p _. both.1 p ∙ sym (with_bit-same r.value k one)) (λ j away p s. both.0 j p
+      (sym (or_pow-other r.mask k j away) ∙ s) ∙ sym (with_bit-other r.value k one j away)))
       (meets_decides w (fix_of r k one)))
       (Decides-and _ _ (meets_decides w r) (admits_decides w k one))
 
   pub covers_half : covers_of w (fix_of r k one) ≡ (covers_of (free_of w k) r && admits w k one)
   unfolding fix_of free_of
-  covers_half =
-      same_from_decides _ _
-      (Decides-like _
-      (λ bits. (
-        by_place k (λ j. bit_at (without_bit w.mask k) j ≡ 1 → (bit_at r.mask j ≡ 1)
-            × (bit_at r.value j ≡ bit_at (without_bit w.value k) j))
-            (λ s. absurd (not_set _ k (without_bit-same w.mask k) s))
-            (λ j away s. let b = bits j (sym (without_bit-other w.mask k j away) ∙ s) in (
-              sym (or_pow-other r.mask k j away) ∙ b.0,
-              sym (with_bit-other r.value k one j away)
-                  ∙ b.1 ∙ sym (without_bit-other w.value k j away),
-            )),
-        λ p. sym (bits k p).1 ∙ with_bit-same r.value k one,
-      ))
+  covers_half = same_from_decides _ _ (Decides-like _ (λ bits. (
+    by_place k (λ j. bit_at (without_bit w.mask k) j ≡ 1 → (bit_at r.mask j ≡ 1)
+        × (bit_at r.value j ≡ bit_at (without_bit w.value k) j))
+        (λ s. absurd (not_set _ k (without_bit-same w.mask k) s))
+        (λ j away s. let b = bits j (sym (without_bit-other w.mask k j away) ∙ s) in (
+          sym (or_pow-other r.mask k j away) ∙ b.0,
+          sym (with_bit-other r.value k one j away)
+              ∙ b.1 ∙ sym (without_bit-other w.value k j away),
+        )),
+    λ p. sym (bits k p).1 ∙ with_bit-same r.value k one,
+  ))
       (λ both. by_place k (λ j. bit_at w.mask j ≡ 1 → (bit_at (bit_or r.mask (2 ^ k)) j ≡ 1)
       × (bit_at (with_bit r.value k one) j ≡ bit_at w.value j))
       (λ p. (or_pow-same r.mask k, with_bit-same r.value k one ∙ sym (both.1 p)))
       (λ j away p. let b = both.0 j (without_bit-other w.mask k j away ∙ p) in (
         or_pow-other r.mask k j away ∙ b.0,
-        with_bit-other r.value k one j away ∙ b.1
-            ∙ without_bit-other w.value k j away,
+        with_bit-other r.value k one j away ∙ b.1 ∙ without_bit-other w.value k j away,
       )))
       (covers_decides w (fix_of r k one)))
       (Decides-and _ _ (covers_decides (free_of w k) r) (admits_decides w k one))
@@ -615,39 +539,31 @@ module _ (w : WordValue) (k : ℕ) where
   pub free_word : IsWord w → IsWord (free_of w k)
   unfolding free_of
   free_word w_word = record {
-    within = part (without_bit w.value k) (without_bit w.mask k)
-        (by_place k (λ j. bit_at (without_bit w.value k) j ≡ 1 → bit_at (without_bit w.mask k) j
-        ≡ 1)
-        (λ s. absurd (not_set _ k (without_bit-same w.value k) s))
-        (λ j away s. without_bit-other w.mask k j away ∙ of_part w.value w.mask w_word.within j
-        (sym (without_bit-other w.value k j away) ∙ s)));
+    within = part (without_bit w.value k) (without_bit w.mask k) (by_place k
+        (λ j. bit_at (without_bit w.value k) j ≡ 1 → bit_at (without_bit w.mask k) j ≡ 1) (λ s.
+        absurd (not_set _ k (without_bit-same w.value k) s))
+        (λ j away s. without_bit-other w.mask k j away
+        ∙ of_part w.value w.mask w_word.within j (sym (without_bit-other w.value k j away) ∙ s)));
     bounded = omega (arith, without_bit-le w.mask k, w_word.bounded);
   }
 
   pub free_wider : IsTrue (covers_of (free_of w k) w)
   unfolding free_of
-  free_wider =
-      (covers_decides (free_of w k) w).1
-      (by_place k (λ j. bit_at (without_bit w.mask k) j ≡ 1 → (bit_at w.mask j ≡ 1)
-      × (bit_at w.value j ≡ bit_at (without_bit w.value k) j))
-      (λ s. absurd (not_set _ k (without_bit-same w.mask k) s))
-      (λ j away s. (
-        sym (without_bit-other w.mask k j away)
-            ∙ s,
+  free_wider = (covers_decides (free_of w k) w).1
+      (by_place k (λ j. bit_at (without_bit w.mask k) j ≡ 1
+      → (bit_at w.mask j ≡ 1) × (bit_at w.value j ≡ bit_at (without_bit w.value k) j))
+      (λ s. absurd (not_set _ k (without_bit-same w.mask k) s)) (λ j away s. (
+        cc (without_bit-other w.mask k j away, s),
         sym (without_bit-other w.value k j away),
       )))
 
   pub free_holds : (h : ℕ)
       → holds (free_of w k) h ≡ (holds w (with_bit h k false) || holds w (with_bit h k true))
   unfolding free_of
-  free_holds h =
-      same_from_decides _ _
-      (Decides-like _
-      (λ bits. elim (digit_cases w.value k) [
-        | inl zero_bit ↦ inl (filled bits false zero_bit)
-        | inr one_bit ↦ inr
-            (filled bits true one_bit)
-      ])
+  free_holds h = same_from_decides _ _ (Decides-like _ (λ bits. elim (digit_cases w.value k) [
+    | inl zero_bit ↦ inl (filled bits false zero_bit)
+    | inr one_bit ↦ inr (filled bits true one_bit)
+  ])
       (λ either. elim either [ inl bits ↦ emptied false bits | inr bits ↦ emptied true bits ])
       (holds_decides (free_of w k) h))
       (Decides-or _ _ (holds_decides w (with_bit h k false)) (holds_decides w (with_bit h k true)))
@@ -656,31 +572,27 @@ module _ (w : WordValue) (k : ℕ) where
           → AgreesOnMask w (with_bit h k one)
       filled bits one e = by_place k
           (λ j. bit_at w.mask j ≡ 1 → bit_at (with_bit h k one) j ≡ bit_at w.value j)
-          (λ _. with_bit-same h k one ∙ sym e)
-          (λ j away p. with_bit-other h k one j away
+          (λ _. with_bit-same h k one ∙ sym e) (λ j away p. with_bit-other h k one j away
           ∙ bits j (without_bit-other w.mask k j away ∙ p) ∙ without_bit-other w.value k j away)
 
       emptied : (one : Bool) → AgreesOnMask w (with_bit h k one) → AgreesOnMask (free_of w k) h
       emptied one bits = by_place k
           (λ j. bit_at (without_bit w.mask k) j ≡ 1 → bit_at h j ≡ bit_at (without_bit w.value k) j)
           (λ s. absurd (not_set _ k (without_bit-same w.mask k) s))
-          (λ j away s. sym (with_bit-other h k one j away)
-          ∙ bits j (sym (without_bit-other w.mask k j away) ∙ s)
-          ∙ sym (without_bit-other w.value k j away))
+          (λ j away s. sym (with_bit-other h k one j away) ∙ bits j
+          (sym (without_bit-other w.mask k j away) ∙ s) ∙ sym (without_bit-other w.value k j away))
 
 pub free_monotone : (a b : WordValue) (k : ℕ) → IsTrue (covers_of a b)
     → IsTrue (covers_of (free_of a k) (free_of b k))
 unfolding free_of
-free_monotone a b k ab =
-    let fixed = (covers_decides a b).0 ab in
+free_monotone a b k ab = let fixed = (covers_decides a b).0 ab in
     (covers_decides (free_of a k) (free_of b k)).1
     (by_place k (λ j. bit_at (without_bit a.mask k) j ≡ 1 → (bit_at (without_bit b.mask k) j ≡ 1)
     × (bit_at (without_bit b.value k) j ≡ bit_at (without_bit a.value k) j))
     (λ s. absurd (not_set _ k (without_bit-same a.mask k) s))
     (λ j away s. let f = fixed j (sym (without_bit-other a.mask k j away) ∙ s) in (
       without_bit-other b.mask k j away ∙ f.0,
-      without_bit-other b.value k j away ∙ f.1
-          ∙ sym (without_bit-other a.value k j away),
+      without_bit-other b.value k j away ∙ f.1 ∙ sym (without_bit-other a.value k j away),
     )))
 
 -- ---- what the methods compute
@@ -712,8 +624,7 @@ module _ (a b : WordValue) (a_word : IsWord a) (b_word : IsWord b) where
   -- no value bit is outside the masks, so the values need no masking
   plain_sum : meeting_word a b ≡ record {
     value = bit_or a.value b.value;
-    mask = bit_or a.mask
-        b.mask;
+    mask = bit_or a.mask b.mask;
   }
   plain_sum = same_word _ _ (λ i. bit_or (a_word.within i) (b_word.within i)) refl
 
@@ -735,12 +646,10 @@ module _ (w : WordValue) (w_word : IsWord w) where
   unfolding holds
   masked_holds h = ap (λ v. bit_and h w.mask == v) (sym w_word.within)
 
-  pub set_fix : (k : ℕ) (one : Bool) → k < 104 → IsFalse (is_fixed_of w k)
-      → record {
-        value = bit_or w.value (from_bool one * 2 ^ k % 2 ^ 128);
-        mask =
-            bit_or w.mask (1 * 2 ^ k % 2 ^ 128);
-      } ≡ fix_of w k one
+  pub set_fix : (k : ℕ) (one : Bool) → k < 104 → IsFalse (is_fixed_of w k) → record {
+    value = bit_or w.value (from_bool one * 2 ^ k % 2 ^ 128);
+    mask = bit_or w.mask (1 * 2 ^ k % 2 ^ 128);
+  } ≡ fix_of w k one
   unfolding fix_of
   set_fix k one within free =
       let unset : bit_at w.value k ≡ 1
@@ -749,12 +658,10 @@ module _ (w : WordValue) (w_word : IsWord w) where
       (λ i. bit_or (sym (without_bit-unset w.value k unset) i) (shifted k one within i))
       (ap (bit_or w.mask) (shifted_one k within))
 
-  pub cleared_free : (k : ℕ) → k < 104
-      → record {
-        value = bit_and w.value (2 ^ 128 - 1 - 1 * 2 ^ k % 2 ^ 128);
-        mask =
-            bit_and w.mask (2 ^ 128 - 1 - 1 * 2 ^ k % 2 ^ 128);
-      } ≡ free_of w k
+  pub cleared_free : (k : ℕ) → k < 104 → record {
+    value = bit_and w.value (2 ^ 128 - 1 - 1 * 2 ^ k % 2 ^ 128);
+    mask = bit_and w.mask (2 ^ 128 - 1 - 1 * 2 ^ k % 2 ^ 128);
+  } ≡ free_of w k
   unfolding free_of
   cleared_free k within = same_word _ _ (masked_out w.value k (value_below w w_word) within)
       (masked_out w.mask k w_word.bounded within)

@@ -50,8 +50,7 @@ meets a b = let common = bit_and a.mask b.mask in bit_and a.value common == bit_
 abbrev pub meeting_word : WordValue → WordValue → WordValue
 meeting_word a b = record {
   value = bit_or (fixed_value a) (fixed_value b);
-  mask = bit_or a.mask
-      b.mask;
+  mask = bit_or a.mask b.mask;
 }
 
 -- the word of the headers that both hold; `None` if there are none

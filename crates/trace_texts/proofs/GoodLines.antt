@@ -34,8 +34,7 @@ IsNext pending _ = ⊤
 row_follows : (files : List PolicyFile) (old new : Machine) (pending : Option Header) (row : ℕ)
     (step : Step) → new ≡ old
     → Follows files (at old pending) (told_item (item.Row row step)) (at new (row_pending step))
-row_follows files old new pending row (Packet switch header) e =
-    ap (λ m. at m (Some header)) e
+row_follows files old new pending row (Packet switch header) e = cc e
 row_follows files old new pending row step e = ap (λ m. at m None) e
 
 -- what the machine does is what the line tells; there are at most 64 versions then
@@ -47,11 +46,10 @@ item_follows setting old new pending (item.Row row step) takes next few =
 item_follows setting old new pending (item.Entered packet switch header) takes next few =
     (header, next, takes, refl)
 item_follows setting old new pending (item.Submitted file version) takes next few =
-    let newest : version ≡ length old.policies + 1 = takes.newest in
     let more : length new.policies ≡ length old.policies + 1 =
     ap (λ (m : Machine). length m.policies) takes.after
     ∙ length-append old.policies (takes.policy ∷ []) in
-    (takes, omega (arith, newest, more, few), refl)
+    (takes, omega (arith, takes.newest, more, few), refl)
 item_follows setting old new pending (item.Retired version) takes next few = (takes, refl)
 item_follows setting old new pending (item.Decided packet version rule action how) takes next few =
     (record { rule = rule; action = action }, record { of_rule = refl; of_action = refl }, takes, refl)
@@ -114,16 +112,12 @@ versions_with now items = length now.policies + count_of is_submission items
 -- a version more behind a submission, and as many as before behind anything else
 module _ (setting : Setting) (old new : Machine) where
   as_many : {after : Machine} → new ≡ after → length new.policies ≡ length after.policies + 0
-  as_many {after} e =
-      let same : length new.policies ≡ length after.policies =
-      ap (λ (m : Machine). length m.policies) e in
-      omega (arith, same)
+  as_many {after} e = omega (arith, ap (λ (m : Machine). length m.policies) e)
 
   grows : (first : Item) → Takes setting old first new
       → length new.policies ≡ length old.policies + cond (is_submission first) 1 0
   grows (item.Submitted file version) takes =
-      ap (λ (m : Machine). length m.policies) takes.after
-      ∙ length-append old.policies (takes.policy ∷ [])
+      cc (takes.after, length-append old.policies (takes.policy ∷ []))
   grows (item.Entered packet switch header) takes = as_many takes.after
   grows (item.Retired version) takes = as_many takes.after
   grows (item.Decided packet version rule action how) takes = as_many takes.after
@@ -135,11 +129,7 @@ module _ (setting : Setting) (old new : Machine) where
 
   takes_many : (first : Item) (items : List Item) → Takes setting old first new
       → versions_with new items ≡ versions_with old (first ∷ items)
-  takes_many first items takes = omega (
-    arith,
-    grows first takes,
-    sum_by-cons (λ x. cond (is_submission x) 1 0) first items,
-  )
+  takes_many first items takes = omega (arith, grows, sum_by-cons)
 
 -- the row of a step of the network
 abbrev pub IsOwnRow : Net → StepRow → Type 0
@@ -175,23 +165,19 @@ known_next setting before old new first items known takes most few = record {
 -- how many packets there are behind one more item
 one_more : (before : List Item) (first : Item) (packet : Bool) → is_packet first ≡ packet
     → count_of is_packet (before ++ first ∷ []) ≡ count_of is_packet before + cond packet 1 0
-one_more before first packet is =
-    let one : count_of is_packet (first ∷ []) ≡ cond packet 1 0 =
-    sum_by-cons (λ x. cond (is_packet x) 1 0) first []
-    ∙ omega (arith, ap {B = ℕ} (λ (b : Bool). cond b 1 0) is) in
-    count_of_append is_packet before (first ∷ [])
-    ∙ ap (λ n. count_of is_packet before + n) one
+one_more before first packet is = count_of_append is_packet before (first ∷ [])
+    ∙ ap (λ n. count_of is_packet before + n) (sum_by-cons (λ x. cond (is_packet x) 1 0) first []
+    ∙ omega (arith, ap {B = ℕ} (λ (b : Bool). cond b 1 0) is))
 
 few_next : (before : List Item) (first : Item) (items : List Item) → is_packet first ≡ false
     → count_of is_packet before + length (step_rows_in (first ∷ items)) ≤ max_events
     → count_of is_packet (before ++ first ∷ []) + length (step_rows_in items) ≤ max_events
-few_next before first items none few =
-    omega (
-      arith,
-      one_more before first false none,
-      few,
-      length-append (gives_row first) (step_rows_in items),
-    )
+few_next before first items none few = omega (
+  arith,
+  one_more before first false none,
+  few,
+  length-append (gives_row first) (step_rows_in items),
+)
 
 -- ---- what is read of an item
 
@@ -208,8 +194,7 @@ file_there : (files : List PolicyFile) (file : ℕ) (newest : Option (List Row))
     → result_ok (made_by given newest) ≡ Some rows → file ≤ length files
 file_there files file newest true given rows e f g = omega (arith, eqb-true file 0 e)
 file_there files file newest false None rows e f g = absurd cc
-file_there files file newest false (Some given) rows e f g =
-    omega (arith, slice_get_within files (file - 1) given f)
+file_there files file newest false (Some given) rows e f g = omega (arith, slice_get_within)
 
 -- what is an entry behind a packet's row with this header
 record IsEntry (net : Net) (header : Header) (entry : Item) : Type 0 where
@@ -231,8 +216,7 @@ module _ (laws : TextLaws) (ports : PortLaws) (setting : Setting) (sound : IsNet
         omega (
           arith,
           numbered,
-          file_there setting.files file _ (file == 0) _ takes.policy refl refl
-              takes.there,
+          file_there setting.files file _ (file == 0) _ takes.policy refl refl takes.there,
         ),
         omega (arith, newest, few),
       )
@@ -268,9 +252,8 @@ module _ (laws : TextLaws) (ports : PortLaws) (setting : Setting) (sound : IsNet
     at new (pending_after pending first),
     (
       told_item first,
-      line_told laws setting.net sound first
-          (readable before old new first takes known.causes.0 known.small
-          (omega (arith, known.versions)) entry),
+      line_told laws setting.net sound first (readable before old new first takes known.causes.0
+          known.small (omega (arith, known.versions)) entry),
       item_follows setting old new pending first takes next
           (omega (arith, known.versions, takes_many setting old new first items takes)),
     ),
@@ -283,14 +266,12 @@ module _ (laws : TextLaws) (ports : PortLaws) (setting : Setting) (sound : IsNet
       → IsEntryOf serving i s header entry → i ≤ max_number → HasSwitch setting.net s
       → IsEntry setting.net header entry
   entry_is serving i s header (item.Entered packet switch came) is most there =
-      let number : packet ≡ i = is.0 in
-      let same : switch ≡ s = is.1 in
-      record {
+      let number : packet ≡ i = is.0 in record {
         next = ap Some (sym is.2);
         small = omega (arith, number, most);
         packet = refl;
         no_row = refl;
-        readable = (omega (arith, number, most), subst (HasSwitch setting.net) (sym same) there);
+        readable = (omega (arith, number, most), subst (HasSwitch setting.net) (sym is.1) there);
       }
   entry_is serving i s header (item.Closed packet switch) is most there =
       record { next = tt; small = tt; packet = refl; no_row = refl; readable = tt }
@@ -315,19 +296,16 @@ module _ (laws : TextLaws) (ports : PortLaws) (setting : Setting) (sound : IsNet
   reads_from ends closed before old pending (item.Row row (Packet s header) ∷ entry ∷ items) new
       known enters runs =
       let asked = item.Row row (Packet s header) in
-      let own : IsReadable setting.net asked =
-      All-head (IsOwnRow setting.net) (record { row = row; step = Packet s header })
-      (step_rows_in (entry ∷ items)) known.rows in
+      let own : IsReadable setting.net asked = All-head (IsOwnRow setting.net)
+      (record { row = row; step = Packet s header }) (step_rows_in (entry ∷ items)) known.rows in
       let few : count_of is_packet before + length (step_rows_in (asked ∷ entry ∷ items)) ≤ max_events =
       known.few in
-      let is : IsEntry setting.net header entry =
-      entry_is _ (next_packet before) s header entry enters.0
-      (next_small before (length (step_rows_in (asked ∷ entry ∷ items))) few) own.2 in
+      let is : IsEntry setting.net header entry = entry_is _ (next_packet before) s header entry
+      enters.0 (next_small before (length (step_rows_in (asked ∷ entry ∷ items))) few) own.2 in
       let one = known_next setting before old runs.0 asked (entry ∷ items) known runs.1 tt
       (few_next before asked (entry ∷ items) refl few) in
       let both = known_next setting (before ++ asked ∷ []) runs.0 runs.2.0 entry items one runs.2.1
-      is.small
-      (omega (
+      is.small (omega (
         arith,
         few,
         one_more before asked false refl,
@@ -336,9 +314,8 @@ module _ (laws : TextLaws) (ports : PortLaws) (setting : Setting) (sound : IsNet
         length-append (gives_row entry) (step_rows_in items),
       )) in
       let rest = reads_from ends closed ((before ++ asked ∷ []) ++ entry ∷ []) runs.2.0
-      (pending_after (Some header) entry) items new both
-      (subst (λ js. EachEnters js items) (sym (append_assoc before (asked ∷ []) (entry ∷ [])))
-      enters.1) runs.2.2 in (
+      (pending_after (Some header) entry) items new both (subst (λ js. EachEnters js items)
+      (sym (append_assoc before (asked ∷ []) (entry ∷ []))) enters.1) runs.2.2 in (
         rest.0,
         line_reads before old runs.0 pending asked (entry ∷ items)
             (line entry ∷ (map line items ++ ends)) rest.0 known runs.1 tt own
@@ -351,8 +328,7 @@ module _ (laws : TextLaws) (ports : PortLaws) (setting : Setting) (sound : IsNet
       runs = absurd enters
   reads_from ends closed before old pending (first ∷ items) new known enters runs =
       let rest = reads_from ends closed (before ++ first ∷ []) runs.0 (pending_after pending first)
-      items new
-      (known_next setting before old runs.0 first items known runs.1 tt
+      items new (known_next setting before old runs.0 first items known runs.1 tt
       (few_next before first items refl known.few)) enters runs.2 in (
         rest.0,
         line_reads before old runs.0 pending first items (map line items ++ ends) rest.0 known

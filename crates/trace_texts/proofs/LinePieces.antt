@@ -46,11 +46,10 @@ tested text all = record {
 -- ---- numbers, rules, actions
 
 glyph_is : (d : ℕ) → IsGlyph (digit_glyph false d)
-glyph_is d = by (nat_lt d 10) refl
-  where
-    by : (small : Bool) → nat_lt d 10 ≡ small → IsGlyph (if small then 48 + d else 87 + d)
-    by true e = let less = ltb-true d 10 e in (omega arith, λ same. omega (arith, less))
-    by false e = (omega arith, λ same. omega arith)
+glyph_is d = by (nat_lt d 10) refl where
+  by : (small : Bool) → nat_lt d 10 ≡ small → IsGlyph (if small then 48 + d else 87 + d)
+  by true e = let less = ltb-true d 10 e in (omega arith, λ same. omega (arith, less))
+  by false e = (omega arith, λ same. omega arith)
 
 onto_is : (k base n : ℕ) (acc : List ℕ) → All IsGlyph acc → All IsGlyph (digits_onto k base false n acc)
 onto_is zero base n acc is = is
@@ -85,12 +84,10 @@ tested_word : (text : List ℕ) → list_all (λ b. not (b == 32) && not (b == 1
 tested_word text all = record {
   bytes = All-weaker (λ b. (not (b == 32) && not (b == 10)) ≡ true) IsWordByte apart text
       (AllPass-from_list_all (λ b. not (b == 32) && not (b == 10)) text all);
-}
-  where
-    apart : (b : ℕ) → (not (b == 32) && not (b == 10)) ≡ true → IsWordByte b
-    apart b is =
-        let both = and_parts (not (b == 32)) (not (b == 10)) is in
-        (eqb-false b 32 (not-true (b == 32) both.0), eqb-false b 10 (not-true (b == 10) both.1))
+} where
+  apart : (b : ℕ) → (not (b == 32) && not (b == 10)) ≡ true → IsWordByte b
+  apart b is = let both = and_parts (not (b == 32)) (not (b == 10)) is in
+      (eqb-false b 32 (not-true (b == 32) both.0), eqb-false b 10 (not-true (b == 10) both.1))
 
 pub rule_word : (rule : Option ℕ) → IsOneWord (rule_text rule)
 rule_word (Some priority) = number_word priority
@@ -104,11 +101,9 @@ action_word Drop = tested_word (codes "drop") refl
 
 pub address_word : (a : ℕ) → IsOneWord (address_text a)
 unfolding address_text
-address_word a =
-    joined_words (number_word (a / 2 ^ 24)) (joined_words dot
-    (joined_words (number_word (a / 2 ^ 16 % 2 ^ 8)) (joined_words dot
-    (joined_words (number_word (a / 2 ^ 8 % 2 ^ 8)) (joined_words dot
-    (number_word (a % 2 ^ 8)))))))
+address_word a = joined_words (number_word (a / 2 ^ 24))
+    (joined_words dot (joined_words (number_word (a / 2 ^ 16 % 2 ^ 8)) (joined_words dot
+    (joined_words (number_word (a / 2 ^ 8 % 2 ^ 8)) (joined_words dot (number_word (a % 2 ^ 8)))))))
   where
     dot : IsOneWord (46 ∷ [])
     dot = tested_word (46 ∷ []) refl
@@ -123,10 +118,9 @@ proto_word n =
 
 pub fields_line : (fields : Fields) → IsOneLine (fields_text fields)
 unfolding fields_text
-fields_line fields =
-    joined (word_line (address_word fields.src)) (joined blank
-    (joined (word_line (address_word fields.dst)) (joined blank
-    (joined (number_line fields.sport) (joined blank
+fields_line fields = joined (word_line (address_word fields.src))
+    (joined blank (joined (word_line (address_word fields.dst))
+    (joined blank (joined (number_line fields.sport) (joined blank
     (joined (number_line fields.dport) (joined blank (word_line (proto_word fields.proto)))))))))
   where
     blank : IsOneLine (32 ∷ [])
@@ -153,33 +147,29 @@ module _ (laws : NameLaws) (net : Net) (sound : IsNet net) where
   row_name : (s : ℕ) (row : SwitchRow) → s < length net.switches → get_or net.switches s row ≡ row
       → is_name row.name ≡ true
   row_name s row within is =
-      let own : IsSwitchRow row = subst IsSwitchRow is
-      (All-get_or IsSwitchRow net.switches s row within sound.switches) in
-      own.name
+      (subst IsSwitchRow is (All-get_or IsSwitchRow net.switches s row within sound.switches)).name
 
   pub name_word : (s : ℕ) → IsOneWord (name_of net s)
-  name_word s = by (slice_get_cases net.switches s).1
-    where
-      by : ((row : SwitchRow) × (s < length net.switches) × (slice_get net.switches s ≡ Some row)
-          × (get_or net.switches s row ≡ row))
-          ⊎ ((length net.switches ≤ s) × (slice_get net.switches s ≡ None))
-          → IsOneWord (name_of net s)
-      by (inl w) = rw w.2 (record {
-        bytes = All-weaker IsPlainByte IsWordByte plain_in_word w.0.name
-            (laws.plain w.0.name (row_name s w.0 w.1 w.3));
-      })
-      by (inr w) = rw w.1 (tested_word [] refl)
+  name_word s = by (slice_get_cases net.switches s).1 where
+    by : ((row : SwitchRow) × (s < length net.switches) × (slice_get net.switches s ≡ Some row)
+        × (get_or net.switches s row ≡ row))
+        ⊎ ((length net.switches ≤ s) × (slice_get net.switches s ≡ None))
+        → IsOneWord (name_of net s)
+    by (inl w) = rw w.2 (record {
+      bytes = All-weaker IsPlainByte IsWordByte plain_in_word w.0.name
+          (laws.plain w.0.name (row_name s w.0 w.1 w.3));
+    })
+    by (inr w) = rw w.1 (tested_word [] refl)
 
   -- a switch of the network has a name
   pub name_is : (s : ℕ) → s < length net.switches → is_name (name_of net s) ≡ true
-  name_is s within = by (slice_get_cases net.switches s).1
-    where
-      by : ((row : SwitchRow) × (s < length net.switches) × (slice_get net.switches s ≡ Some row)
-          × (get_or net.switches s row ≡ row))
-          ⊎ ((length net.switches ≤ s) × (slice_get net.switches s ≡ None))
-          → is_name (name_of net s) ≡ true
-      by (inl w) = rw w.2 (row_name s w.0 w.1 w.3)
-      by (inr w) = absurd (omega (arith, within, w.0))
+  name_is s within = by (slice_get_cases net.switches s).1 where
+    by : ((row : SwitchRow) × (s < length net.switches) × (slice_get net.switches s ≡ Some row)
+        × (get_or net.switches s row ≡ row))
+        ⊎ ((length net.switches ≤ s) × (slice_get net.switches s ≡ None))
+        → is_name (name_of net s) ≡ true
+    by (inl w) = rw w.2 (row_name s w.0 w.1 w.3)
+    by (inr w) = absurd (omega (arith, within, w.0))
 
   pub name_line : (s : ℕ) → IsOneLine (name_of net s)
   name_line s = word_line (name_word s)
@@ -210,6 +200,5 @@ pub row_word : (row : ℕ) → IsOneWord (decimal row ++ 58 ∷ [])
 row_word row = joined_words (number_word row) (tested_word (58 ∷ []) refl)
 
 pub row_parts : (row : ℕ) → parts_round 58 (decimal row ++ 58 ∷ []) ≡ decimal row ∷ [] ∷ []
-row_parts row = slice_split_at (λ b. b == 58) (decimal row) 58 []
-    (All-weaker IsGlyph (λ b. (b == 58) ≡ false) (λ b is. ne_eqb b 58 is.1) (decimal row)
-    (decimal_glyphs row)) refl
+row_parts row = slice_split_at (λ b. b == 58) (decimal row) 58 [] (All-weaker IsGlyph
+    (λ b. (b == 58) ≡ false) (λ b is. ne_eqb b 58 is.1) (decimal row) (decimal_glyphs row)) refl

@@ -34,8 +34,7 @@ pub answered_entered : ((setting : Setting) (events : List Event) (journal : Lis
     → IsPlay setting events journal full → AreEntered (rows_played full events) journal)
     → (setting : Setting) (events : List Event) (journal : List Item) (full : Option ℕ)
     → IsAnsweredTo setting events journal full → AreEntered (rows_played full events) journal
-answered_entered answered played setting events journal None is =
-    answered setting events journal is
+answered_entered answered played setting events journal None is = answered setting events journal is
 answered_entered answered played setting events journal (Some row) is =
     played setting events journal (Some row) is
 
@@ -68,12 +67,10 @@ rows_own : (net : Net) (files row : ℕ) (events : List Event) → 1 ≤ row
     → row + length events ≤ max_events + 1 → All (IsEvent net files) events
     → All (IsOwnRow net) (step_rows row events)
 rows_own net files row [] above most are = All-nil (IsOwnRow net)
-rows_own net files row (event ∷ events) above most are =
-    All-append (IsOwnRow net) (event_row row event) (step_rows (row + 1) events)
-    (event_own net files row event above (omega (arith, most))
-    (All-head (IsEvent net files) event events are))
-    (rows_own net files (row + 1) events (omega arith) (omega (arith, most))
-    (All-tail (IsEvent net files) event events are))
+rows_own net files row (event ∷ events) above most are = All-append (IsOwnRow net)
+    (event_row row event) (step_rows (row + 1) events) (event_own net files row event above
+    (omega arith) (All-head (IsEvent net files) event events are)) (rows_own net files
+    (row + 1) events (omega arith) (omega arith) (All-tail (IsEvent net files) event events are))
 
 step_few : (row : ℕ) (step : Step) → length (step_row row step) ≤ 1
 step_few row (Hop packet) = omega arith
@@ -87,13 +84,12 @@ event_few row Drain = omega arith
 
 rows_few : (row : ℕ) (events : List Event) → length (step_rows row events) ≤ length events
 rows_few row [] = omega arith
-rows_few row (event ∷ events) =
-    omega (
-      arith,
-      event_few row event,
-      rows_few (row + 1) events,
-      length-append (event_row row event) (step_rows (row + 1) events),
-    )
+rows_few row (event ∷ events) = omega (
+  arith,
+  event_few row event,
+  rows_few (row + 1) events,
+  length-append (event_row row event) (step_rows (row + 1) events),
+)
 
 -- those that were played are few, and of the network
 record AreFewOwn (net : Net) (rows : List StepRow) : Type 0 where
@@ -124,13 +120,11 @@ known_first : (laws : PlayLaws) (setting : Setting) (events : List Event) (journ
 unfolding version_count
 known_first laws setting events journal full is own play most =
     let begins = answered_begins setting events journal full play in
-    let entered = laws.entered setting events journal full play in
-    let rows : AreFewOwn setting.net (step_rows_in journal) =
-    subst (AreFewOwn setting.net) (sym entered.in_order)
+    let rows : AreFewOwn setting.net (step_rows_in journal) = subst (AreFewOwn setting.net)
+    (sym (laws.entered setting events journal full play).in_order)
     (played_rows setting.net (length setting.files) full events own most) in
     let planned = laws.planned.behind.begun setting events journal begins in
-    let versions : count_of is_submission journal + 1 ≤ 64 = planned.few in
-    record {
+    let versions : count_of is_submission journal + 1 ≤ 64 = planned.few in record {
       versions = omega (arith, versions, length-option_to_list (result_ok (policy_by setting None 1)));
       small = λ i packet known. absurd cc;
       few = omega (arith, rows.few);
@@ -141,7 +135,6 @@ known_first laws setting events journal full is own play most =
 pub texts_good : PlayLaws → TextsAreGood
 texts_good laws setting events journal full last is own play most numbered are =
     let net = setting.net in
-    let names = laws.texts.names in
     let ends = map (λ (text : List ℕ). Whole text) last in
     let run = laws.runs.begun setting events journal own
     (answered_begins setting events journal full play) is in
@@ -150,13 +143,11 @@ texts_good laws setting events journal full last is own play most numbered are =
     (known_first laws setting events journal full is own play most)
     (laws.entered setting events journal full play).each run.1 in
     let behind : lines_of (with_line_feeds last) ≡ ends =
-    ap lines_of (sym (append-nil (with_line_feeds last)))
-    ∙ lines_each (λ (text : List ℕ). text) last []
-    (λ k d within. record { bytes = (are k d within).one_line })
-    ∙ none_behind ends in
+    ap lines_of (sym (append-nil (with_line_feeds last))) ∙ lines_each (λ (text : List ℕ). text)
+    last [] (λ k d within. record { bytes = (are k d within).one_line }) ∙ none_behind ends in
     let lines : lines_of (journal_text net journal ++ with_line_feeds last)
     ≡ map (λ first. Whole (item_line net first)) journal ++ ends =
     lines_each (item_line net) journal (with_line_feeds last)
-    (λ k d within. item_one_line names net is.net (get_or journal k d))
+    (λ k d within. item_one_line laws.texts.names net is.net (get_or journal k d))
     ∙ ap (λ more. map (λ first. Whole (item_line net first)) journal ++ more) behind in
     (read.0, subst (λ ls. ReadsAll setting.files (first_state setting.files) ls read.0) (sym lines) read.1)

@@ -1,6 +1,6 @@
 -- What the line of an item tells: printing and reading are inverse.
-use Rattle.std.proofs.Common.{[], ◌++◌, ◌<◌, ◌==◌, ◌^◌, ◌||◌, ◌∙◌, ◌∷◌, ◌≡◌, ◌≤◌, Bool, List, None, Option, Some, ap, append_assoc, arith, bytes_eq, cond, false, le-leb, length, nat_le, option_map, refl, sym, true, ℕ}
-use Rattle.base.proofs.Exports.{codes, decimal, length-slice_split, onto_first, option_map_or, ⊤}
+use Rattle.std.proofs.Common.{[], ◌++◌, ◌<◌, ◌==◌, ◌^◌, ◌||◌, ◌∙◌, ◌∷◌, ◌≡◌, ◌≤◌, Bool, List, None, Option, Some, ap, append_assoc, arith, bytes_eq, cond, false, le-leb, length, option_map, refl, sym, true, ℕ}
+use Rattle.base.proofs.Exports.{codes, decimal, length-slice_split, onto_first, ⊤}
 use Rattle.five_tuple.specs.Exports.{IsHeader, address_of, address_text, fields_from, fields_text, header_of, number_up_to, packet_fields_of, parts_round, proto_number_of, proto_number_text}
 use Rattle.update_machine.specs.Exports.{Action, Authority, Cached, Dropped, Fields, Header, How, Item, LeftBy, Lost, Net, Packet, Step, Stuck}
 use Rattle.net_file.specs.Exports.{IsNet, NameLaws, is_name, name_of}
@@ -70,19 +70,16 @@ some_words text = omega (arith, length-slice_split (λ b. b == 32) text)
 -- a blank stands between the words before it and those behind it
 words_blank : (xs ys : List ℕ) → words_of (xs ++ 32 ∷ ys) ≡ words_of xs ++ words_of ys
 words_blank [] ys = refl
-words_blank (byte ∷ xs) ys = by (byte == 32) (words_blank xs ys)
-  where
-    by : (blank : Bool) → words_of (xs ++ 32 ∷ ys) ≡ words_of xs ++ words_of ys
-        → cond blank ([] ∷ words_of (xs ++ 32 ∷ ys)) (onto_first byte (words_of (xs ++ 32 ∷ ys)))
-        ≡ cond blank ([] ∷ words_of xs) (onto_first byte (words_of xs)) ++ words_of ys
-    by true e = ap (λ (ws : List (List ℕ)). [] ∷ ws) e
-    by false e = ap (onto_first byte) e
-        ∙ onto_more byte (words_of xs) (words_of ys) (some_words xs)
+words_blank (byte ∷ xs) ys = by (byte == 32) (words_blank xs ys) where
+  by : (blank : Bool) → words_of (xs ++ 32 ∷ ys) ≡ words_of xs ++ words_of ys
+      → cond blank ([] ∷ words_of (xs ++ 32 ∷ ys)) (onto_first byte (words_of (xs ++ 32 ∷ ys)))
+      ≡ cond blank ([] ∷ words_of xs) (onto_first byte (words_of xs)) ++ words_of ys
+  by true e = ap (λ (ws : List (List ℕ)). [] ∷ ws) e
+  by false e = cc (e, onto_more byte (words_of xs) (words_of ys) (some_words xs))
 
 words_next : (xs next ys : List ℕ)
     → words_of ((xs ++ 32 ∷ next) ++ ys) ≡ words_of xs ++ words_of (next ++ ys)
-words_next xs next ys =
-    ap words_of (append_assoc xs (32 ∷ next) ys) ∙ words_blank xs (next ++ ys)
+words_next xs next ys = cc (append_assoc xs (32 ∷ next) ys, words_blank xs (next ++ ys))
 
 -- behind these words
 behind : (before : List (List ℕ)) (xs ys : List (List ℕ)) → xs ≡ ys → before ++ xs ≡ before ++ ys
@@ -90,39 +87,31 @@ behind before xs ys e = ap (λ ws. before ++ ws) e
 
 words_number : (text : List ℕ) (n : ℕ)
     → words_of (with_number text n) ≡ words_of text ++ decimal n ∷ []
-words_number text n =
-    words_next text [] (decimal n)
-    ∙ behind (words_of text) (words_of (decimal n)) (decimal n ∷ [])
-    (one_word (decimal n) (number_word n))
+words_number text n = words_next text [] (decimal n) ∙ behind (words_of text) (words_of (decimal n))
+    (decimal n ∷ []) (one_word (decimal n) (number_word n))
 
 -- of two numbers, the second with a text before it that begins with a blank
 words_two : (text next : List ℕ) (n m : ℕ) → words_of (two_text text n (32 ∷ next) m)
     ≡ (words_of text ++ decimal n ∷ []) ++ words_of (next ++ decimal m)
 unfolding two_text
-words_two text next n m =
-    words_next (with_number text n) next (decimal m)
-    ∙ ap (λ ws. ws ++ words_of (next ++ decimal m)) (words_number text n)
+words_two text next n m = cc (words_next (with_number text n) next (decimal m), words_number text n)
 
 -- the second behind these words
 words_both : (text words : List ℕ) (n m : ℕ)
     → words_of (two_text text n (32 ∷ (words ++ 32 ∷ [])) m)
     ≡ (words_of text ++ decimal n ∷ []) ++ (words_of words ++ decimal m ∷ [])
-words_both text words n m =
-    words_two text (words ++ 32 ∷ []) n m
+words_both text words n m = words_two text (words ++ 32 ∷ []) n m
     ∙ behind (words_of text ++ decimal n ∷ []) (words_of ((words ++ 32 ∷ []) ++ decimal m))
     (words_of words ++ decimal m ∷ []) (words_number words m)
 
 row_words : (row : ℕ) (step : List ℕ)
     → words_of ((decimal row ++ codes ": ") ++ step) ≡ (decimal row ++ 58 ∷ []) ∷ words_of step
-row_words row step =
-    ap words_of
-    (append_assoc (decimal row) (58 ∷ 32 ∷ []) step
+row_words row step = ap words_of (append_assoc (decimal row) (58 ∷ 32 ∷ []) step
     ∙ sym (append_assoc (decimal row) (58 ∷ []) (32 ∷ step)))
     ∙ first_word (decimal row ++ 58 ∷ []) step (row_word row)
 
-fields_words : (f : Fields) → words_of (fields_text f)
-    ≡ address_text f.src ∷ address_text f.dst ∷ decimal f.sport ∷ decimal f.dport
-    ∷ proto_number_text f.proto ∷ []
+fields_words : (f : Fields) → words_of (fields_text f) ≡ address_text f.src ∷ address_text f.dst
+    ∷ decimal f.sport ∷ decimal f.dport ∷ proto_number_text f.proto ∷ []
 unfolding fields_text
 fields_words f =
     let proto = one_word (proto_number_text f.proto) (proto_word f.proto) in
@@ -161,14 +150,12 @@ fields_both src dst sport dport proto f a b c d e = rw (a, b, c, d, e) refl
 
 row_first : (digits : List ℕ) (row : ℕ) → number_up_to max_events digits ≡ Some row → 1 ≤ row
     → is_row_number (digits ∷ [] ∷ []) ≡ true
-row_first digits row e above =
-    ap (λ o. option_map_or (nat_le 1) o false) e ∙ le-leb 1 row above
+row_first digits row e above = cc (e, le-leb 1 row above)
 
 row_packet : (row switch src dst sport dport proto : List ℕ) (f : Fields)
     → is_row_number (parts_round 58 row) ≡ true → is_name switch ≡ true
-    → packet_fields_of src dst sport dport proto ≡ Some f
-    → packet_row_told row (switch ∷ src ∷ dst ∷ sport ∷ dport ∷ proto ∷ [])
-    ≡ Some (told.Row (Some (header_of f)))
+    → packet_fields_of src dst sport dport proto ≡ Some f → packet_row_told row
+    (switch ∷ src ∷ dst ∷ sport ∷ dport ∷ proto ∷ []) ≡ Some (told.Row (Some (header_of f)))
 row_packet row switch src dst sport dport proto f a b c = rw (a, b, c) refl
 
 row_told_by : (row : ℕ) (step : List ℕ)
@@ -191,16 +178,13 @@ module _ (laws : TextLaws) (net : Net) (sound : IsNet net) where
 
   words_name : (text : List ℕ) (s : ℕ)
       → words_of (with_name net text s) ≡ words_of text ++ name_of net s ∷ []
-  words_name text s =
-      words_next text [] (name_of net s)
-      ∙ behind (words_of text) (words_of (name_of net s)) (name_of net s ∷ [])
-      (one_word (name_of net s) (name_word laws.names net sound s))
+  words_name text s = words_next text [] (name_of net s)
+      ∙ behind (words_of text) (words_of (name_of net s))
+      (name_of net s ∷ []) (one_word (name_of net s) (name_word laws.names net sound s))
 
   words_at : (text : List ℕ) (packet s : ℕ) → words_of (packet_at net text packet s)
       ≡ (words_of text ++ decimal packet ∷ []) ++ name_of net s ∷ []
-  words_at text packet s =
-      words_name (with_number text packet) s
-      ∙ ap (λ ws. ws ++ name_of net s ∷ []) (words_number text packet)
+  words_at text packet s = cc (words_name (with_number text packet) s, words_number text packet)
 
   -- ---- rows
 
@@ -218,31 +202,26 @@ module _ (laws : TextLaws) (net : Net) (sound : IsNet net) where
       → packet_fields_of (address_text header.fields.src) (address_text header.fields.dst)
       (decimal header.fields.sport) (decimal header.fields.dport)
       (proto_number_text header.fields.proto) ≡ Some header.fields
-  fields_back header is =
-      fields_both _ _ _ _ _ header.fields (laws.address header.fields.src is.src)
-      (laws.address header.fields.dst is.dst)
+  fields_back header is = fields_both _ _ _ _ _ header.fields
+      (laws.address header.fields.src is.src) (laws.address header.fields.dst is.dst)
       (laws.number 65535 header.fields.sport (omega (arith, is.sport)) (omega (arith, is.sport)))
       (laws.number 65535 header.fields.dport (omega (arith, is.dport)) (omega (arith, is.dport)))
       (laws.proto_number header.fields.proto is.proto)
 
   row_number_is : (row : ℕ) → 1 ≤ row → row ≤ max_events
       → is_row_number (parts_round 58 (decimal row ++ 58 ∷ [])) ≡ true
-  row_number_is row above most =
-      ap is_row_number (row_parts row)
-      ∙ row_first (decimal row) row
-      (laws.number max_events row most (omega (arith, most))) above
+  row_number_is row above most = ap is_row_number (row_parts row)
+      ∙ row_first (decimal row) row (laws.number max_events row most (omega arith)) above
 
   row_line_told : (row : ℕ) (step : Step) → IsReadableRow net row step
       → told_of (item_line net (item.Row row step)) ≡ Some (told_row step)
   row_line_told row (Packet switch header) is =
-      row_told_by row (step_text net (Packet switch header))
-      ∙ ap (λ (ws : List (List ℕ)). row_told ((decimal row ++ 58 ∷ []) ∷ ws))
-      (packet_words switch header)
+      row_told_by row (step_text net (Packet switch header)) ∙ ap (λ (ws : List (List ℕ)). row_told
+      ((decimal row ++ 58 ∷ []) ∷ ws)) (packet_words switch header)
       ∙ row_packet (decimal row ++ 58 ∷ []) (name_of net switch) (address_text header.fields.src)
-      (address_text header.fields.dst) (decimal header.fields.sport)
-      (decimal header.fields.dport) (proto_number_text header.fields.proto) header.fields
-      (row_number_is row is.0 is.1) (name_is laws.names net sound switch is.2)
-      (fields_back header is.3)
+      (address_text header.fields.dst) (decimal header.fields.sport) (decimal header.fields.dport)
+      (proto_number_text header.fields.proto) header.fields (row_number_is row is.0 is.1)
+      (name_is laws.names net sound switch is.2) (fields_back header is.3)
   row_line_told row step is = row_told_by row (step_text net step)
 
   -- ---- moves
@@ -269,8 +248,7 @@ module _ (laws : TextLaws) (net : Net) (sound : IsNet net) where
       → told_by_words (words_of text ++ decimal n ∷ []) ≡ option_map tells (number_of_word (decimal n))
       → told_of (with_number text n) ≡ Some (tells n)
   unfolding told_of
-  number_line_told text tells n most is =
-      ap told_by_words (words_number text n) ∙ is ∙ ap (option_map tells) (number n most)
+  number_line_told text tells n most is = cc (words_number text n, is, number n most)
 
   left_line_told : (packet port : ℕ) → packet ≤ max_number → port ≤ 4294967295
       → told_of (two_text (codes "  out") packet (codes " port ") port)
@@ -322,8 +300,7 @@ module _ (laws : TextLaws) (net : Net) (sound : IsNet net) where
       (one_word (action_text action) (action_word action))
 
   version_words : (version : ℕ) → words_of (118 ∷ decimal version) ≡ (118 ∷ decimal version) ∷ []
-  version_words version =
-      ap (onto_first 118) (one_word (decimal version) (number_word version))
+  version_words version = cc (one_word (decimal version) (number_word version))
 
   decided_words : (packet version : ℕ) (rule : Option ℕ) (action : Action) (how : List ℕ)
       → words_of (((two_text (codes "  decided") packet (codes " v") version
@@ -363,8 +340,7 @@ module _ (laws : TextLaws) (net : Net) (sound : IsNet net) where
       → told_of (item_line net (item.Decided packet version rule action how))
       ≡ Some (told.Decided packet version (rule_text rule) (action_text action))
   unfolding told_of
-  decided_line_told packet version rule action how most few =
-      let h = how_is how in
+  decided_line_told packet version rule action how most few = let h = how_is how in
       ap told_by_words (decided_words packet version rule action (how_text net how)
       ∙ ap (λ (ws : List (List ℕ)). [] ∷ [] ∷ codes "decided" ∷ decimal packet
       ∷ (118 ∷ decimal version) ∷ codes "rule" ∷ rule_text rule ∷ action_text action ∷ ws) h.words)

@@ -1,5 +1,5 @@
 -- The lines of a text that is put together of whole lines.
-use Rattle.std.proofs.Common.{[], ◌++◌, ◌<◌, ◌==◌, ◌∙◌, ◌∷◌, ◌≡◌, All, List, Some, ap, append-nil, append_assoc, arith, flat_map, inl, inr, length, map, refl, ℕ}
+use Rattle.std.proofs.Common.{[], ◌++◌, ◌<◌, ◌∙◌, ◌∷◌, ◌≡◌, All, List, Some, ap, append-nil, append_assoc, arith, flat_map, inl, inr, length, map, refl, ℕ}
 use Rattle.base.proofs.Exports.{All-head, All-tail, length-slice_split}
 use Rattle.five_tuple.specs.Exports.{parts_round}
 use Rattle.update_machine.specs.Exports.{PolicyFile}
@@ -17,10 +17,8 @@ some_left text (part ∷ parts) some = refl
 line_off : (text rest : List ℕ) → IsOneLine text
     → lines_of (text ++ 10 ∷ rest) ≡ Whole text ∷ lines_of rest
 unfolding lines_of
-line_off text rest one =
-    ap lines_of_parts (first_line text rest one)
-    ∙ some_left text (parts_round 10 rest)
-    (omega (arith, length-slice_split (λ b. b == 10) rest))
+line_off text rest one = ap lines_of_parts (first_line text rest one)
+    ∙ some_left text (parts_round 10 rest) (omega (arith, length-slice_split))
 
 -- a line for each item, and what stands behind them
 pub lines_each : {A : Type 0} (line : A → List ℕ) (items : List A) (rest : List ℕ)
@@ -28,8 +26,7 @@ pub lines_each : {A : Type 0} (line : A → List ℕ) (items : List A) (rest : L
     → lines_of (flat_map (λ item. line item ++ 10 ∷ []) items ++ rest)
     ≡ map (λ item. Whole (line item)) items ++ lines_of rest
 lines_each line [] rest own = refl
-lines_each line (item ∷ items) rest own =
-    let others = flat_map (λ i. line i ++ 10 ∷ []) items in
+lines_each line (item ∷ items) rest own = let others = flat_map (λ i. line i ++ 10 ∷ []) items in
     ap lines_of
     (append_assoc (line item ++ 10 ∷ []) others rest
     ∙ append_assoc (line item) (10 ∷ []) (others ++ rest))

@@ -25,7 +25,6 @@ IsAnsweredTo setting events journal (Some row) = StopsFull setting events journa
 abbrev pub TextsAreGood : Type 0
 TextsAreGood = (setting : Setting) (events : List Event) (journal : List Item) (full : Option ℕ)
     (last : List (List ℕ)) → IsSetting setting → AreEvents setting events
-    → IsAnsweredTo setting events journal full → length events ≤ max_events
-    → length setting.files ≤ max_number → All IsLastLine last
-    → AreGood setting.files
-    (lines_of (journal_text setting.net journal ++ with_line_feeds last))
+    → IsAnsweredTo setting events journal full
+    → length events ≤ max_events → length setting.files ≤ max_number → All IsLastLine last
+    → AreGood setting.files (lines_of (journal_text setting.net journal ++ with_line_feeds last))

@@ -21,18 +21,13 @@ pub steps_have : (cause : List Item → Item → Type 0) (setting : Setting) →
     → (before : List Item) (steps : List StepOfRow) → HaveCauses cause [] before
     → HaveCauses cause [] (after_steps setting before steps)
 steps_have cause setting pieces before [] causes = causes
-steps_have cause setting pieces before (next ∷ steps) causes =
-    steps_have cause setting pieces (before ++ piece setting before next.row next.step) steps
-    (have_append cause [] before (piece setting before next.row next.step) causes
-    (pieces before next.row next.step))
+steps_have cause setting pieces before (next ∷ steps) causes = steps_have cause setting pieces
+    (before ++ piece setting before next.row next.step) steps (have_append cause [] before
+    (piece setting before next.row next.step) causes (pieces before next.row next.step))
 
 pub begun_has : (cause : List Item → Item → Type 0) (setting : Setting) → PiecesHave cause setting
     → (events : List Event) (journal : List Item) → BeginsAnswer setting events journal
     → HaveCauses cause [] journal
-begun_has cause setting pieces events journal begins =
-    let whole : HaveCauses cause [] (after_steps setting [] begins.answers.steps) =
-    steps_have cause setting pieces [] begins.answers.steps tt in
-    let answer : HaveCauses cause [] begins.whole = subst (HaveCauses cause [])
-    (sym begins.answers.written) whole in
-    subst (HaveCauses cause []) (sym begins.written)
-    (have_take cause [] begins.whole begins.length answer)
+begun_has cause setting pieces events journal begins = subst (HaveCauses cause [])
+    (sym begins.written) (have_take cause [] begins.whole begins.length (subst (HaveCauses cause [])
+    (sym begins.answers.written) (steps_have cause setting pieces [] begins.answers.steps tt)))

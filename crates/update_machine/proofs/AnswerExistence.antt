@@ -1,6 +1,6 @@
 -- There is an answer exactly where each event has its steps.
 use Rattle.std.proofs.Common.{[], ◌++◌, ◌+◌, ◌<◌, ◌↔◌, ◌∙◌, ◌∷◌, ◌≡◌, List, None, Option, Some, ap, append-nil, append_assoc, arith, length, map, refl, subst, suc, sym, zero, ℕ}
-use Rattle.update_machine.specs.Exports.{Answers, AreAll, AreAnswered, AreSteps, AreStepsOf, Event, HasSteps, HaveSteps, Item, One, Setting, Step, StepOfRow, after_steps, piece}
+use Rattle.update_machine.specs.Exports.{Answers, AreAll, AreAnswered, AreSteps, AreStepsOf, Event, HaveSteps, Item, One, Setting, Step, StepOfRow, after_steps, piece}
 use Rattle.update_machine.proofs.OneAnswer.{one_answer}
 
 -- steps behind steps write behind what these wrote
@@ -22,27 +22,23 @@ steps_go_on setting row last [] event before steps mine same all more = (
   record { split = ap (λ these. these ++ mine) all ∙ sym (append-nil mine) },
   own,
   refl,
-)
-  where
-    own : AreStepsOf setting row event before mine
-    own = subst (λ n. AreStepsOf setting n event before mine) (same ∙ omega arith)
-        (subst (λ these. AreStepsOf setting last event (after_steps setting before these) mine) all
-        more)
+) where
+  own : AreStepsOf setting row event before mine
+  own = subst (λ n. AreStepsOf setting n event before mine) (same ∙ omega arith)
+      (subst (λ these. AreStepsOf setting last event (after_steps setting before these) mine) all
+      more)
 steps_go_on setting row last (first ∷ events) event before steps mine same all more = (
   all.0,
   all.1 ++ mine,
-  record {
-    split = ap (λ these. these ++ mine) all.2.split ∙ append_assoc all.0 all.1 mine;
-  },
+  record { split = ap (λ these. these ++ mine) all.2.split ∙ append_assoc all.0 all.1 mine },
   all.3,
   steps_go_on setting (row + 1) last events event (after_steps setting before all.0) all.1 mine
       (same ∙ omega arith) all.4 rest,
-)
-  where
-    rest : AreStepsOf setting last event
-        (after_steps setting (after_steps setting before all.0) all.1) mine
-    rest = subst (λ js. AreStepsOf setting last event js mine)
-        (ap (after_steps setting before) all.2.split ∙ after_append setting before all.0 all.1) more
+) where
+  rest : AreStepsOf setting last event
+      (after_steps setting (after_steps setting before all.0) all.1) mine
+  rest = subst (λ js. AreStepsOf setting last event js mine)
+      (ap (after_steps setting before) all.2.split ∙ after_append setting before all.0 all.1) more
 
 -- an answer goes on by one more event that has its steps
 pub answer_goes_on : (setting : Setting) (events : List Event) (event : Event)
@@ -52,10 +48,8 @@ pub answer_goes_on : (setting : Setting) (events : List Event) (event : Event)
 answer_goes_on setting events event journal mine answers more = record {
   steps = answers.steps ++ mine;
   allowed = steps_go_on setting 1 (length events + 1) events event [] answers.steps mine refl
-      answers.allowed
-      (subst (λ js. AreStepsOf setting (length events + 1) event js mine) answers.written more);
-  written = ap (λ js. after_steps setting js mine) answers.written
-      ∙ sym (after_append setting [] answers.steps mine);
+      answers.allowed (rw answers.written at more);
+  written = cc (answers.written, after_append setting [] answers.steps mine);
 }
 
 pub none_answered : (setting : Setting) → Answers setting [] []
@@ -63,11 +57,9 @@ none_answered setting = record { steps = []; allowed = refl; written = refl }
 
 answered_from : (setting : Setting) (all first others : List Event) → all ≡ first ++ others
     → HaveSteps setting all → AreAnswered setting first → AreAnswered setting all
-answered_from setting all first [] same have answered =
-    subst (AreAnswered setting) (sym (same ∙ append-nil first)) answered
+answered_from setting all first [] same have answered = rw (same ∙ append-nil first) answered
 answered_from setting all first (event ∷ others) same have answered =
-    let mine : HasSteps setting (length first + 1) event answered.0 =
-    have first event others answered.0 same answered.1 in
+    let mine = have first event others answered.0 same answered.1 in
     answered_from setting all (first ++ event ∷ []) others
     (same ∙ sym (append_assoc first (event ∷ []) others)) have (
       after_steps setting answered.0 mine.0,
@@ -102,23 +94,20 @@ steps_part setting row [] event others before steps all = record {
 steps_part setting row (one ∷ first) event others before steps all =
     let rest : Parts setting (row + 1) first event (after_steps setting before all.0) =
     steps_part setting (row + 1) first event others (after_steps setting before all.0) all.1
-    all.4 in
-    record {
+    all.4 in record {
       steps = all.0 ++ rest.steps;
       allowed = (all.0, rest.steps, record { split = refl }, all.3, rest.allowed);
       mine = rest.mine;
       own = subst (λ js. AreStepsOf setting (length (one ∷ first) + row) event js rest.mine)
-          (sym (after_append setting before all.0 rest.steps))
-          (subst (λ n. AreStepsOf setting n event
-          (after_steps setting (after_steps setting before all.0) rest.steps) rest.mine)
+          (sym (after_append setting before all.0 rest.steps)) (subst (λ n. AreStepsOf setting n
+          event (after_steps setting (after_steps setting before all.0) rest.steps) rest.mine)
           (omega arith) rest.own);
     }
 
 pub answer_has_steps : (setting : Setting) (events : List Event) → AreAnswered setting events
     → HaveSteps setting events
 answer_has_steps setting events answered first event others journal same answers =
-    let parts : Parts setting 1 first event [] =
-    steps_part setting 1 first event others [] answered.1.steps
+    let parts = steps_part setting 1 first event others [] answered.1.steps
     (subst (λ all. AreSteps setting 1 all [] answered.1.steps) same answered.1.allowed) in
     let written : after_steps setting [] parts.steps ≡ journal =
     one_answer setting first (after_steps setting [] parts.steps) journal
@@ -129,25 +118,22 @@ answer_has_steps setting events answered first event others journal same answers
 
 pub answered_where : (setting : Setting) (events : List Event)
     → AreAnswered setting events ↔ HaveSteps setting events
-answered_where setting events =
-    (answer_has_steps setting events, answer_exists setting events)
+answered_where setting events = (answer_has_steps setting events, answer_exists setting events)
 
 -- ---- single steps
 
 pub steps_answered : (setting : Setting) (steps : List Step) → AreAnswered setting (map One steps)
-steps_answered setting steps = from setting [] steps ([], none_answered setting)
-  where
-    from : (at : Setting) (first : List Event) (others : List Step) → AreAnswered at first
-        → AreAnswered at (first ++ map One others)
-    from at first [] answered =
-        subst (AreAnswered at) (sym (append-nil first)) answered
-    from at first (step ∷ others) answered =
-        let mine : List StepOfRow = record { row = length first + 1; step = step } ∷ [] in
-        subst (AreAnswered at) (append_assoc first (One step ∷ []) (map One others))
-        (from at (first ++ One step ∷ []) others (
-          after_steps at answered.0 mine,
-          answer_goes_on at first (One step) answered.0 mine answered.1 refl,
-        ))
+steps_answered setting steps = from setting [] steps ([], none_answered setting) where
+  from : (at : Setting) (first : List Event) (others : List Step) → AreAnswered at first
+      → AreAnswered at (first ++ map One others)
+  from at first [] answered = subst (AreAnswered at) (sym (append-nil first)) answered
+  from at first (step ∷ others) answered =
+      let mine : List StepOfRow = record { row = length first + 1; step = step } ∷ [] in
+      subst (AreAnswered at) (append_assoc first (One step ∷ []) (map One others))
+      (from at (first ++ One step ∷ []) others (
+        after_steps at answered.0 mine,
+        answer_goes_on at first (One step) answered.0 mine answered.1 refl,
+      ))
 
 -- ---- flushes and drains
 
@@ -162,8 +148,7 @@ pub record Nears (setting : Setting) (next : List Item → Option Step) (row : �
 
 -- so it comes to its end
 abbrev pub HasEnd : Setting → (List Item → Option Step) → ℕ → List Item → Type 0
-HasEnd setting next row before =
-    (steps : List StepOfRow) × AreAll setting next row before steps
+HasEnd setting next row before = (steps : List StepOfRow) × AreAll setting next row before steps
 
 -- by one step it comes nearer to its end, if it hasn't come to it
 by_step : (setting : Setting) (next : List Item → Option Step) (row : ℕ)
@@ -173,11 +158,8 @@ by_step : (setting : Setting) (next : List Item → Option Step) (row : ℕ)
     → (step : Option Step) → next before ≡ step → HasEnd setting next row before
 by_step setting next row holds left nears most before here few rest None is = ([], is)
 by_step setting next row holds left nears most before here few rest (Some step) is =
-    let nearer : left (before ++ piece setting before row step) < left before =
-    nears.nearer before step here is in
-    let others : HasEnd setting next row (before ++ piece setting before row step) =
-    rest (before ++ piece setting before row step) (nears.kept before step here is)
-    (omega (arith, few, nearer)) in
+    let others = rest (before ++ piece setting before row step) (nears.kept before step here is)
+    (omega (arith, few, nears.nearer before step here is)) in
     (record { row = row; step = step } ∷ others.0, (refl, is, others.1))
 
 ends_within : (setting : Setting) (next : List Item → Option Step) (row : ℕ)

@@ -8,18 +8,14 @@ use Rattle.update_machine.proofs.ComputedSteps.{left_by}
 use Rattle.update_machine.proofs.ExampleNetworks.{advert, answered, at, delivered, open_net, plan_p, rebooted, rebooting, tables_of, to}
 
 -- a crashes and begins boot 2; it opens at version 2, which became current before its opening came
-pub boot_rows :
-    left_by open_net
-    (rebooting ++ at 6 (step.Update 1) ∷ at 7 (step.Deliver 5)
-    ∷ at 8 (step.Deliver 6) ∷ at 9 (step.Deliver 7) ∷ at 10 (step.Deliver 8)
-    ∷ at 11 (step.Deliver 9) ∷ at 12 (step.Deliver 9) ∷ at 13 (step.Deliver 4)
-    ∷ at 14 (step.Deliver 4) ∷ [])
-    ≡
-    rebooted ++ item.Row 6 (step.Update 1) ∷ item.Submitted 1 2
-    ∷ item.Sent 5 (to 0 (body.Install 2 (tables_of plan_p 2 0)))
-    ∷ item.Sent 6 (to 1 (body.Install 1 (tables_of plan_p 2 1)))
-    ∷ answered 7 5 7 (body.Installed 0 2 2) ++ answered 8 6 8 (body.Installed 1 1 2)
-    ++ delivered 9 7 ++ delivered 10 8 ++ item.Current 2 ∷ item.Sent 9 (to 0 (body.Stamp 2 2 all_touched))
+pub boot_rows : left_by open_net (rebooting ++ at 6 (step.Update 1) ∷ at 7 (step.Deliver 5) ∷ at 8
+    (step.Deliver 6) ∷ at 9 (step.Deliver 7) ∷ at 10 (step.Deliver 8) ∷ at 11 (step.Deliver 9)
+    ∷ at 12 (step.Deliver 9) ∷ at 13 (step.Deliver 4) ∷ at 14 (step.Deliver 4) ∷ [])
+    ≡ rebooted ++ item.Row 6 (step.Update 1) ∷ item.Submitted 1 2
+    ∷ item.Sent 5 (to 0 (body.Install 2 (tables_of plan_p 2 0))) ∷ item.Sent 6
+    (to 1 (body.Install 1 (tables_of plan_p 2 1))) ∷ answered 7 5 7 (body.Installed 0 2 2)
+    ++ answered 8 6 8 (body.Installed 1 1 2) ++ delivered 9 7 ++ delivered 10 8 ++ item.Current 2
+    ∷ item.Sent 9 (to 0 (body.Stamp 2 2 all_touched))
     ∷ item.Sent 10 (to 1 (body.Stamp 1 2 all_touched)) ∷ answered 11 9 11 (body.Stamped 0 2 2)
     ++ answered 12 9 12 (body.Stamped 0 2 2) ++ delivered 13 4 ++ item.Opened 0 2
     ∷ item.Sent 13 (to 1 (advert 0 2 1 2)) ∷ item.Sent 14 (to 0 (advert 0 1 1 2))

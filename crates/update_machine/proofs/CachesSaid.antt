@@ -39,16 +39,14 @@ entry number version word = record {
 
 -- two versions of one word stand beside each other; the same version of it once more changes
 -- nothing
-pub by_version_and_word :
-    (cache_of moved (cached 1 1 web ++ cached 2 2 web ++ cached 3 1 web) 0).entries
-    ≡ entry 1 1 web ∷ entry 2 2 web ∷ []
+pub by_version_and_word : (cache_of moved (cached 1 1 web ++ cached 2 2 web ++ cached 3 1 web)
+    0).entries ≡ entry 1 1 web ∷ entry 2 2 web ∷ []
 unfolding cache_of stamp_of heard is_up boot_of message_of same_key
 by_version_and_word = refl
 
 -- a stamp removes what is of a lower version, and no more of it is taken in
-pub below_the_stamp :
-    (cache_of moved (cached 1 1 web ++ cached 2 2 web ++ stamped 3 2 ++ cached 4 1 any_word)
-    0).entries
+pub below_the_stamp : (cache_of moved
+    (cached 1 1 web ++ cached 2 2 web ++ stamped 3 2 ++ cached 4 1 any_word) 0).entries
     ≡ entry 2 2 web ∷ []
 unfolding cache_of touched_by file_of policy_in meets stamp_of heard is_up boot_of message_of same_key
 below_the_stamp = refl
@@ -63,17 +61,15 @@ pub a_rise : raised_from 1 2 (record { entries = entry 1 1 web ∷ []; capacity 
 a_rise = refl
 
 -- of two entries the one at the place goes
-pub second_expires :
-    (cache_of moved (cached 1 1 web ++ cached 2 1 any_word ++ item.Expired 0 1 2 ∷ [])
-    0).entries
+pub second_expires : (cache_of moved
+    (cached 1 1 web ++ cached 2 1 any_word ++ item.Expired 0 1 2 ∷ []) 0).entries
     ≡ entry 1 1 web ∷ []
 unfolding cache_of stamp_of heard is_up boot_of message_of same_key
 second_expires = refl
 
 -- it has room for four
-pub first_goes :
-    (cache_of moved (cached 1 1 web ++ cached 2 1 any_word ++ cached 3 2 web ++ cached 4 2 any_word
-    ++ cached 5 3 web) 0).entries
+pub first_goes : (cache_of moved (cached 1 1 web ++ cached 2 1 any_word ++ cached 3 2 web
+    ++ cached 4 2 any_word ++ cached 5 3 web) 0).entries
     ≡ entry 2 1 any_word ∷ entry 3 2 web ∷ entry 4 2 any_word ∷ entry 5 3 web ∷ []
 unfolding cache_of stamp_of heard is_up boot_of message_of same_key
 first_goes = refl
@@ -108,19 +104,15 @@ touches_its_row = refl
 
 -- what the stamp of its version leaves of these entries
 abbrev left_of : List Item → List CacheEntry
-left_of entries =
-    (cache_of amended
-    (entries ++ item.Submitted 2 2 ∷ item.Sent 4 (to 0 (Stamp 1 2 (web ∷ []))) ∷ item.Delivered 4
-    ∷ []) 0).entries
+left_of entries = (cache_of amended (entries ++ item.Submitted 2 2
+    ∷ item.Sent 4 (to 0 (Stamp 1 2 (web ∷ []))) ∷ item.Delivered 4 ∷ []) 0).entries
 
 -- what meets the row goes, what doesn't goes over, and the earlier one of its word before it
-pub goes_over_alone :
-    left_of (cached 1 1 web ++ cached 2 1 apart) ≡ entry 2 2 apart ∷ []
+pub goes_over_alone : left_of (cached 1 1 web ++ cached 2 1 apart) ≡ entry 2 2 apart ∷ []
 unfolding cache_of touched_by policy_in file_of cover_of word_of_row meets stamp_of heard is_up boot_of message_of same_key
 goes_over_alone = refl
 
-pub stays_before_it :
-    left_of (cached 1 1 apart ++ cached 2 2 apart ++ cached 3 2 web)
+pub stays_before_it : left_of (cached 1 1 apart ++ cached 2 2 apart ++ cached 3 2 web)
     ≡ entry 2 2 apart ∷ entry 3 2 web ∷ []
 unfolding cache_of touched_by policy_in file_of cover_of word_of_row meets stamp_of heard is_up boot_of message_of same_key
 stays_before_it = refl
@@ -132,8 +124,7 @@ pub by_the_stamp : lookup_at moved (item.Submitted 2 2 ∷ []) 0 one ≡ Redirec
 unfolding lookup_at plan_at cache_of stamp_of heard is_up boot_of message_of file_of policy_in holds
 by_the_stamp = refl
 
-pub by_the_next_stamp :
-    lookup_at moved (item.Submitted 2 2 ∷ stamped 1 2) 0 one ≡ Authority 0 0
+pub by_the_next_stamp : lookup_at moved (item.Submitted 2 2 ∷ stamped 1 2) 0 one ≡ Authority 0 0
 unfolding lookup_at plan_at cache_of touched_by meets stamp_of heard is_up boot_of message_of file_of policy_in holds
 by_the_next_stamp = refl
 
@@ -143,9 +134,8 @@ pub no_entry_of_the_stamp :
 unfolding lookup_at plan_at cache_of stamp_of heard is_up boot_of message_of file_of policy_in holds same_key
 no_entry_of_the_stamp = refl
 
-pub entry_of_the_stamp :
-    lookup_at moved (item.Submitted 2 2 ∷ cached 1 2 any_word ++ stamped 2 2) 0 one
-    ≡ Cached (entry 1 2 any_word)
+pub entry_of_the_stamp : lookup_at moved (item.Submitted 2 2 ∷ cached 1 2 any_word ++ stamped 2 2) 0
+    one ≡ Cached (entry 1 2 any_word)
 unfolding lookup_at plan_at cache_of touched_by meets stamp_of heard is_up boot_of message_of file_of policy_in holds same_key
 entry_of_the_stamp = refl
 

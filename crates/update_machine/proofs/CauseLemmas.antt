@@ -1,18 +1,16 @@
 -- Causes of items, for any table of causes.
 use Rattle.base.proofs.Exports.{⊤}
-use Rattle.std.proofs.Common.{[], ◌++◌, ◌∷◌, List, append-nil, append_assoc, subst, sym}
+use Rattle.std.proofs.Common.{[], ◌++◌, ◌∷◌, List, append-nil, append_assoc}
 use Rattle.update_machine.specs.Exports.{HaveCauses, Item, in_turn, items_then}
 
 -- causes go on by causes
 pub have_append : (cause : List Item → Item → Type 0) (before xs ys : List Item)
     → HaveCauses cause before xs → HaveCauses cause (before ++ xs) ys
     → HaveCauses cause before (xs ++ ys)
-have_append cause before [] ys first then = subst (λ js. HaveCauses cause js ys) (append-nil before)
-    then
+have_append cause before [] ys first then = rw (append-nil before) at then
 have_append cause before (x ∷ xs) ys first then = (
   first.0,
-  have_append cause (before ++ x ∷ []) xs ys first.1
-      (subst (λ js. HaveCauses cause js ys) (sym (append_assoc before (x ∷ []) xs)) then),
+  have_append cause (before ++ x ∷ []) xs ys first.1 (rw (append_assoc before (x ∷ []) xs) then),
 )
 
 -- items, and what comes behind a journal that has them
@@ -42,6 +40,5 @@ pub have_in_turn : (cause : List Item → Item → Type 0) (blocks : List (List 
     → BlocksHave cause blocks →
     (journal : List Item) → HaveCauses cause journal (in_turn blocks journal)
 have_in_turn cause [] all journal = tt
-have_in_turn cause (block ∷ blocks) all journal =
-    have_put cause (block journal) (in_turn blocks) journal (all.0 journal)
-    (have_in_turn cause blocks all.1 (journal ++ block journal))
+have_in_turn cause (block ∷ blocks) all journal = have_put cause (block journal) (in_turn blocks)
+    journal (all.0 journal) (have_in_turn cause blocks all.1 (journal ++ block journal))

@@ -30,12 +30,10 @@ from_b : (two : ℕ) → IsTrue (is_left 1 two) → two ≡ 0
 unfolding serves is_link_up claim_of message_of
 from_b two is = grind (arith, nat_tests)
 
-keeps_to : (one two : ℕ) → IsTrue (nat_le one 1) → IsTrue (is_left one two)
-    → IsTrue (nat_le two 1)
+keeps_to : (one two : ℕ) → IsTrue (nat_le one 1) → IsTrue (is_left one two) → IsTrue (nat_le two 1)
 keeps_to one two within is = elim (cases_eq one 0) [
   | inl same ↦ rw (from_a two (subst (λ x. IsTrue (is_left x two)) same is)) refl
-  | inr apart ↦
-      let same : one ≡ 1 = omega (arith, apart, leb-true one 1 within) in
+  | inr apart ↦ let same : one ≡ 1 = omega (arith, apart, leb-true one 1 within) in
       rw (from_b two (subst (λ x. IsTrue (is_left x two)) same is)) refl
 ]
 
@@ -64,38 +62,35 @@ own_leg_there = (
 
 pub stuck_has_cause : HaveCauses (HasCause ring) [] round
 unfolding standing serves is_link_up present_step
-stuck_has_cause =
-    free (free (free (free (
-      inl refl,
-      free (free (free (free (free (
+stuck_has_cause = free (free (free (free (
+  inl refl,
+  free (free (free (free (free (
+    record { stands = refl; linked = refl; unusable = refl },
+    free (free (free (
+      inr refl,
+      free (free (free (
         record { stands = refl; linked = refl; unusable = refl },
-        free (free (free (
-          inr refl,
-          free (free (free (
-            record { stands = refl; linked = refl; unusable = refl },
-            (
-              record {
-                stands = refl;
-                serving = refl;
-                targets = 3 ∷ [];
-                own_leg = own_leg_there;
-                no_path = All-from_recursion no_way_to (3 ∷ []) (no_path_left, tt);
-              },
-              tt,
-            ),
-          ))),
-        ))),
-      ))))),
-    ))))
+        (
+          record {
+            stands = refl;
+            serving = refl;
+            targets = 3 ∷ [];
+            own_leg = own_leg_there;
+            no_path = All-from_recursion no_way_to (3 ∷ []) (no_path_left, tt);
+          },
+          tt,
+        ),
+      ))),
+    ))),
+  ))))),
+))))
 
 -- one packet is lost by its row, and another one with its switch
-pub lost_has_cause :
-    HaveCauses (HasCause open_net) []
+pub lost_has_cause : HaveCauses (HasCause open_net) []
     (item.Entered 1 0 one ∷ item.Entered 2 0 one ∷ item.Row 3 (step.Lose 1) ∷ item.Lost 1
     ∷ item.Row 4 (step.Crash 0) ∷ item.Down 0 ∷ item.Lost 2 ∷ [])
 unfolding standing present_step
-lost_has_cause =
-    free (free (free (
-      inl refl,
-      free (refl, (inr (record { switch = 0; crashes = refl; stands = refl }), tt)),
-    )))
+lost_has_cause = free (free (free (
+  inl refl,
+  free (refl, (inr (record { switch = 0; crashes = refl; stands = refl }), tt)),
+)))

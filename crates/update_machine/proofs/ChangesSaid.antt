@@ -1,5 +1,5 @@
 -- What changes make of versions' policies, on journals of few items.
-use Rattle.std.proofs.Common.{[], ◌∙◌, ◌∷◌, ◌≡◌, Err, List, None, Ok, Option, Some, ap, arith, length, refl, slice_get, sym}
+use Rattle.std.proofs.Common.{[], ◌∙◌, ◌∷◌, ◌≡◌, Err, None, Ok, Some, ap, arith, length, refl, slice_get, sym}
 use Rattle.base.proofs.Exports.{option_map_or}
 use Rattle.policy_rules.specs.Exports.{applied}
 use Rattle.update_machine.specs.Exports.{Add, Change, Drop, Machine, Out, Remove, Row, Setting, Taken, Takes, Whole, file_of, first_machine, next_policy, policy_in, retired_mark, update_code, version_count}
@@ -29,14 +29,12 @@ pub added : policy_in changed (item.Submitted 2 2 ∷ []) 2 ≡ Some (out ∷ dr
 unfolding policy_in file_of applied
 added = refl
 
-pub removed : policy_in changed (item.Submitted 2 2 ∷ item.Submitted 3 3 ∷ []) 3
-    ≡ Some (drop ∷ [])
+pub removed : policy_in changed (item.Submitted 2 2 ∷ item.Submitted 3 3 ∷ []) 3 ≡ Some (drop ∷ [])
 unfolding policy_in file_of applied
 removed = refl
 
 -- .. which may be that of a whole file again
-pub anew : policy_in changed
-    (item.Submitted 2 2 ∷ item.Submitted 1 3 ∷ item.Submitted 2 4 ∷ []) 4
+pub anew : policy_in changed (item.Submitted 2 2 ∷ item.Submitted 1 3 ∷ item.Submitted 2 4 ∷ []) 4
     ≡ Some (out ∷ drop ∷ [])
 unfolding policy_in file_of applied
 anew = refl
@@ -62,8 +60,7 @@ pub taken : next_policy changed (item.Submitted 2 2 ∷ []) 2 ≡ Err Taken
 unfolding next_policy policy_in file_of version_count applied
 taken = refl
 
-pub codes :
-    (update_code changed (item.Submitted 2 2 ∷ []) 2 ≡ Some 25)
+pub codes : (update_code changed (item.Submitted 2 2 ∷ []) 2 ≡ Some 25)
     × (update_code changed (item.Submitted 2 2 ∷ item.Submitted 3 3 ∷ []) 3 ≡ Some 24)
     × (update_code changed (item.Submitted 2 2 ∷ []) 3 ≡ None)
 unfolding next_policy policy_in file_of version_count retired_mark applied
@@ -75,10 +72,7 @@ codes = (refl, refl, refl)
 pub takes : (new : Machine) → Takes changed (first_machine changed) (item.Submitted 2 2) new
     → new.policies ≡ (out ∷ []) ∷ (out ∷ drop ∷ []) ∷ []
 unfolding applied
-takes new submits =
-    let made : ◌≡◌ {A = Option (List Row)} (Some (out ∷ drop ∷ [])) (Some submits.policy) =
-    submits.there in
-    let own : out ∷ drop ∷ [] ≡ submits.policy = cc made in
+takes new submits = let own : out ∷ drop ∷ [] ≡ submits.policy = cc submits.there in
     ap (λ (m : Machine). m.policies) submits.after
     ∙ ap (λ policy. (out ∷ []) ∷ policy ∷ []) (sym own)
 
@@ -86,7 +80,6 @@ takes new submits =
 pub not_alone : (new : Machine) → Takes changed (first_machine changed) (item.Submitted 2 2) new
     → new.policies ≡ (out ∷ []) ∷ (drop ∷ []) ∷ [] → ⊥
 not_alone new submits alone =
-    let rows : 2 ≡ 1 =
-    ap (λ policies. option_map_or length (slice_get policies 1) 0)
+    let rows = ap (λ policies. option_map_or length (slice_get policies 1) 0)
     (sym (takes new submits) ∙ alone) in
     omega (arith, rows)

@@ -1,5 +1,5 @@
 -- What a journal without items says.
-use Rattle.std.proofs.Common.{[], ◌&&◌, ◌<◌, ◌==◌, ◌∙◌, ◌∷◌, ◌≡◌, ◌≤◌, Bool, List, None, Some, ap, arith, false, filter, length, map, nat_lt, refl, rules, slice_index, slice_index_or, slice_set, sym, true, ℕ}
+use Rattle.std.proofs.Common.{[], ◌&&◌, ◌<◌, ◌==◌, ◌∙◌, ◌∷◌, ◌≡◌, ◌≤◌, Bool, List, None, Some, ap, arith, false, filter, length, map, nat_lt, refl, rules, slice_set, sym, true, ℕ}
 use Rattle.base.proofs.Exports.{get_or-map-range_with_len, nat_tests, or-false, set-get_or}
 use Rattle.failover.specs.Exports.{first_advert, first_adverts, first_of}
 use Rattle.failover.proofs.HeldAdverts.{held-first}
@@ -31,11 +31,10 @@ acked_start s v = or-false (v == 1)
 
 versions_start : (s v : ℕ) → holds_version [] s v ≡ (v == 1)
 unfolding holds_version heard is_up boot_of
-versions_start s v = by_test (v == 1)
-  where
-    by_test : (b : Bool) → ((b && true) && true) ≡ b
-    by_test true = refl
-    by_test false = refl
+versions_start s v = by_test (v == 1) where
+  by_test : (b : Bool) → ((b && true) && true) ≡ b
+  by_test true = refl
+  by_test false = refl
 
 packet_starts : (i : ℕ) → PacketStarts i
 unfolding header_in ingress_of standing travels decision_of leg_of route_in route_place next_switch
@@ -52,26 +51,19 @@ own_first : (setting : Setting) (s : ℕ) → s < length setting.net.switches
     (length setting.net.switches) s ≡ Some (first_advert s (links_of setting.net.links s))
 own_first setting s there =
     let below : nat_lt s (length setting.net.switches) ≡ true = grind (arith, nat_tests) in
-    let own : slice_index (map (links_of setting.net.links) (switches_of setting)) s
-    ≡ links_of setting.net.links s =
-    get_or-map-range_with_len (links_of setting.net.links) 0 (length setting.net.switches) s s 0
-    there (omega arith) in
+    let own = get_or-map-range_with_len (links_of setting.net.links) 0 (length setting.net.switches)
+    s s 0 there (omega arith) in
     rw (below, own) refl
 
 adverts_start : (setting : Setting) (s : ℕ) → s < length setting.net.switches
-    → length setting.net.switches ≤ 64 → adverts_known setting [] s
-    ≡ first_adverts (map (links_of setting.net.links) (switches_of setting))
-    (length setting.net.switches)
+    → length setting.net.switches ≤ 64 → adverts_known setting [] s ≡ first_adverts
+    (map (links_of setting.net.links) (switches_of setting)) (length setting.net.switches)
 unfolding adverts_known heard is_up boot_of
 adverts_start setting s there few =
     let near = map (links_of setting.net.links) (switches_of setting) in
     let count : ℕ = length setting.net.switches in
-    let told : slice_index_or (first_adverts near count) s None
-    ≡ Some (first_advert s (links_of setting.net.links s)) =
-    held-first near count s (omega (arith, few, there)) ∙ own_first setting s there in
-    let own : own_advert setting [] s ≡ first_advert s (links_of setting.net.links s) =
-    advert_start setting s in
-    rw own (ap (slice_set (first_adverts near count) s) (sym told)
+    rw (advert_start setting s) (ap (slice_set (first_adverts near count) s)
+    (sym (held-first near count s (omega (arith, few, there)) ∙ own_first setting s there))
     ∙ set-get_or (first_adverts near count) s None)
 
 lookup_start : (setting : Setting) (s : ℕ) (header : Header) → lookup_at setting [] s header

@@ -51,10 +51,8 @@ some_are Is setting next are row before (first ∷ steps) some = (
 pub firsts_are : (Is : Step → Type 0) → HasNexts Is → (setting : Setting) (row : ℕ) (event : Event)
     (before : List Item) (steps : List StepOfRow) → IsEventOf Is event
     → AreFirstStepsOf setting row event before steps → AreOf Is steps
-firsts_are Is has setting row (One step) before steps is (inl none) =
-    subst (AreOf Is) (sym none) tt
-firsts_are Is has setting row (One step) before steps is (inr one) =
-    subst (AreOf Is) (sym one) (is, tt)
+firsts_are Is has setting row (One step) before steps is (inl none) = subst (AreOf Is) (sym none) tt
+firsts_are Is has setting row (One step) before steps is (inr one) = rw one (is, tt)
 firsts_are Is has setting row Flush before steps is are =
     some_are Is setting next_delivery (deliveries Is has) row before steps are
 firsts_are Is has setting row Drain before steps is are =
@@ -75,16 +73,14 @@ pub all_first : (setting : Setting) (row : ℕ) (event : Event) (before : List I
     (steps : List StepOfRow) → AreStepsOf setting row event before steps
     → AreFirstStepsOf setting row event before steps
 all_first setting row (One step) before steps all = inr all
-all_first setting row Flush before steps all =
-    all_some setting next_delivery row before steps all
+all_first setting row Flush before steps all = all_some setting next_delivery row before steps all
 all_first setting row Drain before steps all = all_some setting next_hop row before steps all
 
 pub event_steps_are : (Is : Step → Type 0) → HasNexts Is → (setting : Setting) (row : ℕ)
     (event : Event) (before : List Item) (steps : List StepOfRow) → IsEventOf Is event
     → AreStepsOf setting row event before steps → AreOf Is steps
-event_steps_are Is has setting row event before steps is all =
-    firsts_are Is has setting row event before steps is
-    (all_first setting row event before steps all)
+event_steps_are Is has setting row event before steps is all = firsts_are Is has setting row event
+    before steps is (all_first setting row event before steps all)
 
 -- and so are the first steps of events
 pub first_steps_are : (Is : Step → Type 0) → HasNexts Is → (setting : Setting) (row : ℕ)
@@ -93,9 +89,7 @@ pub first_steps_are : (Is : Step → Type 0) → HasNexts Is → (setting : Sett
 first_steps_are Is has setting row [] before steps is are = subst (AreOf Is) (sym are) tt
 first_steps_are Is has setting row (event ∷ events) before steps is (inl are) =
     firsts_are Is has setting row event before steps (is 0 event (omega arith)) are
-first_steps_are Is has setting row (event ∷ events) before steps is (inr are) =
-    subst (AreOf Is) (sym are.2.split)
-    (are_both Is are.0 are.1
-    (event_steps_are Is has setting row event before are.0 (is 0 event (omega arith)) are.3)
-    (first_steps_are Is has setting (row + 1) events (after_steps setting before are.0) are.1
-    (λ k d within. is (suc k) d (omega (arith, within))) are.4))
+first_steps_are Is has setting row (event ∷ events) before steps is (inr are) = subst (AreOf Is)
+    (sym are.2.split) (are_both Is are.0 are.1 (event_steps_are Is has setting row event before
+    are.0 (is 0 event (omega arith)) are.3) (first_steps_are Is has setting (row + 1) events
+    (after_steps setting before are.0) are.1 (λ k d within. is (suc k) d (omega arith)) are.4))

@@ -22,8 +22,7 @@ abbrev pub to_controller : Body → Message
 to_controller body = record { to = receiver.Controller; body = body }
 
 abbrev pub advert : ℕ → ℕ → ℕ → ℕ → Body
-advert origin boot seq up =
-    Advertise (record { origin = origin; boot = boot; seq = seq; up = up })
+advert origin boot seq up = Advertise (record { origin = origin; boot = boot; seq = seq; up = up })
 
 abbrev pub leaving : ℕ → Header → ℕ → Option ℕ → Leaving
 leaving packet header version rule =
@@ -31,8 +30,7 @@ leaving packet header version rule =
 
 -- so many versions are there, of which so many are retired
 abbrev pub versions : ℕ → ℕ → List Item
-versions count retired =
-    replicate (count - 1) (item.Submitted 1 2) ++ item.Retired retired ∷ []
+versions count retired = replicate (count - 1) (item.Submitted 1 2) ++ item.Retired retired ∷ []
 
 -- the row that delivers a message, and its delivery
 abbrev pub delivered : ℕ → ℕ → List Item
@@ -74,10 +72,7 @@ out_or_drop = Whole (all_to (Out 2) ∷ []) ∷ Whole (all_to Drop ∷ []) ∷ [
 abbrev pub by_action : Result (List Hosted) NoPlan → Result (List Hosted) NoPlan → List Row
     → Result (List Hosted) NoPlan
 by_action outs drops [] = Err TooManyLeaves
-by_action outs drops (row ∷ rows) = elim row.action [
-  | Drop ↦ drops
-  | Out port ↦ outs
-]
+by_action outs drops (row ∷ rows) = elim row.action [ Drop ↦ drops | Out port ↦ outs ]
 
 -- ---- plans of one partition
 
@@ -99,9 +94,8 @@ abbrev pub tcp : WordValue
 tcp = record { value = 184467440737095516166; mask = 4703919738795935662335 }
 
 abbrev pub shield_plan : List Hosted
-shield_plan =
-    on (1 ∷ [])
-    (rule web 0 (Some 200) Drop ∷ rule tcp 1 (Some 100) (Out 2) ∷ rule any_word 2 None Drop ∷ [])
+shield_plan = on (1 ∷ []) (rule web 0 (Some 200) Drop ∷ rule tcp 1 (Some 100) (Out 2)
+    ∷ rule any_word 2 None Drop ∷ [])
 
 -- the word of the cache rule that `one` brings
 abbrev pub cached : WordValue
@@ -143,8 +137,7 @@ two_switches =
     network (switch (codes "a") 2 0 ∷ switch (codes "b") 4 100 ∷ []) (link 0 1 ∷ [])
 
 abbrev pub shielded : Setting
-shielded =
-    record { net = two_switches; files = out_or_drop; plan = λ rows. Ok shield_plan }
+shielded = record { net = two_switches; files = out_or_drop; plan = λ rows. Ok shield_plan }
 
 abbrev pub open_net : Setting
 open_net = record {
@@ -155,18 +148,13 @@ open_net = record {
 
 -- a-b, a-c, b-d, c-d; d has the port 2, and room
 abbrev pub ring_net : Net
-ring_net =
-    network
+ring_net = network
     (switch (codes "a") 0 0 ∷ switch (codes "b") 0 0 ∷ switch (codes "c") 0 0
     ∷ switch (codes "d") 4 10 ∷ [])
     (link 0 1 ∷ link 0 2 ∷ link 1 3 ∷ link 2 3 ∷ [])
 
 abbrev pub ring : Setting
-ring = record {
-  net = ring_net;
-  files = out_or_drop;
-  plan = λ rows. Ok (on (3 ∷ []) all_dropped);
-}
+ring = record { net = ring_net; files = out_or_drop; plan = λ rows. Ok (on (3 ∷ []) all_dropped) }
 
 -- a-b, b-c; c is the authority, and b its backup
 abbrev pub line_of_three : Setting
@@ -189,13 +177,11 @@ solo = record {
 -- ---- in the open network a crashes, begins boot 2, and is sent tables and its opening
 
 abbrev pub rebooting : List StepOfRow
-rebooting =
-    at 1 (step.Crash 0) ∷ at 2 (step.Restart 0) ∷ at 3 (step.Deliver 1) ∷ at 4 (step.Deliver 2)
-    ∷ at 5 (step.Deliver 3) ∷ []
+rebooting = at 1 (step.Crash 0) ∷ at 2 (step.Restart 0) ∷ at 3 (step.Deliver 1)
+    ∷ at 4 (step.Deliver 2) ∷ at 5 (step.Deliver 3) ∷ []
 
 abbrev pub rebooted : List Item
-rebooted =
-    item.Row 1 (step.Crash 0) ∷ item.Down 0 ∷ item.Row 2 (step.Restart 0) ∷ item.Booted 0 2
+rebooted = item.Row 1 (step.Crash 0) ∷ item.Down 0 ∷ item.Row 2 (step.Restart 0) ∷ item.Booted 0 2
     ∷ item.Sent 1 (to_controller (Hello 0 2)) ∷ delivered 3 1
     ++ item.Sent 2 (to 0 (Install 2 (tables_of plan_p 1 0))) ∷ answered 4 2 3 (Installed 0 2 1)
     ++ delivered 5 3 ++ item.Sent 4 (to 0 (OpenAt 2 1)) ∷ []

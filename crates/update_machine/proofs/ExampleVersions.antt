@@ -1,10 +1,8 @@
 -- The versions of the open network, where the second one is submitted with the second file: what
 -- trials cite, here and above.
-use Rattle.std.proofs.Common.{[], ◌++◌, ◌∙◌, ◌∷◌, ◌≡◌, List, Ok, Option, Result, Some, ap, option_and_then, refl, subst, sym, unwrap_or}
-use Rattle.base.proofs.Exports.{option_map_or, option_or, result_ok}
+use Rattle.std.proofs.Common.{[], ◌++◌, ◌∙◌, ◌∷◌, ◌≡◌, List, Ok, Some, ap, refl, subst, sym, unwrap_or}
 use Rattle.partition.specs.Plan.{Hosted}
-use Rattle.policy_rules.specs.Exports.{NoPlan}
-use Rattle.update_machine.specs.Exports.{Drop, HasPlan, IsPlanOf, Item, NoneConcern, Out, Row, concerns_policies, file_of, hosted_in, plan_at, policy_at, policy_by, policy_in}
+use Rattle.update_machine.specs.Exports.{Drop, HasPlan, IsPlanOf, Item, NoneConcern, Out, concerns_policies, file_of, plan_at, policy_at, policy_in}
 use Rattle.journal.specs.declared.item.Item.TheVariants as item
 use Rattle.update_machine.proofs.ExampleNetworks.{all_to, open_net, plan_p, plan_q}
 use Rattle.update_machine.proofs.VersionPolicies.{file_append}
@@ -22,8 +20,7 @@ first_policy journal = ap (λ o. unwrap_or o []) (first_rows journal)
 
 pub first_plan : (journal : List Item) → plan_at open_net journal 1 ≡ plan_p
 unfolding plan_at
-first_plan journal =
-    ap (λ o. option_map_or (λ rows. hosted_in (open_net.plan rows)) o []) (first_rows journal)
+first_plan journal = cc (first_rows journal)
 
 pub first_planned : (journal : List Item) → HasPlan open_net journal 1
 unfolding policy_at plan_at policy_in file_of
@@ -36,12 +33,8 @@ of_first journal = (all_to (Out 2) ∷ [], first_rows journal, refl)
 pub first_alone : (journal : List Item) (plan : List Hosted) → IsPlanOf open_net journal 1 plan
     → plan ≡ plan_p
 first_alone journal plan (rows, policy, planned) =
-    let same : ◌≡◌ {A = Option (List Row)} (Some rows) (Some (all_to (Out 2) ∷ [])) =
-    sym policy ∙ first_rows journal in
-    let own : rows ≡ all_to (Out 2) ∷ [] = cc same in
-    let plans : ◌≡◌ {A = Result (List Hosted) NoPlan} (Ok plan_p) (Ok plan) =
-    subst (λ these. open_net.plan these ≡ Ok plan) own planned in
-    cc plans
+    let own : rows ≡ all_to (Out 2) ∷ [] = cc (sym policy ∙ first_rows journal) in
+    cc (subst (λ these. open_net.plan these ≡ Ok plan) own planned)
 
 -- ---- the second one, behind items that submit nothing
 
@@ -49,17 +42,12 @@ second_file : (before items : List Item) → NoneConcern concerns_policies [] be
     → file_of (before ++ item.Submitted 2 2 ∷ items) 2 ≡ Some 2
 unfolding file_of
 second_file before items none =
-    file_append before (item.Submitted 2 2 ∷ items) 2
-    ∙ ap (λ o. option_or o (Some 2)) ((policies_keep [] before none).file 2)
+    cc (file_append before (item.Submitted 2 2 ∷ items) 2, (policies_keep [] before none).file 2)
 
 second_rows : (before items : List Item) → NoneConcern concerns_policies [] before
     → policy_in open_net (before ++ item.Submitted 2 2 ∷ items) 2 ≡ Some (all_to Drop ∷ [])
 unfolding policy_in
-second_rows before items none =
-    let journal : List Item = before ++ item.Submitted 2 2 ∷ items in
-    ap (option_and_then
-    (λ file. result_ok (policy_by open_net (policy_in open_net journal 1) file)))
-    (second_file before items none)
+second_rows before items none = cc (second_file before items none)
 
 pub second_policy : (before items : List Item) → NoneConcern concerns_policies [] before
     → policy_at open_net (before ++ item.Submitted 2 2 ∷ items) 2 ≡ all_to Drop ∷ []
@@ -69,16 +57,13 @@ second_policy before items none = ap (λ o. unwrap_or o []) (second_rows before 
 pub second_plan : (before items : List Item) → NoneConcern concerns_policies [] before
     → plan_at open_net (before ++ item.Submitted 2 2 ∷ items) 2 ≡ plan_q
 unfolding plan_at
-second_plan before items none =
-    ap (λ o. option_map_or (λ rows. hosted_in (open_net.plan rows)) o [])
-    (second_rows before items none)
+second_plan before items none = cc (second_rows before items none)
 
 pub second_planned : (before items : List Item) → NoneConcern concerns_policies [] before
     → HasPlan open_net (before ++ item.Submitted 2 2 ∷ items) 2
 second_planned before items none =
     let policy = second_policy before items none in
-    let plan = second_plan before items none in
-    record {
+    let plan = second_plan before items none in record {
       policy = second_rows before items none ∙ ap Some (sym policy);
       plan = ap open_net.plan policy ∙ ap Ok (sym plan);
     }

@@ -1,5 +1,5 @@
 -- Of two lists of first steps of the same events, one begins the other.
-use Rattle.std.proofs.Common.{[], ◌++◌, ◌+◌, ◌∙◌, ◌∷◌, ◌≡◌, ◌⊎◌, List, None, Option, Some, ap, append-nil, append_assoc, arith, inl, inr, length, length-append, refl, subst, sym, ℕ}
+use Rattle.std.proofs.Common.{[], ◌++◌, ◌+◌, ◌∙◌, ◌∷◌, ◌≡◌, ◌⊎◌, List, None, Option, Some, ap, append-nil, append_assoc, arith, inl, inr, length, length-append, refl, sym, ℕ}
 use Rattle.update_machine.specs.Exports.{AnswersSoFar, AreAll, AreFirstSteps, AreFirstStepsOf, AreSome, AreSteps, AreStepsOf, Drain, Event, Flush, Item, One, Setting, Step, StepOfRow, after_steps, next_delivery, next_hop, piece}
 use Rattle.update_machine.proofs.OneAnswer.{event_same, same_next, same_onward}
 
@@ -22,24 +22,20 @@ begins_cons x y xs ys same begins =
 begins_more : (xs ys zs : List StepOfRow) → Begins xs ys → Begins xs (ys ++ zs)
 begins_more xs ys zs begins = record {
   rest = begins.rest ++ zs;
-  is = ap (λ ws. ws ++ zs) begins.is
-      ∙ append_assoc xs begins.rest zs;
+  is = cc (begins.is, append_assoc xs begins.rest zs);
 }
 
 begins_behind : (ws xs ys : List StepOfRow) → Begins xs ys → Begins (ws ++ xs) (ws ++ ys)
-begins_behind ws xs ys begins =
-    record {
-      rest = begins.rest;
-      is = ap (λ zs. ws ++ zs) begins.is
-          ∙ sym (append_assoc ws xs begins.rest);
-    }
+begins_behind ws xs ys begins = record {
+  rest = begins.rest;
+  is = cc (begins.is, append_assoc ws xs begins.rest);
+}
 
 begins_along : (xs ys us vs : List StepOfRow) → us ≡ xs → vs ≡ ys → Begins xs ys → Begins us vs
-begins_along xs ys us vs first second begins =
-    record {
-      rest = begins.rest;
-      is = second ∙ begins.is ∙ ap (λ zs. zs ++ begins.rest) (sym first);
-    }
+begins_along xs ys us vs first second begins = record {
+  rest = begins.rest;
+  is = second ∙ begins.is ∙ ap (λ zs. zs ++ begins.rest) (sym first);
+}
 
 -- first steps of a flush, or of a drain, begin all of its steps
 some_of_all : (setting : Setting) (next : List Item → Option Step) (row : ℕ) (before : List Item)
@@ -61,17 +57,15 @@ either_cons x y xs ys same (inl begins) = inl (begins_cons x y xs ys same begins
 either_cons x y xs ys same (inr begins) = inr (begins_cons y x ys xs (sym same) begins)
 
 some_either : (setting : Setting) (next : List Item → Option Step) (row : ℕ) (before : List Item)
-    (one other : List StepOfRow) →
-    AreSome setting next row before one → AreSome setting next row before other → Begins one other
-    ⊎ Begins other one
+    (one other : List StepOfRow) → AreSome setting next row before one
+    → AreSome setting next row before other → Begins one other ⊎ Begins other one
 some_either setting next row before [] other first second = inl (begins_nil other)
 some_either setting next row before (x ∷ one) [] first second = inr (begins_nil (x ∷ one))
 some_either setting next row before (x ∷ one) (y ∷ other) first second =
     let same : x ≡ y = same_next (next before) row x y first.0 second.0 first.1 second.1 in
     either_cons x y one other same
-    (some_either setting next row (before ++ piece setting before x.row x.step) one other
-    first.2 (same_onward setting before (λ js. AreSome setting next row js other) x y same
-    second.2))
+    (some_either setting next row (before ++ piece setting before x.row x.step) one other first.2
+    (same_onward setting before (λ js. AreSome setting next row js other) x y same second.2))
 
 one_step : (step : StepOfRow) (one all : List StepOfRow) → (one ≡ []) ⊎ (one ≡ step ∷ [])
     → all ≡ step ∷ [] → Begins one all
@@ -85,9 +79,8 @@ one_step_either step one other first (inl none) =
     inr (begins_along [] one other one none refl (begins_nil one))
 
 event_begins : (setting : Setting) (row : ℕ) (event : Event) (before : List Item)
-    (one all : List StepOfRow) →
-    AreFirstStepsOf setting row event before one → AreStepsOf setting row event before all
-    → Begins one all
+    (one all : List StepOfRow) → AreFirstStepsOf setting row event before one
+    → AreStepsOf setting row event before all → Begins one all
 event_begins setting row (One step) before one all first second =
     one_step (record { row = row; step = step }) one all first second
 event_begins setting row Flush before one all first second = some_of_all setting next_delivery row
@@ -96,9 +89,8 @@ event_begins setting row Drain before one all first second = some_of_all setting
     one all first second
 
 event_either : (setting : Setting) (row : ℕ) (event : Event) (before : List Item)
-    (one other : List StepOfRow) →
-    AreFirstStepsOf setting row event before one → AreFirstStepsOf setting row event before other
-    → Begins one other ⊎ Begins other one
+    (one other : List StepOfRow) → AreFirstStepsOf setting row event before one
+    → AreFirstStepsOf setting row event before other → Begins one other ⊎ Begins other one
 event_either setting row (One step) before one other first second =
     one_step_either (record { row = row; step = step }) one other first second
 event_either setting row Flush before one other first second = some_either setting next_delivery row
@@ -116,31 +108,23 @@ either_behind ws vs xs ys one other same first second (inr begins) =
     first (begins_behind ws ys xs begins))
 
 pub first_steps_either : (setting : Setting) (row : ℕ) (events : List Event) (before : List Item)
-    (one other : List StepOfRow) →
-    AreFirstSteps setting row events before one → AreFirstSteps setting row events before other
-    → Begins one other ⊎ Begins other one
+    (one other : List StepOfRow) → AreFirstSteps setting row events before one
+    → AreFirstSteps setting row events before other → Begins one other ⊎ Begins other one
 first_steps_either setting row [] before one other first second =
     inl (begins_itself one other (second ∙ sym first))
 first_steps_either setting row (event ∷ events) before one other (inl first) (inl second) =
     event_either setting row event before one other first second
 first_steps_either setting row (event ∷ events) before one other (inl first) (inr second) =
-    inl (begins_along one (second.0 ++ second.1) one other refl second.2.split
-    (begins_more one second.0 second.1
-    (event_begins setting row event before one second.0 first second.3)))
+    inl (begins_along one (second.0 ++ second.1) one other refl second.2.split (begins_more one
+    second.0 second.1 (event_begins setting row event before one second.0 first second.3)))
 first_steps_either setting row (event ∷ events) before one other (inr first) (inl second) =
-    inr (begins_along other (first.0 ++ first.1) other one refl first.2.split
-    (begins_more other first.0 first.1
-    (event_begins setting row event before other first.0 second first.3)))
+    inr (begins_along other (first.0 ++ first.1) other one refl first.2.split (begins_more other
+    first.0 first.1 (event_begins setting row event before other first.0 second first.3)))
 first_steps_either setting row (event ∷ events) before one other (inr first) (inr second) =
-    let mine : first.0 ≡ second.0 = event_same setting row event before first.0 second.0 first.3
-    second.3 in
-    let onward : AreFirstSteps setting (row + 1) events (after_steps setting before first.0)
-    second.1 =
-    subst (λ steps. AreFirstSteps setting (row + 1) events (after_steps setting before steps)
-    second.1) (sym mine) second.4 in
+    let mine = event_same setting row event before first.0 second.0 first.3 second.3 in
     either_behind first.0 second.0 first.1 second.1 one other mine first.2.split second.2.split
     (first_steps_either setting (row + 1) events (after_steps setting before first.0) first.1
-    second.1 first.4 onward)
+    second.1 first.4 (rw mine second.4))
 
 -- and first steps begin all steps
 pub first_begin_all : (setting : Setting) (row : ℕ) (events : List Event) (before : List Item)
@@ -148,41 +132,31 @@ pub first_begin_all : (setting : Setting) (row : ℕ) (events : List Event) (bef
     → AreSteps setting row events before all → Begins one all
 first_begin_all setting row [] before one all first whole =
     record { rest = []; is = whole ∙ ap (λ steps. steps ++ []) (sym first) }
-first_begin_all setting row (event ∷ events) before one all (inl first) whole =
-    begins_along one (whole.0 ++ whole.1) one all refl whole.2.split
-    (begins_more one whole.0 whole.1
+first_begin_all setting row (event ∷ events) before one all (inl first) whole = begins_along one
+    (whole.0 ++ whole.1) one all refl whole.2.split (begins_more one whole.0 whole.1
     (event_begins setting row event before one whole.0 first whole.3))
 first_begin_all setting row (event ∷ events) before one all (inr first) whole =
-    let mine : whole.0 ≡ first.0 =
-    event_same setting row event before whole.0 first.0 whole.3 first.3 in
-    let onward : AreSteps setting (row + 1) events (after_steps setting before first.0) whole.1 =
-    subst (λ steps. AreSteps setting (row + 1) events (after_steps setting before steps) whole.1)
-    mine whole.4 in
+    let mine = event_same setting row event before whole.0 first.0 whole.3 first.3 in
     begins_along (first.0 ++ first.1) (first.0 ++ whole.1) one all first.2.split
     (whole.2.split ∙ ap (λ steps. steps ++ whole.1) mine)
-    (begins_behind first.0 first.1 whole.1
-    (first_begin_all setting (row + 1) events (after_steps setting before first.0) first.1 whole.1
-    first.4 onward))
+    (begins_behind first.0 first.1 whole.1 (first_begin_all setting (row + 1) events
+    (after_steps setting before first.0) first.1 whole.1 first.4 (rw mine at whole.4)))
 
 no_rest : (rest : List StepOfRow) → length rest ≡ 0 → rest ≡ []
 no_rest [] none = refl
 no_rest (x ∷ rest) none = cc
 
 as_long : (xs ys : List StepOfRow) → length xs ≡ length ys → Begins xs ys → xs ≡ ys
-as_long xs ys same begins =
-    let count : length ys ≡ length xs + length begins.rest = ap length begins.is
-    ∙ length-append xs begins.rest in
-    let none : length begins.rest ≡ 0 = omega (arith, same, count) in
-    sym (begins.is ∙ ap (λ rest. xs ++ rest) (no_rest begins.rest none) ∙ append-nil xs)
+as_long xs ys same begins = sym (begins.is ∙ ap (λ rest. xs ++ rest) (no_rest begins.rest
+    (omega (arith, same, ap length begins.is ∙ length-append xs begins.rest))) ∙ append-nil xs)
 
 -- so there is one answer by so many steps
 pub one_by_steps : (setting : Setting) (events : List Event) (one other : List Item)
     (first : AnswersSoFar setting events one) (second : AnswersSoFar setting events other) →
     length first.steps ≡ length second.steps → one ≡ other
 one_by_steps setting events one other first second same =
-    first.written ∙ ap (after_steps setting [])
-    (by_either (first_steps_either setting 1 events [] first.steps second.steps first.allowed
-    second.allowed)) ∙ sym second.written
+    first.written ∙ ap (after_steps setting []) (by_either (first_steps_either setting 1 events []
+    first.steps second.steps first.allowed second.allowed)) ∙ sym second.written
   where
     by_either : Begins first.steps second.steps ⊎ Begins second.steps first.steps
         → first.steps ≡ second.steps

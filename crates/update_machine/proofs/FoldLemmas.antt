@@ -31,11 +31,9 @@ all_given_append gives before items = flat_map-append gives before items
 
 -- items behind others go on from what those made of the value, and from the journal with them
 pub folded_from_append : {X : Type 0} (changes : List Item → X → Item → X) (first : List Item)
-    (value : X) (before items : List Item) →
-    folded_from changes first value (before ++ items) ≡ folded_from changes (first ++ before)
-    (folded_from changes first value before) items
-folded_from_append changes first value [] items = ap (λ js. folded_from changes js value items)
-    (sym (append-nil first))
+    (value : X) (before items : List Item) → folded_from changes first value (before ++ items)
+    ≡ folded_from changes (first ++ before) (folded_from changes first value before) items
+folded_from_append changes first value [] items = cc (append-nil first)
 folded_from_append changes first value (item ∷ before) items =
     folded_from_append changes (first ++ item ∷ []) (changes first value item) before items
     ∙ ap (λ js. folded_from changes js

@@ -20,39 +20,29 @@ round_at_b = refl
 
 -- a switch that is down refuses the packet, which is a call too; the hop of a packet that didn't
 -- enter is none
-pub closed_at_b :
-    handled_count
-    (item.Row 1 (step.Crash 1) ∷ item.Down 1 ∷ item.Row 2 (step.Packet 1 one) ∷ item.Closed 1 1
-    ∷ item.Row 3 (step.Hop 1) ∷ item.Nothing ∷ []) 1
-    ≡ 1
+pub closed_at_b : handled_count (item.Row 1 (step.Crash 1) ∷ item.Down 1 ∷ item.Row 2
+    (step.Packet 1 one) ∷ item.Closed 1 1 ∷ item.Row 3 (step.Hop 1) ∷ item.Nothing ∷ []) 1 ≡ 1
 unfolding handled_count steps_in travels standing
 closed_at_b = refl
 
 -- nor is the hop of one that has ended
-pub ended_at_a :
-    handled_count
-    (item.Row 1 (step.Packet 0 one) ∷ item.Entered 1 0 one ∷ item.Dropped 1
-    ∷ item.Row 2 (step.Hop 1) ∷ item.Nothing ∷ []) 0
-    ≡ 1
+pub ended_at_a : handled_count (item.Row 1 (step.Packet 0 one) ∷ item.Entered 1 0 one
+    ∷ item.Dropped 1 ∷ item.Row 2 (step.Hop 1) ∷ item.Nothing ∷ []) 0 ≡ 1
 unfolding handled_count steps_in travels standing
 ended_at_a = refl
 
 -- three switches in a row: the packet finds the link to its first target down at the second one,
 -- where it arrives at once
 abbrev arriving : List Item
-arriving =
-    item.Row 1 (step.Packet 0 one) ∷ item.Entered 1 0 one ∷ item.Seeking 1 1 0 (0 ∷ 1 ∷ 2 ∷ [])
-    ∷ item.Row 2 (step.LinkDown 1 2) ∷ item.LinkIs 1 2 false
+arriving = item.Row 1 (step.Packet 0 one) ∷ item.Entered 1 0 one
+    ∷ item.Seeking 1 1 0 (0 ∷ 1 ∷ 2 ∷ []) ∷ item.Row 2 (step.LinkDown 1 2) ∷ item.LinkIs 1 2 false
     ∷ item.Sent 1 (to 0 (advert 1 1 2 1)) ∷ item.Row 3 (step.Hop 1) ∷ item.Hopped 1 1
-    ∷ item.Row 4 (step.Hop 1) ∷ item.FoundDown 1 1 2 ∷ item.Rerouted 1 (1 ∷ [])
-    ∷ item.Decided 1 1 (Some 100) Drop (how.Authority 1 0)
+    ∷ item.Row 4 (step.Hop 1) ∷ item.FoundDown 1 1 2
+    ∷ item.Rerouted 1 (1 ∷ []) ∷ item.Decided 1 1 (Some 100) Drop (how.Authority 1 0)
     ∷ item.Sent 2 (to 0 (body.CacheRule 1 any_word (Some 100) Drop)) ∷ item.Dropped 1 ∷ []
 
-pub arriving_rows :
-    left_by line_of_three
-    (at 1 (step.Packet 0 one) ∷ at 2 (step.LinkDown 1 2) ∷ at 3 (step.Hop 1) ∷ at 4 (step.Hop 1)
-    ∷ [])
-    ≡ arriving
+pub arriving_rows : left_by line_of_three (at 1 (step.Packet 0 one) ∷ at 2 (step.LinkDown 1 2)
+    ∷ at 3 (step.Hop 1) ∷ at 4 (step.Hop 1) ∷ []) ≡ arriving
 unfolding left_by
 arriving_rows = refl
 

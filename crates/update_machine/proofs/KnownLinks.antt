@@ -12,14 +12,12 @@ use Rattle.net_file.specs.Exports.{links_of, owner_of}
 
 begun_by_origin : (setting : Setting) (journal : List Item) (s : ℕ)
     → AreByOrigin (adverts_begun setting journal s)
-begun_by_origin setting journal s = by_test (is_in_first_boot journal s)
-  where
-    by_test : (b : Bool) → AreByOrigin
-        (if b then first_adverts (map (links_of setting.net.links) (switches_of setting))
-        (length setting.net.switches) else no_adverts)
-    by_test true = by_origin-first (map (links_of setting.net.links) (switches_of setting))
-        (length setting.net.switches)
-    by_test false = by_origin-none
+begun_by_origin setting journal s = by_test (is_in_first_boot journal s) where
+  by_test : (b : Bool) → AreByOrigin (if b then first_adverts (map (links_of setting.net.links)
+      (switches_of setting)) (length setting.net.switches) else no_adverts)
+  by_test true = by_origin-first (map (links_of setting.net.links) (switches_of setting))
+      (length setting.net.switches)
+  by_test false = by_origin-none
 
 all_by_origin : (adverts : List (Option Advert)) (heard : List Advert) → AreByOrigin adverts
     → AreByOrigin (after_hearing_all adverts heard)
@@ -39,27 +37,22 @@ known_places setting journal s =
     length-set (adverts_of_others setting journal s) s (own_if_sent (own_advert setting journal s))
     ∙ (heard_by_origin setting journal s).places
 
-newest_known : (setting : Setting) (journal : List Item) (s origin : ℕ) → origin ≢ s → origin < 64 →
-    IsNewest origin (option_to_list (held_advert (adverts_begun setting journal s) origin)
-    ++ adverts_heard
-    journal s) (advert_known setting journal s origin)
+newest_known : (setting : Setting) (journal : List Item) (s origin : ℕ) → origin ≢ s → origin < 64
+    → IsNewest origin (option_to_list (held_advert (adverts_begun setting journal s) origin)
+    ++ adverts_heard journal s) (advert_known setting journal s origin)
 unfolding adverts_known
 newest_known setting journal s origin other small =
-    subst (IsNewest origin (option_to_list (held_advert (adverts_begun setting journal s) origin)
-    ++ adverts_heard journal s))
-    (sym (get_or-set_other (adverts_of_others setting journal s) s origin
-    (own_if_sent (own_advert setting journal s)) None other))
+    rw (get_or-set_other (adverts_of_others setting journal s) s origin
+    (own_if_sent (own_advert setting journal s)) None other)
     (held_newest (adverts_begun setting journal s) (adverts_heard journal s) origin
     (begun_by_origin setting journal s) small)
 
 own_known : (setting : Setting) (journal : List Item) (s : ℕ) → s < 64
     → advert_known setting journal s s ≡ own_if_sent (own_advert setting journal s)
 unfolding adverts_known
-own_known setting journal s small =
-    let there : s < length (adverts_of_others setting journal s) =
-    subst (λ n. s < n) (sym (heard_by_origin setting journal s).places) small in
-    get_or-set_same (adverts_of_others setting journal s) s
-    (own_if_sent (own_advert setting journal s)) None there
+own_known setting journal s small = get_or-set_same (adverts_of_others setting journal s) s
+    (own_if_sent (own_advert setting journal s)) None
+    (subst (λ n. s < n) (sym (heard_by_origin setting journal s).places) small)
 
 -- ---- its own advert says nothing of its own links
 
@@ -76,9 +69,8 @@ links_are setting journal s down =
 
 pub has_known_link : (setting : Setting) (journal : List Item) (s : ℕ) (down : List ℕ)
     (one other : ℕ) → one < 64 → other < 64
-    → has (slice_index (links_known setting journal s down) one) other
-    ≡ is_link (named_links (adverts_known setting journal s) s (near setting journal s)) down one
-    other
+    → has (slice_index (links_known setting journal s down) one) other ≡ is_link
+    (named_links (adverts_known setting journal s) s (near setting journal s)) down one other
 has_known_link setting journal s down one other one_small other_small =
     ap (λ links. has (slice_index links one) other) (links_are setting journal s down)
     ∙ has_known (adverts_known setting journal s) s (near setting journal s) down one other
@@ -88,11 +80,8 @@ route_known : (setting : Setting) (journal : List Item) (s : ℕ) (targets down 
     → IsRoute (links_known setting journal s down) s targets
     (route_from setting journal s targets down)
 unfolding route_from
-route_known setting journal s targets down =
-    subst (λ links. IsRoute links s targets (route_from setting journal s targets down))
-    (sym (links_are setting journal s down))
-    (known_route_is_route (adverts_known setting journal s) s targets (near setting journal s)
-    down)
+route_known setting journal s targets down = rw (links_are setting journal s down)
+    (known_route_is_route (adverts_known setting journal s) s targets (near setting journal s) down)
 
 none_reached : (links : List ℕ) (from : ℕ) (targets : List ℕ) → IsRoute links from targets None
     → AllByRecursion (λ target. ¬ IsReachable links from target) targets
@@ -106,18 +95,14 @@ none_reached links from (target ∷ targets) (inr rest) =
 pub unreached : (setting : Setting) (journal : List Item) (s : ℕ) (targets down : List ℕ)
     → route_from setting journal s targets down ≡ None
     → AllByRecursion (λ target. ¬ IsReachable (links_known setting journal s down) s target) targets
-unreached setting journal s targets down none =
-    none_reached (links_known setting journal s down) s targets
-    (subst (IsRoute (links_known setting journal s down) s targets) none
-    (route_known setting journal s targets down))
+unreached setting journal s targets down none = none_reached (links_known setting journal s down) s
+    targets (rw none at (route_known setting journal s targets down))
 
 cut_off_known : (setting : Setting) (journal : List Item) (s target : ℕ) (down : List ℕ)
     → IsTrue (is_cut_off setting journal s down target)
     ↔ IsIsolated (links_known setting journal s down) s target
 unfolding is_cut_off
-cut_off_known setting journal s target down =
-    subst (λ links. IsTrue (is_cut_off setting journal s down target) ↔ IsIsolated links s target)
-    (sym (links_are setting journal s down))
+cut_off_known setting journal s target down = rw (links_are setting journal s down)
     (isolated_tells (adverts_known setting journal s) s target (near setting journal s) down
     (known_places setting journal s))
 
@@ -134,8 +119,7 @@ no_path : (links : List ℕ) (from target : ℕ) (path : List ℕ) → 64 ≤ ta
     → IsPath links from target path → ⊥
 unfolding IsPath
 no_path links from target [] past path = path
-no_path links from target (first ∷ path) past is =
-    ends_below links first target path is.1 past is.2
+no_path links from target (first ∷ path) past is = ends_below links first target path is.1 past is.2
 
 no_route : (links : List ℕ) (from : ℕ) (route : Option (List ℕ))
     → IsRoute links from (no_switch ∷ []) route → route ≡ None
@@ -150,11 +134,9 @@ portless_stuck : (setting : Setting) (journal : List Item) (i s port : ℕ) → 
     → end_items setting i s (Out port) journal ≡ stuck_on setting journal i s (Exit port) ∷ []
 unfolding end_items leg_items
 portless_stuck setting journal i s port small none =
-    let apart : (no_switch == s) ≡ false = grind (arith, nat_tests) in
     let elsewhere : (owner setting port == s) ≡ false =
-    ap (λ o. unwrap_or o no_switch == s) none ∙ apart in
-    let stuck : route_from setting journal s (owner setting port ∷ []) (found_down journal i)
-    ≡ None =
+    ap (λ o. unwrap_or o no_switch == s) none ∙ (grind (arith, nat_tests)) in
+    let stuck =
     ap (λ o. route_from setting journal s (unwrap_or o no_switch ∷ []) (found_down journal i)) none
     ∙ no_route (links_known setting journal s (found_down journal i)) s _
     (route_known setting journal s (no_switch ∷ []) (found_down journal i)) in

@@ -9,9 +9,8 @@ use Rattle.update_machine.proofs.LinkRows.{round}
 -- at first, behind the round, once switch a heard b's advert, and in its next boot; there it hears
 -- of one end, of both, and old adverts that change nothing
 abbrev journals : List (List Item)
-journals =
-    [] ∷ round ∷ (round ++ item.Delivered 1 ∷ []) ∷ again
-    ∷ (again ++ hears 5 1 2 9) ∷ (again ++ hears 5 1 2 9 ++ hears 6 3 2 6)
+journals = [] ∷ round ∷ (round ++ item.Delivered 1 ∷ []) ∷ again ∷ (again ++ hears 5 1 2 9)
+    ∷ (again ++ hears 5 1 2 9 ++ hears 6 3 2 6)
     ∷ (again ++ hears 5 1 2 9 ++ hears 6 3 2 6 ++ hears 7 3 1 4) ∷ []
   where
     again : List Item

@@ -24,13 +24,10 @@ first_match_of action = (
 
 -- a packet is decided by version 1; then version 2 comes and 1 is retired, and another packet is
 -- decided by version 2
-pub is_run :
-    IsRun open_net
-    (item.Row 1 (step.Packet 0 one) ∷ item.Entered 1 0 one
-    ∷ item.Decided 1 1 (Some 100) (Out 2) (how.Authority 1 0)
-    ∷ item.Left 1 2 (leaving 1 one 1 (Some 100)) ∷ item.Submitted 2 2 ∷ item.Retired 1
-    ∷ item.Entered 2 0 one ∷ item.Decided 2 2 (Some 100) Drop (how.Authority 1 0)
-    ∷ item.Dropped 2 ∷ [])
+pub is_run : IsRun open_net (item.Row 1 (step.Packet 0 one) ∷ item.Entered 1 0 one ∷ item.Decided 1
+    1 (Some 100) (Out 2) (how.Authority 1 0) ∷ item.Left 1 2 (leaving 1 one 1 (Some 100))
+    ∷ item.Submitted 2 2 ∷ item.Retired 1 ∷ item.Entered 2 0 one
+    ∷ item.Decided 2 2 (Some 100) Drop (how.Authority 1 0) ∷ item.Dropped 2 ∷ [])
 is_run = (
   _,
   (
@@ -115,12 +112,10 @@ is_run = (
 )
 
 -- no packet is decided by a version that was retired as it entered
-pub retired_decides_nothing :
-    (old : Machine) (packet : Packet) (new : Machine) → old.packets 1 ≡ Some packet
-    → packet.entry_mark ≡ 1
-    → Decides old 1 1 (record { rule = Some 100; action = Out 2 }) new → ⊥
+pub retired_decides_nothing : (old : Machine) (packet : Packet) (new : Machine) → old.packets 1
+    ≡ Some packet
+    → packet.entry_mark ≡ 1 → Decides old 1 1 (record { rule = Some 100; action = Out 2 }) new → ⊥
 retired_decides_nothing old packet new entered mark decides =
-    let same : decides.packet ≡ packet = same_Some decides.packet packet
-    (sym decides.entered ∙ entered) in
-    let its : decides.packet.entry_mark ≡ 1 = ap (λ (p : Packet). p.entry_mark) same ∙ mark in
+    let its : decides.packet.entry_mark ≡ 1 = ap (λ (p : Packet). p.entry_mark)
+    (same_Some decides.packet packet (sym decides.entered ∙ entered)) ∙ mark in
     omega (arith, its, decides.not_retired)

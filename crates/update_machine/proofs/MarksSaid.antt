@@ -46,8 +46,7 @@ joins_in_boot_2 = refl
 
 -- the first Open of its boot makes it a member
 abbrev opened : List Item
-opened =
-    back ++ item.Sent 4 (to 0 (OpenAt 1 1)) ∷ item.Sent 5 (to 0 (OpenAt 2 3))
+opened = back ++ item.Sent 4 (to 0 (OpenAt 1 1)) ∷ item.Sent 5 (to 0 (OpenAt 2 3))
     ∷ item.Sent 6 (to 0 (OpenAt 2 4)) ∷ []
 
 pub opened_at_3 : opened_at opened 0 ≡ Some 3
@@ -81,8 +80,7 @@ pub stamp_of_the_open : acked_stamp opened 0 ≡ 3
 unfolding acked_stamp opened_at known_boot controller_heard message_of
 stamp_of_the_open = refl
 
-pub greatest_stamp :
-    acked_stamp (opened ++ told 7 (Stamped 0 2 5) ++ told 8 (Stamped 0 2 4)) 0 ≡ 5
+pub greatest_stamp : acked_stamp (opened ++ told 7 (Stamped 0 2 5) ++ told 8 (Stamped 0 2 4)) 0 ≡ 5
 unfolding acked_stamp opened_at known_boot controller_heard message_of
 greatest_stamp = refl
 
@@ -90,9 +88,8 @@ greatest_stamp = refl
 
 -- of three versions both switches acknowledged the second, and one of them the third
 abbrev three : List Item
-three =
-    item.Submitted 1 2 ∷ item.Submitted 2 3 ∷ told 1 (Installed 0 1 2) ++ told 2 (Installed 1 1 2)
-    ++ told 3 (Installed 0 1 3)
+three = item.Submitted 1 2 ∷ item.Submitted 2 3 ∷ told 1 (Installed 0 1 2)
+    ++ told 2 (Installed 1 1 2) ++ told 3 (Installed 0 1 3)
 
 pub current_to_2 : next_current open_net three ≡ 2
 unfolding next_current is_member is_over opened_at has_acked known_boot controller_heard
@@ -100,8 +97,7 @@ unfolding next_current is_member is_over opened_at has_acked known_boot controll
 current_to_2 = refl
 
 -- without the second one the third one isn't enough
-pub current_stays :
-    next_current open_net
+pub current_stays : next_current open_net
     (item.Submitted 1 2 ∷ item.Submitted 2 3 ∷ told 1 (Installed 0 1 3) ++ told 2 (Installed 1 1 3))
     ≡ 1
 unfolding next_current is_member is_over opened_at has_acked known_boot controller_heard

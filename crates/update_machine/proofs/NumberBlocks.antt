@@ -61,8 +61,7 @@ authority_next setting i s None journal = tt
 authority_next setting i s (Some found) journal =
     let decided : Item = item.Decided i found.version found.rule.rule found.rule.action
     (how.Authority s found.part.number) in
-    let blocks : List (List Item → List Item) = cache_items setting i s found ∷ end_items setting i
-    s found.rule.action ∷ [] in
+    let blocks = cache_items setting i s found ∷ end_items setting i s found.rule.action ∷ [] in
     have_first TakesNext decided (in_turn blocks) journal tt
     (have_in_turn TakesNext blocks
     (cache_next setting i s found, (end_next setting i s found.rule.action, tt))
@@ -71,8 +70,7 @@ authority_next setting i s (Some found) journal =
 pub found_next : (setting : Setting) (i s : ℕ) (what : Found) (journal : List Item)
     → Next journal (found_items setting i s what journal)
 found_next setting i s (found.Cached entry) journal =
-    let decided : Item = item.Decided i entry.version entry.rule entry.action
-    (how.Cached entry.message) in
+    let decided = item.Decided i entry.version entry.rule entry.action (how.Cached entry.message) in
     have_first TakesNext decided (end_items setting i s entry.action) journal tt
     (end_next setting i s entry.action (journal ++ decided ∷ []))
 found_next setting i s (found.Authority partition place) journal = authority_next setting i s
@@ -152,9 +150,8 @@ all_installs_next setting journal = sends_next journal _
 
 pub submitted_next : (setting : Setting) (journal : List Item)
     → Next journal (submitted_items setting journal)
-submitted_next setting journal =
-    have_in_turn TakesNext (installs_to_all setting ∷ settling setting ∷ [])
-    (all_installs_next setting, (settling_next setting, tt)) journal
+submitted_next setting journal = have_in_turn TakesNext (installs_to_all setting ∷ settling setting
+    ∷ []) (all_installs_next setting, (settling_next setting, tt)) journal
 
 -- ---- deliveries
 

@@ -36,9 +36,8 @@ sends_or_nothing_next : (journal : List Item) (messages : List Message)
 sends_or_nothing_next journal [] = (tt, tt)
 sends_or_nothing_next journal (message ∷ messages) = sends_next journal (message ∷ messages)
 
-step_next : (setting : Setting) (before : List Item) (row : ℕ) (step : Step)
-    → let behind = before ++ item.Row row step ∷ [] in Next behind
-    (step_items setting before step behind)
+step_next : (setting : Setting) (before : List Item) (row : ℕ) (step : Step) → let behind =
+    before ++ item.Row row step ∷ [] in Next behind (step_items setting before step behind)
 unfolding hop_items lose_items deliver_items forget_items expire_items update_items link_items
     crash_items restart_items confirm_items resend_items
 step_next setting before row (Packet switch header) = packet_next setting (next_packet before)

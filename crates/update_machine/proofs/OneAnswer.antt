@@ -34,9 +34,8 @@ all_same setting next row before (x ∷ one) (y ∷ other) first second =
     (same_onward setting before (λ js. AreAll setting next row js other) x y same second.2))
 
 pub event_same : (setting : Setting) (row : ℕ) (event : Event) (before : List Item)
-    (one other : List StepOfRow) →
-    AreStepsOf setting row event before one → AreStepsOf setting row event before other
-    → one ≡ other
+    (one other : List StepOfRow) → AreStepsOf setting row event before one
+    → AreStepsOf setting row event before other → one ≡ other
 event_same setting row (One step) before one other first second = first ∙ sym second
 event_same setting row Flush before one other first second = all_same setting next_delivery row
     before one other first second
@@ -48,19 +47,15 @@ pub one_list_of_steps : (setting : Setting) (row : ℕ) (events : List Event) (b
     AreSteps setting row events before one → AreSteps setting row events before other → one ≡ other
 one_list_of_steps setting row [] before one other first second = first ∙ sym second
 one_list_of_steps setting row (event ∷ events) before one other first second =
-    let mine : first.0 ≡ second.0 = event_same setting row event before first.0 second.0 first.3
-    second.3 in
-    let onward : AreSteps setting (row + 1) events (after_steps setting before first.0) second.1 =
-    subst (λ steps. AreSteps setting (row + 1) events (after_steps setting before steps) second.1)
-    (sym mine) second.4 in
+    let mine = event_same setting row event before first.0 second.0 first.3 second.3 in
     let rest : first.1 ≡ second.1 = one_list_of_steps setting (row + 1) events
-    (after_steps setting before first.0) first.1 second.1 first.4 onward in
+    (after_steps setting before first.0) first.1 second.1 first.4 (subst (λ steps. AreSteps setting
+    (row + 1) events (after_steps setting before steps) second.1) (sym mine) second.4) in
     first.2.split ∙ ap (λ steps. steps ++ first.1) mine ∙ ap (λ steps. second.0 ++ steps) rest
     ∙ sym second.2.split
 
 pub one_answer : (setting : Setting) (events : List Event) (one other : List Item)
     → Answers setting events one → Answers setting events other → one ≡ other
-one_answer setting events one other first second =
-    first.written ∙ ap (after_steps setting [])
-    (one_list_of_steps setting 1 events [] first.steps second.steps first.allowed
-    second.allowed) ∙ sym second.written
+one_answer setting events one other first second = first.written ∙ ap (after_steps setting [])
+    (one_list_of_steps setting 1 events [] first.steps second.steps first.allowed second.allowed)
+    ∙ sym second.written

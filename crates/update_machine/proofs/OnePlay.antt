@@ -5,8 +5,7 @@ use Rattle.update_machine.specs.Exports.{AnswersWithRoom, Event, HasRoom, HaveRo
 use Rattle.update_machine.proofs.FirstSteps.{Begins, begins_cons, begins_nil, first_begin_all, first_steps_either}
 use Rattle.update_machine.proofs.OneAnswer.{one_answer}
 
-pub full_by_count : (journal : List Item)
-    → IsFull journal ↔ full_at ≤ count_of is_sending journal
+pub full_by_count : (journal : List Item) → IsFull journal ↔ full_at ≤ count_of is_sending journal
 unfolding next_message
 full_by_count journal = (λ full. omega (arith, full), λ many. omega (arith, many))
 
@@ -32,9 +31,8 @@ none_stops : {X : Type 0} (setting : Setting) (xs : List StepOfRow) (x : StepOfR
     (ys : List StepOfRow) → IsFull (after_steps setting [] xs) → HaveRoom setting [] ys
     → Begins (xs ++ x ∷ []) ys → X
 none_stops setting xs x ys full room begins =
-    let split : ys ≡ xs ++ x ∷ begins.rest = begins.is ∙ append_assoc xs (x ∷ []) begins.rest in
-    let there : HasRoom (after_steps setting [] xs) =
-    room_before setting [] xs x begins.rest (subst (HaveRoom setting []) split room) in
+    let there : HasRoom (after_steps setting [] xs) = room_before setting [] xs x begins.rest
+    (subst (HaveRoom setting []) (begins.is ∙ append_assoc xs (x ∷ []) begins.rest) room) in
     absurd (omega (arith, full, there))
 
 -- ---- lists with a last element
@@ -46,30 +44,20 @@ nil_front (x ∷ xs) ys is = cc is
 same_ends : (xs ys : List StepOfRow) (x y : StepOfRow) → xs ++ x ∷ [] ≡ ys ++ y ∷ []
     → (xs ≡ ys) × (x ≡ y)
 same_ends [] [] x y is = (refl, cc is)
-same_ends [] (b ∷ ys) x y is =
-    let none : ys ++ y ∷ [] ≡ [] = cc is in
-    absurd (append_not_nil ys y none)
-same_ends (a ∷ xs) [] x y is =
-    let none : xs ++ x ∷ [] ≡ [] = cc is in
-    absurd (append_not_nil xs x none)
-same_ends (a ∷ xs) (b ∷ ys) x y is =
-    let heads : a ≡ b = cc is in
-    let tails : xs ++ x ∷ [] ≡ ys ++ y ∷ [] = cc is in
-    let rest = same_ends xs ys x y tails in
-    (ap (λ z. z ∷ xs) heads ∙ ap (λ zs. b ∷ zs) rest.0, rest.1)
+same_ends [] (b ∷ ys) x y is = absurd (append_not_nil ys y (cc is))
+same_ends (a ∷ xs) [] x y is = absurd (append_not_nil xs x (cc is))
+same_ends (a ∷ xs) (b ∷ ys) x y is = let rest = same_ends xs ys x y (cc is) in
+    (ap (λ z. z ∷ xs) (cc is) ∙ ap (λ zs. b ∷ zs) rest.0, rest.1)
 
 -- what begins a list is the whole list, or begins it without its last element
 whole_or_front : (xs ys : List StepOfRow) (y : StepOfRow) → Begins xs (ys ++ y ∷ [])
     → (xs ≡ ys ++ y ∷ []) ⊎ Begins xs ys
 whole_or_front [] ys y begins = inr (begins_nil ys)
-whole_or_front (x ∷ xs) [] y begins =
-    let heads : y ≡ x = cc begins.is in
-    let tails : [] ≡ xs ++ begins.rest = cc begins.is in
-    inl (ap (λ zs. x ∷ zs) (nil_front xs begins.rest tails) ∙ ap (λ z. z ∷ []) (sym heads))
+whole_or_front (x ∷ xs) [] y begins = let tails : [] ≡ xs ++ begins.rest = cc begins.is in
+    inl (ap (λ zs. x ∷ zs) (nil_front xs begins.rest tails) ∙ ap (λ z. z ∷ []) (sym (cc begins.is)))
 whole_or_front (x ∷ xs) (z ∷ ys) y begins =
-    let heads : z ≡ x = cc begins.is in
     let tails : ys ++ y ∷ [] ≡ xs ++ begins.rest = cc begins.is in
-    by (sym heads) (whole_or_front xs ys y (record { rest = begins.rest; is = tails }))
+    by (sym (cc begins.is)) (whole_or_front xs ys y (record { rest = begins.rest; is = tails }))
   where
     by : x ≡ z → (xs ≡ ys ++ y ∷ []) ⊎ Begins xs ys
         → (x ∷ xs ≡ z ∷ ys ++ y ∷ []) ⊎ Begins (x ∷ xs) (z ∷ ys)
@@ -96,8 +84,7 @@ stops_same setting events one other row last first second begins =
           first.written ∙ ap (after_steps setting []) steps ∙ sym second.written,
           sym first.of_row ∙ ap (λ step. step.row) next ∙ second.of_row,
         )
-    by (inr front) =
-        none_stops setting first.steps first.next second.steps full second.room front
+    by (inr front) = none_stops setting first.steps first.next second.steps full second.room front
 
 one_stop : (setting : Setting) (events : List Event) (one other : List Item) (row last : ℕ)
     → StopsFull setting events one row → StopsFull setting events other last
@@ -117,11 +104,9 @@ one_stop setting events one other row last first second =
 -- a play that stops has no whole one beside it
 not_both : {X : Type 0} (setting : Setting) (events : List Event) (one other : List Item) (row : ℕ)
     → AnswersWithRoom setting events one → StopsFull setting events other row → X
-not_both setting events one other row whole stop =
-    none_stops setting stop.steps stop.next whole.answers.steps
-    (subst IsFull stop.written stop.full) whole.room
-    (first_begin_all setting 1 events [] (stop.steps ++ stop.next ∷ []) whole.answers.steps
-    stop.allowed whole.answers.allowed)
+not_both setting events one other row whole stop = none_stops setting stop.steps stop.next
+    whole.answers.steps (subst IsFull stop.written stop.full) whole.room (first_begin_all setting 1
+    events [] (stop.steps ++ stop.next ∷ []) whole.answers.steps stop.allowed whole.answers.allowed)
 
 pub one_play : (setting : Setting) (events : List Event) (one other : List Item)
     (stop halt : Option ℕ) → IsPlay setting events one stop → IsPlay setting events other halt

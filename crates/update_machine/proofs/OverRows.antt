@@ -9,13 +9,10 @@ use Rattle.update_machine.proofs.ExampleNetworks.{answered, at, delivered, one, 
 
 -- a crashes twice; once it is over, the update goes on without it, and its new boot does not open
 -- by an old message
-pub over_rows :
-    left_by open_net
-    (rebooting ++ at 6 (step.Crash 0) ∷ at 7 (step.Update 1)
+pub over_rows : left_by open_net (rebooting ++ at 6 (step.Crash 0) ∷ at 7 (step.Update 1)
     ∷ at 8 (step.Confirm 0) ∷ at 9 (step.Restart 0) ∷ at 10 (step.Deliver 4)
     ∷ at 11 (step.Packet 0 one) ∷ at 12 (step.Deliver 6) ∷ at 13 (step.Deliver 8) ∷ [])
-    ≡
-    rebooted ++ item.Row 6 (step.Crash 0) ∷ item.Down 0 ∷ item.Row 7 (step.Update 1)
+    ≡ rebooted ++ item.Row 6 (step.Crash 0) ∷ item.Down 0 ∷ item.Row 7 (step.Update 1)
     ∷ item.Submitted 1 2 ∷ item.Sent 5 (to 0 (body.Install 2 (tables_of plan_p 2 0)))
     ∷ item.Sent 6 (to 1 (body.Install 1 (tables_of plan_p 2 1))) ∷ item.Row 8 (step.Confirm 0)
     ∷ item.OverNow 0 ∷ item.Row 9 (step.Restart 0) ∷ item.Booted 0 3

@@ -10,11 +10,9 @@ use Rattle.update_machine.proofs.VersionPolicies.{numbered_at_first, other_more,
 
 range_more : (a n : ℕ) → range_with_len a (n + 1) ≡ range_with_len a n ++ (a + n) ∷ []
 range_more a zero = ap (λ x. x ∷ []) (sym (add-zero a))
-range_more a (suc n) =
-    let longer : suc n + 1 ≡ suc (n + 1) = omega arith in
-    let last : a + 1 + n ≡ a + suc n = omega arith in
+range_more a (suc n) = let longer : suc n + 1 ≡ suc (n + 1) = omega arith in
     ap (range_with_len a) longer ∙ ap (λ xs. a ∷ xs) (range_more (a + 1) n)
-    ∙ ap (λ x. a ∷ (range_with_len (a + 1) n ++ x ∷ [])) last
+    ∙ ap (λ x. a ∷ (range_with_len (a + 1) n ++ x ∷ [])) (omega arith)
 
 -- the numbers that a journal's items give are 1, 2 and so on, as many as there are items that count
 abbrev Numbered : (Item → List ℕ) → (Item → Bool) → List Item → Type 0
@@ -26,29 +24,23 @@ not_counted : (gives : Item → List ℕ) (counts : Item → Bool) (journal : Li
     Numbered gives counts journal → Numbered gives counts (journal ++ item ∷ [])
 not_counted gives counts journal item none apart known =
     let given : all_given gives (item ∷ []) ≡ [] = ap (λ xs. xs ++ []) none in
-    let count : count_of counts (item ∷ []) ≡ 0 = rw apart refl in
-    let more : count_of counts (journal ++ item ∷ []) ≡ count_of counts journal =
-    count_of_append counts journal (item ∷ []) ∙ ap (λ k. count_of counts journal + k) count
-    ∙ add-zero (count_of counts journal) in
     all_given_append gives journal (item ∷ []) ∙ ap (λ xs. all_given gives journal ++ xs) given
     ∙ append-nil (all_given gives journal)
-    ∙ known ∙ ap (range_with_len 1) (sym more)
+    ∙ known ∙ ap (range_with_len 1) (sym (count_of_append counts journal (item ∷ []) ∙ ap
+    (λ k. count_of counts journal + k) (rw apart refl) ∙ add-zero (count_of counts journal)))
 
 -- an item that counts gives the next number
 counted : (gives : Item → List ℕ) (counts : Item → Bool) (journal : List Item) (item : Item) (n : ℕ)
-    → gives item ≡ n ∷ [] → counts item ≡ true →
-    n ≡ count_of counts journal + 1 → Numbered gives counts journal
-    → Numbered gives counts (journal ++ item ∷ [])
+    → gives item ≡ n ∷ [] → counts item ≡ true → n ≡ count_of counts journal + 1
+    → Numbered gives counts journal → Numbered gives counts (journal ++ item ∷ [])
 counted gives counts journal item n one counting next known =
     let given : all_given gives (item ∷ []) ≡ n ∷ [] = ap (λ xs. xs ++ []) one in
     let count : count_of counts (item ∷ []) ≡ 1 = rw counting refl in
-    let more : count_of counts (journal ++ item ∷ []) ≡ count_of counts journal + 1 =
-    count_of_append counts journal (item ∷ []) ∙ ap (λ k. count_of counts journal + k) count in
-    let last : n ≡ 1 + count_of counts journal = omega (arith, next) in
     all_given_append gives journal (item ∷ []) ∙ ap (λ xs. all_given gives journal ++ xs) given
-    ∙ ap (λ x. all_given gives journal ++ x ∷ []) last
+    ∙ ap (λ x. all_given gives journal ++ x ∷ []) (omega (arith, next))
     ∙ ap (λ xs. xs ++ (1 + count_of counts journal) ∷ []) known
-    ∙ sym (range_more 1 (count_of counts journal)) ∙ ap (range_with_len 1) (sym more)
+    ∙ sym (range_more 1 (count_of counts journal)) ∙ ap (range_with_len 1) (sym
+    (count_of_append counts journal (item ∷ []) ∙ ap (λ k. count_of counts journal + k) count))
 
 packet_more : (journal : List Item) (item : Item) → TakesNext journal item
     → Numbered packet_number is_packet journal → Numbered packet_number is_packet

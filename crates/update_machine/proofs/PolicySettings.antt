@@ -27,13 +27,11 @@ setting_begun net files first plan sound whole given ports is = record {
 }
 
 -- the first version has the first policy and its plan
-pub first_version_is : (net : Net) (files : List PolicyFile) (first : List Row)
-    (plan : List Hosted) → slice_get files 0 ≡ Some (Whole first) → plan_of first net ≡ Ok plan
-    → (policy_at (setting_of net files) [] 1 ≡ first)
-    × (plan_at (setting_of net files) [] 1 ≡ plan)
+pub first_version_is : (net : Net) (files : List PolicyFile) (first : List Row) (plan : List Hosted)
+    → slice_get files 0 ≡ Some (Whole first) → plan_of first net ≡ Ok plan
+    → (policy_at (setting_of net files) [] 1 ≡ first) × (plan_at (setting_of net files) [] 1 ≡ plan)
 first_version_is net files first plan whole is =
-    let own = first_is (setting_of net files) [] first whole in
-    (own.0, own.1 ∙ ap hosted_in is)
+    let own = first_is (setting_of net files) [] first whole in (own.0, own.1 ∙ ap hosted_in is)
 
 -- in a sound setting it has a plan
 pub first_planned : (net : Net) (files : List PolicyFile) (first : List Row)
@@ -66,8 +64,7 @@ own_by : (setting : Setting) (file : Option PolicyFile) (earlier : Option (List 
     → IfSome earlier (IsOwn setting) → made_by file earlier ≡ Ok rows → IsOwn setting rows
 own_by setting None earlier rows sound ports own made = absurd cc
 own_by setting (Some (Whole given)) earlier rows sound ports own made =
-    let same : given ≡ rows = cc made in
-    subst (IsOwn setting) same (sound, ports)
+    subst (IsOwn setting) (cc made) (sound, ports)
 own_by setting (Some (Change edits)) None rows sound ports own made = absurd cc
 own_by setting (Some (Change edits)) (Some old) rows sound ports own made = (
   IsPolicy-applied old rows edits own.0 sound made,
@@ -79,24 +76,22 @@ own_by setting (Some (Change edits)) (Some old) rows sound ports own made = (
 pub file_is_sound : (setting : Setting) → IsSetting setting → (file : ℕ)
     → IfSome (file_at setting file) IsPolicyFile
     × IfSome (file_at setting file) (GivesOnly (λ row. NamesOwnPort setting row.action))
-file_is_sound setting is file = by_number (file == 0)
-  where
-    at_place : (k : ℕ) (o : Option PolicyFile) → slice_get setting.files k ≡ o
-        → IfSome o IsPolicyFile × IfSome o (GivesOnly (λ row. NamesOwnPort setting row.action))
-    at_place k None there = (tt, tt)
-    at_place k (Some given) there =
-        let within = slice_get_within setting.files k given there in
-        let at = get_or_from_slice_get setting.files k given given there in (
-          subst IsPolicyFile at (is.sound k given within),
-          subst (GivesOnly (λ row. NamesOwnPort setting row.action)) at (is.ports k given within),
-        )
+file_is_sound setting is file = by_number (file == 0) where
+  at_place : (k : ℕ) (o : Option PolicyFile) → slice_get setting.files k ≡ o
+      → IfSome o IsPolicyFile × IfSome o (GivesOnly (λ row. NamesOwnPort setting row.action))
+  at_place k None there = (tt, tt)
+  at_place k (Some given) there =
+      let within = slice_get_within setting.files k given there in
+      let at = get_or_from_slice_get setting.files k given given there in (
+        subst IsPolicyFile at (is.sound k given within),
+        subst (GivesOnly (λ row. NamesOwnPort setting row.action)) at (is.ports k given within),
+      )
 
-    by_number : (zero : Bool)
-        → IfSome (if zero then None else slice_get setting.files (file - 1)) IsPolicyFile
-        × IfSome (if zero then None else slice_get setting.files (file - 1))
-        (GivesOnly (λ row. NamesOwnPort setting row.action))
-    by_number true = (tt, tt)
-    by_number false = at_place (file - 1) (slice_get setting.files (file - 1)) refl
+  by_number : (zero : Bool) → IfSome (if zero then None else slice_get setting.files (file - 1))
+      IsPolicyFile × IfSome (if zero then None else slice_get setting.files (file - 1))
+      (GivesOnly (λ row. NamesOwnPort setting row.action))
+  by_number true = (tt, tt)
+  by_number false = at_place (file - 1) (slice_get setting.files (file - 1)) refl
 
 -- each version's policy is one, and names ports of the network alone
 own_in : (setting : Setting) (journal : List Item) → IsSetting setting → (version : ℕ)
@@ -111,15 +106,13 @@ own_in setting journal is (suc version) =
         → policy_by setting (policy_in setting journal version) file ≡ made
         → IfSome (result_ok made) (IsOwn setting)
     by_rows earlier file (Err why) e = tt
-    by_rows earlier file (Ok rows) e =
-        let given = file_is_sound setting is file in
+    by_rows earlier file (Ok rows) e = let given = file_is_sound setting is file in
         own_by setting (file_at setting file) (policy_in setting journal version) rows given.0
         given.1 earlier e
 
     by_file : IfSome (policy_in setting journal version) (IsOwn setting) → (o : Option ℕ)
-        → IfSome (option_and_then
-        (λ file. result_ok (policy_by setting (policy_in setting journal version) file)) o)
-        (IsOwn setting)
+        → IfSome (option_and_then (λ file. result_ok
+        (policy_by setting (policy_in setting journal version) file)) o) (IsOwn setting)
     by_file earlier None = tt
     by_file earlier (Some file) =
         by_rows earlier file (policy_by setting (policy_in setting journal version) file) refl
@@ -139,9 +132,8 @@ versions_own setting journal version is =
 pub version_is_planned : (setting : Setting) (journal : List Item) (version : ℕ)
     → IsSetting setting → HasPlan setting journal version
     → IsPlan (policy_at setting journal version) setting.net (plan_at setting journal version)
-version_is_planned setting journal version is has =
-    plan_holds (policy_at setting journal version) setting.net (plan_at setting journal version)
-    (versions_own setting journal version is).0 is.net
+version_is_planned setting journal version is has = plan_holds (policy_at setting journal version)
+    setting.net (plan_at setting journal version) (versions_own setting journal version is).0 is.net
     (sym (ap (λ (s : Setting). s.plan (policy_at setting journal version)) is.made) ∙ has.plan)
 
 -- ---- updates
@@ -149,13 +141,9 @@ version_is_planned setting journal version is has =
 -- the next policy is what the file makes of that of the newest version
 pub next_by : (setting : Setting) (journal : List Item) (file : ℕ) (newest : List Row)
     → 1 ≤ file → policy_in setting journal (version_count journal) ≡ Some newest
-    → next_policy setting journal file
-    ≡ made_by (slice_get setting.files (file - 1)) (Some newest)
+    → next_policy setting journal file ≡ made_by (slice_get setting.files (file - 1)) (Some newest)
 unfolding next_policy
-next_by setting journal file newest first is =
-    ap (λ o. policy_by setting o file) is
-    ∙ ap (λ b. made_by (if b then None else slice_get setting.files (file - 1)) (Some newest))
-    (ne_eqb file 0 (λ none. omega (arith, none, first)))
+next_by setting journal file newest first is = cc (is, ne_eqb file 0 (λ none. omega arith))
 
 -- the code of an update whose next policy, or whose plan, this is
 abbrev made_code : Setting → List Item → Result (List Row) Inapplicable → Option ℕ
@@ -180,15 +168,13 @@ unapplied_code setting journal file why made = ap (made_code setting journal) ma
 pub unplanned_code : (setting : Setting) (journal : List Item) (file : ℕ) (rows : List Row)
     (why : NoPlan) → next_policy setting journal file ≡ Ok rows → setting.plan rows ≡ Err why
     → update_code setting journal file ≡ Some (plan_code why)
-unplanned_code setting journal file rows why made is =
-    ap (made_code setting journal) made ∙ ap (plan_coded journal) is
+unplanned_code setting journal file rows why made is = cc (made, is)
 
 -- an update whose policy has a plan has the code of the marks, if they refuse it
 pub planned_code : (setting : Setting) (journal : List Item) (file : ℕ) (rows : List Row)
     (plan : List Hosted) → next_policy setting journal file ≡ Ok rows
     → setting.plan rows ≡ Ok plan → update_code setting journal file ≡ marks_code journal
-planned_code setting journal file rows plan made is =
-    ap (made_code setting journal) made ∙ ap (plan_coded journal) is
+planned_code setting journal file rows plan made is = cc (made, is)
 
 -- an update that isn't refused has a policy and a plan, and the marks allow it
 pub record IsAllowed (setting : Setting) (journal : List Item) (file : ℕ) : Type 0 where
@@ -199,8 +185,7 @@ pub record IsAllowed (setting : Setting) (journal : List Item) (file : ℕ) : Ty
 
 pub allowed_next : (setting : Setting) (journal : List Item) (file : ℕ)
     → update_code setting journal file ≡ None → IsAllowed setting journal file
-allowed_next setting journal file allowed =
-    by_rows (next_policy setting journal file) refl allowed
+allowed_next setting journal file allowed = by_rows (next_policy setting journal file) refl allowed
   where
     by_plan : (plan : Result (List Hosted) NoPlan) → plan_coded journal plan ≡ None
         → IsOk plan × (marks_code journal ≡ None)
@@ -210,6 +195,5 @@ allowed_next setting journal file allowed =
     by_rows : (made : Result (List Row) Inapplicable) → next_policy setting journal file ≡ made
         → made_code setting journal made ≡ None → IsAllowed setting journal file
     by_rows (Err why) made none = absurd cc
-    by_rows (Ok rows) made none =
-        let of_plan = by_plan (setting.plan rows) none in
+    by_rows (Ok rows) made none = let of_plan = by_plan (setting.plan rows) none in
         record { rows = rows; policy = made; planned = of_plan.0; marks = of_plan.1 }

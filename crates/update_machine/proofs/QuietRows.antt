@@ -10,11 +10,9 @@ use Rattle.update_machine.proofs.UpdateRows.{updated}
 
 by_parts : (journal : List Item)
     → AllByRecursion (λ s. IsTrue (is_up journal s || not (is_waited_for journal s)))
-    (switches_of open_net)
-    → AreReceived open_net journal journal → IsQuiet open_net journal
+    (switches_of open_net) → AreReceived open_net journal journal → IsQuiet open_net journal
 by_parts journal switches messages = record {
-  switches =
-      All-from_recursion (λ s. IsTrue (is_up journal s || not (is_waited_for journal s)))
+  switches = All-from_recursion (λ s. IsTrue (is_up journal s || not (is_waited_for journal s)))
       (switches_of open_net) switches;
   messages = messages;
 }
@@ -47,8 +45,7 @@ pub waits_for_a : IsQuiet open_net (item.Row 1 (step.Crash 0) ∷ item.Down 0 �
 unfolding was_delivered is_up boot_of current_mark
 waits_for_a quiet = true≢false (sym (quiet.switches 0 0 (omega arith)))
 
-pub quiet_without_a :
-    IsQuiet open_net
+pub quiet_without_a : IsQuiet open_net
     (item.Row 1 (step.Crash 0) ∷ item.Down 0 ∷ item.Row 2 (step.Confirm 0) ∷ item.OverNow 0 ∷ [])
 unfolding was_delivered is_up boot_of current_mark
 quiet_without_a = by_parts _ (refl, (refl, tt)) tt
@@ -56,20 +53,14 @@ quiet_without_a = by_parts _ (refl, (refl, tt)) tt
 -- ---- messages
 
 -- nothing of an update was delivered
-pub update_waits :
-    IsQuiet open_net
-    (item.Row 1 (step.Update 2) ∷ item.Submitted 2 2
+pub update_waits : IsQuiet open_net (item.Row 1 (step.Update 2) ∷ item.Submitted 2 2
     ∷ item.Sent 1 (to 0 (body.Install 1 (tables_of plan_q 2 0)))
     ∷ item.Sent 2 (to 1 (body.Install 1 (tables_of plan_q 2 1))) ∷ []) → ⊥
 unfolding was_delivered is_up boot_of current_mark
-update_waits quiet =
-    elim (quiet.messages.0 0 (omega arith) refl) [
-      | inl delivered ↦ true≢false (sym delivered)
-      | inr replaced ↦ elim replaced [
-        | inl other ↦ true≢false (sym other.1)
-        | inr none ↦ absurd none
-      ]
-    ]
+update_waits quiet = elim (quiet.messages.0 0 (omega arith) refl) [
+  | inl delivered ↦ true≢false (sym delivered)
+  | inr replaced ↦ elim replaced [ inl other ↦ true≢false (sym other.1) | inr none ↦ absurd none ]
+]
 
 -- all but a cache rule was, which doesn't matter
 pub quiet_once_updated : IsQuiet open_net updated
@@ -90,16 +81,7 @@ quiet_once_updated = by_parts _ (refl, (refl, tt)) (
               λ s there m. inl refl,
               (
                 λ s there m. inl refl,
-                (
-                  λ s there m. inl refl,
-                  (
-                    λ s there m. inl refl,
-                    (
-                      neither _ _ refl refl,
-                      tt,
-                    ),
-                  ),
-                ),
+                (λ s there m. inl refl, (λ s there m. inl refl, (neither _ _ refl refl, tt))),
               ),
             ),
           ),
@@ -112,12 +94,11 @@ quiet_once_updated = by_parts _ (refl, (refl, tt)) (
 -- boot 2 of a began, and its hello was sent; what was sent in its first boot, an advert too, or is
 -- of that boot doesn't matter any more
 abbrev restarted : List Item
-restarted =
-    item.Row 1 (step.Resend 0) ∷ item.Sent 1 (to 0 (advert 1 1 1 1))
+restarted = item.Row 1 (step.Resend 0) ∷ item.Sent 1 (to 0 (advert 1 1 1 1))
     ∷ item.Sent 2 (to 0 (body.OpenAt 1 1)) ∷ item.Row 2 (step.Crash 0) ∷ item.Down 0
-    ∷ item.Row 3 (step.Restart 0) ∷ item.Booted 0 2
-    ∷ item.Sent 3 (to_controller (body.Hello 0 2)) ∷ item.Row 4 (step.Deliver 3) ∷ item.Delivered 3
-    ∷ item.Sent 4 (to 0 (body.Stamp 1 1 [])) ∷ item.Sent 5 (to_controller (body.Stamped 0 1 1)) ∷ []
+    ∷ item.Row 3 (step.Restart 0) ∷ item.Booted 0 2 ∷ item.Sent 3 (to_controller (body.Hello 0 2))
+    ∷ item.Row 4 (step.Deliver 3) ∷ item.Delivered 3 ∷ item.Sent 4 (to 0 (body.Stamp 1 1 []))
+    ∷ item.Sent 5 (to_controller (body.Stamped 0 1 1)) ∷ []
 
 pub quiet_in_boot_2 : IsQuiet open_net restarted
 unfolding was_delivered is_up boot_of current_mark
@@ -125,16 +106,7 @@ quiet_in_boot_2 = by_parts _ (refl, (refl, tt)) (
   neither _ _ refl refl,
   (
     neither _ _ refl refl,
-    (
-      λ s there m. inl refl,
-      (
-        neither _ _ refl refl,
-        (
-          neither _ _ refl refl,
-          tt,
-        ),
-      ),
-    ),
+    (λ s there m. inl refl, (neither _ _ refl refl, (neither _ _ refl refl, tt))),
   ),
 )
 
@@ -144,26 +116,18 @@ unfolding was_delivered is_up boot_of current_mark
 advert_waits quiet = unmet _ (quiet.messages.1.1.1.1.1.0 0 (omega arith) refl) refl
 
 -- nor does what was sent before a boot began that has the number of the one before
-pub boot_begins :
-    IsQuiet open_net (item.Sent 1 (to 0 (body.Stamp 1 1 [])) ∷ item.Booted 0 1 ∷ [])
+pub boot_begins : IsQuiet open_net (item.Sent 1 (to 0 (body.Stamp 1 1 [])) ∷ item.Booted 0 1 ∷ [])
 unfolding was_delivered is_up boot_of current_mark
-boot_begins = by_parts _ (refl, (refl, tt)) (
-  neither _ _ refl refl,
-  tt,
-)
+boot_begins = by_parts _ (refl, (refl, tt)) (neither _ _ refl refl, tt)
 
 -- tables of a version below the current one, and their acknowledgement, don't matter
-pub quiet_without_old_tables :
-    IsQuiet open_net
+pub quiet_without_old_tables : IsQuiet open_net
     (item.Sent 1 (to 0 (body.Install 1 (tables_of plan_q 1 0)))
     ∷ item.Sent 2 (to_controller (body.Installed 0 1 1)) ∷ item.Current 2 ∷ [])
 unfolding was_delivered is_up boot_of current_mark
 quiet_without_old_tables = by_parts _ (refl, (refl, tt)) (
   neither _ _ refl refl,
-  (
-    neither _ _ refl refl,
-    tt,
-  ),
+  (neither _ _ refl refl, tt),
 )
 
 -- a delivery before its sending delivers nothing
@@ -175,8 +139,7 @@ delivered_too_early quiet = unmet _ (quiet.messages.0 0 (omega arith) refl) refl
 -- ---- replaced messages
 
 -- a later equal message, a stamp of a greater version and a newer advert replace those before them
-pub quiet_by_later :
-    IsQuiet open_net
+pub quiet_by_later : IsQuiet open_net
     (item.Sent 1 (to_controller (body.Hello 1 1)) ∷ item.Sent 2 (to 0 (body.Stamp 1 2 []))
     ∷ item.Sent 3 (to 0 (advert 1 1 1 1)) ∷ item.Sent 4 (to_controller (body.Hello 1 1))
     ∷ item.Sent 5 (to 0 (body.Stamp 1 3 [])) ∷ item.Sent 6 (to 0 (advert 1 1 2 0))
@@ -188,16 +151,7 @@ quiet_by_later = by_parts _ (refl, (refl, tt)) (
     λ s there m. inr (inr (inr (inl (record { receiver = refl; says = inr refl }, refl)))),
     (
       λ s there m. inr (inr (inr (inl (record { receiver = refl; says = inr refl }, refl)))),
-      (
-        λ s there m. inl refl,
-        (
-          λ s there m. inl refl,
-          (
-            λ s there m. inl refl,
-            tt,
-          ),
-        ),
-      ),
+      (λ s there m. inl refl, (λ s there m. inl refl, (λ s there m. inl refl, tt))),
     ),
   ),
 )
@@ -215,9 +169,8 @@ later_waits quiet = unmet _ (quiet.messages.1.0 1 (omega arith) refl) refl
 
 -- other tables of the same version don't replace those before them
 pub other_tables_wait : (one other : Tables) → one.version ≡ 1 → (one ≡ other → ⊥)
-    → IsQuiet open_net
-    (item.Sent 1 (to 0 (body.Install 1 one)) ∷ item.Sent 2 (to 0 (body.Install 1 other))
-    ∷ item.Delivered 2 ∷ []) → ⊥
+    → IsQuiet open_net (item.Sent 1 (to 0 (body.Install 1 one))
+    ∷ item.Sent 2 (to 0 (body.Install 1 other)) ∷ item.Delivered 2 ∷ []) → ⊥
 unfolding was_delivered is_up boot_of current_mark
 other_tables_wait one other version apart quiet =
     elim (quiet.messages.0 0 (omega arith) (rw version refl)) [

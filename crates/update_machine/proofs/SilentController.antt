@@ -1,6 +1,6 @@
 -- Items that don't concern the controller leave what it knows as it is.
 use Rattle.std.proofs.Common.{[], ◌++◌, ◌+◌, ◌≡◌, IsFalse, List, None, ap, append-nil, arith, false, refl, ℕ}
-use Rattle.update_machine.specs.Exports.{Body, ControllerKeeps, Item, NoneConcern, OpenAt, acked_stamp, all_given, body_to_controller, changes_controller_heard, changes_over, concerns_controller, controller_heard, current_mark, gives_current, gives_retired, has_acked, is_member, is_message_to_controller, is_opening, is_over, is_submission, known_boot, open_in, open_sent, opened_at, retired_mark, version_count}
+use Rattle.update_machine.specs.Exports.{Body, ControllerKeeps, Item, NoneConcern, OpenAt, acked_stamp, body_to_controller, changes_controller_heard, changes_over, concerns_controller, controller_heard, current_mark, gives_current, gives_retired, has_acked, is_member, is_message_to_controller, is_opening, is_over, is_submission, known_boot, open_in, open_sent, opened_at, retired_mark, version_count}
 use Rattle.journal.specs.declared.item.Item.TheVariants as item
 use Rattle.update_machine.proofs.SilentItems.{Keeps, Silent, Stays, count_stays, folded_stays, given_stays, last_or_stays}
 
@@ -48,27 +48,21 @@ known_stays s before items none = rw (folded_stays _ [] _ told_silent before ite
 opened_stays : (s : ℕ) → Stays concerns_controller (λ js. opened_at js s)
 unfolding opened_at
 opened_stays s before items none =
-    let known : known_boot (before ++ items) s ≡ known_boot before s =
-    known_stays s before items none in
-    let sent : all_given (open_sent s (known_boot before s)) (before ++ items)
-    ≡ all_given (open_sent s (known_boot before s)) before =
-    given_stays _ _ (open_silent s (known_boot before s)) before items none in
-    rw (known, sent) refl
+    let sent = given_stays _ _ (open_silent s (known_boot before s)) before items none in
+    rw ((known_stays s before items none), sent) refl
 
 pub controller_keeps : (before items : List Item) → NoneConcern concerns_controller before items
     → ControllerKeeps before (before ++ items)
 unfolding controller_heard is_over is_member has_acked acked_stamp current_mark retired_mark
     version_count
 controller_keeps before items none =
-    let told : controller_heard (before ++ items) ≡ controller_heard before =
-    folded_stays _ [] _ told_silent before items none in
+    let told = folded_stays _ [] _ told_silent before items none in
     let known : (s : ℕ) → known_boot (before ++ items) s ≡ known_boot before s =
     λ s. known_stays s before items none in
     let over : (s : ℕ) → is_over (before ++ items) s ≡ is_over before s =
     λ s. folded_stays _ false _ (over_silent s) before items none in
     let opened : (s : ℕ) → opened_at (before ++ items) s ≡ opened_at before s =
-    λ s. opened_stays s before items none in
-    record {
+    λ s. opened_stays s before items none in record {
       heard = told;
       known = known;
       over = over;

@@ -16,8 +16,7 @@ Keeps {X} concerns changes = (before : List Item) (value : X) (item : Item)
     → IsFalse (concerns before item) → changes before value item ≡ value
 
 -- and so does what is said, behind many of them
-abbrev pub Stays : {X : Type 0} (concerns : List Item → Item → Bool) (says : List Item → X)
-    → Type 0
+abbrev pub Stays : {X : Type 0} (concerns : List Item → Item → Bool) (says : List Item → X) → Type 0
 Stays concerns says = (before items : List Item) → NoneConcern concerns before items
     → says (before ++ items) ≡ says before
 
@@ -40,8 +39,7 @@ neither_right false c none = none
 -- what one item that doesn't concern it leaves as it is, is left as it is by many
 pub stays : {X : Type 0} (says : List Item → X) (concerns : List Item → Item → Bool)
     → ((before : List Item) (item : Item) → IsFalse (concerns before item)
-    → says (before ++ item ∷ []) ≡ says before)
-    → Stays concerns says
+    → says (before ++ item ∷ []) ≡ says before) → Stays concerns says
 stays says concerns one before [] none = ap says (append-nil before)
 stays says concerns one before (item ∷ items) none =
     ap says (sym (append_assoc before (item ∷ []) items))
@@ -77,9 +75,8 @@ count_stays test concerns silent = stays (count_of test) concerns
 pub given_stays : {X : Type 0} (gives : Item → List X) (concerns : List Item → Item → Bool)
     → Silent concerns gives [] → Stays concerns (all_given gives)
 given_stays gives concerns silent = stays (all_given gives) concerns
-    (λ js item apart. all_given_append gives js (item ∷ [])
-    ∙ ap (λ xs. all_given gives js ++ (xs ++ [])) (silent js item apart)
-    ∙ append-nil (all_given gives js))
+    (λ js item apart. all_given_append gives js (item ∷ []) ∙ ap (λ xs. all_given gives js
+    ++ (xs ++ [])) (silent js item apart) ∙ append-nil (all_given gives js))
 
 pub folded_stays : {X : Type 0} (changes : List Item → X → Item → X) (start : X)
     (concerns : List Item → Item → Bool) → Keeps concerns changes

@@ -2,7 +2,7 @@
 -- that don't concern a switch either, what it knows of the network.
 use Rattle.std.proofs.Common.{[], if◌then◌else◌, ◌&&◌, ◌++◌, ◌==◌, ◌∙◌, ◌∷◌, ◌≡◌, ◌≤◌, Bool, IsFalse, List, None, Some, ap, append_assoc, arith, count_by, eq-eqb, false, not, option_and_then, refl, suc, sym, true, unwrap_or, zero, ℕ}
 use Rattle.base.proofs.Exports.{option_map_or, result_ok}
-use Rattle.update_machine.specs.Exports.{Header, Item, KnownKeeps, LinksKeep, NoneConcern, PoliciesKeep, Setting, StepItems, SwitchKeeps, adverts_known, boot_of, cache_of, concerns_known, concerns_links, concerns_lookups, concerns_policies, concerns_switch, concerns_waiting, file_at, file_of, first_given, gives_boot, gives_file, gives_up, gives_waited_for, has_change, heard, held_adverts, hosted_in, is_cut_off, is_submission, is_up, is_waited_for, lookup_at, near, next_policy, own_advert, own_seq, plan_at, policy_at, policy_by, policy_in, route_from, stamp_of, steps_in, touched_by, touched_of, version_count}
+use Rattle.update_machine.specs.Exports.{Header, Item, KnownKeeps, LinksKeep, NoneConcern, PoliciesKeep, Setting, StepItems, adverts_known, boot_of, concerns_known, concerns_links, concerns_lookups, concerns_policies, concerns_switch, concerns_waiting, file_of, first_given, gives_boot, gives_file, gives_up, gives_waited_for, has_change, heard, held_adverts, hosted_in, is_cut_off, is_submission, is_up, is_waited_for, lookup_at, near, next_policy, own_advert, own_seq, plan_at, policy_at, policy_by, policy_in, route_from, stamp_of, steps_in, touched_by, version_count}
 use Rattle.journal.specs.declared.item.Item.TheVariants as item
 use Rattle.update_machine.proofs.SilentItems.{Silent, Stays, count_stays, fewer, first_stays, last_or_stays, neither_left, neither_right, stays}
 use Rattle.update_machine.proofs.SilentSteps.{weight_stays}
@@ -49,8 +49,7 @@ change_more : (setting : Setting) (s boot : ℕ) (before : List Item) (item : It
 change_more setting s boot before item same newest ends =
     ap (λ n. boot_of newest.before s == boot && not (near setting newest.before s == n)) (
     ap (λ js. near setting js s)
-    (sym (append_assoc newest.before newest.items (item ∷ []))
-    ∙ ap (λ js. js ++ item ∷ []) ends)
+    (sym (append_assoc newest.before newest.items (item ∷ [])) ∙ ap (λ js. js ++ item ∷ []) ends)
     ∙ same ∙ ap (λ js. near setting js s) (sym ends)
     )
 
@@ -69,8 +68,7 @@ seq_stay : (setting : Setting) (s : ℕ) (before : List Item) (item : Item)
     → own_seq setting (before ++ item ∷ []) s ≡ own_seq setting before s
 seq_stay setting s before item apart =
     let one : NoneConcern concerns_links before (item ∷ []) = (apart, tt) in
-    let same : near setting (before ++ item ∷ []) s ≡ near setting before s =
-    near_stays setting s before (item ∷ []) one in
+    let same = near_stays setting s before (item ∷ []) one in
     seq_by setting s (before ++ item ∷ []) before (is_up before s)
     (up_stays s before (item ∷ []) one) refl (boot_stays s before (item ∷ []) one)
     (weight_stays (λ step. once (has_change setting s (boot_of before s) step)) before item
@@ -87,12 +85,9 @@ seq_stays setting s before items none =
 advert_stays : (setting : Setting) (s : ℕ) → Stays concerns_links (λ js. own_advert setting js s)
 unfolding own_advert
 advert_stays setting s before items none =
-    let boot : boot_of (before ++ items) s ≡ boot_of before s = boot_stays s before items none in
-    let seq : own_seq setting (before ++ items) s ≡ own_seq setting before s =
-    seq_stays setting s before items none in
     let links : near setting (before ++ items) s ≡ near setting before s =
     near_stays setting s before items none in
-    rw (boot, seq, links) refl
+    rw ((boot_stays s before items none), seq_stays setting s before items none, links) refl
 
 pub links_keep : (setting : Setting) (before items : List Item)
     → NoneConcern concerns_links before items → LinksKeep setting before (before ++ items)
@@ -110,34 +105,25 @@ known_stays : (setting : Setting) (s : ℕ) (before items : List Item)
     → adverts_known setting (before ++ items) s ≡ adverts_known setting before s
 unfolding adverts_known
 known_stays setting s before items none no_links =
-    let switch : SwitchKeeps setting s before (before ++ items) =
-    switch_keeps setting s before items none in
-    let boot : boot_of (before ++ items) s ≡ boot_of before s = switch.boot in
-    let up : is_up (before ++ items) s ≡ is_up before s = switch.up in
+    let switch = switch_keeps setting s before items none in
     let bodies : heard (before ++ items) s ≡ heard before s = switch.heard in
     let advert : own_advert setting (before ++ items) s ≡ own_advert setting before s =
     advert_stays setting s before items no_links in
-    rw (boot, up, bodies, advert) refl
+    rw (switch.boot, switch.up, bodies, advert) refl
 
 pub known_keeps : (setting : Setting) (s : ℕ) (before items : List Item)
     → NoneConcern (concerns_known s) before items → KnownKeeps setting s before (before ++ items)
 unfolding held_adverts route_from is_cut_off
 known_keeps setting s before items none =
-    let own : NoneConcern (concerns_switch s) before items =
-    fewer (concerns_switch s) (concerns_known s)
+    let own = fewer (concerns_switch s) (concerns_known s)
     (λ js item apart. neither_left (concerns_switch s js item) (concerns_links js item) apart)
     before items none in
-    let links : NoneConcern concerns_links before items =
-    fewer concerns_links (concerns_known s)
+    let links = fewer concerns_links (concerns_known s)
     (λ js item apart. neither_right (concerns_switch s js item) (concerns_links js item) apart)
     before items none in
-    let known : adverts_known setting (before ++ items) s ≡ adverts_known setting before s =
-    known_stays setting s before items own links in
-    let near_same : near setting (before ++ items) s ≡ near setting before s =
-    near_stays setting s before items links in
-    let switch : SwitchKeeps setting s before (before ++ items) =
-    switch_keeps setting s before items own in
-    record {
+    let known = known_stays setting s before items own links in
+    let near_same = near_stays setting s before items links in
+    let switch = switch_keeps setting s before items own in record {
       known = known;
       held = rw known refl;
       links = λ down. rw (switch.boot, switch.up, switch.heard, near_same) refl;
@@ -157,13 +143,11 @@ count_silent before item apart = apart
 file_stays : (before items : List Item) → NoneConcern concerns_policies before items → (v : ℕ)
     → file_of (before ++ items) v ≡ file_of before v
 unfolding file_of
-file_stays before items none v = by_test (v == 1)
-  where
-    by_test : (b : Bool) → (if b then Some 1 else first_given (gives_file v) (before ++ items))
-        ≡ (if b then Some 1 else first_given (gives_file v) before)
-    by_test true = refl
-    by_test false =
-        first_stays (gives_file v) concerns_policies (file_silent v) before items none
+file_stays before items none v = by_test (v == 1) where
+  by_test : (b : Bool) → (if b then Some 1 else first_given (gives_file v) (before ++ items))
+      ≡ (if b then Some 1 else first_given (gives_file v) before)
+  by_test true = refl
+  by_test false = first_stays (gives_file v) concerns_policies (file_silent v) before items none
 
 -- where the versions up to this one have the same files, it has the same policy
 pub policy_by_files : (setting : Setting) (one other : List Item) (v : ℕ)
@@ -172,24 +156,20 @@ pub policy_by_files : (setting : Setting) (one other : List Item) (v : ℕ)
 unfolding policy_in
 policy_by_files setting one other zero same = refl
 policy_by_files setting one other (suc v) same =
-    let earlier : policy_in setting one v ≡ policy_in setting other v =
-    policy_by_files setting one other v (λ k first last. same k first (omega (arith, last))) in
     ap (λ o. option_and_then (λ file. result_ok (policy_by setting o file)) (file_of one (suc v)))
-    earlier
+    (policy_by_files setting one other v (λ k first last. same k first (omega (arith, last))))
     ∙ ap (option_and_then (λ file. result_ok (policy_by setting (policy_in setting other v) file)))
     (same (suc v) (omega arith) (omega arith))
 
 policy_count_stays : Stays concerns_policies version_count
 unfolding version_count
 policy_count_stays before items none =
-    let count = count_stays is_submission concerns_policies count_silent before items none in
-    rw count refl
+    rw (count_stays is_submission concerns_policies count_silent before items none) refl
 
 policy_in_keeps : (setting : Setting) (before items : List Item)
     → NoneConcern concerns_policies before items → (v : ℕ)
     → policy_in setting (before ++ items) v ≡ policy_in setting before v
-policy_in_keeps setting before items none v =
-    policy_by_files setting (before ++ items) before v
+policy_in_keeps setting before items none v = policy_by_files setting (before ++ items) before v
     (λ k first last. file_stays before items none k)
 
 touched_keeps : (before items : List Item) → NoneConcern concerns_policies before items
@@ -198,10 +178,7 @@ touched_keeps : (before items : List Item) → NoneConcern concerns_policies bef
 unfolding touched_by
 touched_keeps before items none setting zero = refl
 touched_keeps before items none setting (suc v) =
-    ap (λ file. touched_of (option_and_then (file_at setting) file)
-    (policy_in setting (before ++ items) v)) (file_stays before items none (suc v))
-    ∙ ap (touched_of (option_and_then (file_at setting) (file_of before (suc v))))
-    (policy_in_keeps setting before items none v)
+    cc (file_stays before items none (suc v), policy_in_keeps setting before items none v)
 
 pub policies_keep : (before items : List Item) → NoneConcern concerns_policies before items
     → PoliciesKeep before (before ++ items)
@@ -210,15 +187,12 @@ policies_keep before items none = record {
   count = policy_count_stays before items none;
   file = file_stays before items none;
   rows = λ setting v. policy_in_keeps setting before items none v;
-  policy = λ setting v.
-      ap (λ o. unwrap_or o []) (policy_in_keeps setting before items none v);
+  policy = λ setting v. ap (λ o. unwrap_or o []) (policy_in_keeps setting before items none v);
   plan = λ setting v. ap (λ o. option_map_or (λ rows. hosted_in (setting.plan rows)) o [])
       (policy_in_keeps setting before items none v);
   touched = touched_keeps before items none;
-  next = λ setting file.
-      ap (λ v. policy_by setting (policy_in setting (before ++ items) v) file)
-      (policy_count_stays before items none)
-      ∙ ap (λ o. policy_by setting o file)
+  next = λ setting file. ap (λ v. policy_by setting (policy_in setting (before ++ items) v) file)
+      (policy_count_stays before items none) ∙ ap (λ o. policy_by setting o file)
       (policy_in_keeps setting before items none (version_count before));
 }
 
@@ -226,18 +200,15 @@ pub lookup_stays : (setting : Setting) (s : ℕ) (header : Header)
     → Stays (concerns_lookups s) (λ js. lookup_at setting js s header)
 unfolding lookup_at plan_at
 lookup_stays setting s header before items none =
-    let switch : SwitchKeeps setting s before (before ++ items) =
-    switch_keeps setting s before items (fewer (concerns_switch s) (concerns_lookups s)
+    let switch = switch_keeps setting s before items (fewer (concerns_switch s) (concerns_lookups s)
     (λ js item apart. neither_left (concerns_switch s js item) (concerns_policies js item) apart)
     before items none) in
-    let stamp : stamp_of (before ++ items) s ≡ stamp_of before s = switch.stamp in
-    let cache : cache_of setting (before ++ items) s ≡ cache_of setting before s = switch.cache in
     let policy : policy_in setting (before ++ items) (stamp_of before s)
     ≡ policy_in setting before (stamp_of before s) =
     policy_in_keeps setting before items (fewer concerns_policies (concerns_lookups s)
     (λ js item apart. neither_right (concerns_switch s js item) (concerns_policies js item) apart)
     before items none) (stamp_of before s) in
-    rw (stamp, cache, policy) refl
+    rw (switch.stamp, switch.cache, policy) refl
 
 -- ---- switches that are waited for
 

@@ -1,6 +1,6 @@
 -- Items that don't concern a message, all messages, all packets or the steps leave their facts as
 -- they are.
-use Rattle.std.proofs.Common.{[], ◌++◌, ◌+◌, ◌∙◌, ◌≡◌, Bool, IsFalse, List, None, ap, false, find, nat_lt, refl, ℕ}
+use Rattle.std.proofs.Common.{[], ◌++◌, ◌+◌, ◌∙◌, Bool, IsFalse, List, None, ap, false, find, nat_lt, refl, ℕ}
 use Rattle.base.proofs.Exports.{range_with_len}
 use Rattle.policy_rules.proofs.CallerLemmas.{find_same}
 use Rattle.update_machine.specs.Exports.{Item, MessageKeeps, MessagesKeep, NoneConcern, PacketsKeep, changes_sendings, concerns_message, concerns_messages, concerns_packets, concerns_steps, count_of, gives_message, gives_step, gives_travelling, is_deliverable, is_delivery, is_forgetting, is_forgotten, is_packet, is_sending, is_waiting, message_of, next_message, next_packet, next_travelling, next_waiting, present_step, sendings, travels, was_delivered}
@@ -25,10 +25,8 @@ pub message_keeps : (n : ℕ) (before items : List Item)
     → NoneConcern (concerns_message n) before items → MessageKeeps n before (before ++ items)
 unfolding message_of was_delivered is_forgotten is_deliverable
 message_keeps n before items none =
-    let message : message_of (before ++ items) n ≡ message_of before n =
-    last_stays _ _ (message_silent n) before items none in
-    let forgotten : is_forgotten (before ++ items) n ≡ is_forgotten before n =
-    ap (nat_lt 0) (count_stays _ _ (forgetting_silent n) before items none) in
+    let message = last_stays _ _ (message_silent n) before items none in
+    let forgotten = ap (nat_lt 0) (count_stays _ _ (forgetting_silent n) before items none) in
     record {
       message = message;
       delivered = ap (nat_lt 0) (count_stays _ _ (delivery_silent n) before items none);
@@ -57,9 +55,8 @@ sent_count_stays : Stays concerns_messages (count_of is_sending)
 sent_count_stays = count_stays is_sending concerns_messages sending_silent
 
 -- so the first number that passes a test of facts that stay is the same
-first_stays_of : (count : List Item → ℕ) (test : List Item → ℕ → Bool)
-    (concerns : List Item → Item → Bool) → Stays concerns count
-    → ((n : ℕ) → Stays concerns (λ js. test js n))
+first_stays_of : (count : List Item → ℕ) (test : List Item → ℕ → Bool) (concerns : List Item
+    → Item → Bool) → Stays concerns count → ((n : ℕ) → Stays concerns (λ js. test js n))
     → Stays concerns (λ js. find (test js) (range_with_len 1 (count js)))
 first_stays_of count test concerns counts tests before items none =
     ap (λ k. find (test (before ++ items)) (range_with_len 1 k)) (counts before items none)
@@ -68,8 +65,7 @@ first_stays_of count test concerns counts tests before items none =
 
 waiting_same : (n : ℕ) → Stays concerns_messages (λ js. is_waiting js n)
 waiting_same n before items none =
-    let keeps : MessageKeeps n before (before ++ items) =
-    message_keeps n before items
+    let keeps = message_keeps n before items
     (fewer (concerns_message n) concerns_messages (each_silent n) before items none) in
     rw (keeps.deliverable, keeps.delivered) refl
 

@@ -1,5 +1,5 @@
 -- Items that don't concern a packet leave its facts as they are.
-use Rattle.std.proofs.Common.{[], ◌++◌, ◌≡◌, List, None, false, refl, ℕ}
+use Rattle.std.proofs.Common.{[], ◌++◌, List, None, false, refl, ℕ}
 use Rattle.failover.specs.Exports.{no_links}
 use Rattle.update_machine.specs.Exports.{Item, NoneConcern, PacketKeeps, changes_found, changes_hops, changes_leg, concerns_packet, decision_of, found_down, gives_decision, gives_header, gives_ingress, gives_route, gives_standing, gives_travelling, header_in, ingress_of, leg_of, next_switch, route_in, route_place, standing, travels}
 use Rattle.journal.specs.declared.item.Item.TheVariants as item
@@ -57,11 +57,8 @@ pub packet_keeps : (i : ℕ) (before items : List Item) → NoneConcern (concern
 unfolding header_in ingress_of standing travels decision_of leg_of route_in route_place next_switch
     found_down
 packet_keeps i before items none =
-    let route : route_in (before ++ items) i ≡ route_in before i =
-    last_or_stays _ [] _ (route_silent i) before items none in
-    let place : route_place (before ++ items) i ≡ route_place before i =
-    folded_stays _ 0 _ (hops_silent i) before items none in
-    record {
+    let route = last_or_stays _ [] _ (route_silent i) before items none in
+    let place = folded_stays _ 0 _ (hops_silent i) before items none in record {
       header = last_stays _ _ (header_silent i) before items none;
       ingress = last_stays _ _ (ingress_silent i) before items none;
       stands = last_stays _ _ (standing_silent i) before items none;

@@ -1,7 +1,7 @@
 -- What is counted over the steps of a journal stays as it is behind items that don't concern it.
 use Rattle.std.proofs.Common.{[], if◌then◌else◌, ◌++◌, ◌+◌, ◌||◌, ◌∙◌, ◌∷◌, ◌≡◌, Bool, IsFalse, List, ap, append-nil, append_assoc, arith, false, refl, subst, sum_by, sym, true, ℕ}
 use Rattle.base.proofs.Exports.{list_any, sum_by-cons, ⊤}
-use Rattle.update_machine.specs.Exports.{Hop, Item, StepItems, changes_steps, concerns_calls, count_of, folded_from, handled_count, hop_calls, is_entry_at, is_move, stays_on_way, steps_in, stuck_at_link, travels_at, with_item}
+use Rattle.update_machine.specs.Exports.{Hop, Item, StepItems, changes_steps, concerns_calls, folded_from, handled_count, hop_calls, is_entry_at, is_move, stays_on_way, steps_in, stuck_at_link, travels_at, with_item}
 use Rattle.journal.specs.declared.item.Item.TheVariants as item
 use Rattle.update_machine.proofs.FoldLemmas.{folded_append}
 use Rattle.update_machine.proofs.SilentItems.{Silent, Stays, count_stays, stays}
@@ -16,8 +16,7 @@ with_ends : (journal : List Item) (item : Item) (steps : List StepItems) → End
     → EndsWith (journal ++ item ∷ []) (with_item steps item)
 with_ends journal item [] ends = tt
 with_ends journal item (newest ∷ steps) ends =
-    sym (append_assoc newest.before newest.items (item ∷ []))
-    ∙ ap (λ js. js ++ item ∷ []) ends
+    cc (append_assoc newest.before newest.items (item ∷ []), ends)
 
 more_ends : (journal : List Item) (item : Item) (steps : List StepItems) → EndsWith journal steps
     → EndsWith (journal ++ item ∷ []) (changes_steps journal steps item)
@@ -27,11 +26,7 @@ more_ends journal other steps ends = with_ends journal other steps ends
 all_end : (before items : List Item) (steps : List StepItems) → EndsWith before steps
     → EndsWith (before ++ items) (folded_from changes_steps before steps items)
 all_end before [] steps ends = subst (λ js. EndsWith js steps) (sym (append-nil before)) ends
-all_end before (item ∷ items) steps ends =
-    subst
-    (λ js. EndsWith js
-    (folded_from changes_steps (before ++ item ∷ []) (changes_steps before steps item) items))
-    (append_assoc before (item ∷ []) items)
+all_end before (item ∷ items) steps ends = rw (append_assoc before (item ∷ []) items) at
     (all_end (before ++ item ∷ []) items (changes_steps before steps item)
     (more_ends before item steps ends))
 
@@ -81,27 +76,24 @@ is_still _ = true
 
 move_more : (last : Item) → is_still last ≡ true → (items : List Item)
     → list_any is_move (items ++ last ∷ []) ≡ list_any is_move items
-move_more last still [] = none last still
-  where
-    none : (one : Item) → is_still one ≡ true → list_any is_move (one ∷ []) ≡ false
-    none (item.Hopped packet switch) still = cc
-    none _ still = refl
+move_more last still [] = none last still where
+  none : (one : Item) → is_still one ≡ true → list_any is_move (one ∷ []) ≡ false
+  none (item.Hopped packet switch) still = cc
+  none _ still = refl
 move_more last still (first ∷ items) = ap (λ b. is_move first || b) (move_more last still items)
 
 stuck_more : (last : Item) → is_still last ≡ true → (items : List Item)
     → stuck_at_link (items ++ last ∷ []) ≡ stuck_at_link items
-stuck_more last still [] = none last
-  where
-    none : (one : Item) → stuck_at_link (one ∷ []) ≡ false
-    none (item.FoundDown packet one two) = refl
-    none _ = refl
-stuck_more last still (item.FoundDown packet one two ∷ []) = none last still
-  where
-    none : (last : Item) → is_still last ≡ true
-        → stuck_at_link (item.FoundDown packet one two ∷ last ∷ []) ≡ false
-    none (item.Stuck i s cause leg down) still = cc
-    none (item.FoundDown i a b) still = refl
-    none _ still = refl
+stuck_more last still [] = none last where
+  none : (one : Item) → stuck_at_link (one ∷ []) ≡ false
+  none (item.FoundDown packet one two) = refl
+  none _ = refl
+stuck_more last still (item.FoundDown packet one two ∷ []) = none last still where
+  none : (last : Item) → is_still last ≡ true
+      → stuck_at_link (item.FoundDown packet one two ∷ last ∷ []) ≡ false
+  none (item.Stuck i s cause leg down) still = cc
+  none (item.FoundDown i a b) still = refl
+  none _ still = refl
 stuck_more last still (item.FoundDown packet one two ∷ item.Stuck i s cause leg down ∷ items) = refl
 stuck_more last still (item.FoundDown packet one two ∷ next ∷ items) =
     stuck_more last still (next ∷ items)
@@ -140,9 +132,8 @@ call_stays : (s : ℕ) (before : List Item) (item : Item) → IsFalse (concerns_
     → handled_count (before ++ item ∷ []) s ≡ handled_count before s
 unfolding handled_count
 call_stays s before item apart =
-    let entries : count_of (is_entry_at s) (before ++ item ∷ []) ≡ count_of (is_entry_at s) before =
-    count_stays (is_entry_at s) (concerns_calls s) (entry_silent s) before (item ∷ [])
-    (apart, tt) in
+    let entries = count_stays (is_entry_at s) (concerns_calls s) (entry_silent s) before
+    (item ∷ []) (apart, tt) in
     let calls : sum_by (λ step. hop_calls s step step.items) (steps_in (before ++ item ∷ []))
     ≡ sum_by (λ step. hop_calls s step step.items) (steps_in before) =
     weight_stays (λ step. hop_calls s step step.items) before item (record {

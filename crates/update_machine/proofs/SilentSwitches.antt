@@ -1,7 +1,6 @@
 -- Items that don't concern a switch, or the links, leave its facts as they are.
-use Rattle.std.proofs.Common.{[], ◌++◌, ◌≡◌, IsFalse, List, None, ap, arith, refl, true, ℕ}
+use Rattle.std.proofs.Common.{[], ◌++◌, ◌≡◌, IsFalse, List, None, arith, refl, true, ℕ}
 use Rattle.base.proofs.Exports.{filter_agree}
-use Rattle.net_file.specs.Exports.{links_of}
 use Rattle.update_machine.specs.Exports.{Item, LinkRow, NoneConcern, Setting, SwitchKeeps, body_to_switch, boot_of, cache_of, changes_cache, changes_heard, concerns_links, concerns_switch, gives_boot, gives_link, gives_serving, gives_up, heard, holds_version, is_link_up, is_message_to, is_up, is_usable, near, serves, stamp_of}
 use Rattle.journal.specs.declared.item.Item.TheVariants as item
 use Rattle.update_machine.proofs.SilentItems.{Keeps, Silent, Stays, folded_stays, last_or_stays}
@@ -45,13 +44,9 @@ pub switch_keeps : (setting : Setting) (s : ℕ) (before items : List Item)
     → NoneConcern (concerns_switch s) before items → SwitchKeeps setting s before (before ++ items)
 unfolding boot_of is_up serves heard stamp_of holds_version cache_of
 switch_keeps setting s before items none =
-    let boot : boot_of (before ++ items) s ≡ boot_of before s =
-    last_or_stays _ 1 _ (boot_silent s) before items none in
-    let up : is_up (before ++ items) s ≡ is_up before s =
-    last_or_stays _ true _ (up_silent s) before items none in
-    let bodies : heard (before ++ items) s ≡ heard before s =
-    folded_stays _ [] _ (heard_silent s) before items none in
-    record {
+    let boot = last_or_stays _ 1 _ (boot_silent s) before items none in
+    let up = last_or_stays _ true _ (up_silent s) before items none in
+    let bodies = folded_stays _ [] _ (heard_silent s) before items none in record {
       boot = boot;
       up = up;
       serving = last_or_stays _ true _ (serving_silent s) before items none;
@@ -81,30 +76,24 @@ served_stays before items none s = last_or_stays _ true _ (served_silent s) befo
 pub link_stays : (before items : List Item) → NoneConcern concerns_links before items
     → (one other : ℕ) → is_link_up (before ++ items) one other ≡ is_link_up before one other
 unfolding is_link_up
-link_stays before items none one other =
-    last_or_stays _ true _ (link_silent _ _) before items none
+link_stays before items none one other = last_or_stays _ true _ (link_silent _ _) before items none
 
 usable_same : (before after : List Item) → ((s : ℕ) → serves after s ≡ serves before s)
     → ((one other : ℕ) → is_link_up after one other ≡ is_link_up before one other)
     → (link : LinkRow) → is_usable after link ≡ is_usable before link
 usable_same before after serving up link =
-    let a : serves after link.one ≡ serves before link.one = serving link.one in
-    let b : serves after link.two ≡ serves before link.two = serving link.two in
     let c : is_link_up after link.one link.two ≡ is_link_up before link.one link.two =
     up link.one link.two in
-    rw (a, b, c) refl
+    rw ((serving link.one), serving link.two, c) refl
 
 pub near_same : (setting : Setting) (before after : List Item)
     → ((s : ℕ) → serves after s ≡ serves before s)
     → ((one other : ℕ) → is_link_up after one other ≡ is_link_up before one other)
     → (s : ℕ) → near setting after s ≡ near setting before s
 unfolding near
-near_same setting before after serving up s =
-    ap (λ links. links_of links s)
-    (filter_agree (is_usable after) (is_usable before) (usable_same before after serving up)
-    setting.net.links)
+near_same setting before after serving up s = cc (filter_agree (is_usable after) (is_usable before)
+    (usable_same before after serving up) setting.net.links)
 
 pub near_stays : (setting : Setting) (s : ℕ) → Stays concerns_links (λ js. near setting js s)
-near_stays setting s before items none =
-    near_same setting before (before ++ items) (served_stays before items none)
-    (link_stays before items none) s
+near_stays setting s before items none = near_same setting before
+    (before ++ items) (served_stays before items none) (link_stays before items none) s

@@ -1,6 +1,6 @@
 -- Where there is an answer there is a play: all of it, or the steps before the first one that would
 -- begin full.
-use Rattle.std.proofs.Common.{[], ◌++◌, ◌+◌, ◌∙◌, ◌∷◌, ◌≡◌, ◌⊎◌, List, None, Option, Some, ap, append_assoc, inl, inr, refl, subst, sym, ℕ}
+use Rattle.std.proofs.Common.{[], ◌++◌, ◌+◌, ◌∙◌, ◌∷◌, ◌≡◌, ◌⊎◌, List, None, Option, Some, ap, append_assoc, inl, inr, refl, sym, ℕ}
 use Rattle.base.proofs.Exports.{cases_lt}
 use Rattle.update_machine.specs.Exports.{AnswersSoFar, AreAnswered, AreFirstSteps, AreFirstStepsOf, AreSome, BeginsAnswer, Drain, Event, Flush, HasPlay, HaveRoom, IsFull, Item, One, Setting, Step, StepOfRow, StopsFull, after_steps, full_at, next_delivery, next_hop, next_message, piece}
 use Rattle.update_machine.proofs.FirstSteps.{Begins, begins_cons, begins_nil}
@@ -24,10 +24,8 @@ one_front : (step : StepOfRow) (xs ys : List StepOfRow)
     → (xs ++ ys ≡ []) ⊎ (xs ++ ys ≡ step ∷ []) → (xs ≡ []) ⊎ (xs ≡ step ∷ [])
 one_front step [] ys first = inl refl
 one_front step (x ∷ xs) ys (inl none) = cc none
-one_front step (x ∷ xs) ys (inr one) =
-    let head : x ≡ step = cc one in
-    let tail : [] ≡ xs ++ ys = cc one in
-    inr (ap (λ zs. x ∷ zs) (nil_front xs ys tail) ∙ ap (λ z. z ∷ []) head)
+one_front step (x ∷ xs) ys (inr one) = let tail : [] ≡ xs ++ ys = cc one in
+    inr (ap (λ zs. x ∷ zs) (nil_front xs ys tail) ∙ ap (λ z. z ∷ []) (cc one))
 
 event_front : (setting : Setting) (row : ℕ) (event : Event) (before : List Item)
     (xs ys : List StepOfRow) → AreFirstStepsOf setting row event before (xs ++ ys)
@@ -48,12 +46,9 @@ record GoPast (xs ys mine rest : List StepOfRow) : Type 0 where
 front_or_past : (xs ys mine rest : List StepOfRow) → xs ++ ys ≡ mine ++ rest
     → Begins xs mine ⊎ GoPast xs ys mine rest
 front_or_past [] ys mine rest is = inl (begins_nil mine)
-front_or_past (x ∷ xs) ys [] rest is =
-    inr (record { more = x ∷ xs; is = refl; left = sym is })
+front_or_past (x ∷ xs) ys [] rest is = inr (record { more = x ∷ xs; is = refl; left = sym is })
 front_or_past (x ∷ xs) ys (m ∷ mine) rest is =
-    let head : x ≡ m = cc is in
-    let tail : xs ++ ys ≡ mine ++ rest = cc is in
-    by head (front_or_past xs ys mine rest tail)
+    let tail : xs ++ ys ≡ mine ++ rest = cc is in by (cc is) (front_or_past xs ys mine rest tail)
   where
     by : x ≡ m → Begins xs mine ⊎ GoPast xs ys mine rest
         → Begins (x ∷ xs) (m ∷ mine) ⊎ GoPast (x ∷ xs) ys (m ∷ mine) rest
@@ -74,24 +69,19 @@ first_front setting row (event ∷ events) before xs ys (inr first) =
     by (first_front setting (row + 1) events (after_steps setting before first.0))
     (front_or_past xs ys first.0 first.1 first.2.split)
   where
-    by : ((front back : List StepOfRow)
-        → AreFirstSteps setting (row + 1) events (after_steps setting before first.0)
-        (front ++ back)
-        → AreFirstSteps setting (row + 1) events (after_steps setting before first.0) front)
+    by : ((front back : List StepOfRow) → AreFirstSteps setting (row + 1) events
+        (after_steps setting before first.0) (front ++ back) → AreFirstSteps setting
+        (row + 1) events (after_steps setting before first.0) front)
         → Begins xs first.0 ⊎ GoPast xs ys first.0 first.1
         → AreFirstSteps setting row (event ∷ events) before xs
-    by onward (inl begins) =
-        inl (event_front setting row event before xs begins.rest
-        (subst (AreFirstStepsOf setting row event before) begins.is
-        (all_first setting row event before first.0 first.3)))
+    by onward (inl begins) = inl (event_front setting row event before xs begins.rest
+        (rw begins.is at (all_first setting row event before first.0 first.3)))
     by onward (inr past) = inr (
       first.0,
       past.more,
       record { split = past.is },
       first.3,
-      onward past.more ys
-          (subst (AreFirstSteps setting (row + 1) events (after_steps setting before first.0))
-          past.left first.4),
+      onward past.more ys (rw past.left at first.4),
     )
 
 -- ---- plays
@@ -146,25 +136,22 @@ room_or_full setting before (step ∷ steps) = elim (cases_lt full_at (next_mess
 
 pub play_exists : (setting : Setting) (events : List Event) → AreAnswered setting events
     → HasPlay setting events
-play_exists setting events answered =
-    by (room_or_full setting [] answered.1.steps)
-  where
-    by : HaveRoom setting [] answered.1.steps ⊎ FirstFull setting [] answered.1.steps
-        → HasPlay setting events
-    by (inl room) = (answered.0, None, record { answers = answered.1; room = room })
-    by (inr stop) = (
-      after_steps setting [] stop.done,
-      Some stop.next.row,
-      record {
-        steps = stop.done;
-        next = stop.next;
-        allowed = first_front setting 1 events [] (stop.done ++ stop.next ∷ []) stop.rest
-            (subst (AreFirstSteps setting 1 events [])
-            (stop.split ∙ sym (append_assoc stop.done (stop.next ∷ []) stop.rest))
-            (all_are_first setting 1 events [] answered.1.steps answered.1.allowed));
-        written = refl;
-        room = stop.room;
-        full = stop.full;
-        of_row = refl;
-      },
-    )
+play_exists setting events answered = by (room_or_full setting [] answered.1.steps) where
+  by : HaveRoom setting [] answered.1.steps ⊎ FirstFull setting [] answered.1.steps
+      → HasPlay setting events
+  by (inl room) = (answered.0, None, record { answers = answered.1; room = room })
+  by (inr stop) = (
+    after_steps setting [] stop.done,
+    Some stop.next.row,
+    record {
+      steps = stop.done;
+      next = stop.next;
+      allowed = first_front setting 1 events [] (stop.done ++ stop.next ∷ []) stop.rest
+          (rw (stop.split ∙ sym (append_assoc stop.done (stop.next ∷ []) stop.rest)) at
+          (all_are_first setting 1 events [] answered.1.steps answered.1.allowed));
+      written = refl;
+      room = stop.room;
+      full = stop.full;
+      of_row = refl;
+    },
+  )

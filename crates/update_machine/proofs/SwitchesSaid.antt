@@ -34,9 +34,8 @@ serves_once_opened = refl
 
 -- what was heard is forgotten; what is for another boot, or comes while it is down, isn't heard; an
 -- advert is for any boot
-pub hears_again :
-    heard (restarted ++ told 2 (Stamp 1 3 []) ++ told 3 (Stamp 2 3 []) ++ told 4 (advert 1 1 2 1)) 0
-    ≡ Stamp 2 3 [] ∷ advert 1 1 2 1 ∷ []
+pub hears_again : heard (restarted ++ told 2 (Stamp 1 3 []) ++ told 3 (Stamp 2 3 [])
+    ++ told 4 (advert 1 1 2 1)) 0 ≡ Stamp 2 3 [] ∷ advert 1 1 2 1 ∷ []
 unfolding heard is_up boot_of message_of
 hears_again = refl
 
@@ -56,8 +55,7 @@ no_stamp_in_boot_2 = refl
 
 -- it holds what was installed, but for what was collected
 abbrev collected : List Item
-collected =
-    told 1 (Install 1 (tables_of plan_p 2 0)) ++ told 2 (Install 1 (tables_of plan_p 3 0))
+collected = told 1 (Install 1 (tables_of plan_p 2 0)) ++ told 2 (Install 1 (tables_of plan_p 3 0))
     ++ told 3 (Collect 1 2)
 
 pub holds : (holds_version (told 1 (Install 1 (tables_of plan_p 2 0))) 0 2 ≡ true)
@@ -78,8 +76,7 @@ nears = (refl, refl, refl, refl)
 
 -- two links that fail in one step count once, and one in the next step once more
 abbrev failing : List Item
-failing =
-    item.Row 1 (step.Crash 1) ∷ item.LinkIs 0 1 false ∷ item.LinkIs 0 2 false
+failing = item.Row 1 (step.Crash 1) ∷ item.LinkIs 0 1 false ∷ item.LinkIs 0 2 false
     ∷ item.Row 2 (step.LinkUp 0 2) ∷ item.LinkIs 0 2 true ∷ []
 
 pub seq_of_steps : own_seq ring failing 0 ≡ 3
@@ -87,10 +84,8 @@ unfolding own_seq steps_in near is_link_up serves is_up boot_of mask_of mask_whe
 seq_of_steps = refl
 
 -- what changed in an earlier boot doesn't count
-pub seq_in_boot_2 :
-    own_seq ring (failing ++ item.Row 3 (step.Crash 0) ∷ item.Down 0 ∷ item.Row 4 (step.Restart 0)
-    ∷ item.Booted 0 2 ∷ item.Row 5 (step.Deliver 9) ∷ item.Opened 0 1 ∷ []) 0
-    ≡ 1
+pub seq_in_boot_2 : own_seq ring (failing ++ item.Row 3 (step.Crash 0) ∷ item.Down 0 ∷ item.Row 4
+    (step.Restart 0) ∷ item.Booted 0 2 ∷ item.Row 5 (step.Deliver 9) ∷ item.Opened 0 1 ∷ []) 0 ≡ 1
 unfolding own_seq steps_in near is_link_up serves is_up boot_of mask_of mask_where switches
 seq_in_boot_2 = refl
 
@@ -116,8 +111,7 @@ adverts_of_a = (refl, refl, refl, refl, refl, refl)
 -- ---- messages
 
 abbrev sent : List Item
-sent =
-    item.Sent 1 (to 0 (Stamp 1 1 [])) ∷ item.Sent 2 (to 0 (Stamp 1 1 []))
+sent = item.Sent 1 (to 0 (Stamp 1 1 [])) ∷ item.Sent 2 (to 0 (Stamp 1 1 []))
     ∷ item.Sent 3 (to 0 (Stamp 1 1 [])) ∷ item.Forgotten 1 ∷ item.Delivered 2 ∷ []
 
 pub forgotten_is_gone : is_deliverable sent 1 ≡ false
@@ -143,15 +137,12 @@ first_waits_first = refl
 
 -- ---- packets
 
-pub first_travels_first :
-    next_travelling (item.Entered 1 0 one ∷ item.Entered 2 0 one ∷ item.Entered 3 0 one ∷ [])
-    ≡ Some 1
+pub first_travels_first : next_travelling (item.Entered 1 0 one ∷ item.Entered 2 0 one
+    ∷ item.Entered 3 0 one ∷ []) ≡ Some 1
 unfolding next_travelling travels
 first_travels_first = refl
 
-pub second_travels_next :
-    next_travelling
-    (item.Entered 1 0 one ∷ item.Entered 2 0 one ∷ item.Entered 3 0 one ∷ item.Dropped 1 ∷ [])
-    ≡ Some 2
+pub second_travels_next : next_travelling (item.Entered 1 0 one ∷ item.Entered 2 0 one
+    ∷ item.Entered 3 0 one ∷ item.Dropped 1 ∷ []) ≡ Some 2
 unfolding next_travelling travels
 second_travels_next = refl

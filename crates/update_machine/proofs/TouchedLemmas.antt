@@ -19,9 +19,8 @@ pub touched_stays : (setting : Setting) (before items : List Item) (v : ℕ)
     → touched_by setting (before ++ items) v ≡ touched_by setting before v
 unfolding touched_by
 touched_stays setting before items zero are below = refl
-touched_stays setting before items (suc v) are below =
-    ap (λ file. touched_of (option_and_then (file_at setting) file)
-    (policy_in setting (before ++ items) v))
+touched_stays setting before items (suc v) are below = ap (λ file. touched_of
+    (option_and_then (file_at setting) file) (policy_in setting (before ++ items) v))
     (file_kept before items (suc v) ((are (suc v)).1 (omega arith, below)))
     ∙ ap (touched_of (option_and_then (file_at setting) (file_of before (suc v))))
     (policy_in_stays setting before items v are (omega (arith, below)))
@@ -35,8 +34,7 @@ none_before None = refl
 pub first_touched : (setting : Setting) (journal : List Item)
     → touched_by setting journal 1 ≡ all_touched
 unfolding touched_by policy_in
-first_touched setting journal =
-    none_before (option_and_then (file_at setting) (file_of journal 1))
+first_touched setting journal = none_before (option_and_then (file_at setting) (file_of journal 1))
 
 -- the version that is submitted next touches what its file does
 pub next_touched_is : (setting : Setting) (journal : List Item) (file version : ℕ)
@@ -52,18 +50,16 @@ next_touched_is setting journal file (suc newest) are next =
     (next_file journal file (suc newest) are next)
     ∙ ap (touched_of (file_at setting file))
     (policy_in_stays setting journal (item.Submitted file (suc newest) ∷ []) newest are
-    (omega (arith, same))
-    ∙ ap (policy_in setting journal) same)
+    (omega (arith, same)) ∙ ap (policy_in setting journal) same)
 
 -- ---- at most sixteen words
 
 few_len : (words : List WordValue) → length (few_touched words) ≤ 16
-few_len words = by_test (nat_lt 16 (length words)) refl
-  where
-    by_test : (b : Bool) → nat_lt 16 (length words) ≡ b
-        → length (if b then all_touched else words) ≤ 16
-    by_test true is = omega arith
-    by_test false is = grind (arith, nat_tests)
+few_len words = by_test (nat_lt 16 (length words)) refl where
+  by_test : (b : Bool) → nat_lt 16 (length words) ≡ b
+      → length (if b then all_touched else words) ≤ 16
+  by_test true is = omega arith
+  by_test false is = grind (arith, nat_tests)
 
 of_few : (file : Option PolicyFile) (earlier : Option (List Row))
     → length (touched_of file earlier) ≤ 16
@@ -85,8 +81,7 @@ touched_few setting journal (suc v) =
 none_met : (words : List WordValue) (word : WordValue) → list_any (meets word) words ≡ false
     → All (λ touched. IsFalse (meets word touched)) words
 none_met [] word none = All-nil (λ touched. IsFalse (meets word touched))
-none_met (first ∷ words) word none =
-    by_first (meets word first) refl none (none_met words word)
+none_met (first ∷ words) word none = by_first (meets word first) refl none (none_met words word)
   where
     by_first : (b : Bool) → meets word first ≡ b → (b || list_any (meets word) words) ≡ false
         → (list_any (meets word) words ≡ false
@@ -98,12 +93,11 @@ none_met (first ∷ words) word none =
 
 few_unmet : (words : List WordValue) (word : WordValue) → meets_any (few_touched words) word ≡ false
     → All (λ touched. IsFalse (meets word touched)) words
-few_unmet words word apart = by_test (nat_lt 16 (length words)) apart
-  where
-    by_test : (b : Bool) → meets_any (if b then all_touched else words) word ≡ false
-        → All (λ touched. IsFalse (meets word touched)) words
-    by_test true apart = let met = meets_all word in absurd cc
-    by_test false apart = none_met words word apart
+few_unmet words word apart = by_test (nat_lt 16 (length words)) apart where
+  by_test : (b : Bool) → meets_any (if b then all_touched else words) word ≡ false
+      → All (λ touched. IsFalse (meets word touched)) words
+  by_test true apart = let met = meets_all word in absurd cc
+  by_test false apart = none_met words word apart
 
 made_ok : (made : Result (List Row) Inapplicable) (rows : List Row) → result_ok made ≡ Some rows
     → made ≡ Ok rows
@@ -133,19 +127,15 @@ module _ (setting : Setting) (journal : List Item) (v : ℕ) (word : WordValue) 
       let met = meets_all word in absurd cc
   by_change (Some (Whole rows)) earlier new of before made apart =
       let met = meets_all word in absurd cc
-  by_change None earlier new of before made apart =
-      let met = meets_all word in absurd cc
+  by_change None earlier new of before made apart = let met = meets_all word in absurd cc
 
   by_file : (file : Option ℕ) (new : List Row)
-      → option_and_then
-      (λ f. result_ok (policy_by setting (policy_in setting journal v) f)) file ≡ Some new
-      → meets_any (touched_of (option_and_then (file_at setting) file)
-      (policy_in setting journal v)) word ≡ false
-      → Same new
+      → option_and_then (λ f. result_ok (policy_by setting (policy_in setting journal v) f)) file
+      ≡ Some new → meets_any (touched_of (option_and_then (file_at setting) file)
+      (policy_in setting journal v)) word ≡ false → Same new
   by_file None new made apart = absurd (cc made)
-  by_file (Some file) new made apart =
-      by_change (file_at setting file) (policy_in setting journal v) new
-      (file_is_sound setting is file).0 refl made apart
+  by_file (Some file) new made apart = by_change (file_at setting file)
+      (policy_in setting journal v) new (file_is_sound setting is file).0 refl made apart
 
 pub touched_apart : (setting : Setting) (journal : List Item) (v : ℕ) (word : WordValue)
     (header : Header) → IsSetting setting

@@ -27,14 +27,10 @@ updated =
 
 -- while a packet is on its way its version is retired, and the authority looks it up anew under the
 -- next one
-pub update_rows :
-    left_by open_net
-    (at 1 (step.Packet 0 one) ∷ at 2 (step.Update 2) ∷ at 3 (step.Deliver 1)
-    ∷ at 3 (step.Deliver 2) ∷ at 3 (step.Deliver 3) ∷ at 3 (step.Deliver 4)
-    ∷ at 3 (step.Deliver 5) ∷ at 3 (step.Deliver 6) ∷ at 3 (step.Deliver 7)
-    ∷ at 3 (step.Deliver 8) ∷ at 3 (step.Deliver 9) ∷ at 3 (step.Deliver 10)
-    ∷ at 4 (step.Hop 1) ∷ at 4 (step.Hop 1) ∷ [])
-    ≡
-    updated
+pub update_rows : left_by open_net (at 1 (step.Packet 0 one) ∷ at 2 (step.Update 2)
+    ∷ at 3 (step.Deliver 1) ∷ at 3 (step.Deliver 2) ∷ at 3 (step.Deliver 3) ∷ at 3 (step.Deliver 4)
+    ∷ at 3 (step.Deliver 5) ∷ at 3 (step.Deliver 6) ∷ at 3 (step.Deliver 7) ∷ at 3 (step.Deliver 8)
+    ∷ at 3 (step.Deliver 9) ∷ at 3 (step.Deliver 10) ∷ at 4 (step.Hop 1) ∷ at 4 (step.Hop 1) ∷ [])
+    ≡ updated
 unfolding left_by
 update_rows = refl

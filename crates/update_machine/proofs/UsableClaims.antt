@@ -45,12 +45,9 @@ row_gained links low high k x is = elim (cases_lt low (length links)) [
     | inr apart ↦ inl (ap (λ row. has row x)
         (sym (get_or-set_other links low k (bit_or (get_or links low 0) (2 ^ high)) 0 apart)) ∙ is)
     | inl same ↦
-        let row : get_or (set links low (bit_or (get_or links low 0) (2 ^ high))) k 0
-        ≡ bit_or (get_or links low 0) (2 ^ high) =
-        ap (λ n. get_or (set links low (bit_or (get_or links low 0) (2 ^ high))) n 0) same
-        ∙ get_or-set_same links low (bit_or (get_or links low 0) (2 ^ high)) 0 within in
-        elim (or_cases _ _ (sym (has-or (get_or links low 0) (2 ^ high) x)
-        ∙ ap (λ n. has n x) (sym row) ∙ is)) [
+        elim (or_cases _ _ (sym (has-or (get_or links low 0) (2 ^ high) x) ∙ ap (λ n. has n x)
+        (sym (ap (λ n. get_or (set links low (bit_or (get_or links low 0) (2 ^ high))) n 0) same
+        ∙ get_or-set_same links low (bit_or (get_or links low 0) (2 ^ high)) 0 within)) ∙ is)) [
           | inl old ↦ inl (ap (λ n. has (get_or links n 0) x) same ∙ old)
           | inr new ↦ elim (cases_eq x high) [
             | inl at ↦ inr (same, at)
@@ -62,8 +59,7 @@ row_gained links low high k x is = elim (cases_lt low (length links)) [
 ]
 
 link_gained : (links : List ℕ) (one two x y : ℕ) → IsTrue (has_link (with_link links one two) x y)
-    → IsTrue (has_link links x y)
-    ⊎ (((one == x && two == y) || (one == y && two == x)) ≡ true)
+    → IsTrue (has_link links x y) ⊎ (((one == x && two == y) || (one == y && two == x)) ≡ true)
 unfolding has_link with_link
 link_gained links one two x y is =
     elim (row_gained links (min one two) (max one two) (min x y) (max x y) is) [
@@ -76,15 +72,13 @@ found_by : (i x y : ℕ) (before : List Item) (links : List ℕ) (items : List I
     → IsTrue (has_link (folded_from (changes_found i) before links items) x y)
     → (has_link links x y || list_any (finds_down i x y) items) ≡ true
 found_by i x y before links [] is = or_left _ _ is
-found_by i x y before links (item.FoundDown packet one two ∷ items) is =
-    by_packet (packet == i) refl
-    (found_by i x y (before ++ item.FoundDown packet one two ∷ [])
-    (changes_found i before links (item.FoundDown packet one two)) items is)
+found_by i x y before links (item.FoundDown packet one two ∷ items) is = by_packet (packet == i)
+    refl (found_by i x y (before ++ item.FoundDown packet one two ∷ []) (changes_found i before
+    links (item.FoundDown packet one two)) items is)
   where
     by_packet : (b : Bool) → (packet == i) ≡ b
         → (has_link (changes_found i before links (item.FoundDown packet one two)) x y
-        || list_any (finds_down i x y) items) ≡ true
-        → (has_link links x y
+        || list_any (finds_down i x y) items) ≡ true → (has_link links x y
         || list_any (finds_down i x y) (item.FoundDown packet one two ∷ items)) ≡ true
     by_packet false e rest = rw e (rw e at rest)
     by_packet true e rest = elim (or_cases _ _ (rw e at rest)) [
@@ -95,8 +89,7 @@ found_by i x y before links (item.FoundDown packet one two ∷ items) is =
       | inr later ↦ or_right (has_link links x y) _
           (or_right (finds_down i x y (item.FoundDown packet one two)) _ later)
     ]
-found_by i x y before links (next ∷ items) is =
-    found_by i x y (before ++ next ∷ []) links items is
+found_by i x y before links (next ∷ items) is = found_by i x y (before ++ next ∷ []) links items is
 
 -- a link of the set was found down
 pub link_found : (journal : List Item) (i one two : ℕ)
@@ -104,15 +97,13 @@ pub link_found : (journal : List Item) (i one two : ℕ)
     → IsTrue (list_any (finds_down i one two) journal)
 unfolding found_down
 link_found journal i one two is =
-    ap (λ b. b || list_any (finds_down i one two) journal) (sym (has_link-none one two))
-    ∙ found_by i one two [] no_links journal is
+    cc (has_link-none one two, found_by i one two [] no_links journal is)
 
 -- so what wasn't found down isn't in the set
 pub link_not_found : (journal : List Item) (i one two : ℕ)
     → IsFalse (list_any (finds_down i one two) journal)
     → IsFalse (has_link (found_down journal i) one two)
-link_not_found journal i one two none =
-    false_from_ne_true (has_link (found_down journal i) one two)
+link_not_found journal i one two none = false_from_ne_true (has_link (found_down journal i) one two)
     (λ is. let there = link_found journal i one two is in cc)
 
 -- ---- plans of versions

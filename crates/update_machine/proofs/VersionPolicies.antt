@@ -15,13 +15,12 @@ use Rattle.update_machine.proofs.SilentLinks.{policies_keep, policy_by_files}
 pub file_append : (before items : List Item) (v : ℕ)
     → file_of (before ++ items) v ≡ option_or (file_of before v) (file_of items v)
 unfolding file_of
-file_append before items v = by_test (v == 1)
-  where
-    by_test : (b : Bool) → (if b then Some 1 else first_given (gives_file v) (before ++ items))
-        ≡ option_or (if b then Some 1 else first_given (gives_file v) before)
-        (if b then Some 1 else first_given (gives_file v) items)
-    by_test true = refl
-    by_test false = first_given_append (gives_file v) before items
+file_append before items v = by_test (v == 1) where
+  by_test : (b : Bool) → (if b then Some 1 else first_given (gives_file v) (before ++ items))
+      ≡ option_or (if b then Some 1 else first_given (gives_file v) before)
+      (if b then Some 1 else first_given (gives_file v) items)
+  by_test true = refl
+  by_test false = first_given_append (gives_file v) before items
 
 pub file_kept : (before items : List Item) (v : ℕ) → IsTrue (is_version before v)
     → file_of (before ++ items) v ≡ file_of before v
@@ -42,9 +41,8 @@ version_kept before items v there = ap is_some (file_kept before items v there) 
 pub policy_in_stays : (setting : Setting) (before items : List Item) (v : ℕ)
     → VersionsAreNumbered before → v ≤ version_count before
     → policy_in setting (before ++ items) v ≡ policy_in setting before v
-policy_in_stays setting before items v are below =
-    policy_by_files setting (before ++ items) before v
-    (λ k first last. file_kept before items k ((are k).1 (first, omega (arith, last, below))))
+policy_in_stays setting before items v are below = policy_by_files setting (before ++ items) before
+    v (λ k first last. file_kept before items k ((are k).1 (first, omega (arith, last, below))))
 
 pub policy_stays : (setting : Setting) (before items : List Item) (v : ℕ)
     → VersionsAreNumbered before → v ≤ version_count before
@@ -53,17 +51,13 @@ unfolding policy_at
 policy_stays setting before items v are below =
     ap (λ o. unwrap_or o []) (policy_in_stays setting before items v are below)
 
-pub plan_stays : (setting : Setting) (before items : List Item) (v : ℕ)
-    → VersionsAreNumbered before → v ≤ version_count before
-    → plan_at setting (before ++ items) v ≡ plan_at setting before v
+pub plan_stays : (setting : Setting) (before items : List Item) (v : ℕ) → VersionsAreNumbered before
+    → v ≤ version_count before → plan_at setting (before ++ items) v ≡ plan_at setting before v
 unfolding plan_at
-plan_stays setting before items v are below =
-    ap (λ o. option_map_or (λ rows. hosted_in (setting.plan rows)) o [])
-    (policy_in_stays setting before items v are below)
+plan_stays setting before items v are below = cc (policy_in_stays setting before items v are below)
 
 pub of_its_policy : (setting : Setting) (journal : List Item) (v : ℕ) (rows : List Row)
-    → policy_in setting journal v ≡ Some rows
-    → (policy_at setting journal v ≡ rows)
+    → policy_in setting journal v ≡ Some rows → (policy_at setting journal v ≡ rows)
     × (plan_at setting journal v ≡ hosted_in (setting.plan rows))
 unfolding policy_at plan_at
 of_its_policy setting journal v rows is = (
@@ -84,30 +78,20 @@ pub submitted_more : (journal : List Item) (file version : ℕ)
     → version ≡ version_count journal + 1 → VersionsAreNumbered journal
     → VersionsAreNumbered (journal ++ item.Submitted file version ∷ [])
 unfolding file_of
-submitted_more journal file version next are v =
-    rw (
-      file_append journal (item.Submitted file version ∷ []) v,
-      count_submitted journal file version,
-    )
+submitted_more journal file version next are v = rw (file_append, count_submitted)
     (by (file_of journal v) (are v))
   where
-    by : (o : Option ℕ)
-        → (IsTrue (is_some o) ↔ ((1 ≤ v) × (v ≤ version_count journal)))
-        → IsTrue (is_some (option_or o (file_of (item.Submitted file version ∷ []) v)))
-        ↔ ((1 ≤ v) × (v ≤ version_count journal + 1))
-    by (Some earlier) known =
-        let low = known.0 refl in
+    by : (o : Option ℕ) → (IsTrue (is_some o) ↔ ((1 ≤ v) × (v ≤ version_count journal)))
+        → IsTrue (is_some (option_or o (file_of (item.Submitted file version ∷ []) v))) ↔
+        ((1 ≤ v) × (v ≤ version_count journal + 1))
+    by (Some earlier) known = let low = known.0 refl in
         (λ there. (omega (arith, low), omega (arith, low)), λ within. refl)
-    by None known = (
-      λ there. grind (arith, nat_tests),
-      λ within. grind (arith, nat_tests),
-    )
+    by None known = (λ there. grind (arith, nat_tests), λ within. grind (arith, nat_tests))
 
 pub other_more : (journal : List Item) (item : Item) → IsFalse (is_submission item)
     → VersionsAreNumbered journal → VersionsAreNumbered (journal ++ item ∷ [])
 other_more journal item apart are v =
-    let keep = policies_keep journal (item ∷ []) (apart, tt) in
-    rw (keep.file v, keep.count) (are v)
+    let keep = policies_keep journal (item ∷ []) (apart, tt) in rw (keep.file v, keep.count) (are v)
 
 pub numbered_at_first : VersionsAreNumbered []
 unfolding file_of version_count
@@ -119,22 +103,19 @@ has_plan : (setting : Setting) (journal : List Item) (v : ℕ) (rows : List Row)
     (plan : List Hosted) → policy_in setting journal v ≡ Some rows → setting.plan rows ≡ Ok plan
     → HasPlan setting journal v
 has_plan setting journal v rows plan policy planned =
-    let own = of_its_policy setting journal v rows policy in
-    record {
+    let own = of_its_policy setting journal v rows policy in record {
       policy = policy ∙ ap Some (sym own.0);
       plan = ap setting.plan own.0 ∙ planned ∙ ap Ok (sym (own.1 ∙ ap hosted_in planned));
     }
 
 -- a policy that has some plan
 planned_of : (setting : Setting) (journal : List Item) (v : ℕ) (rows : List Row)
-    → policy_in setting journal v ≡ Some rows → IsOk (setting.plan rows)
-    → HasPlan setting journal v
-planned_of setting journal v rows policy = by_plan (setting.plan rows) refl
-  where
-    by_plan : (plan : Result (List Hosted) NoPlan) → setting.plan rows ≡ plan → IsOk plan
-        → HasPlan setting journal v
-    by_plan (Err why) is ok = absurd cc
-    by_plan (Ok plan) is ok = has_plan setting journal v rows plan policy is
+    → policy_in setting journal v ≡ Some rows → IsOk (setting.plan rows) → HasPlan setting journal v
+planned_of setting journal v rows policy = by_plan (setting.plan rows) refl where
+  by_plan : (plan : Result (List Hosted) NoPlan) → setting.plan rows ≡ plan → IsOk plan
+      → HasPlan setting journal v
+  by_plan (Err why) is ok = absurd cc
+  by_plan (Ok plan) is ok = has_plan setting journal v rows plan policy is
 
 pub has_plan_stays : (setting : Setting) (before items : List Item) (v : ℕ)
     → VersionsAreNumbered before → v ≤ version_count before
@@ -157,8 +138,7 @@ first_policy_stays setting journal =
 
 pub first_plan_stays : (setting : Setting) (journal : List Item)
     → plan_at setting journal 1 ≡ plan_at setting [] 1
-first_plan_stays setting journal =
-    plan_stays setting [] journal 1 numbered_at_first first_counted
+first_plan_stays setting journal = plan_stays setting [] journal 1 numbered_at_first first_counted
 
 pub first_has_plan : (setting : Setting) (journal : List Item) → HasPlan setting [] 1
     → HasPlan setting journal 1
@@ -172,8 +152,7 @@ unfolding policy_in file_of
 first_in setting journal rows whole = ap (λ file. result_ok (made_by file None)) whole
 
 pub first_is : (setting : Setting) (journal : List Item) (rows : List Row)
-    → file_at setting 1 ≡ Some (Whole rows)
-    → (policy_at setting journal 1 ≡ rows)
+    → file_at setting 1 ≡ Some (Whole rows) → (policy_at setting journal 1 ≡ rows)
     × (plan_at setting journal 1 ≡ hosted_in (setting.plan rows))
 first_is setting journal rows whole =
     of_its_policy setting journal 1 rows (first_in setting journal rows whole)
@@ -187,16 +166,14 @@ begins_planned setting is =
 alone : (file version : ℕ) → 2 ≤ version
     → file_of (item.Submitted file version ∷ []) version ≡ Some file
 unfolding file_of
-alone file version many =
-    let other : (version == 1) ≡ false = grind (arith, nat_tests) in
+alone file version many = let other : (version == 1) ≡ false = grind (arith, nat_tests) in
     rw (other, eq-eqb version version refl) refl
 
 first_there : (journal : List Item) → IsTrue (is_version journal 1)
 unfolding file_of
 first_there journal = refl
 
-pub count_above : (journal : List Item) → VersionsAreNumbered journal
-    → 1 ≤ version_count journal
+pub count_above : (journal : List Item) → VersionsAreNumbered journal → 1 ≤ version_count journal
 count_above journal are = ((are 1).0 (first_there journal)).1
 
 pub next_file : (journal : List Item) (file version : ℕ) → VersionsAreNumbered journal
@@ -212,9 +189,7 @@ next_file journal file version are next =
     by_old : (o : Option ℕ) → file_of journal version ≡ o
         → option_or o (file_of (item.Submitted file version ∷ []) version) ≡ Some file
     by_old None e = own
-    by_old (Some old) e =
-        let there : IsTrue (is_version journal version) = rw e refl in
-        absurd (omega (arith, ((are version).0 there).1, next))
+    by_old (Some old) e = absurd (omega (arith, ((are version).0 (rw e refl)).1, next))
 
 -- what its file makes of the policy of the newest version
 pub next_made : (setting : Setting) (journal : List Item) (file version : ℕ)
@@ -230,8 +205,7 @@ next_made setting journal file (suc newest) are next =
     (next_file journal file (suc newest) are next)
     ∙ ap (λ o. result_ok (policy_by setting o file))
     (policy_in_stays setting journal (item.Submitted file (suc newest) ∷ []) newest are
-    (omega (arith, same))
-    ∙ ap (policy_in setting journal) same)
+    (omega (arith, same)) ∙ ap (policy_in setting journal) same)
 
 pub next_policy_in : (setting : Setting) (journal : List Item) (file version : ℕ)
     (rows : List Row) → VersionsAreNumbered journal → version ≡ version_count journal + 1
@@ -242,11 +216,10 @@ next_policy_in setting journal file version rows are next policy =
 
 -- it has the next policy, and its plan
 pub next_is : (setting : Setting) (journal : List Item) (file version : ℕ) (rows : List Row)
-    → VersionsAreNumbered journal → version ≡ version_count journal + 1
-    → next_policy setting journal file ≡ Ok rows
-    → (policy_at setting (journal ++ item.Submitted file version ∷ []) version ≡ rows)
-    × (plan_at setting (journal ++ item.Submitted file version ∷ []) version
-    ≡ hosted_in (setting.plan rows))
+    → VersionsAreNumbered journal
+    → version ≡ version_count journal + 1 → next_policy setting journal file ≡ Ok rows
+    → (policy_at setting (journal ++ item.Submitted file version ∷ []) version ≡ rows) × (plan_at
+    setting (journal ++ item.Submitted file version ∷ []) version ≡ hosted_in (setting.plan rows))
 next_is setting journal file version rows are next policy =
     of_its_policy setting (journal ++ item.Submitted file version ∷ []) version rows
     (next_policy_in setting journal file version rows are next policy)
@@ -270,10 +243,9 @@ part_there setting journal zero partition hosted is = absurd cc
 part_there setting journal (suc version) partition hosted is =
     by_file (file_of journal (suc version)) is
   where
-    by_file : (o : Option ℕ) → slice_get (option_map_or (λ rows. hosted_in (setting.plan rows))
-        (option_and_then
-        (λ file. result_ok (policy_by setting (policy_in setting journal version) file)) o) [])
-        partition ≡ Some hosted
-        → IsTrue (is_some o)
+    by_file : (o : Option ℕ)
+        → slice_get (option_map_or (λ rows. hosted_in (setting.plan rows)) (option_and_then (λ file.
+        result_ok (policy_by setting (policy_in setting journal version) file)) o) []) partition
+        ≡ Some hosted → IsTrue (is_some o)
     by_file None is = absurd cc
     by_file (Some file) is = refl

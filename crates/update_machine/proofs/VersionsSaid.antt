@@ -88,8 +88,7 @@ unfolding next_policy
 next_of_3 = refl
 
 -- the machine takes no policy of a file that isn't there
-pub nothing_submitted : (old new : Machine)
-    → Submits old 2
+pub nothing_submitted : (old new : Machine) → Submits old 2
     (result_ok (policy_by open_net (submitted_policy old (length old.policies)) 3)) new → ⊥
 nothing_submitted old new submits = cc submits.there
 
@@ -111,8 +110,7 @@ pub without_plan : update_code too_large [] 2 ≡ Some 15
 unfolding version_count retired_mark next_policy
 without_plan = refl
 
-pub without_file :
-    (update_code too_large [] 3 ≡ Some 24) × (update_code too_large [] 0 ≡ Some 24)
+pub without_file : (update_code too_large [] 3 ≡ Some 24) × (update_code too_large [] 0 ≡ Some 24)
 unfolding version_count retired_mark next_policy
 without_file = (refl, refl)
 
@@ -134,10 +132,8 @@ pub reached : IsReached open_net (item.Row 1 (step.Forget 1) ∷ item.Nothing �
 unfolding piece forget_items is_deliverable message_of
 reached = record {
   steps = at 1 (step.Forget 1) ∷ [];
-  own = All-from_recursion
-      (λ (next : StepOfRow). IsStep open_net.net (length open_net.files) next.step)
-      (at 1 (step.Forget 1) ∷ [])
-      (omega arith, tt);
+  own = All-from_recursion (λ (next : StepOfRow). IsStep open_net.net (length open_net.files)
+      next.step) (at 1 (step.Forget 1) ∷ []) (omega arith, tt);
   written = refl;
 }
 

@@ -6,15 +6,13 @@ pub all_are_first : (setting : Setting) (row : ℕ) (events : List Event) (befor
     (steps : List StepOfRow) → AreSteps setting row events before steps
     → AreFirstSteps setting row events before steps
 all_are_first setting row [] before steps all = all
-all_are_first setting row (event ∷ events) before steps all =
-    inr (
-      all.0,
-      all.1,
-      all.2,
-      all.3,
-      all_are_first setting (row + 1) events
-          (after_steps setting before all.0) all.1 all.4,
-    )
+all_are_first setting row (event ∷ events) before steps all = inr (
+  all.0,
+  all.1,
+  all.2,
+  all.3,
+  all_are_first setting (row + 1) events (after_steps setting before all.0) all.1 all.4,
+)
 
 pub answers_so_far : (setting : Setting) (events : List Event) (journal : List Item)
     → Answers setting events journal → AnswersSoFar setting events journal

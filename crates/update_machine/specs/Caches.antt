@@ -29,8 +29,7 @@ carried_from touched earlier version cache =
 -- is added, a switch that opens may raise its stamp, and so may one that is told to stamp
 abbrev pub cache_after : (ℕ → List WordValue) → ℕ → ℕ → ℕ → CacheValue → Body → CacheValue
 cache_after touched_of earlier stamp number cache (CacheRule version word rule action) =
-    after_accept stamp
-    (record {
+    after_accept stamp (record {
       version = version;
       word = word;
       rule = rule;

@@ -43,8 +43,7 @@ pub record IsLostWith (before : List Item) (packet : ℕ) : Type 0 where
   pub stands : standing before packet ≡ Some switch
 
 abbrev pub IsLostRightly : List Item → ℕ → Type 0
-IsLostRightly before packet =
-    (present_step before ≡ Some (Lose packet)) ⊎ IsLostWith before packet
+IsLostRightly before packet = (present_step before ≡ Some (Lose packet)) ⊎ IsLostWith before packet
 
 -- a packet finds a link of the network down, from where it is: that switch can't use it
 pub record FindsDown (setting : Setting) (before : List Item) (packet one two : ℕ) : Type 0 where
@@ -78,8 +77,7 @@ AreTargets setting before packet (Seek version partition) targets =
     × (hosted.0.number ≡ partition) × (hosted.1 ≡ targets)
 AreTargets setting before packet (Exit port) targets =
     (decision : Decision) × (decision_of before packet ≡ Some decision)
-    × (decision.action ≡ Out port)
-    × (option_to_list (owner_of setting.net.switches port) ≡ targets)
+    × (decision.action ≡ Out port) × (option_to_list (owner_of setting.net.switches port) ≡ targets)
 
 -- a packet is stuck where it is, at a switch that serves: over the links that the switch knows,
 -- except those that the packet found down, no walk leads to any target of its leg
@@ -95,8 +93,7 @@ pub record IsStuckRightly (setting : Setting) (before : List Item) (packet switc
 -- a link comes back or fails by its own row, which names its ends in either order
 abbrev pub IsLinkStep : Option Step → ℕ → ℕ → Bool → Type 0
 IsLinkStep step one two true = (step ≡ Some (LinkUp one two)) ⊎ (step ≡ Some (LinkUp two one))
-IsLinkStep step one two false =
-    (step ≡ Some (LinkDown one two)) ⊎ (step ≡ Some (LinkDown two one))
+IsLinkStep step one two false = (step ≡ Some (LinkDown one two)) ⊎ (step ≡ Some (LinkDown two one))
 
 -- ends, links found down, failures, boots and submitted versions have their causes before them
 abbrev pub HasCause : Setting → List Item → Item → Type 0

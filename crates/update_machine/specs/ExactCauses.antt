@@ -26,8 +26,7 @@ abbrev pub SeeksOwn : Setting → List Item → ℕ → Leg → Type 0
 SeeksOwn setting before packet (Seek version partition) =
     (header : Header) × (header_in before packet ≡ Some header)
     × (option_map (λ hosted. hosted.0.number)
-    (find (λ hosted. is_in header hosted.0) (plan_at setting before version))
-    ≡ Some partition)
+    (find (λ hosted. is_in header hosted.0) (plan_at setting before version)) ≡ Some partition)
 SeeksOwn setting before packet (Exit port) =
     (decision : Decision) × (decision_of before packet ≡ Some decision)
     × (decision.action ≡ Out port)

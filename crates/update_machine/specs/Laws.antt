@@ -139,8 +139,7 @@ pub record LinksKeep (setting : Setting) (before after : List Item) : Type 0 whe
 pub record KnownKeeps (setting : Setting) (s : ℕ) (before after : List Item) : Type 0 where
   pub known : adverts_known setting after s ≡ adverts_known setting before s
   pub held : held_adverts setting after s ≡ held_adverts setting before s
-  pub links : (down : List ℕ) →
-      links_known setting after s down ≡ links_known setting before s down
+  pub links : (down : List ℕ) → links_known setting after s down ≡ links_known setting before s down
   pub route : (targets down : List ℕ) →
       route_from setting after s targets down ≡ route_from setting before s targets down
   pub cut_off : (down : List ℕ) (target : ℕ) →
@@ -168,10 +167,8 @@ pub record PacketsKeep (before after : List Item) : Type 0 where
 pub record PoliciesKeep (before after : List Item) : Type 0 where
   pub count : version_count after ≡ version_count before
   pub file : (v : ℕ) → file_of after v ≡ file_of before v
-  pub rows : (setting : Setting) (v : ℕ) →
-      policy_in setting after v ≡ policy_in setting before v
-  pub policy : (setting : Setting) (v : ℕ) →
-      policy_at setting after v ≡ policy_at setting before v
+  pub rows : (setting : Setting) (v : ℕ) → policy_in setting after v ≡ policy_in setting before v
+  pub policy : (setting : Setting) (v : ℕ) → policy_at setting after v ≡ policy_at setting before v
   pub plan : (setting : Setting) (v : ℕ) → plan_at setting after v ≡ plan_at setting before v
   pub touched : (setting : Setting) (v : ℕ) →
       touched_by setting after v ≡ touched_by setting before v

@@ -33,8 +33,7 @@ adverts_heard journal s = filter_map (other_advert s) (heard journal s)
 abbrev pub adverts_begun : Setting → List Item → ℕ → List (Option Advert)
 adverts_begun setting journal s = if is_in_first_boot journal s
     then first_adverts (map (links_of setting.net.links) (switches_of setting))
-    (length setting.net.switches)
-    else no_adverts
+    (length setting.net.switches) else no_adverts
 
 -- for each origin the newest of these adverts
 abbrev pub adverts_of_others : Setting → List Item → ℕ → List (Option Advert)

@@ -81,8 +81,7 @@ abbrev pub newer_of : Option Claim → Option Claim → Option Claim
 newer_of held None = held
 newer_of None heard = heard
 newer_of (Some held) (Some heard) = if nat_lt held.boot heard.boot
-    || (held.boot == heard.boot && nat_lt held.seq heard.seq)
-    then Some heard else Some held
+    || (held.boot == heard.boot && nat_lt held.seq heard.seq) then Some heard else Some held
 
 abbrev pub changes_claim : ℕ → ℕ → List Item → Option Claim → Item → Option Claim
 changes_claim s one before claim (item.Down switch) = if switch == s then None else claim
@@ -93,8 +92,7 @@ changes_claim s one before claim _ = claim
 
 -- at the beginning each switch knows each one's links in the network
 abbrev pub first_claim : Setting → ℕ → Claim
-first_claim setting one =
-    record { boot = 1; seq = 1; links = are_linked setting.net.links one }
+first_claim setting one = record { boot = 1; seq = 1; links = are_linked setting.net.links one }
 
 -- the newest claim of switch one that switch s, which is up, heard in its boot, or began with
 unfoldable pub claim_of : Setting → List Item → ℕ → ℕ → Option Claim

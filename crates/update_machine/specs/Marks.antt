@@ -166,8 +166,7 @@ least_number numbers = reduce min numbers
 unfoldable pub next_retired : Setting → List Item → ℕ
 next_retired setting journal =
     unwrap_or (least_number (map (acked_stamp journal) (members setting journal)))
-    (current_mark journal)
-    - 1
+    (current_mark journal) - 1
 
 -- ---- the rule of the marks
 

@@ -39,13 +39,11 @@ is_deliverable journal number =
 
 -- it was never delivered and isn't forgotten
 abbrev pub is_waiting : List Item → ℕ → Bool
-is_waiting journal number =
-    is_deliverable journal number && not (was_delivered journal number)
+is_waiting journal number = is_deliverable journal number && not (was_delivered journal number)
 
 -- the least number of a waiting message
 unfoldable pub next_waiting : List Item → Option ℕ
-next_waiting journal =
-    find (is_waiting journal) (range_with_len 1 (count_of is_sending journal))
+next_waiting journal = find (is_waiting journal) (range_with_len 1 (count_of is_sending journal))
 
 abbrev pub is_to_controller : Place → Bool
 is_to_controller (receiver.Switch switch) = false
@@ -54,8 +52,7 @@ is_to_controller receiver.Controller = true
 -- the items that send messages, the first one under this number
 unfoldable pub sent_from : ℕ → List Message → List Item
 sent_from number [] = []
-sent_from number (message ∷ messages) =
-    item.Sent number message ∷ sent_from (number + 1) messages
+sent_from number (message ∷ messages) = item.Sent number message ∷ sent_from (number + 1) messages
 
 -- the items that send messages after a journal
 abbrev pub send_items : List Item → List Message → List Item

@@ -27,8 +27,7 @@ VersionsAreNumbered journal = (v : ℕ) → IsTrue (is_version journal v)
 -- the numbers are 1, 2 and so on, as many as there are packets, messages or versions
 pub record AreNumbered (journal : List Item) : Type 0 where
   pub packets : all_given packet_number journal ≡ packets_in journal
-  pub messages : all_given message_number journal
-      ≡ range_with_len 1 (count_of is_sending journal)
+  pub messages : all_given message_number journal ≡ range_with_len 1 (count_of is_sending journal)
   pub versions : VersionsAreNumbered journal
 
 -- the cause of a number: it is the next one

@@ -68,11 +68,10 @@ forget_items number journal = elim (is_deliverable journal number) [
 ]
 
 unfoldable pub expire_items : Setting → ℕ → ℕ → List Item → List Item
-expire_items setting s place journal =
-    elim (slice_get (cache_of setting journal s).entries place) [
-      | None ↦ nothing
-      | Some entry ↦ item.Expired s place entry.message ∷ []
-    ]
+expire_items setting s place journal = elim (slice_get (cache_of setting journal s).entries place) [
+  | None ↦ nothing
+  | Some entry ↦ item.Expired s place entry.message ∷ []
+]
 
 -- ---- policies
 
@@ -132,8 +131,7 @@ unfoldable pub crash_items : Setting → List Item → ℕ → List Item → Lis
 crash_items setting before s journal = elim (is_up before s) [
   | false ↦ nothing
   | true ↦ items_then (item.Down s ∷ map item.Lost (packets_at before s))
-      (link_changes setting before)
-      journal
+      (link_changes setting before) journal
 ]
 
 -- a switch that was down begins its next boot, and sends it to the controller

@@ -97,8 +97,7 @@ IsReplaced message (_ ∷ after) = IsReplaced message after
 
 -- the message of this number, with these items after it, was delivered, or one that replaces it
 abbrev pub IsReceived : ℕ → Message → List Item → Type 0
-IsReceived number message after =
-    IsTrue (was_delivered after number) ⊎ IsReplaced message after
+IsReceived number message after = IsTrue (was_delivered after number) ⊎ IsReplaced message after
 
 -- the same is true of each message of these last items of the journal that matters to a switch of
 -- the network

@@ -19,12 +19,11 @@ boot_at before (receiver.Switch s) = boot_of before s
 boot_at before receiver.Controller = 0
 
 abbrev pub changes_sendings : List Item → List Sending → Item → List Sending
-changes_sendings before sendings (item.Sent number message) =
-    sendings ++ record {
-      number = number;
-      message = message;
-      boot = boot_at before message.to;
-    } ∷ []
+changes_sendings before sendings (item.Sent number message) = sendings ++ record {
+  number = number;
+  message = message;
+  boot = boot_at before message.to;
+} ∷ []
 changes_sendings before sendings _ = sendings
 
 -- all that was sent, in order

@@ -57,15 +57,13 @@ gives_file v _ = None
 -- the file of a version: the first file is that of version 1, and any other version has the one
 -- with which it was submitted
 unfoldable pub file_of : List Item → ℕ → Option ℕ
-file_of journal version =
-    if version == 1 then Some 1 else first_given (gives_file version) journal
+file_of journal version = if version == 1 then Some 1 else first_given (gives_file version) journal
 
 -- the policy of a version, if it has one: what its file makes of that of the version before
 unfoldable pub policy_in : Setting → List Item → ℕ → Option (List Row)
 policy_in setting journal zero = None
 policy_in setting journal (suc version) =
-    option_and_then
-    (λ file. result_ok (policy_by setting (policy_in setting journal version) file))
+    option_and_then (λ file. result_ok (policy_by setting (policy_in setting journal version) file))
     (file_of journal (suc version))
 
 -- the plan of a version is that of its policy
@@ -76,8 +74,7 @@ IsPlanOf setting journal version plan = (rows : List Row)
 -- an action names a port that a switch has, if it names one
 abbrev pub NamesOwnPort : Setting → Action → Type 0
 NamesOwnPort setting action.Drop = ⊤
-NamesOwnPort setting (action.Out port) =
-    IsTrue (is_some (owner_of setting.net.switches port))
+NamesOwnPort setting (action.Out port) = IsTrue (is_some (owner_of setting.net.switches port))
 
 -- a network, and files of policies and changes that name only its ports; the first one has a
 -- policy, with a plan

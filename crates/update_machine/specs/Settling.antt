@@ -103,8 +103,7 @@ installs_to_all setting journal =
 
 -- a new version is submitted
 abbrev pub submitted_items : Setting → List Item → List Item
-submitted_items setting journal =
-    in_turn (installs_to_all setting ∷ settling setting ∷ []) journal
+submitted_items setting journal = in_turn (installs_to_all setting ∷ settling setting ∷ []) journal
 
 -- ---- sending again
 

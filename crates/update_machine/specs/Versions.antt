@@ -55,8 +55,7 @@ next_policy setting journal file =
 -- the version has a policy, which has a plan
 pub record HasPlan (setting : Setting) (journal : List Item) (version : ℕ) : Type 0 where
   pub policy : policy_in setting journal version ≡ Some (policy_at setting journal version)
-  pub plan : setting.plan (policy_at setting journal version)
-      ≡ Ok (plan_at setting journal version)
+  pub plan : setting.plan (policy_at setting journal version) ≡ Ok (plan_at setting journal version)
 
 -- the tables of a version that its plan gives switch s
 abbrev pub tables_at : Setting → List Item → ℕ → ℕ → Tables

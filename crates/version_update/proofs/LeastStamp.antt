@@ -19,9 +19,8 @@ fold_min-version count first (n ∷ more) here all =
 least-version : (count d : ℕ) (numbers : List ℕ) → IsVersion count d → All (IsVersion count) numbers
     → IsVersion count (unwrap_or (least_of numbers) d)
 least-version count d [] here all = here
-least-version count d (n ∷ more) here all =
-    fold_min-version count n more (All-head (IsVersion count) n more all)
-    (All-tail (IsVersion count) n more all)
+least-version count d (n ∷ more) here all = fold_min-version count n more
+    (All-head (IsVersion count) n more all) (All-tail (IsVersion count) n more all)
 
 stamps-versions : (count : ℕ) (switches : List SwitchRecord) → All (IsSoundRecord count) switches
     → All (IsVersion count) (acked_stamps switches)
@@ -33,14 +32,11 @@ stamps-versions count (known ∷ more) sound = by_phase (is_member known.phase) 
     here = All-head (IsSoundRecord count) known more sound
 
     by_phase : (member : Bool) → is_member known.phase ≡ member
-        → All (IsVersion count) (acked_stamps more)
-        → All (IsVersion count) (map (λ k. k.acked_stamp)
-        (cond member (known ∷ member_records more) (member_records more)))
-    by_phase true is rest =
-        let low = here.open_version is in
-        let high = here.acked_stamp is in
+        → All (IsVersion count) (acked_stamps more) → All (IsVersion count)
+        (map (λ k. k.acked_stamp) (cond member (known ∷ member_records more) (member_records more)))
+    by_phase true is rest = let high = here.acked_stamp is in
         All-cons (IsVersion count) known.acked_stamp (acked_stamps more)
-        (omega (arith, low, high), here.stamp_bound) rest
+        (omega (arith, here.open_version is, high), here.stamp_bound) rest
     by_phase false is rest = rest
 
 -- the least acknowledged stamp is a version, and so is what stands where there is no member

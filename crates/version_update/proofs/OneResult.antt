@@ -1,5 +1,5 @@
 -- A change settles in one way.
-use Rattle.std.proofs.Common.{[], ◌&&◌, ◌+◌, ◌-◌, ◌<◌, ◌∙◌, ◌∷◌, ◌≡◌, ◌≤◌, ◌⊎◌, All, Bool, Contains, IsFalse, List, MatchOption, None, Option, Some, ap, arith, cond, false, fold, inl, inr, le-ltb, ltb, map, min, refl, slice_get, subst, suc, sym, unwrap_or, zero, ℕ, ⊎_elim}
+use Rattle.std.proofs.Common.{[], ◌&&◌, ◌+◌, ◌-◌, ◌<◌, ◌∙◌, ◌∷◌, ◌≡◌, ◌≤◌, ◌⊎◌, All, Bool, Contains, IsFalse, List, MatchOption, None, Option, Some, ap, arith, cond, false, fold, inl, inr, le-ltb, ltb, map, min, refl, slice_get, suc, sym, unwrap_or, zero, ℕ, ⊎_elim}
 use Rattle.base.proofs.Exports.{All-cons, All-head, All-nil, All-tail, bit_at-zero, cases_lt, from_bool, option_map_or, same_from_bits}
 use Rattle.version_update.specs.declared.record.Phase.TheVariants.{Member}
 use Rattle.version_update.specs.declared.record.SwitchRecord.{SwitchRecord}
@@ -12,23 +12,19 @@ use Rattle.version_update.specs.Exports.{AreMarksSettled, IsLeast, MarksValue, N
 rises_past : (marks : MarksValue) (low high : ℕ) → RisesTo marks low → RisesTo marks high
     → low < high → ⊥
 rises_past marks low high stops rises less =
-    let past = rises.acknowledged (low + 1) (omega (arith, stops.rises)) (omega arith) in
     let short = stops.stopped (omega (arith, rises.bound)) in
-    cc (past, short)
+    cc ((rises.acknowledged (low + 1) (omega (arith, stops.rises)) (omega arith)), short)
 
 one_current : (marks : MarksValue) (a b : ℕ) → RisesTo marks a → RisesTo marks b → a ≡ b
-one_current marks a b left right =
-    ⊎_elim (λ less. absurd (rises_past marks a b left right less))
+one_current marks a b left right = ⊎_elim (λ less. absurd (rises_past marks a b left right less))
     (λ more. ⊎_elim (λ less. absurd (rises_past marks b a right left less)) (λ least. omega arith)
-    (cases_lt b a))
-    (cases_lt a b)
+    (cases_lt b a)) (cases_lt a b)
 
 pub one_result : (before a b : MarksValue) (x y : Settled) → Settles before a x → Settles before b y
     → a ≡ b
 one_result before a b x y left right =
     let count : a.count ≡ b.count = left.count ∙ sym right.count in
-    let current : a.current ≡ b.current = one_current before a.current b.current left.current
-    right.current in
+    let current = one_current before a.current b.current left.current right.current in
     let switches : a.switches ≡ b.switches = left.switches
     ∙ ap (λ c. map (opened_record c) before.switches) current ∙ sym right.switches in
     let allowed = ap (λ c. unwrap_or (least_of (acked_stamps a.switches)) c - 1) current
@@ -62,10 +58,8 @@ one_telling before after x y one two taken =
 
 pub one_answer : (before a b : MarksValue) (x y : Settled) → Settles before a x → Settles before b y
     → x.taken ≡ y.taken → x ≡ y
-one_answer before a b x y left right taken =
-    one_telling before a x y left.tells
-    (subst (λ (m : MarksValue). Reports before m y) (sym (one_result before a b x y left right))
-    right.tells) taken
+one_answer before a b x y left right taken = one_telling before a x y left.tells
+    (rw (one_result before a b x y left right) right.tells) taken
 
 -- ---- settled marks
 
@@ -74,37 +68,34 @@ raised_none n = rw (le-ltb n n (omega arith)) refl
 
 names_none : (n : ℕ) (passes : SwitchRecord → Bool) (switches : List SwitchRecord)
     → Names 0 (λ known. ltb n n && passes known) switches
-names_none n passes switches s = bit_at-zero s ∙ by_option (slice_get switches s)
-  where
-    by_option : (o : Option SwitchRecord)
-        → 0 ≡ from_bool (option_map_or (λ known. ltb n n && passes known) o false)
-    by_option None = refl
-    by_option (Some known) = rw (le-ltb n n (omega arith)) refl
+names_none n passes switches s = bit_at-zero s ∙ by_option (slice_get switches s) where
+  by_option : (o : Option SwitchRecord)
+      → 0 ≡ from_bool (option_map_or (λ known. ltb n n && passes known) o false)
+  by_option None = refl
+  by_option (Some known) = rw (le-ltb n n (omega arith)) refl
 
 all_stay : (current : ℕ) (switches : List SwitchRecord)
     → All (λ known. IsFalse (opens_at current known)) switches → switches ≡ map (opened_record current)
     switches
 all_stay current [] closed = refl
 all_stay current (known ∷ more) closed =
-    let here = All-head (λ known. IsFalse (opens_at current known)) known more closed in
     let rest = all_stay current more
     (All-tail (λ known. IsFalse (opens_at current known)) known more closed) in
     let same : known ≡ opened_record current known =
-    ap (λ b. cond b (record known
-    { phase = Member; open_version = current; acked_stamp = current }) known) (sym here) in
+    ap (λ b. cond b (record known { phase = Member; open_version = current; acked_stamp = current })
+    known) (sym (All-head (λ known. IsFalse (opens_at current known)) known more closed)) in
     ap (λ l. known ∷ l) rest ∙ ap (λ (k : SwitchRecord). k ∷ map (opened_record current) more) same
 
 none_named : (current : ℕ) (switches : List SwitchRecord)
     → All (λ known. IsFalse (opens_at current known)) switches → Names 0 (opens_at current) switches
-none_named current switches closed s = bit_at-zero s ∙ at_place switches s closed
-  where
-    at_place : (xs : List SwitchRecord) (k : ℕ) → All (λ known. IsFalse (opens_at current known)) xs
-        → 0 ≡ from_bool (option_map_or (opens_at current) (slice_get xs k) false)
-    at_place [] k _ = refl
-    at_place (known ∷ more) zero shut =
-        ap from_bool (sym (All-head (λ known. IsFalse (opens_at current known)) known more shut))
-    at_place (known ∷ more) (suc k) shut =
-        at_place more k (All-tail (λ known. IsFalse (opens_at current known)) known more shut)
+none_named current switches closed s = bit_at-zero s ∙ at_place switches s closed where
+  at_place : (xs : List SwitchRecord) (k : ℕ) → All (λ known. IsFalse (opens_at current known)) xs
+      → 0 ≡ from_bool (option_map_or (opens_at current) (slice_get xs k) false)
+  at_place [] k _ = refl
+  at_place (known ∷ more) zero shut =
+      ap from_bool (sym (All-head (λ known. IsFalse (opens_at current known)) known more shut))
+  at_place (known ∷ more) (suc k) shut =
+      at_place more k (All-tail (λ known. IsFalse (opens_at current known)) known more shut)
 
 pub settled_stay : (marks : MarksValue) (taken : Bool) → AreMarksSettled marks
     → Settles marks marks (nothing_rose taken)
@@ -131,13 +122,12 @@ settled_stay marks taken settled = record {
 
 least_among : (first : ℕ) (more : List ℕ) → Contains (first ∷ more) (fold min first more)
 least_among first [] = (0, omega arith, refl)
-least_among first (n ∷ more) = place (least_among (min first n) more) (cases_lt n first)
-  where
-    place : Contains (min first n ∷ more) (fold min (min first n) more) → (n < first) ⊎ (first ≤ n)
-        → Contains (first ∷ n ∷ more) (fold min (min first n) more)
-    place (zero, within, at) (inl less) = (1, omega arith, omega (arith, at))
-    place (zero, within, at) (inr upto) = (0, omega arith, omega (arith, at))
-    place (suc k, within, at) _ = (suc (suc k), omega (arith, within), at)
+least_among first (n ∷ more) = place (least_among (min first n) more) (cases_lt n first) where
+  place : Contains (min first n ∷ more) (fold min (min first n) more) → (n < first) ⊎ (first ≤ n)
+      → Contains (first ∷ n ∷ more) (fold min (min first n) more)
+  place (zero, within, at) (inl less) = (1, omega arith, omega (arith, at))
+  place (zero, within, at) (inr upto) = (0, omega arith, omega (arith, at))
+  place (suc k, within, at) _ = (suc (suc k), omega (arith, within), at)
 
 least_first : (first : ℕ) (more : List ℕ) → fold min first more ≤ first
 least_first first [] = omega arith
@@ -145,8 +135,7 @@ least_first first (n ∷ more) = let h = least_first (min first n) more in omega
 
 least_below : (first : ℕ) (more : List ℕ) → All (λ n. fold min first more ≤ n) more
 least_below first [] = All-nil (λ n. first ≤ n)
-least_below first (n ∷ more) =
-    let h = least_first (min first n) more in
+least_below first (n ∷ more) = let h = least_first (min first n) more in
     All-cons (λ k. fold min (min first n) more ≤ k) n more (omega (arith, h))
     (least_below (min first n) more)
 

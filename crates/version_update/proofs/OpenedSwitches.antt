@@ -4,33 +4,27 @@ use Rattle.base.proofs.Exports.{All-map, All-replicate, and_parts, length-map, l
 use Rattle.version_update.specs.declared.record.Phase.{Phase}
 use Rattle.version_update.specs.declared.record.Phase.TheVariants.{Joining, Member, Over}
 use Rattle.version_update.specs.declared.record.SwitchRecord.{SwitchRecord}
-use Rattle.version_update.specs.Exports.{AreBounded, AreMarksSettled, IsSoundRecord, MarksValue, RisesTo, after_installed, all_have_acked, first_marks, first_record, has_acked, is_joining, is_member, member_records, opened_record, opens_at, retired_of, takes_installed}
+use Rattle.version_update.specs.Exports.{AreBounded, AreMarksSettled, IsSoundRecord, MarksValue, RisesTo, after_installed, all_have_acked, first_marks, first_record, has_acked, is_member, member_records, opened_record, opens_at, retired_of, takes_installed}
 use Rattle.version_update.proofs.LeastStamp.{least_stamp-version}
 
 -- a member stays as it is
 member_stays : (current : ℕ) (known : SwitchRecord) → is_member known.phase ≡ true
     → opened_record current known ≡ known
-member_stays current known member = by_phase known.phase refl member
-  where
-    by_phase : (phase : Phase) → known.phase ≡ phase → is_member phase ≡ true
-        → opened_record current known ≡ known
-    by_phase Member is _ = ap
-        (λ p. cond (is_joining p && has_acked known current)
-        (record known { phase = Member; open_version = current; acked_stamp = current }) known) is
-    by_phase Joining is joins = cc
-    by_phase Over is gone = cc
+member_stays current known member = by_phase known.phase refl member where
+  by_phase : (phase : Phase) → known.phase ≡ phase → is_member phase ≡ true
+      → opened_record current known ≡ known
+  by_phase Member is _ = cc is
+  by_phase Joining is joins = cc
+  by_phase Over is gone = cc
 
 -- no switch opens twice
 opens_once : (current : ℕ) (known : SwitchRecord)
     → IsFalse (opens_at current (opened_record current known))
-opens_once current known = by_test (opens_at current known) refl
-  where
-    by_test : (opens : Bool) → opens_at current known ≡ opens
-        → IsFalse (opens_at current
-        (cond opens (record known { phase = Member; open_version = current; acked_stamp = current })
-        known))
-    by_test true is = refl
-    by_test false is = is
+opens_once current known = by_test (opens_at current known) refl where
+  by_test : (opens : Bool) → opens_at current known ≡ opens → IsFalse (opens_at current (cond opens
+      (record known { phase = Member; open_version = current; acked_stamp = current }) known))
+  by_test true is = refl
+  by_test false is = is
 
 pub none_opens : (current : ℕ) (switches : List SwitchRecord)
     → All (λ known. IsFalse (opens_at current known)) (map (opened_record current) switches)
@@ -39,48 +33,39 @@ none_opens current switches = All-map (λ known. IsFalse (opens_at current known
 
 opened_at-sound : (count current : ℕ) (known : SwitchRecord) → 1 ≤ current → current ≤ count
     → IsSoundRecord count known → IsSoundRecord count (opened_record current known)
-opened_at-sound count current known low high sound = by_test (opens_at current known)
-  where
-    by_test : (opens : Bool)
-        → IsSoundRecord count (cond opens
-        (record known { phase = Member; open_version = current; acked_stamp = current }) known)
-    by_test true = record {
-      acked = sound.acked;
-      open_version = λ _. low;
-      acked_stamp =
-          λ _. omega arith;
-      stamp_bound = high;
-    }
-    by_test false = sound
+opened_at-sound count current known low high sound = by_test (opens_at current known) where
+  by_test : (opens : Bool) → IsSoundRecord count (cond opens
+      (record known { phase = Member; open_version = current; acked_stamp = current }) known)
+  by_test true = record {
+    acked = sound.acked;
+    open_version = λ _. low;
+    acked_stamp = λ _. omega arith;
+    stamp_bound = high;
+  }
+  by_test false = sound
 
 -- at the start
 pub first-bounded : (number : ℕ) → 1 ≤ number → number ≤ 64 → AreBounded (first_marks number)
-first-bounded number some few =
-    let len : length (replicate number first_record) ≡ number = length-replicate number
-    first_record in
-    record {
-      first = omega arith;
-      last = omega arith;
-      versions = omega arith;
-      some = omega (arith, len);
-      switches = omega (arith, len);
-      records = All-replicate (IsSoundRecord 1) number first_record
-          (record {
-            acked = omega arith;
-            open_version = λ _. omega arith;
-            acked_stamp =
-                λ _. omega arith;
-            stamp_bound = omega arith;
-          });
-    }
+first-bounded number some few = let len = length-replicate number first_record in record {
+  first = omega arith;
+  last = omega arith;
+  versions = omega arith;
+  some = omega (arith, len);
+  switches = omega (arith, len);
+  records = All-replicate (IsSoundRecord 1) number first_record (record {
+    acked = omega arith;
+    open_version = λ _. omega arith;
+    acked_stamp = λ _. omega arith;
+    stamp_bound = omega arith;
+  });
+}
 
 -- bounds are kept
 pub opened-bounded : (marks : MarksValue) → AreBounded marks
     → AreBounded (record marks { switches = map (opened_record marks.current) marks.switches })
 opened-bounded marks bounds =
     let len : length (map (opened_record marks.current) marks.switches) ≡ length marks.switches =
-    simp length-map in
-    record {
+    simp length-map in record {
       first = bounds.first;
       last = bounds.last;
       versions = bounds.versions;
@@ -108,8 +93,7 @@ all_acked-opened version current (known ∷ more) all = by_phase (is_member know
 
     by_phase : (member : Bool) → is_member known.phase ≡ member
         → (IsTrue (all_have_acked version (map (opened_record current) more))
-        → IsTrue (all_have_acked version more))
-        → IsTrue (list_all (λ k. has_acked k version)
+        → IsTrue (all_have_acked version more)) → IsTrue (list_all (λ k. has_acked k version)
         (cond member (known ∷ member_records more) (member_records more)))
     by_phase true is rest =
         let same = subst (λ (k : SwitchRecord). list_all (λ k. has_acked k version)
@@ -143,17 +127,14 @@ pub settled_by : (before mid last : MarksValue) (current retired : ℕ) → Rise
 settled_by before mid last current retired rises opened same is_retired live bounds =
     by_marks last (same ∙ opened) bounds
   where
-    by_marks : (marks : MarksValue)
-        → marks ≡ record before {
-          current = current;
-          switches = map (opened_record current)
-              before.switches;
-        } → AreBounded (record marks { retired = retired })
+    by_marks : (marks : MarksValue) → marks ≡ record before {
+      current = current;
+      switches = map (opened_record current) before.switches;
+    } → AreBounded (record marks { retired = retired })
         → AreMarksSettled (record marks { retired = retired })
     by_marks marks e bounded =
         subst (λ (m : MarksValue). AreBounded (record m { retired = retired })
-        → AreMarksSettled (record m { retired = retired })) (sym e)
-        (λ b. record {
+        → AreMarksSettled (record m { retired = retired })) (sym e) (λ b. record {
           bounds = b;
           stopped = λ more. stopped-opened (current + 1) current before.switches
               (rises.stopped more);
@@ -168,8 +149,7 @@ pub first-settled : (number : ℕ) → 1 ≤ number → number ≤ 64 → AreMar
 first-settled number some few =
     let bounds = first-bounded number some few in
     let least = least_stamp-version 1 1 (replicate number first_record) (omega arith) (omega arith)
-    bounds.records in
-    record {
+    bounds.records in record {
       bounds = bounds;
       stopped = λ more. absurd (omega arith);
       opened = All-replicate (λ known. IsFalse (opens_at 1 known)) number first_record refl;
@@ -181,16 +161,13 @@ first-settled number some few =
 pub installed-sound : (count boot version : ℕ) (known : SwitchRecord) → 1 ≤ version
     → version ≤ count → IsSoundRecord count known
     → IsSoundRecord count (after_installed boot version known)
-installed-sound count boot version known low high sound = by_test (takes_installed boot known)
-  where
-    by_test : (taken : Bool)
-        → IsSoundRecord count (cond taken
-        (record known { acked = bit_or known.acked (2 ^ (version - 1)) }) known)
-    by_test true = record {
-      acked = or_lt count known.acked (2 ^ (version - 1)) sound.acked
-          (pow-lt (omega arith));
-      open_version = sound.open_version;
-      acked_stamp = sound.acked_stamp;
-      stamp_bound = sound.stamp_bound;
-    }
-    by_test false = sound
+installed-sound count boot version known low high sound = by_test (takes_installed boot known) where
+  by_test : (taken : Bool) → IsSoundRecord count
+      (cond taken (record known { acked = bit_or known.acked (2 ^ (version - 1)) }) known)
+  by_test true = record {
+    acked = or_lt count known.acked (2 ^ (version - 1)) sound.acked (pow-lt (omega arith));
+    open_version = sound.open_version;
+    acked_stamp = sound.acked_stamp;
+    stamp_bound = sound.stamp_bound;
+  }
+  by_test false = sound

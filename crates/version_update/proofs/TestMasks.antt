@@ -56,10 +56,8 @@ bit_of_one true n s few =
       | inr other ↦ ap (λ x. bit_at x s) one ∙ bit_at-pow_other n s other
           ∙ ap from_bool (sym (ne_eqb s n other))
     ]
-bit_of_one false n s few =
-    let plain : 0 * 2 ^ n ≡ 0 = omega arith in
-    let none : 0 * 2 ^ n % 2 ^ 64 ≡ 0 = ap (λ x. x % 2 ^ 64) plain in
-    ap (λ x. bit_at x s) none ∙ bit_at-zero s
+bit_of_one false n s few = let plain : 0 * 2 ^ n ≡ 0 = omega arith in
+    ap (λ x. bit_at x s) (ap (λ x. x % 2 ^ 64) plain) ∙ bit_at-zero s
 
 -- the mask of no switch
 pub Names-none : (passes : SwitchRecord → Bool) → Names 0 passes []
@@ -73,20 +71,18 @@ pub Names-more : (mask bit : ℕ) (passes : SwitchRecord → Bool) (switches : L
     (take (i + 1) switches)
 Names-more mask bit passes switches i d known within few here named_bit names s =
     let few' : i < 64 = omega arith in
-    let one : bit_at (bit * 2 ^ i % 2 ^ 64) s ≡ from_bool (passes known && eqb s i) =
-    ap (λ b. bit_at (b * 2 ^ i % 2 ^ 64) s) named_bit ∙ bit_of_one (passes known) i s few' in
     let len : length (take i switches) ≡ i = omega (arith, length-take i switches) in
     let grown : take (i + 1) switches ≡ take i switches ++ known ∷ [] = take_more switches i d
     within ∙ ap (λ k. take i switches ++ k ∷ []) here in
-    let both = max_of (bit_at mask s) (bit_at (bit * 2 ^ i % 2 ^ 64) s) _ _ (names s) one in
+    let both = max_of (bit_at mask s) (bit_at (bit * 2 ^ i % 2 ^ 64) s) _ _ (names s)
+    (ap (λ b. bit_at (b * 2 ^ i % 2 ^ 64) s) named_bit ∙ bit_of_one (passes known) i s few') in
     let pushed = ap (λ xs. passes_at passes xs s) grown ∙ passes_at-push passes (take i switches)
     known s ∙ ap (λ n. passes_at passes (take i switches) s || (passes known && eqb s n)) len in
     bit_at_or mask (bit * 2 ^ i % 2 ^ 64) s ∙ both ∙ sym (ap from_bool pushed)
   where
     max_of : (x y : ℕ) (a b : Bool) → x ≡ from_bool a → y ≡ from_bool b
         → max x y ≡ from_bool (a || b)
-    max_of x y a b p q = ap (λ n. max n y) p ∙ ap (λ n. max (from_bool a) n) q
-        ∙ sym (from_bool-or a b)
+    max_of x y a b p q = cc (p, q, from_bool-or a b)
 
 -- who is named is there, and passes
 pub named : (mask s : ℕ) (passes : SwitchRecord → Bool) (switches : List SwitchRecord)
@@ -98,8 +94,7 @@ named mask s passes switches names set = by_option (slice_get switches s) refl (
         → from_bool (option_map_or passes o false) ≡ 1 → (known : SwitchRecord)
         × (slice_get switches s ≡ Some known) × IsTrue (passes known)
     by_option None is one = absurd (omega (arith, one))
-    by_option (Some known) is one = (known, is, true_of (passes known) one)
-      where
-        true_of : (b : Bool) → from_bool b ≡ 1 → b ≡ true
-        true_of true e = refl
-        true_of false e = absurd (omega (arith, e))
+    by_option (Some known) is one = (known, is, true_of (passes known) one) where
+      true_of : (b : Bool) → from_bool b ≡ 1 → b ≡ true
+      true_of true e = refl
+      true_of false e = absurd (omega (arith, e))

@@ -18,8 +18,7 @@ first_marks number = record {
   count = 1;
   current = 1;
   retired = 0;
-  switches =
-      replicate number first_record;
+  switches = replicate number first_record;
 }
 
 -- ---- switches

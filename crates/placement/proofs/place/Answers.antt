@@ -31,10 +31,8 @@ returns-clause-value c = IfOk-weaker c.take_turns.result _ _
 
 pub returns-clause-refused : goal.returns-clause-refused
 returns-clause-refused c = IfErr-weaker c.take_turns.result _ _
-    (IfRefused-weaker _ (RefusesPlacement c.args.sizes.now c.args.rooms.now c.args.backups)
-    (λ lack is.
-    (refusal_is c.args.sizes.now c.args.rooms.now c.args.backups lack.partition is, is)))
-    (rw (
+    (IfRefused-weaker _ (RefusesPlacement c.args.sizes.now c.args.rooms.now c.args.backups) (λ lack
+    is. (refusal_is c.args.sizes.now c.args.rooms.now c.args.backups lack.partition is, is))) (rw (
       c.deref.ensures.value ∙ c.in_ok-wide.ensures,
       c.deref-2.ensures.value ∙ c.in_ok-wide.ensures,
     ) at c.take_turns.ensures.refused)

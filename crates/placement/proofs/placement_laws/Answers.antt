@@ -2,8 +2,4 @@ use Rattle.placement.proofs.PlacementLemmas.{placement_meets, placement_is, refu
 use Rattle.placement.proofs.placement_laws.Goals as goal
 
 pub returns : goal.returns
-returns c = record {
-  meets = placement_meets;
-  one = placement_is;
-  refused = refusal_is;
-}
+returns c = record { meets = placement_meets; one = placement_is; refused = refusal_is }

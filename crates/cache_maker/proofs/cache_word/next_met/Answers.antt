@@ -11,9 +11,8 @@ returns-in-Some-clause-met c =
     ∙ sym c.first_met.ensures ∙ c.in-Some.is)
 
 pub returns-in-None-clause-met : goal.returns-in-None-clause-met
-returns-in-None-clause-met c =
-    if_some c.first_met-in-None.result (λ place is.
-    found_before (rule_is_met c.args.h c.args.fixed) c.args.rules.now c.args.from place
+returns-in-None-clause-met c = if_some c.first_met-in-None.result
+    (λ place is. found_before (rule_is_met c.args.h c.args.fixed) c.args.rules.now c.args.from place
     (ap (λ xs. position (rule_is_met c.args.h c.args.fixed) xs) (sym c.split_at.ensures.front)
     ∙ sym c.first_met-in-None.ensures ∙ is))
 

@@ -1,4 +1,4 @@
-use Rattle.std.proofs.Common.{◌<◌, ◌^◌, ◌∙◌, ◌≡◌, ◌≢◌, IfSome, IsTrue, ap, arith, bit_and, bit_or, bit_xor, get_or, length-take, refl, set, subst, sym, take}
+use Rattle.std.proofs.Common.{◌<◌, ◌^◌, ◌∙◌, ◌≡◌, ◌≢◌, IfSome, IsTrue, ap, arith, bit_and, bit_or, bit_xor, get_or, length-take, refl, subst, sym, take}
 use Rattle.std.proofs.lemmas.List.Quantifiers.{position-Some}
 use Rattle.std.proofs.lemmas.Nat.{one_shl, or_lt, xor_lt}
 use Rattle.five_tuple.specs.Exports.{number_of}
@@ -7,7 +7,7 @@ use Rattle.ternary.specs.Exports.{IsWord, WordValue, exact_word, free_of, holds,
 use Rattle.cache_maker.specs.Differing.{IsWithout}
 use Rattle.cache_maker.specs.Independent.{IsIndependent, widen, widening_of}
 use Rattle.cache_maker.proofs.IndependentWords.{exact_independent}
-use Rattle.cache_maker.proofs.FixedBits.{AreFixed, IsGiven, IsNewReason, closes_both, differs_somewhere, fixed_at_first, fixed_next, independent_at, is_new_reason, left_less, left_over, without_open, word_at_last, word_is_sound}
+use Rattle.cache_maker.proofs.FixedBits.{IsGiven, IsNewReason, closes_both, differs_somewhere, fixed_at_first, fixed_next, independent_at, is_new_reason, left_less, left_over, without_open, word_at_last, word_is_sound}
 use Rattle.cache_maker.proofs.WidenedWords.{widened_holds, widest}
 use Rattle.cache_maker.proofs.cache_word.widen.Goals as goal
 
@@ -37,11 +37,9 @@ loop-place-init c =
       d = d;
       closes = closes_both region (get_or rules index d).word c.mask.result c.mask-2.result
           c.mask.ensures.mask c.mask-2.ensures.mask;
-    } in
-    record {
+    } in record {
       given = given;
-      are = subst (λ r. AreFixed number closed (take index rules) closed r)
-          (sym c.no_reasons-reasons.ensures) (fixed_at_first number closed (take index rules)
+      are = rw c.no_reasons-reasons.ensures (fixed_at_first number closed (take index rules)
           (or_lt 104 c.mask.result c.mask-2.result c.mask.ensures.bound c.mask-2.ensures.bound));
       from = omega arith;
     }
@@ -68,8 +66,7 @@ new_reason c = is_new_reason c.loop-place.invariant.given c.loop-place.fixed c.i
     c.differing-reason.ensures c.ilog2-bit.ensures.power_le c.ilog2-bit.ensures.next_power_gt
 
 closed_bound : (c : goal.After-without) → bit_or c.mask.result c.mask-2.result < 2 ^ 104
-closed_bound c =
-    or_lt 104 c.mask.result c.mask-2.result c.mask.ensures.bound c.mask-2.ensures.bound
+closed_bound c = or_lt 104 c.mask.result c.mask-2.result c.mask.ensures.bound c.mask-2.ensures.bound
 
 -- what stays of all fixed bits
 stays : (c : goal.After-without) → IsWithout c.loop-place.fixed c.loop-place.reasons
@@ -107,15 +104,10 @@ loop-place-preserved c =
     let new = is_new_reason c.loop-place.invariant.given c.loop-place.fixed c.in-Some.place
     c.index-earlier-place.result c.differing-reason.result b c.in-Some.ensures.met
     c.differing-reason.ensures c.ilog2-bit.ensures.power_le c.ilog2-bit.ensures.next_power_gt in
-    let all = bit_or (bit_or c.mask.result c.mask-2.result) c.without.result in
-    record {
+    let all = bit_or (bit_or c.mask.result c.mask-2.result) c.without.result in record {
       given = c.loop-place.invariant.given;
-      are = subst (λ x. AreFixed c.number-number.result (bit_or c.mask.result c.mask-2.result)
-          (take c.args.index c.args.rules.now) (bit_or all x)
-          (set c.loop-place.reasons b c.differing-reason.result))
-          (sym (one_shl b 128 (omega (arith, new.within))))
-          (fixed_next _ _ _ _ _ c.differing-reason.result b all c.loop-place.invariant.are new
-          (stays c));
+      are = rw (one_shl b 128 (omega (arith, new.within))) (fixed_next _ _ _ _ _
+          c.differing-reason.result b all c.loop-place.invariant.are new (stays c));
       from = omega (arith, (c.in-Some.ensures.met).0);
     }
 
@@ -127,9 +119,8 @@ unwrap-requires c = c.new.ensures.taken.1 (word_is_sound c.loop-place.invariant.
 made_word : (c : goal.After-unwrap) → (c.unwrap.result ≡ widening_of c.number-number.result
     c.args.region.now c.args.rules.now c.args.index 104) × IsWord c.unwrap.result
 made_word c =
-    let number = c.number-number.result in
     let pair : WordValue = record {
-      value = bit_and number c.loop-place.fixed;
+      value = bit_and c.number-number.result c.loop-place.fixed;
       mask = c.loop-place.fixed;
     } in
     let some = subst (λ o. IfSome o (λ (w : WordValue). (w ≡ pair) × IsWord w)) c.unwrap.ensures
@@ -150,8 +141,7 @@ returns c =
     let same = c.number-number.ensures.number in
     let (made, is_word) = made_word c in
     let held = widened_holds given.covers given.exact given.free number region rules index 104
-    given.bound in
-    record {
+    given.bound in record {
       widened = made ∙ ap (λ n. widening_of n region rules index 104) same;
       header = subst (λ (w : WordValue). IsTrue (holds w (number_of c.args.h.now))) (sym made)
           (subst (λ n. IsTrue (holds (widening_of number region rules index 104) n)) same held);

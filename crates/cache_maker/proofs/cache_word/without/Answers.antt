@@ -11,8 +11,7 @@ pub loop-left-init : goal.loop-left-init
 loop-left-init c = part_at_first c.args.fixed c.args.reasons.now c.args.bit c.requires.fixed
 
 pub bounds-reasons-place : goal.bounds-reasons-place
-bounds-reasons-place c =
-    let left = c.loop-left.left in
+bounds-reasons-place c = let left = c.loop-left.left in
     bit_within left (trailing_zeros w128 left) c.loop-left.invariant.bound
     (bit_at-trailing_zeros w128 left (omega arith) (Fits-lt-pow c.loop-left.auto.left-fits)).1
 
@@ -33,16 +32,11 @@ loop-left-preserved c =
     subst (λ x. IsPartWithout c.args.fixed c.args.reasons.now c.args.bit
     c.if-reasons-place-ne0.stays (bit_xor left x)) (sym one)
     (elim c.if-reasons-place-ne0.branch [
-      | then-reasons-place-ne0 w ↦
-          subst (λ s. IsPartWithout c.args.fixed c.args.reasons.now c.args.bit s
-          (bit_xor left (2 ^ n))) (sym (w.stays-is ∙ ap (λ x. bit_xor c.loop-left.stays x) one))
+      | then-reasons-place-ne0 w ↦ rw (w.stays-is ∙ ap (λ x. bit_xor c.loop-left.stays x) one)
           (part_goes c.loop-left.invariant n lowest.1 w.if-reasons-place-ne0.true)
-      | else-reasons-place-ne0 w ↦
-          subst (λ s. IsPartWithout c.args.fixed c.args.reasons.now c.args.bit s
-          (bit_xor left (2 ^ n))) (sym w.stays-is)
+      | else-reasons-place-ne0 w ↦ rw w.stays-is
           (part_stays c.loop-left.invariant n lowest.1 w.if-reasons-place-ne0.false)
     ])
 
 pub returns : goal.returns
-returns c = part_at_last (subst (λ n. IsPartWithout c.args.fixed c.args.reasons.now c.args.bit
-    c.loop-left.stays n) c.loop-left-test.false c.loop-left.invariant)
+returns c = part_at_last (rw c.loop-left-test.false at c.loop-left.invariant)

@@ -4,8 +4,7 @@ use Rattle.cache_maker.proofs.laws.independent_laws.Goals as goal
 pub returns : goal.returns
 returns c =
     let covers = c.covers_laws.ensures in
-    let meet = c.meet_laws.ensures in
-    record {
+    let meet = c.meet_laws.ensures in record {
       test = λ region rules index word.
           (test_true region rules index word, test_of region rules index word);
       first_hit = first_hit covers meet;

@@ -4,6 +4,5 @@ use Rattle.control_laws.proofs.PieceKinds.{piece_few}
 use Rattle.control_laws.proofs.advert_laws.steps_send_few.Goals as goal
 
 pub returns : goal.returns
-returns c = always _
-    (λ setting journal have net row step. piece_few setting net journal
+returns c = always _ (λ setting journal have net row step. piece_few setting net journal
     (versions_few setting journal have) row step)

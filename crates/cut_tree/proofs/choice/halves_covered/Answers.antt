@@ -18,9 +18,8 @@ returns-then-fixed-eq0 c = λ bit free.
 pub returns-then-is_one_bit : goal.returns-then-is_one_bit
 returns-then-is_one_bit c = λ bit free.
     let is = fixed_is (goal.at.returns-then-is_one_bit c).After-mask-2 in
-    rw is (covered_one c.args.word.now c.args.region.now _ bit c.args.one _ c.requires
-    (sym is ∙ c.is_one_bit.ensures.0 c.if-is_one_bit.true)
-    (c.halves_met-met.ensures bit free.bound))
+    rw is (covered_one c.args.word.now c.args.region.now _ bit c.args.one _ c.requires (sym is
+    ∙ c.is_one_bit.ensures.0 c.if-is_one_bit.true) (c.halves_met-met.ensures bit free.bound))
 
 pub returns-else-is_one_bit : goal.returns-else-is_one_bit
 returns-else-is_one_bit c = λ bit free.

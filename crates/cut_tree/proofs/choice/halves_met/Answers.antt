@@ -8,6 +8,5 @@ returns-then-one c = λ bit within.
     (met_high c.args.word.now bit (omega arith) within)
 
 pub returns-else-one : goal.returns-else-one
-returns-else-one c = λ bit within.
-    rw (c.value-value.ensures.value, c.if-one.false)
+returns-else-one c = λ bit within. rw (c.value-value.ensures.value, c.if-one.false)
     (met_low c.args.word.now bit c.value-value.ensures.word (omega arith) within)

@@ -3,6 +3,5 @@ use Rattle.cut_tree.proofs.SideLemmas.{lowest_beyond, one_shifted}
 use Rattle.cut_tree.proofs.choice.is_one_bit.Goals as goal
 
 pub returns : goal.returns
-returns c =
-    rw (one_shifted _ (lowest_beyond c.args.bits c.requires (omega arith)))
+returns c = rw (one_shifted _ (lowest_beyond c.args.bits c.requires (omega arith)))
     (eqb-true _ _, eq-eqb _ _)

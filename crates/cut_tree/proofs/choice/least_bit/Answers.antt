@@ -11,8 +11,7 @@ returns-clause-member c =
     ((c.least-fewest.ensures.least (trailing_zeros w128 least)).0 last.member).member
 
 pub returns-clause-least : goal.returns-clause-least
-returns-clause-least c = λ other m.
-    let least = c.least-least.result in
+returns-clause-least c = λ other m. let least = c.least-least.result in
     let lowest = bit_at-trailing_zeros w128 least (omega (arith, c.least-least.ensures.some)) (omega arith) in
     least_first c.args.low.now.planes c.args.high.now.planes c.more_than-above.result c.args.bits
     c.least-fewest.result least (trailing_zeros w128 least) c.more_than-above.ensures

@@ -4,10 +4,9 @@ use Rattle.cut_tree.proofs.LeastLemmas.{all_fixed, counted_cut}
 use Rattle.cut_tree.proofs.choice.least_cut.Goals as goal
 
 pub returns-then-free-eq0 : goal.returns-then-free-eq0
-returns-then-free-eq0 c =
-    sym (least_nowhere 104 c.args.rules.now c.args.region.now (λ bit within.
-    all_fixed c.args.region.now c.free_bits-free.result bit within (c.free_bits-free.ensures bit)
-    c.if-free-eq0.true))
+returns-then-free-eq0 c = sym (least_nowhere 104 c.args.rules.now c.args.region.now
+    (λ bit within. all_fixed c.args.region.now c.free_bits-free.result bit within
+    (c.free_bits-free.ensures bit) c.if-free-eq0.true))
 
 pub returns : goal.returns
 returns c =

@@ -4,8 +4,7 @@ use Rattle.cut_tree.proofs.SideLemmas.{still_open, side_step}
 use Rattle.cut_tree.proofs.choice.pass.Goals as goal
 
 pub returns-then-not-may_cover : goal.returns-then-not-may_cover
-returns-then-not-may_cover c = λ bit rules free.
-    let was = c.args.left.now in
+returns-then-not-may_cover c = λ bit rules free. let was = c.args.left.now in
     let met = c.halves_met-met.result in
     let step = side_step c.args.region.now c.args.rule.now rules bit c.args.one (bit_at was bit)
     (bit_at met bit) 0 c.requires free (bit_at-lt was bit)
@@ -15,8 +14,7 @@ returns-then-not-may_cover c = λ bit rules free.
     rw (bit_at_and was met bit) (rw still at step)
 
 pub returns : goal.returns
-returns c = λ bit rules free.
-    let was = c.args.left.now in
+returns c = λ bit rules free. let was = c.args.left.now in
     let met = c.halves_met-met.result in
     let covered = c.halves_covered-covered.result in
     let step = side_step c.args.region.now c.args.rule.now rules bit c.args.one (bit_at was bit)

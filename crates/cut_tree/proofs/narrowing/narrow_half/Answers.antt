@@ -16,8 +16,7 @@ loop-rule-preserved-in_default c =
     (narrow_past rules _ _ _ (omega arith) c.rule-item.is none)
 
 -- the next rule meets the half
-meets_half : (c : After-mask-in-loop-rule)
-    → ◌≡◌ {A = Option WordValue}
+meets_half : (c : After-mask-in-loop-rule) → ◌≡◌ {A = Option WordValue}
     (meet_of c.rule-item.result.word (fix_of c.args.region.now c.args.bit c.args.one))
     (Some c.in-Some.word)
 meets_half c =
@@ -30,22 +29,19 @@ mask_is : (c : After-mask-in-loop-rule)
 mask_is c = c.mask-whole.ensures.mask ∙ ap (λ (w : WordValue). w.mask) c.fix.ensures.pair
 
 pub returns-then-is_whole : goal.returns-then-is_whole
-returns-then-is_whole c =
-    let before = (goal.at.returns-then-is_whole c).After-mask-in-loop-rule in
+returns-then-is_whole c = let before = (goal.at.returns-then-is_whole c).After-mask-in-loop-rule in
     c.in_ok-push.ensures.items
     ∙ sym (keeps_last c.args.rules.now _ _ _ (fix_of c.args.region.now c.args.bit c.args.one)
     c.loop-rule.invariant _ _ (omega arith) c.rule-item.is (meets_half before)
     (sym c.mask-in-loop-rule.ensures.mask ∙ c.if-is_whole.true ∙ mask_is before))
 
 pub loop-rule-preserved : goal.loop-rule-preserved
-loop-rule-preserved c =
-    let before = (goal.at.loop-rule-preserved c).After-mask-in-loop-rule in
+loop-rule-preserved c = let before = (goal.at.loop-rule-preserved c).After-mask-in-loop-rule in
     rw c.in_ok-push.ensures.items
     (keeps_next c.args.rules.now _ _ _ (fix_of c.args.region.now c.args.bit c.args.one)
     c.loop-rule.invariant _ _ (omega arith) c.rule-item.is (meets_half before)
     (λ e. c.if-is_whole.false (c.mask-in-loop-rule.ensures.mask ∙ e ∙ sym (mask_is before))))
 
 pub returns : goal.returns
-returns c =
-    sym (keeps_all c.args.rules.now _ _ _ (fix_of c.args.region.now c.args.bit c.args.one)
+returns c = sym (keeps_all c.args.rules.now _ _ _ (fix_of c.args.region.now c.args.bit c.args.one)
     c.loop-rule.invariant c.loop-rule-test.false)

@@ -27,9 +27,8 @@ cut_is : (t : ℕ) (c : After-grow t) → tree_at c.args.cap c.args.node.rules.i
     ≡ Node c.least_cut-bit.result.bit
     (tree_at c.args.cap c.in_ok-low.low.rules.items c.in_ok-low.low.region)
     (tree_at c.args.cap c.in_ok-high.high.rules.items c.in_ok-high.high.region)
-cut_is t c =
-    cut_at c.args.cap c.args.node.rules.items c.args.node.region c.least_cut-bit.result _ _ _ _
-    (omega arith) c.least_cut-bit.ensures.least c.in_ok-low.ensures.rules
+cut_is t c = cut_at c.args.cap c.args.node.rules.items c.args.node.region c.least_cut-bit.result _ _
+    _ _ (omega arith) c.least_cut-bit.ensures.least c.in_ok-low.ensures.rules
     c.in_ok-low.ensures.region c.in_ok-high.ensures.rules c.in_ok-high.ensures.region
 
 pub returns-in_err-low-2-clause-refused : goal.returns-in_err-low-2-clause-refused
@@ -56,18 +55,15 @@ returns-in_err-high-2-clause-refused t c =
     c.in_ok-low-2.ensures.tree) c.in_err-high-2.ensures.refused)
 
 pub returns-clause-tree : goal.returns-clause-tree
-returns-clause-tree t c =
-    let is = cut_is t (goal.at.returns-clause-tree t c).After-grow in
-    rw (
-      c.in_ok-new.ensures.ok,
-      c.in_ok-new-2.ensures.ok,
-      c.in_ok-low-2.ensures.tree,
-      c.in_ok-high-2.ensures.tree,
-    ) (sym is)
+returns-clause-tree t c = rw (
+  c.in_ok-new.ensures.ok,
+  c.in_ok-new-2.ensures.ok,
+  c.in_ok-low-2.ensures.tree,
+  c.in_ok-high-2.ensures.tree,
+) (sym (cut_is t (goal.at.returns-clause-tree t c).After-grow))
 
 pub returns-clause-defined : goal.returns-clause-defined
-returns-clause-defined t c =
-    let node = c.args.node in
+returns-clause-defined t c = let node = c.args.node in
     rw (c.in_ok-new.ensures.ok, c.in_ok-new-2.ensures.ok)
     (defined_at c.args.cap node.rules.items node.region c.least_cut-bit.result _ _ _ _ _ _
     (omega arith) c.least_cut-bit.ensures.least c.in_ok-low.ensures.rules

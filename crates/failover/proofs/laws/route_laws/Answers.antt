@@ -5,7 +5,6 @@ pub returns : goal.returns
 returns c = record {
   computed = known_route_is_route;
   unique = one_route;
-  short =
-      path_is_route_list;
+  short = path_is_route_list;
   straightened = straight_path;
 }

@@ -15,8 +15,7 @@ is_link_to-requires-clause-named c = c.loop-rest.invariant.named (least_in c.loo
 
 pub loop-rest-preserved : goal.loop-rest-preserved
 unfolding least_in
-loop-rest-preserved c =
-    row_goes_on c.args.neighbours.now c.args.down.now c.args.one c.args.within
+loop-rest-preserved c = row_goes_on c.args.neighbours.now c.args.down.now c.args.one c.args.within
     c.loop-rest.mask c.loop-rest.rest (least_in c.loop-rest.rest) _ _ c.loop-rest.invariant
     (first_left c.loop-rest.rest c.loop-rest.invariant.rest_fits c.loop-rest-test.true)
     (least_lt c.loop-rest.rest (omega arith) c.loop-rest.invariant.rest_fits)

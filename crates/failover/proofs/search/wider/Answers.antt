@@ -18,8 +18,7 @@ loop-rest-preserved c =
     let neighbours = c.args.neighbours.now in
     let down = c.args.down.now in
     let at = least_in c.loop-rest.rest in
-    let fits : at < 64 =
-    least_lt c.loop-rest.rest (omega arith) c.loop-rest.invariant.rest_fits in
+    let fits = least_lt c.loop-rest.rest (omega arith) c.loop-rest.invariant.rest_fits in
     let here = row_of neighbours down at fits in
     let row_fits = subst (λ (m : ℕ). m < 2 ^ 64) (sym here) (mask_of_lt (is_link neighbours down at)) in
     subst (λ (m : ℕ). IsWideSoFar (links_of_each neighbours down) c.args.ball m

@@ -8,11 +8,8 @@ count-requires-clause-fits c =
     inl (omega (arith, few, ap length c.blocks-2.ensures.blocks))
 
 pub returns-clause-few : goal.returns-clause-few
-returns-clause-few c =
-    let few = (is_cover_of c.args.range.now c.blocks-2.ensures.sound).few in
+returns-clause-few c = let few = (is_cover_of c.args.range.now c.blocks-2.ensures.sound).few in
     omega (arith, few, ap length c.blocks-2.ensures.blocks, c.count.ensures.bound)
 
 pub overflow_cast-result : goal.overflow_cast-result
-overflow_cast-result c =
-    let few = returns-clause-few c in
-    search rules
+overflow_cast-result c = let few = returns-clause-few c in search rules

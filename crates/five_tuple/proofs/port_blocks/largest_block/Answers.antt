@@ -3,9 +3,8 @@ use Rattle.five_tuple.proofs.CoverOf.{largest_from_code}
 use Rattle.five_tuple.proofs.port_blocks.largest_block.Goals as goal
 
 pub returns-clause-largest : goal.returns-clause-largest
-returns-clause-largest c =
-    largest_from_code c.args.first c.args.high c.ilog2-fitting.result c.min.result
-    c.requires.ordered c.requires.high c.ilog2-fitting.ensures.power_le
+returns-clause-largest c = largest_from_code c.args.first c.args.high c.ilog2-fitting.result
+    c.min.result c.requires.ordered c.requires.high c.ilog2-fitting.ensures.power_le
     c.ilog2-fitting.ensures.next_power_gt c.min.ensures
 
 pub returns-clause-bound : goal.returns-clause-bound

@@ -18,20 +18,17 @@ loop-place-preserved c =
     }
 
 pub returns-then-not-is_ascii_digit : goal.returns-then-not-is_ascii_digit
-returns-then-not-is_ascii_digit c = simp take_rest
-    (byte_before c.args.text.now c.loop-place.place c.loop-place.number (omega arith)
-    c.loop-place.invariant.digits (search rules) (search rules) c.loop-place.invariant.value
-    c.loop-place.invariant.small)
+returns-then-not-is_ascii_digit c = simp take_rest (byte_before c.args.text.now c.loop-place.place
+    c.loop-place.number (omega arith) c.loop-place.invariant.digits (search rules) (search rules)
+    c.loop-place.invariant.value c.loop-place.invariant.small)
 
 pub returns-then-not-are_plain : goal.returns-then-not-are_plain
-returns-then-not-are_plain c =
-    lacks_plain c.args.text.now c.loop-place.place (omega arith) c.loop-place.invariant.digits
-    (search rules) (search rules)
+returns-then-not-are_plain c = lacks_plain c.args.text.now c.loop-place.place (omega arith)
+    c.loop-place.invariant.digits (search rules) (search rules)
 
 pub returns-then-byte-ne46 : goal.returns-then-byte-ne46
-returns-then-byte-ne46 c =
-    lacks_other c.args.text.now c.loop-place.place (omega arith) c.loop-place.invariant.digits
-    c.if-byte-ne46.true (search rules)
+returns-then-byte-ne46 c = lacks_other c.args.text.now c.loop-place.place (omega arith)
+    c.loop-place.invariant.digits c.if-byte-ne46.true (search rules)
 
 pub returns-then-number-gt255 : goal.returns-then-number-gt255
 returns-then-number-gt255 c =
@@ -41,6 +38,5 @@ returns-then-number-gt255 c =
     lacks_large c.args.text.now (c.loop-place.place + 1) digits (omega arith)
 
 pub returns : goal.returns
-returns c =
-    let all = take_all c.loop-place.place c.args.text.now (omega arith) in
+returns c = let all = take_all c.loop-place.place c.args.text.now (omega arith) in
     lacks_dot c.args.text.now (rw all at c.loop-place.invariant.digits)

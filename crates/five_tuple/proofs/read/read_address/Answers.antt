@@ -8,15 +8,13 @@ returns-in_err-first c = rw c.from_residual.ensures
     (lacks_first c.args.text.now c.in_err-first.ensures)
 
 pub returns-in_err-second : goal.returns-in_err-second
-returns-in_err-second c = rw c.from_residual-in_err-second.ensures
-    (lacks_second c.args.text.now c.in_ok-first.rest.now c.in_ok-first.first
-    c.in_ok-first.ensures c.in_err-second.ensures)
+returns-in_err-second c = rw c.from_residual-in_err-second.ensures (lacks_second c.args.text.now
+    c.in_ok-first.rest.now c.in_ok-first.first c.in_ok-first.ensures c.in_err-second.ensures)
 
 pub returns-in_err-third : goal.returns-in_err-third
 returns-in_err-third c = rw c.from_residual-in_err-third.ensures
-    (lacks_third c.args.text.now c.in_ok-first.rest.now c.in_ok-second.rest.now
-    c.in_ok-first.first c.in_ok-second.second c.in_ok-first.ensures c.in_ok-second.ensures
-    c.in_err-third.ensures)
+    (lacks_third c.args.text.now c.in_ok-first.rest.now c.in_ok-second.rest.now c.in_ok-first.first
+    c.in_ok-second.second c.in_ok-first.ensures c.in_ok-second.ensures c.in_err-third.ensures)
 
 pub returns-in_err-fourth : goal.returns-in_err-fourth
 returns-in_err-fourth c =

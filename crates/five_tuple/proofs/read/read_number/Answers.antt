@@ -12,8 +12,7 @@ pub returns-then-has_leading_zero-clause-value : goal.returns-then-has_leading_z
 returns-then-has_leading_zero-clause-value c = leading_zero c.args.most c.args.text.now
     (search rules)
 
-pub returns-then-not-is_ascii_digit-clause-value :
-    goal.returns-then-not-is_ascii_digit-clause-value
+pub returns-then-not-is_ascii_digit-clause-value : goal.returns-then-not-is_ascii_digit-clause-value
 returns-then-not-is_ascii_digit-clause-value c = other_byte c.args.most c.args.text.now
     c.loop-byte.byte-index (omega arith) (search rules)
 
@@ -50,7 +49,6 @@ loop-byte-preserved c =
 pub returns-clause-value : goal.returns-clause-value
 returns-clause-value c =
     let all = take_all c.loop-byte.byte-index c.args.text.now (omega arith) in
-    let digits = rw all at c.loop-byte.invariant.digits in
     let value = rw all at c.loop-byte.invariant.value in
-    rw value (accepted c.args.most c.args.text.now (search rules) (search rules) digits
-    (omega arith))
+    rw value (accepted c.args.most c.args.text.now (search rules) (search rules)
+    (rw all at c.loop-byte.invariant.digits) (omega arith))

@@ -13,6 +13,5 @@ returns-in-Any-clause-read_back c = IfOk-weaker c.from_slice.result (λ v. v.ite
 pub returns-in_ok-to_string-in-Is-clause-read_back : goal.returns-in_ok-to_string-in-Is-clause-read_back
 unfolding proto_text
 returns-in_ok-to_string-in-Is-clause-read_back c =
-    let printed = c.in_ok-to_string-in-Is.ensures.ok in
-    rw (c.into_bytes.ensures.value, printed, c.in-Is.is)
+    rw (c.into_bytes.ensures.value, c.in_ok-to_string-in-Is.ensures.ok, c.in-Is.is)
     (proto_back (Is c.in-Is.number) (omega arith))

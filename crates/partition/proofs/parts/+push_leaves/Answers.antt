@@ -22,8 +22,7 @@ push_leaves-requires-in-Cut t c =
     )
 
 pub returns-in_ok-push-in-Leaf : goal.returns-in_ok-push-in-Leaf
-returns-in_ok-push-in-Leaf t c =
-    rw c.in_ok-push-in-Leaf.ensures.items
+returns-in_ok-push-in-Leaf t c = rw c.in_ok-push-in-Leaf.ensures.items
     (pushed_leaf c.args.parts.now.items _ _ _ _ _ (ap shape_of c.in-Leaf.is)
     c.in_ok-rules-in-Leaf.ensures.cases (c.len-number.ensures ∙ omega arith))
 

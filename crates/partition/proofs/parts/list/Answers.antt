@@ -4,8 +4,7 @@ use Rattle.partition.proofs.parts.list.Goals as goal
 
 pub returns-clause-count : goal.returns-clause-count
 returns-clause-count c =
-    let is = rw c.new-parts.ensures.items at c.in_ok-push_leaves.ensures in
-    rw is (numbered_length 0 _)
+    rw (rw c.new-parts.ensures.items at c.in_ok-push_leaves.ensures) (numbered_length 0 _)
 
 pub returns-clause-decide : goal.returns-clause-decide
 returns-clause-decide c = λ rules most defined.

@@ -18,23 +18,16 @@ added_more : (old loads targets : List ℕ) (size k : ℕ)
     0) → k < length targets → get_or targets k 0 < length loads → AllPairs (λ a b. a ≢ b) targets
     → (s : ℕ) → get_or (set loads (get_or targets k 0) (get_or loads (get_or targets k 0) 0 + size))
     s 0 ≡ get_or old s 0 + cond (list_any (eqb s) (take (k + 1) targets)) size 0
-added_more old loads targets size k before within there distinct s =
-    let x = get_or targets k 0 in
-    let among : list_any (eqb s) (take (k + 1) targets)
-    ≡ (list_any (eqb s) (take k targets) || eqb s x) = ap (list_any (eqb s))
-    (take_more targets k 0 within) ∙ among-push s (take k targets) x in
-    rw among
+added_more old loads targets size k before within there distinct s = let x = get_or targets k 0 in
+    rw (ap (list_any (eqb s)) (take_more targets k 0 within) ∙ among-push s (take k targets) x)
     (elim (cases_eq s x) [
-      | inl same ↦
-          let first = not_among_before targets k within distinct in
+      | inl same ↦ let first = not_among_before targets k within distinct in
           let old_load = before x ∙ ap (λ b. get_or old x 0 + cond b size 0) first in
-          let here : get_or (set loads x (get_or loads x 0 + size)) s 0 ≡ get_or loads x 0 + size =
-          ap (λ z. get_or (set loads x (get_or loads x 0 + size)) z 0) same
+          let here = ap (λ z. get_or (set loads x (get_or loads x 0 + size)) z 0) same
           ∙ get_or-set_same loads x (get_or loads x 0 + size) 0 there in
           rw (or_right (list_any (eqb s) (take k targets)) (eqb s x) (eq-eqb s x same))
           (omega (arith, here, old_load, ap (λ z. get_or old z 0) same))
-      | inr other ↦ rw (ne_eqb s x other)
-          (rw (or-false (list_any (eqb s) (take k targets)))
+      | inr other ↦ rw (ne_eqb s x other) (rw (or-false (list_any (eqb s) (take k targets)))
           (get_or-set_other loads x s (get_or loads x 0 + size) 0 other ∙ before s))
     ])
   where
@@ -42,10 +35,8 @@ added_more old loads targets size k before within there distinct s =
     or-false b = grind arith
 
 pub loop-switch-preserved : goal.loop-switch-preserved
-loop-switch-preserved c =
-    added_more c.args.loads.now c.loop-switch.loads c.args.targets.now c.args.more
-    c.loop-switch.switch-index c.loop-switch.invariant c.loop-switch-test.true
-    (omega (
+loop-switch-preserved c = added_more c.args.loads.now c.loop-switch.loads c.args.targets.now
+    c.args.more c.loop-switch.switch-index c.loop-switch.invariant c.loop-switch-test.true (omega (
       arith,
       c.requires.there c.loop-switch.switch-index 0 c.loop-switch-test.true,
       c.loop-switch.auto.loads,

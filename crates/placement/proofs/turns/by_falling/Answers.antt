@@ -15,9 +15,8 @@ returns c =
     let key : ℕ → Reverse ℕ × ℕ = λ p. (record { 0 = get_or sizes p 0 }, p) in
     let sorted = c.sort_unstable_by_key.ensures.sorted key
     (always_returns_same _ _ _ (λ a r f called. (search rules, search rules))) in
-    let moved = rw c.in_ok-order.ensures at c.sort_unstable_by_key.ensures.permutation in
     let counts : (z : ℕ) → count z order ≡ count z numbers = λ z. sum_by-IsPermutation (one_of z)
-    numbers order moved in
+    numbers order (rw c.in_ok-order.ensures at c.sort_unstable_by_key.ensures.permutation) in
     let once : (z : ℕ) → count z order ≤ 1 =
     λ z. omega (arith, counts z, count-range-le z 0 (length sizes)) in
     let rises = rises_from_sorted (is_earlier sizes) (earlier_order sizes) order (λ k d low high.
@@ -26,8 +25,7 @@ returns c =
     lexicographic (get_or sizes here 0) (get_or sizes next 0) next here (sorted k d low high))
     once in
     let same = same_rising (is_earlier sizes) (earlier_order sizes) order
-    (in_order (is_earlier sizes) numbers) rises
-    (rises-in_order (is_earlier sizes) (earlier_order sizes) numbers
-    (λ z. count-range-le z 0 (length sizes)))
+    (in_order (is_earlier sizes) numbers) rises (rises-in_order (is_earlier sizes)
+    (earlier_order sizes) numbers (λ z. count-range-le z 0 (length sizes)))
     (λ z. counts z ∙ sym (sum-in_order (one_of z) (is_earlier sizes) numbers)) in
     same

@@ -13,10 +13,9 @@ returns c =
     let held : ℕ → ℕ = λ s. get_or c.args.held.now s 0 in
     let rooms = c.args.rooms.now in
     let size = c.args.size in
-    let kept = filter_same _ (has_room held rooms size) _
-    (λ s b f called. (search rules, search rules)) _ _ c.retain.ensures.filtered in
-    let listed : c.retain.new.self.items ≡ with_room held rooms size = kept
-    ∙ ap (filter (has_room held rooms size)) c.in_ok-switches.ensures in
+    let listed : c.retain.new.self.items ≡ with_room held rooms size =
+    (filter_same _ (has_room held rooms size) _ (λ s b f called. (search rules, search rules)) _ _
+    c.retain.ensures.filtered) ∙ ap (filter (has_room held rooms size)) c.in_ok-switches.ensures in
     let switches = c.sort_unstable_by_key.new.self.items in
     let sorted = c.sort_unstable_by_key.ensures.sorted (λ s. (load s, s))
     (always_returns_same _ _ _ (λ a r f called. (search rules, search rules))) in

@@ -1,6 +1,6 @@
 use Rattle.std.proofs.Common.{[], ◌++◌, ◌+◌, ◌∙◌, ◌∷◌, ◌≡◌, All, ap, arith, false, nat_cmp, subst, sym, take, take_all}
 use Rattle.base.proofs.Exports.{All-more, contains, not-true, take_more}
-use Rattle.policy_rules.specs.Exports.{AreDistinctEdits, AreSeen, IsSoundEdit, repeats}
+use Rattle.policy_rules.specs.Exports.{AreDistinctEdits, AreSeen, IsSoundEdit}
 use Rattle.policy_rules.proofs.EditLists.{distinct_edits_push}
 use Rattle.policy_rules.proofs.amendment.check_edits.Goals as goal
 
@@ -12,11 +12,7 @@ loop-edit-preserved c =
     let known = c.loop-edit.invariant in
     let within = c.loop-edit-test.true in
     let more : take (i + 1) edits ≡ take i edits ++ edit ∷ [] = take_more edits i edit within
-    ∙ ap (λ next. take i edits ++ next ∷ []) (sym c.edit-item.is) in
-    let new : repeats (take i edits) edit ≡ false =
-    not-true _ (sym (c.in_ok-is_new.ensures.new (take i edits) known.seen)
-    ∙ c.if-not-branch.false) in
-    record {
+    ∙ ap (λ next. take i edits ++ next ∷ []) (sym c.edit-item.is) in record {
       counts = ap (λ n. n + 1) known.counts;
       seen = subst (AreSeen (contains nat_cmp c.is_new.new.removed)
           (contains nat_cmp c.is_new.new.added)) (sym more)
@@ -24,13 +20,13 @@ loop-edit-preserved c =
       sound = All-more IsSoundEdit edits i edit within known.sound
           (subst IsSoundEdit c.edit-item.is c.edit_is_sound.ensures);
       distinct = subst AreDistinctEdits (sym more)
-          (distinct_edits_push (take i edits) edit known.distinct new);
+          (distinct_edits_push (take i edits) edit known.distinct (not-true _
+          (sym (c.in_ok-is_new.ensures.new (take i edits) known.seen) ∙ c.if-not-branch.false)));
     }
 
 pub returns-clause-amendment : goal.returns-clause-amendment
 returns-clause-amendment c =
-    let all = take_all c.loop-edit.edit-index c.args.edits.now (omega arith) in
-    record {
+    let all = take_all c.loop-edit.edit-index c.args.edits.now (omega arith) in record {
       sound = subst (All IsSoundEdit) all c.loop-edit.invariant.sound;
       distinct = subst AreDistinctEdits all c.loop-edit.invariant.distinct;
       few = c.requires;

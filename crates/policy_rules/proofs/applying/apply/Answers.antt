@@ -4,7 +4,7 @@ use Rattle.policy_rules.specs.Exports.{IsPolicy, adds_taken, amended_rows, remov
 use Rattle.policy_rules.specs.declared.applying.Inapplicable.TheVariants.{TooManyRows}
 use Rattle.policy_rules.specs.declared.amendment.Edit.{Edit}
 use Rattle.policy_rules.specs.declared.policy.Row.{Row}
-use Rattle.policy_rules.proofs.AmendmentCases.{IsPolicy-amended, IsSetOf, absent_by, is_absent, is_applied, is_taken, is_too_long, priorities, taken_by}
+use Rattle.policy_rules.proofs.AmendmentCases.{IsPolicy-amended, absent_by, is_absent, is_applied, is_taken, is_too_long, taken_by}
 use Rattle.policy_rules.proofs.applying.apply.Goals as goal
 use Rattle.policy_rules.proofs.applying.apply.Goals.{In_ok-amended, In_ok-new, In_ok-extend_from_slice}
 
@@ -25,13 +25,12 @@ absent_is : (c : In_ok-amended) → removes_absent c.args.policy.now c.args.chan
 absent_is c =
     let rows = c.args.policy.now in
     let change = c.args.change.now in
-    let one = ap length (staying_is c) in
     let two : length c.removed-removed.result.now ≡ length (removals change) =
     ap length c.removed-removed.ensures in
     let three : length c.rows-rows.result.now ≡ length rows = ap length c.rows-rows.ensures.rows in
     absent_by rows change c.rows-rows.ensures.policy.distinct
     c.added-added.ensures.amendment.distinct.removed_once
-    ∙ sym (λ i. ltb (three i) (one i + two i))
+    ∙ sym (λ i. ltb (three i) ((ap length (staying_is c)) i + two i))
 
 pub returns-then-rows-len-clause-refused : goal.returns-then-rows-len-clause-refused
 returns-then-rows-len-clause-refused c =
@@ -44,11 +43,9 @@ returns-then-rows-len-clause-refused c =
 taken_is : (c : In_ok-new) → adds_taken c.args.policy.now c.args.change.now
     ≡ list_any (λ (row : Row). contains nat_cmp c.in_ok-new.new row.priority)
     (staying_rows c.args.policy.now c.args.change.now)
-taken_is c =
-    let new = contains nat_cmp c.in_ok-new.new in
+taken_is c = let new = contains nat_cmp c.in_ok-new.new in
     taken_by new c.args.policy.now c.args.change.now
-    (subst (λ (rows : List Row). IsSetOf new (priorities rows)) c.added-added.ensures.rows
-    c.in_ok-new.ensures)
+    (rw c.added-added.ensures.rows at c.in_ok-new.ensures)
 
 pub returns-then-has_some-clause-refused : goal.returns-then-has_some-clause-refused
 returns-then-has_some-clause-refused c =
@@ -68,54 +65,45 @@ record Applies (rows : List Row) (change : List Edit) (amended : List Row) : Typ
 
 applies : (c : In_ok-extend_from_slice)
     → c.in_ok-amended.amended.items ≡ staying_rows c.args.policy.now c.args.change.now
-    → removes_absent c.args.policy.now c.args.change.now
-    ≡ ltb (length c.rows-rows.result.now)
+    → removes_absent c.args.policy.now c.args.change.now ≡ ltb (length c.rows-rows.result.now)
     (length c.in_ok-amended.amended.items + length c.removed-removed.result.now)
-    → adds_taken c.args.policy.now c.args.change.now
-    ≡ list_any (λ (row : Row). contains nat_cmp c.in_ok-new.new row.priority)
-    (staying_rows c.args.policy.now c.args.change.now)
+    → adds_taken c.args.policy.now c.args.change.now ≡ list_any (λ (row : Row). contains nat_cmp
+    c.in_ok-new.new row.priority) (staying_rows c.args.policy.now c.args.change.now)
     → Applies c.args.policy.now c.args.change.now c.extend_from_slice.new.self.items
 applies c staying absent taken = record {
   there = absent ∙ le-ltb _ _ (omega arith);
-  free = taken
-      ∙ ap (list_any (λ (row : Row). contains nat_cmp c.in_ok-new.new row.priority))
-      (sym (c.deref.ensures.value ∙ staying)) ∙ sym c.has_some.ensures ∙ c.if-has_some.false;
+  free = cc (taken, c.deref.ensures.value, staying, c.has_some.ensures, c.if-has_some.false);
   is = sym (c.in_ok-extend_from_slice.ensures.items
       ∙ ap (λ (rows : List Row). rows ++ c.added-added.result.now) staying
       ∙ ap (λ (added : List Row). staying_rows c.args.policy.now c.args.change.now ++ added)
       c.added-added.ensures.rows);
 }
 
-pub returns-then-len-gt-MAX_ROWS-clause-refused :
-    goal.returns-then-len-gt-MAX_ROWS-clause-refused
+pub returns-then-len-gt-MAX_ROWS-clause-refused : goal.returns-then-len-gt-MAX_ROWS-clause-refused
 returns-then-len-gt-MAX_ROWS-clause-refused c =
     let before = goal.at.returns-then-len-gt-MAX_ROWS-clause-refused c in
     let done = applies before.In_ok-extend_from_slice (staying_is before.In_ok-amended)
     (absent_is before.In_ok-amended) (taken_is before.In_ok-new) in
-    let count : length c.extend_from_slice.new.self.items ≡ c.len-then-len-gt-MAX_ROWS.result =
-    omega arith in
     let many : 2000 < length c.extend_from_slice.new.self.items = omega arith in
     is_too_long c.args.policy.now c.args.change.now done.there done.free
     (subst (λ (rows : List Row). 2000 < length rows) (sym done.is) many)
-    ∙ ap (λ n. Err (TooManyRows n)) (ap length done.is ∙ count)
+    ∙ ap (λ n. Err (TooManyRows n)) (ap length done.is ∙ (omega arith))
 
 pub from_sound-requires : goal.from_sound-requires
 from_sound-requires c =
     let before = goal.at.from_sound-requires c in
     let done = applies before.In_ok-extend_from_slice (staying_is before.In_ok-amended)
     (absent_is before.In_ok-amended) (taken_is before.In_ok-new) in
-    let few : length c.extend_from_slice.new.self.items ≤ 2000 = omega arith in
     subst IsPolicy done.is
     (IsPolicy-amended c.args.policy.now c.args.change.now c.rows-rows.ensures.policy
     c.added-added.ensures.amendment done.free
-    (subst (λ (rows : List Row). length rows ≤ 2000) (sym done.is) few))
+    (subst (λ (rows : List Row). length rows ≤ 2000) (sym done.is) (omega arith)))
 
 pub returns-clause-applied : goal.returns-clause-applied
 returns-clause-applied c =
     let before = goal.at.returns-clause-applied c in
     let done = applies before.In_ok-extend_from_slice (staying_is before.In_ok-amended)
     (absent_is before.In_ok-amended) (taken_is before.In_ok-new) in
-    let few : length c.extend_from_slice.new.self.items ≤ 2000 = omega arith in
     is_applied c.args.policy.now c.args.change.now done.there done.free
-    (subst (λ (rows : List Row). length rows ≤ 2000) (sym done.is) few)
+    (subst (λ (rows : List Row). length rows ≤ 2000) (sym done.is) (omega arith))
     ∙ ap Ok (done.is ∙ sym c.from_sound.ensures.rows)

@@ -8,8 +8,7 @@ loop-row-preserved c =
     let rows = c.args.rows.now in
     let i = c.loop-row.row-index in
     let row = c.row-item.result in
-    let fresh = c.loop-row.invariant.fresh in
-    record {
+    let fresh = c.loop-row.invariant.fresh in record {
       fresh = λ q lower.
           let other : nat_eq row.priority q ≡ false = ne_eqb row.priority q (λ same. omega arith) in
           sym (seen_more rows i row q c.loop-row-test.true c.row-item.is)

@@ -8,15 +8,13 @@ pub loop-row-preserved : goal.loop-row-preserved
 loop-row-preserved c =
     let rows = c.args.rows.now in
     let row = c.row-item.result in
-    let known = c.loop-row.invariant in
-    record {
+    let known = c.loop-row.invariant in record {
       counts = ap (λ n. n + 1) known.counts;
       seen = λ q. set_with _ _ row.priority c.in_ok-insert.ensures.updates q
           ∙ ap (λ b. cond (nat_eq row.priority q) true b) (known.seen q)
           ∙ seen_more rows _ row q c.loop-row-test.true c.row-item.is;
       so_far = so_far_more rows _ row c.loop-row-test.true c.row-item.is known.so_far
-          c.row_is_sound.ensures
-          (sym (known.seen row.priority)
+          c.row_is_sound.ensures (sym (known.seen row.priority)
           ∙ not-true _ (sym c.in_ok-insert.ensures.added ∙ c.if-not-branch.false));
     }
 

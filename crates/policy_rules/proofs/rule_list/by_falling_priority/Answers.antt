@@ -8,8 +8,7 @@ pub returns : goal.returns
 returns c =
     let sorted = c.sort_by_key.new.self.items in
     let key : Row → Reverse ℕ = λ row. record { 0 = row.priority } in
-    let order = c.in_ok-sort_by_key.ensures.sorted key
-    (answers_always _ _ _ (λ f a r g called. search rules)) in
     let moved = rw c.in_ok-sorted.ensures.items at c.in_ok-sort_by_key.ensures.permutation in
     same_sorted c.args.rows.now sorted c.requires.sound c.requires.distinct moved
-    (falling_from_sorted sorted order)
+    (falling_from_sorted sorted (c.in_ok-sort_by_key.ensures.sorted key
+    (answers_always _ _ _ (λ f a r g called. search rules))))

@@ -1,6 +1,6 @@
 use Rattle.std.proofs.Common.{[], ◌++◌, ◌∙◌, ◌∷◌, ◌≡◌, ◌≤◌, List, ap, arith, flat_map, length, sym, take, take_all, ℕ}
 use Rattle.base.proofs.Exports.{flat_map_more, sum_by-take-le, take_more}
-use Rattle.policy_rules.specs.Exports.{entries_of, ranked_from, with_default, word_count, word_total}
+use Rattle.policy_rules.specs.Exports.{entries_of, ranked_from, with_default, word_total}
 use Rattle.policy_rules.specs.declared.policy.Row.{Row}
 use Rattle.policy_rules.specs.declared.rules.Rule.{Rule}
 use Rattle.policy_rules.proofs.RuleRanks.{ranked_more, length-ranked_from, length-entries}
@@ -13,17 +13,11 @@ loop-row-init c = c.in_ok-rules.ensures.items
 -- the rules of the first rows are no more than the words of all
 few_yet : (rows : List Row) (k : ℕ) (rules : List Rule)
     → rules ≡ ranked_from 0 (flat_map entries_of (take k rows)) → length rules ≤ word_total rows
-few_yet rows k rules is = omega (
-  arith,
-  ap length is,
-  length-ranked_from 0 (flat_map entries_of (take k rows)),
-  length-entries (take k rows),
-  sum_by-take-le word_count rows k,
-)
+few_yet rows k rules is =
+    omega (arith, ap length is, length-ranked_from, length-entries, sum_by-take-le)
 
 pub push_row-requires-clause-few : goal.push_row-requires-clause-few
-push_row-requires-clause-few c =
-    omega (arith, few_yet c.args.rows.now c.loop-row.row-index _ c.loop-row.invariant)
+push_row-requires-clause-few c = omega (arith, few_yet)
 
 pub loop-row-preserved : goal.loop-row-preserved
 loop-row-preserved c =
@@ -36,13 +30,9 @@ loop-row-preserved c =
     (ap (flat_map entries_of) more ∙ sym (flat_map_more entries_of [] done row))
 
 pub push_rule-requires : goal.push_rule-requires
-push_rule-requires c =
-    omega (arith, few_yet c.args.rows.now c.loop-row.row-index _ c.loop-row.invariant)
+push_rule-requires c = omega (arith, few_yet)
 
 pub returns : goal.returns
-returns c =
-    let all : take c.loop-row.row-index c.args.rows.now ≡ c.args.rows.now =
-    take_all c.loop-row.row-index c.args.rows.now (omega arith) in
-    ranked_more [] _ _ _ _ _ c.loop-row.invariant
-    (rw c.any.ensures.pair at c.in_ok-push_rule.ensures)
-    (ap (λ rows. with_default rows) (sym all))
+returns c = ranked_more [] _ _ _ _ _ c.loop-row.invariant
+    (rw c.any.ensures.pair at c.in_ok-push_rule.ensures) (ap (λ rows. with_default rows)
+    (sym (take_all c.loop-row.row-index c.args.rows.now (omega arith))))

@@ -37,17 +37,15 @@ push_rule-requires c =
 
 pub loop-word-preserved : goal.loop-word-preserved
 loop-word-preserved c =
-    let row = c.args.row.now in
     let i = c.loop-word.word-index in
     let words = c.as_slice-word-items.result.now in
     let more = take_more words i c.word-item.result c.loop-word-test.true
     ∙ ap (λ word. take i words ++ word ∷ []) (sym c.word-item.is) in
     ranked_more _ _ _ _ _ _ c.loop-word.invariant (rw c.of.ensures at c.in_ok-push_rule.ensures)
-    (ap (with_hit row) more ∙ map-append _ (take i words) (c.word-item.result ∷ []))
+    (ap (with_hit c.args.row.now) more ∙ map-append _ (take i words) (c.word-item.result ∷ []))
 
 pub returns : goal.returns
-returns c =
-    let rules = c.args.rules.now.items in
+returns c = let rules = c.args.rules.now.items in
     c.loop-word.invariant
     ∙ ap (λ words. rules ++ ranked_from (length rules) (with_hit c.args.row.now words))
     (take_all c.loop-word.word-index c.as_slice-word-items.result.now (omega arith)

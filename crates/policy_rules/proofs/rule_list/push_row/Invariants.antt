@@ -3,6 +3,5 @@ use Rattle.policy_rules.specs.Exports.{ranked_from, with_hit}
 use Rattle.policy_rules.proofs.rule_list.push_row.Given as goal
 
 abbrev pub invariant-loop-word : goal.invariant-loop-word
-invariant-loop-word l =
-    l.rules.items ≡ l.initial.rules.items ++ ranked_from (length l.initial.rules.items)
-    (with_hit l.row (take l.word-index l.word-items))
+invariant-loop-word l = l.rules.items ≡ l.initial.rules.items
+    ++ ranked_from (length l.initial.rules.items) (with_hit l.row (take l.word-index l.word-items))

@@ -4,8 +4,7 @@ use Rattle.policy_rules.proofs.rule_list.push_rule.Goals as goal
 
 pub returns : goal.returns
 unfolding ranked_from
-returns c =
-    let before = c.args.rules.now in
+returns c = let before = c.args.rules.now in
     c.in_ok-push.ensures.items
     ∙ ap (λ rank. before.items ++ ranked_rule (rank, (c.args.word, c.args.hit)) ∷ [])
     (c.len-rank.ensures ∙ before.ok.0)

@@ -5,35 +5,28 @@ use Rattle.policy_rules.proofs.FallingRows.{IsPermutation-by_falling_priority}
 use Rattle.policy_rules.proofs.rule_list.to_rules.Goals as goal
 
 pub list_rules-requires-clause-few : goal.list_rules-requires-clause-few
-list_rules-requires-clause-few c =
-    let rows = c.args.policy.now in
-    let sorted = c.deref.ensures.value ∙ c.in_ok-sorted.ensures
-    ∙ ap by_falling_priority c.rows.ensures.rows in
+list_rules-requires-clause-few c = let rows = c.args.policy.now in
     omega (
       arith,
-      ap word_total sorted,
-      sum_by-IsPermutation word_count rows
-          (by_falling_priority rows)
+      ap word_total (c.deref.ensures.value ∙ c.in_ok-sorted.ensures ∙ ap by_falling_priority
+          c.rows.ensures.rows),
+      sum_by-IsPermutation word_count rows (by_falling_priority rows)
           (IsPermutation-by_falling_priority rows c.rows.ensures.policy.sound),
       c.count_words-words.ensures,
     )
 
 pub list_rules-requires-clause-sound : goal.list_rules-requires-clause-sound
-list_rules-requires-clause-sound c =
-    let rows = c.args.policy.now in
-    let sorted = c.deref.ensures.value ∙ c.in_ok-sorted.ensures
-    ∙ ap by_falling_priority c.rows.ensures.rows in
-    subst (All IsSoundRow) (sym sorted)
+list_rules-requires-clause-sound c = let rows = c.args.policy.now in
+    subst (All IsSoundRow) (sym (c.deref.ensures.value ∙ c.in_ok-sorted.ensures
+    ∙ ap by_falling_priority c.rows.ensures.rows))
     (All-permutation IsSoundRow rows (by_falling_priority rows)
     (IsPermutation-by_falling_priority rows c.rows.ensures.policy.sound)
     c.rows.ensures.policy.sound)
 
 pub returns-clause-rules : goal.returns-clause-rules
 unfolding rules_of
-returns-clause-rules c =
-    let sorted = c.deref.ensures.value ∙ c.in_ok-sorted.ensures
-    ∙ ap by_falling_priority c.rows.ensures.rows in
-    c.in_ok-rules.ensures ∙ ap (λ rows. ranked_from 0 (with_default rows)) sorted
+returns-clause-rules c = c.in_ok-rules.ensures ∙ ap (λ rows. ranked_from 0 (with_default rows))
+    (c.deref.ensures.value ∙ c.in_ok-sorted.ensures ∙ ap by_falling_priority c.rows.ensures.rows)
 
 pub returns-clause-first_match : goal.returns-clause-first_match
 returns-clause-first_match c = λ header bits.

@@ -1,4 +1,4 @@
-use Rattle.std.proofs.Common.{◌++◌, ◌∙◌, ap, append-nil, flat_map, sym}
+use Rattle.std.proofs.Common.{◌++◌, ◌∙◌, ap, append-nil, sym}
 use Rattle.base.proofs.Exports.{flat_map_more}
 use Rattle.policy_rules.proofs.BlockLoops.{IsAtBlock, at_block, block_words}
 use Rattle.policy_rules.proofs.words.push_row_words.Goals as goal
@@ -19,14 +19,10 @@ push_source_words-requires-clause-source c =
     c.in-Some.is
 
 pub loop-source-preserved : goal.loop-source-preserved
-loop-source-preserved c =
-    let words = block_words c.args.row.now in
+loop-source-preserved c = let words = block_words c.args.row.now in
     c.in_ok-push_source_words.ensures
     ∙ ap (λ these. these ++ words c.in-Some.source) c.loop-source.invariant
     ∙ flat_map_more words c.args.words.now.items c.loop-source.yielded c.in-Some.source
 
 pub returns : goal.returns
-returns c =
-    c.loop-source.invariant
-    ∙ ap (λ sources. c.args.words.now.items ++ flat_map (block_words c.args.row.now) sources)
-    ((here (goal.at.returns c).After-next).end c.in-None.is)
+returns c = cc (c.loop-source.invariant, (here (goal.at.returns c).After-next).end c.in-None.is)

@@ -21,9 +21,8 @@ word_of_row-requires-clause-destination c =
 
 pub loop-destination-preserved : goal.loop-destination-preserved
 loop-destination-preserved c =
-    let row = c.args.row.now in
     let done = c.loop-destination.yielded in
-    let g = word_of_row row c.args.source in
+    let g = word_of_row c.args.row.now c.args.source in
     c.in_ok-push.ensures.items
     ∙ ap (λ word. c.loop-destination.words.items ++ word ∷ []) c.word_of_row.ensures
     ∙ ap (λ these. these ++ g c.in-Some.destination ∷ []) c.loop-destination.invariant
@@ -33,6 +32,4 @@ loop-destination-preserved c =
 
 pub returns : goal.returns
 returns c =
-    c.loop-destination.invariant
-    ∙ ap (λ ports. c.args.words.now.items ++ map (word_of_row c.args.row.now c.args.source) ports)
-    ((here (goal.at.returns c).After-next).end c.in-None.is)
+    cc (c.loop-destination.invariant, (here (goal.at.returns c).After-next).end c.in-None.is)

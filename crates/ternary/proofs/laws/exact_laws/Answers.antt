@@ -3,8 +3,4 @@ use Rattle.ternary.proofs.FreeBits.{exact_fixed}
 use Rattle.ternary.proofs.laws.exact_laws.Goals as goal
 
 pub returns : goal.returns
-returns c = record {
-  word = exact_is_word;
-  holds = exact_holds;
-  no_free_bit = exact_fixed;
-}
+returns c = record { word = exact_is_word; holds = exact_holds; no_free_bit = exact_fixed }

@@ -7,7 +7,6 @@ returns c = record {
   one_result = one_result;
   one_answer = one_answer;
   idle = settled_stay;
-  named =
-      named;
+  named = named;
   least = least_of_numbers;
 }

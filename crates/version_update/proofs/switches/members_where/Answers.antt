@@ -13,8 +13,7 @@ and_not_rose rose member e = rw e refl
 
 pub loop-s-preserved : goal.loop-s-preserved
 loop-s-preserved c =
-    let named : c.if-rose.from ≡ (c.args.rose && is_member _) =
-    elim c.if-rose.branch [
+    let named : c.if-rose.from ≡ (c.args.rose && is_member _) = elim c.if-rose.branch [
       | then-rose w ↦ w.from-is ∙ w.is_member.ensures ∙ and_rose c.args.rose _ w.if-rose.true
       | else-rose w ↦ w.from-is ∙ and_not_rose c.args.rose _ w.if-rose.false
     ] in

@@ -10,8 +10,7 @@ added_few : (c : After-halves_met-fourth) (bit : ℕ) → let left = c.args.self
     + bit_at (bit_and left c.halves_met-second.result) bit
     + bit_at (bit_and left c.halves_met-third.result) bit
     + bit_at (bit_and left c.halves_met-fourth.result) bit ≤ 4
-added_few c bit =
-    let left = c.args.self.now.«open» in
+added_few c bit = let left = c.args.self.now.«open» in
     omega (
       arith,
       bit_at-lt (bit_and left c.halves_met-first.result) bit,
@@ -21,24 +20,21 @@ added_few c bit =
     )
 
 pub add_four-requires : goal.add_four-requires
-add_four-requires c = λ bit.
-    omega (
-      arith,
-      c.requires.room bit,
-      added_few (goal.at.add_four-requires c).After-halves_met-fourth bit,
-    )
+add_four-requires c = λ bit. omega (
+  arith,
+  c.requires.room bit,
+  added_few (goal.at.add_four-requires c).After-halves_met-fourth bit,
+)
 
 pub returns-clause-few : goal.returns-clause-few
-returns-clause-few c = λ bit.
-    omega (
-      arith,
-      c.add_four.ensures bit,
-      added_few (goal.at.returns-clause-few c).After-halves_met-fourth bit,
-    )
+returns-clause-few c = λ bit. omega (
+  arith,
+  c.add_four.ensures bit,
+  added_few (goal.at.returns-clause-few c).After-halves_met-fourth bit,
+)
 
 pub returns-clause-expected : goal.returns-clause-expected
-returns-clause-expected c = λ region bit rules fit free.
-    let left = c.args.self.now.«open» in
+returns-clause-expected c = λ region bit rules fit free. let left = c.args.self.now.«open» in
     let one = c.args.one in
     let b = c.args.b.now in
     let third = c.args.c.now in

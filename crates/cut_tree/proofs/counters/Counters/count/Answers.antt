@@ -10,13 +10,11 @@ loop-place-init c = record {
 }
 
 pub overflow_mul-count : goal.overflow_mul-count
-overflow_mul-count c =
-    omega (
-      arith,
-      c.loop-place.invariant.counted,
-      rest_below c.args.self.now.planes
-          c.loop-place.place c.args.bit (omega arith) (omega arith),
-    )
+overflow_mul-count c = omega (
+  arith,
+  c.loop-place.invariant.counted,
+  rest_below c.args.self.now.planes c.loop-place.place c.args.bit (omega arith) (omega arith),
+)
 
 pub overflow_add-count : goal.overflow_add-count
 overflow_add-count c =
@@ -24,8 +22,7 @@ overflow_add-count c =
     omega (
       arith,
       c.loop-place.invariant.counted,
-      rest_below c.args.self.now.planes
-          c.loop-place.place c.args.bit (omega arith) (omega arith),
+      rest_below c.args.self.now.planes c.loop-place.place c.args.bit (omega arith) (omega arith),
       shr_and_one plane c.args.bit,
       bit_at-lt plane c.args.bit,
     )

@@ -3,11 +3,10 @@ use Rattle.cut_tree.specs.Exports.{count_at}
 use Rattle.cut_tree.proofs.counters.Counters.count.Given as goal
 
 abbrev pub invariant-loop-place : goal.invariant-loop-place
-invariant-loop-place l =
-    record {
-      within : l.place ≤ 32;
-      counted : l.count ≡ count_at (drop l.place l.self.planes) l.bit;
-    }
+invariant-loop-place l = record {
+  within : l.place ≤ 32;
+  counted : l.count ≡ count_at (drop l.place l.self.planes) l.bit;
+}
 
 abbrev pub decreases-loop-place : goal.decreases-loop-place
 decreases-loop-place l = l.place

@@ -7,10 +7,9 @@ pub loop-height-init : goal.loop-height-init
 loop-height-init c = record {
   here = whole c.args.self.now.planes (omega arith);
   there = whole c.args.other.now.planes (omega arith);
-}
-  where
-    whole : (planes : List ℕ) → length planes ≤ 32 → IsHeight planes 32
-    whole planes few = record {
-      bound = omega arith;
-      above = λ bit. at_drop_all (λ (some : List ℕ). count_at some bit) planes 32 few;
-    }
+} where
+  whole : (planes : List ℕ) → length planes ≤ 32 → IsHeight planes 32
+  whole planes few = record {
+    bound = omega arith;
+    above = λ bit. at_drop_all (λ (some : List ℕ). count_at some bit) planes 32 few;
+  }

@@ -6,12 +6,10 @@ use Rattle.cut_tree.proofs.node.Node.half.Goals as goal
 
 pub narrow_half-requires : goal.narrow_half-requires
 narrow_half-requires c =
-    let node = c.args.self.now in
-    rw c.deref.ensures.value (record { free = c.requires; within = node.sound.within })
+    rw c.deref.ensures.value (record { free = c.requires; within = c.args.self.now.sound.within })
 
 pub invariant_of-result : goal.invariant_of-result
-invariant_of-result c =
-    let node = c.args.self.now in
+invariant_of-result c = let node = c.args.self.now in
     rw (c.in_ok-rules.ensures, c.deref.ensures.value, c.fix.ensures.pair) (record {
       sound = side_node node.rules.items node.region c.args.bit c.args.one node.sound
           c.requires.bound;

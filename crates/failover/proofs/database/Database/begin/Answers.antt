@@ -1,15 +1,14 @@
-use Rattle.std.proofs.Common.{◌∙◌, None, arith, subst, sym}
+use Rattle.std.proofs.Common.{◌∙◌, None, arith}
 use Rattle.base.proofs.Exports.{fill_by_all}
 use Rattle.base.specs.Exports.{switches}
-use Rattle.failover.specs.Exports.{AreByOrigin, first_adverts, first_of}
+use Rattle.failover.specs.Exports.{first_adverts, first_of}
 use Rattle.failover.proofs.HeldAdverts.{by_origin-first}
 use Rattle.failover.proofs.database.Database.begin.Goals as goal
 
 pub of-requires : goal.of-requires
 unfolding first_adverts switches
-of-requires c = subst AreByOrigin (sym (fill_by_all (first_of c.args.near.now c.args.switches)
-    c.loop-origin.adverts 64 None c.loop-origin.invariant.0
-    (λ k below. c.loop-origin.invariant.1 k (omega arith))))
+of-requires c = rw (fill_by_all (first_of c.args.near.now c.args.switches) c.loop-origin.adverts 64
+    None c.loop-origin.invariant.0 (λ k below. c.loop-origin.invariant.1 k (omega arith)))
     (by_origin-first c.args.near.now c.args.switches)
 
 pub returns : goal.returns

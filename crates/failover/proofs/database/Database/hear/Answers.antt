@@ -9,9 +9,8 @@ invariant_of-self c = record {
   by_origin = by_origin-set c.self.inside.adverts c.args.advert.now c.self.invariant.by_origin
       c.if-not-is_news.ensures.switch;
   neighbours = ap (λ named. set named c.args.advert.now.origin c.args.advert.now.up)
-      c.self.invariant.neighbours
-      ∙ sym (map-set neighbours_named c.self.inside.adverts c.args.advert.now.origin
-      (Some c.args.advert.now));
+      c.self.invariant.neighbours ∙ sym (map-set neighbours_named c.self.inside.adverts
+      c.args.advert.now.origin (Some c.args.advert.now));
 }
 
 pub returns-then-not-is_news-clause-after : goal.returns-then-not-is_news-clause-after

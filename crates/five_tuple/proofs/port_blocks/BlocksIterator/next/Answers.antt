@@ -9,13 +9,9 @@ returns-then-self-clause-steps c =
     (past, past)
 
 pub returns-clause-steps : goal.returns-clause-steps
-returns-clause-steps c =
-    let e = c.largest_block-size.result in
-    let size = one_shl e 32 (omega (arith, c.largest_block-size.ensures.bound)) in
+returns-clause-steps c = let e = c.largest_block-size.result in
     cover_of-step c.args.self.now.next c.args.self.now.high e _ c.largest_block-size.ensures.largest
-    size c.args.self.now.ports
+    (one_shl e 32 (omega (arith, c.largest_block-size.ensures.bound))) c.args.self.now.ports
 
 pub returns-clause-goes : goal.returns-clause-goes
-returns-clause-goes c =
-    let shorter = ap length (returns-clause-steps c) in
-    search rules
+returns-clause-goes c = let shorter = ap length (returns-clause-steps c) in search rules

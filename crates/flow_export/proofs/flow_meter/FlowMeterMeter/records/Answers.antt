@@ -1,4 +1,4 @@
-use Rattle.std.proofs.Common.{◌∙◌, ◌≡◌, ap, map, rules}
+use Rattle.std.proofs.Common.{◌∙◌, ap, map, rules}
 use Rattle.base.proofs.Exports.{YieldsList-from_map, YieldsList-from_rest, items_from_collect}
 use Rattle.flow_export.specs.Flows.{FlowMeterValue, flows}
 use Rattle.flow_export.proofs.FlowCounts.{record_at, records_are}
@@ -10,8 +10,6 @@ returns c =
     (record_at c.self.inside.port) (YieldsList-from_rest c.self.inside.counts.entries
     (c.map-records.ensures.source ∙ c.iter.ensures.rest)) c.map-records.ensures.closure
     (λ x r q k. search rules)) in
-    let here : c.in_ok-collect.field-0.items
-    ≡ map (record_at c.self.inside.port) c.self.inside.counts.entries = search rules in
-    c.new.ensures ∙ here ∙ ap (map (record_at c.self.inside.port)) c.self.invariant
+    c.new.ensures ∙ (search rules) ∙ ap (map (record_at c.self.inside.port)) c.self.invariant
     ∙ records_are c.self.inside.port c.self.inside.held.items
     ∙ ap (λ (meter : FlowMeterValue). flows meter.port meter.held) c.self.view_is

@@ -1,6 +1,6 @@
 use Rattle.std.proofs.Common.{[], ◌+◌, ◌<◌, ◌∙◌, ◌∷◌, ◌≡◌, All, AllPairs, List, ap, arith, cond, drop, eqb, get_or, get_or-take, length, length-take, refl, rules, subst, sym, take, ℕ}
 use Rattle.base.proofs.Exports.{drop_all, drop_more, list_any, take_more}
-use Rattle.placement.specs.Placement.{AreFirst, loaded_by, turn_rule, with_room}
+use Rattle.placement.specs.Placement.{AreFirst, loaded_by, turn_rule}
 use Rattle.placement.specs.declared.turns.Load.{Load}
 use Rattle.placement.specs.declared.turns.Load.TheVariants as load
 use Rattle.placement.proofs.FirstLemmas.{fewer_in_order, first_distinct, first_of_order, first_room, first_there, none_of, order_along}
@@ -22,8 +22,7 @@ distinct_loaded load.OnFirst xs distinct = λ i j d less within.
     absurd (omega (arith, length-take 1 xs))
 
 -- the turn that the loop has come to
-turn : (c : After-number_at-key)
-    → let order = c.deref-partition-items.result.now in
+turn : (c : After-number_at-key) → let order = c.deref-partition-items.result.now in
     let k = c.loop-partition.partition-index in
     Loaded (turn_rule c.args.self c.args.keys.now c.args.sizes.now c.args.rooms.now c.args.backups)
     c.loop-partition.held.items c.loop-partition.loads.items c.loop-partition.placement.items
@@ -55,46 +54,36 @@ returns-in_default-clause-refused c =
     let k = c.loop-partition.partition-index in
     let held : ℕ → ℕ = λ s. get_or c.loop-partition.held.items s 0 in
     let load : ℕ → ℕ = λ s. get_or c.loop-partition.loads.items s 0 in
-    let rule = turn_rule c.args.self c.args.keys.now c.args.sizes.now c.args.rooms.now c.args.backups
-    in
     let few = fewer_in_order held load c.args.rooms.now c.number_at-size.result
-    (1 + c.args.backups) c.deref-in-loop-partition-2.result.now
-    (order_along _ _ _ _ c.args.rooms.now _ _ _ c.deref.ensures.value
-    c.deref-in-loop-partition.ensures.value refl
-    (c.deref-in-loop-partition-2.ensures.value ∙ c.in_ok-switches.ensures))
-    (none_of c.front.result _ _ c.front.ensures.enough
-    (λ targets is. c.in_default.not-Some targets is)) in
-    loaded_refused rule c.loop-partition.held.items c.loop-partition.loads.items
+    (1 + c.args.backups) c.deref-in-loop-partition-2.result.now (order_along _ _ _ _
+    c.args.rooms.now _ _ _ c.deref.ensures.value c.deref-in-loop-partition.ensures.value refl
+    (c.deref-in-loop-partition-2.ensures.value ∙ c.in_ok-switches.ensures)) (none_of c.front.result
+    _ _ c.front.ensures.enough (λ targets is. c.in_default.not-Some targets is)) in
+    loaded_refused (turn_rule c.args.self c.args.keys.now c.args.sizes.now c.args.rooms.now
+    c.args.backups) c.loop-partition.held.items c.loop-partition.loads.items
     c.loop-partition.placement.items (take k order) (get_or order k 0) (drop (k + 1) order)
     (turn (goal.at.returns-in_default-clause-refused c).After-number_at-key)
-    (subst (λ size. length (with_room held c.args.rooms.now size) < 1 + c.args.backups)
-    c.number_at-size.ensures few)
+    (rw c.number_at-size.ensures at few)
 
 -- the targets of this turn
-first_of : (c : After-items)
-    → let held : ℕ → ℕ = λ s. get_or c.loop-partition.held.items s 0 in
+first_of : (c : After-items) → let held : ℕ → ℕ = λ s. get_or c.loop-partition.held.items s 0 in
     let load : ℕ → ℕ = λ s. get_or c.loop-partition.loads.items s 0 in
     AreFirst held load c.args.rooms.now c.number_at-size.result (1 + c.args.backups)
     c.in-Some.targets
-first_of c =
-    first_of_order _ _ c.args.rooms.now c.number_at-size.result (1 + c.args.backups)
-    c.deref-in-loop-partition-2.result.now c.in-Some.targets
-    (order_along _ _ _ _ c.args.rooms.now _ _ _ c.deref.ensures.value
-    c.deref-in-loop-partition.ensures.value refl
-    (c.deref-in-loop-partition-2.ensures.value ∙ c.in_ok-switches.ensures))
-    c.in-Some.ensures.enough c.in-Some.ensures.targets
+first_of c = first_of_order _ _ c.args.rooms.now c.number_at-size.result
+    (1 + c.args.backups) c.deref-in-loop-partition-2.result.now c.in-Some.targets (order_along _ _ _
+    _ c.args.rooms.now _ _ _ c.deref.ensures.value c.deref-in-loop-partition.ensures.value refl
+    (c.deref-in-loop-partition-2.ensures.value ∙ c.in_ok-switches.ensures)) c.in-Some.ensures.enough
+    c.in-Some.ensures.targets
 
 pub add_load-requires-clause-there : goal.add_load-requires-clause-there
-add_load-requires-clause-there c =
-    let there = first_there _ _ c.args.rooms.now c.number_at-size.result (1 + c.args.backups)
-    c.in-Some.targets (first_of c) in
-    rw c.items.ensures.list (λ k d within.
-    omega (
-      arith,
-      there k d within,
-      ap length c.deref_mut.ensures.value,
-      c.loop-partition.invariant.held_switches,
-    ))
+add_load-requires-clause-there c = rw c.items.ensures.list (λ k d within. omega (
+  arith,
+  (first_there _ _ c.args.rooms.now c.number_at-size.result
+      (1 + c.args.backups) c.in-Some.targets (first_of c)) k d within,
+  ap length c.deref_mut.ensures.value,
+  c.loop-partition.invariant.held_switches,
+))
 
 pub add_load-requires-clause-fits : goal.add_load-requires-clause-fits
 add_load-requires-clause-fits c =
@@ -104,10 +93,8 @@ add_load-requires-clause-fits c =
     omega (arith, room k d within, c.type_inv.rooms (get_or c.in-Some.targets k d)))
 
 pub add_load-requires-clause-distinct : goal.add_load-requires-clause-distinct
-add_load-requires-clause-distinct c =
-    let distinct = first_distinct _ _ c.args.rooms.now c.number_at-size.result (1 + c.args.backups)
-    c.in-Some.targets (first_of c) in
-    rw c.items.ensures.list distinct
+add_load-requires-clause-distinct c = rw c.items.ensures.list (first_distinct _ _ c.args.rooms.now
+    c.number_at-size.result (1 + c.args.backups) c.in-Some.targets (first_of c))
 
 pub add_load-requires-in-loop-partition-clause-there : goal.add_load-requires-in-loop-partition-clause-there
 add_load-requires-in-loop-partition-clause-there c =
@@ -126,15 +113,13 @@ pub add_load-requires-in-loop-partition-clause-fits : goal.add_load-requires-in-
 add_load-requires-in-loop-partition-clause-fits c =
     let order = c.deref-partition-items.result.now in
     let k = c.loop-partition.partition-index in
-    let before = turn (goal.at.add_load-requires-in-loop-partition-clause-fits c).After-number_at-key in
-    rw c.deref_mut-in-loop-partition.ensures.value (λ i d within.
-    omega (
+    rw c.deref_mut-in-loop-partition.ensures.value (λ i d within. omega (
       arith,
-      carried-room
-          (turn_rule c.args.self c.args.keys.now c.args.sizes.now c.args.rooms.now c.args.backups)
-          c.loop-partition.held.items c.loop-partition.loads.items
+      carried-room (turn_rule c.args.self c.args.keys.now c.args.sizes.now c.args.rooms.now
+          c.args.backups) c.loop-partition.held.items c.loop-partition.loads.items
           c.loop-partition.placement.items (take k order) (get_or order k 0) (drop (k + 1) order)
-          before (get_or c.loaded.result.now i d),
+          (turn (goal.at.add_load-requires-in-loop-partition-clause-fits c).After-number_at-key)
+          (get_or c.loaded.result.now i d),
       c.number_at-key.ensures,
       c.requires.small,
     ))
@@ -149,11 +134,10 @@ pub index_mut-requires : goal.index_mut-requires
 index_mut-requires c =
     let order = c.deref-partition-items.result.now in
     let k = c.loop-partition.partition-index in
-    let here = turn (goal.at.index_mut-requires c).After-number_at-key in
-    let within = taken_within
-    (turn_rule c.args.self c.args.keys.now c.args.sizes.now c.args.rooms.now c.args.backups)
-    c.loop-partition.placement.items (take k order) (get_or order k 0) (drop (k + 1) order)
-    here.taken in
+    let within = taken_within (turn_rule c.args.self c.args.keys.now c.args.sizes.now
+    c.args.rooms.now c.args.backups) c.loop-partition.placement.items (take k order)
+    (get_or order k 0) (drop (k + 1) order)
+    (turn (goal.at.index_mut-requires c).After-number_at-key).taken in
     omega (arith, within, c.loop-partition.placement.ok.0)
 
 pub loop-partition-preserved : goal.loop-partition-preserved
@@ -165,7 +149,6 @@ loop-partition-preserved c =
     let sizes = c.args.sizes.now in
     let keys = c.args.keys.now in
     let p = get_or order k 0 in
-    let rule = turn_rule c.args.self keys sizes c.args.rooms.now c.args.backups in
     let first : AreFirst (λ s. get_or held s 0) (λ s. get_or loads s 0) c.args.rooms.now
     (get_or sizes p 0) (1 + c.args.backups) c.in-Some.targets =
     subst (λ size. AreFirst (λ s. get_or held s 0) (λ s. get_or loads s 0) c.args.rooms.now size
@@ -190,9 +173,9 @@ loop-partition-preserved c =
           (omega (arith, c.loop-partition.loads.ok.0)),
       take_more order k 0 c.loop-partition-test.true,
     )
-    (loaded_more rule held loads c.loop-partition.placement.items (take k order) p
-    (drop (k + 1) order) c.in-Some.targets c.add_load.new.loads
-    c.add_load-in-loop-partition.new.loads
+    (loaded_more (turn_rule c.args.self keys sizes c.args.rooms.now c.args.backups) held loads
+    c.loop-partition.placement.items (take k order) p (drop (k + 1) order) c.in-Some.targets
+    c.add_load.new.loads c.add_load-in-loop-partition.new.loads
     (turn (goal.at.loop-partition-preserved c).After-number_at-key) first added more held_len
     loads_len)
 

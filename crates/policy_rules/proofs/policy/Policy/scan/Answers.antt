@@ -9,11 +9,8 @@ pub returns-in-Some-clause-value : goal.returns-in-Some-clause-value
 returns-in-Some-clause-value c =
     let rows = c.rows.result.now in
     let f = c.fields.result in
-    let distinct = subst HaveDistinctPriorities (sym c.rows.ensures.rows)
-    c.rows.ensures.policy.distinct in
     let kept = AllPairs-filter (λ (x y : Row). x.priority ≢ y.priority) (λ row. row_matches row f)
-    rows distinct in
-    let top = highest_is (filter (λ row. row_matches row f) rows) c.in-Some.row.now kept
-    c.in-Some.ensures in
-    c.of.ensures ∙ ap hit_of (sym top) ∙ ap (λ rows. scan_by rows f) c.rows.ensures.rows
+    rows (subst HaveDistinctPriorities (sym c.rows.ensures.rows) c.rows.ensures.policy.distinct) in
+    c.of.ensures ∙ ap hit_of (sym (highest_is (filter (λ row. row_matches row f) rows)
+    c.in-Some.row.now kept c.in-Some.ensures)) ∙ ap (λ rows. scan_by rows f) c.rows.ensures.rows
     ∙ ap (scan_by c.args.self.now) c.fields.ensures

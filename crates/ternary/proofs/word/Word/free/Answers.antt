@@ -1,5 +1,5 @@
-use Rattle.std.proofs.Common.{◌∙◌, ap, subst, sym}
-use Rattle.ternary.specs.Exports.{IsWord, holds}
+use Rattle.std.proofs.Common.{◌∙◌, ap}
+use Rattle.ternary.specs.Exports.{holds}
 use Rattle.ternary.proofs.WordLemmas.{cleared_free, free_holds, free_word}
 use Rattle.ternary.proofs.word.Word.free.Goals as goal
 
@@ -12,9 +12,8 @@ returns-clause-either c = λ h.
     ap (λ w. holds w h) (returns-clause-pair c) ∙ free_holds c.args.self.now c.args.bit h
 
 pub returns-clause-word : goal.returns-clause-word
-returns-clause-word c =
-    subst IsWord (sym (returns-clause-pair c))
-    (free_word c.args.self.now c.args.bit (subst IsWord c.self.view_is c.self.invariant))
+returns-clause-word c = rw (returns-clause-pair c)
+    (free_word c.args.self.now c.args.bit (rw c.self.view_is at c.self.invariant))
 
 pub invariant_of-result : goal.invariant_of-result
 invariant_of-result c = returns-clause-word c

@@ -1,5 +1,3 @@
-use Rattle.std.proofs.Common.{◌↔◌, IsTrue, subst, sym}
-use Rattle.ternary.specs.Exports.{AgreesOnMask}
 use Rattle.ternary.proofs.WordLemmas.{masked_holds, holds_decides}
 use Rattle.ternary.proofs.word.Word.holds.Goals as goal
 
@@ -7,6 +5,4 @@ pub returns-clause-test : goal.returns-clause-test
 returns-clause-test c = rw (← c.self.view_is) (masked_holds _ c.self.invariant c.args.h)
 
 pub returns-clause-agrees : goal.returns-clause-agrees
-returns-clause-agrees c =
-    subst (λ t. IsTrue t ↔ AgreesOnMask c.args.self.now c.args.h) (sym (returns-clause-test c))
-    (holds_decides c.args.self.now c.args.h)
+returns-clause-agrees c = rw (returns-clause-test c) (holds_decides c.args.self.now c.args.h)

@@ -17,5 +17,4 @@ invariant_of-result c = (
 )
 
 pub returns : goal.returns
-returns c = ap (λ l. record { count = 1; current = 1; retired = 0; switches = l })
-    (firsts c.args.number _ c.first_records.ensures c.requires.few)
+returns c = cc (firsts c.args.number _ c.first_records.ensures c.requires.few)

@@ -15,11 +15,9 @@ returns c =
       retired = inside.retired;
       switches = l;
     }) (take-set-lt inside.number inside.switches c.args.s c.args.known within)
-    ∙ ap (λ (v : MarksValue).
-    record {
+    ∙ ap (λ (v : MarksValue). record {
       count = v.count;
       current = v.current;
       retired = v.retired;
-      switches =
-          set v.switches c.args.s c.args.known;
+      switches = set v.switches c.args.s c.args.known;
     }) c.self.view_is

@@ -8,11 +8,9 @@ pub returns-clause-rule : goal.returns-clause-rule
 returns-clause-rule c =
     let rises = subst (λ (m : MarksValue). RisesTo m c.risen-current.result) (sym c.self.view_is)
     c.risen-current.ensures in
-    let opened = c.open_joining-opens.ensures.opened in
-    record {
+    let opened = c.open_joining-opens.ensures.opened in record {
       settled = settled_by _ _ _ _ _ rises opened c.self-2.view_is c.allowed-retired.ensures.allowed
           c.allowed-retired.ensures.live c.switches-2.ensures.bounds;
-      switches =
-          ap (λ (m : MarksValue). length m.switches) (c.self-2.view_is ∙ opened) ∙ simp length-map
-          (ap (λ (m : MarksValue). length m.switches) c.self.view_is);
+      switches = ap (λ (m : MarksValue). length m.switches) (c.self-2.view_is ∙ opened)
+          ∙ simp length-map (ap (λ (m : MarksValue). length m.switches) c.self.view_is);
     }

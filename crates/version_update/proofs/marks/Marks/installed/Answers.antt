@@ -1,14 +1,12 @@
-use Rattle.std.proofs.Common.{◌≤◌, ap, arith, subst, sym}
+use Rattle.std.proofs.Common.{ap, arith, subst, sym}
 use Rattle.version_update.specs.declared.record.SwitchRecord.{SwitchRecord}
 use Rattle.version_update.specs.Exports.{IsSoundRecord, MarksValue}
 use Rattle.version_update.proofs.OpenedSwitches.{installed-sound}
 use Rattle.version_update.proofs.marks.Marks.installed.Goals as goal
 
 pub set_record-requires-clause-sound : goal.set_record-requires-clause-sound
-set_record-requires-clause-sound c =
-    let count = c.self.inside.ledger.count in
-    let last : c.args.version ≤ count =
-    omega (arith, c.requires.last, ap (λ (m : MarksValue). m.count) c.self.view_is) in
+set_record-requires-clause-sound c = let count = c.self.inside.ledger.count in
     subst (λ (k : SwitchRecord). IsSoundRecord count k) (sym c.installed-taken.ensures.after)
-    (installed-sound count c.args.boot c.args.version _ c.requires.first last
+    (installed-sound count c.args.boot c.args.version _ c.requires.first
+    (omega (arith, c.requires.last, ap (λ (m : MarksValue). m.count) c.self.view_is))
     c.record-known.ensures.sound)
