@@ -510,7 +510,7 @@ WRONG_ARGS = [
 
 
 def refusal_faults(what, *args):
-    """Status 2 and one line are wanted, and no output."""
+    """Status 2 and one line are needed, and no output."""
     out, errors, status = ask(str(DESK / args[0]), *args[1:])
     if (out, status, errors.count("\n")) != ("", 2, 1) or "Traceback" in errors:
         yield f"{what}: status {status}, {errors.strip()[-200:]}"

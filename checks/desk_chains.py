@@ -28,7 +28,7 @@ TWICE = """*filter
 -A SUB -j LOG
 COMMIT
 """
-SAID_ONCE = "1 of 2 lines, 2 rows", "can't be said: line 6\n", "it decides nothing: line 8\n"
+SAID_ONCE = "1 of 2 lines, 2 rows", "isn't supported: line 6\n", "it decides nothing: line 8\n"
 
 
 # ---- what the chains say

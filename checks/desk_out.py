@@ -3,6 +3,7 @@
 
 - Only whole texts of `show` are taken: none that is empty, cut anywhere, or has a line too many or
   too few. What is refused is told in one line, with status 2; Ctrl-C is one line too.
+- `--check` refuses a journal that lacks a row of its schedule.
 - The ports that are listed with the flows of the examples can be made as it says there; with them
   the flows are taken, and without them they aren't.
 - `--check`: each lookup of the examples is as in the journals.
@@ -37,15 +38,15 @@ REFUSED = {
     "": "the text is empty",
     "\n": "line 1: a line `switch NAME version 1` must be here, and not ''",
     "# a page\n": "line 1: a line `switch NAME version 1` must be here, and not '# a page'",
-    TEXT[:-9]: "line 14: the text is cut, its last line has no end",
+    TEXT[:-9]: "line 14: the text is cut off: its last line has no end",
     TEXT[: TEXT.index("partitions")]: "line 13: the text ends, and a line `partitions K` must",
     TEXT.replace("authority 1\n", "authority 1\n\n"): "line 3: a line `part N region WORD rules M`",
     TEXT.replace("authority 1\n", "authority 2\n"): "line 13: a line `part N region WORD rules M`",
     TEXT.replace("region 0", "region 3"): "line 3: the word has a bit that its mask leaves free",
     TEXT.replace("targets b", "targets c"): "line 14: the parts with the target b aren't those",
     TEXT.replace("drop", "out:64"): "line 11: a line `  rank R rule RULE word WORD ACTION` must",
-    TEXT + "\n": "line 15: this is no line of a journal: ''",
-    TEXT + TEXT: "line 15: this is no line of a journal: 'switch b version 1'",
+    TEXT + "\n": "line 15: this is not a line of a journal: ''",
+    TEXT + TEXT: "line 15: this is not a line of a journal: 'switch b version 1'",
     TEXT.replace("\n", "\r\n"): "line 1: a line `switch NAME version 1` must be here",
 }
 SEEDS = 10
@@ -107,6 +108,22 @@ def texts_wrong():
             yield f"{name} is refused"
         if any(map(is_whole, damaged(text))):
             yield f"{name} is taken when it is damaged"
+
+
+def lacking_wrong():
+    """What is wrong with how a journal is refused that lacks a row of its schedule."""
+    blocks = re.split(r"(?m)^(?=row )", (EXAMPLES / "campus/journal.txt").read_text())
+    for place, block in enumerate(blocks):
+        number = block.partition(":")[0]
+        if number in ("", "row 6"):  # row 6 is a drain, which may have nothing to do
+            continue
+        with tempfile.TemporaryDirectory() as home:
+            folder = Path(shutil.copytree(EXAMPLES / "campus", f"{home}/lacking"))
+            (folder / "journal.txt").write_text("".join(blocks[:place] + blocks[place + 1 :]))
+            done = run("--check", str(folder))
+        is_told = f"journal.txt has no {number}, " in done.stderr
+        if done.returncode != 2 or len(done.stderr.splitlines()) != 1 or not is_told:
+            yield f"without {number}, --check: {done.stdout}{done.stderr}"
 
 
 def interrupt_wrong():
@@ -257,7 +274,7 @@ def told(check, *args):
 def main():
     if sys.argv[1:]:
         sys.exit(__doc__)
-    wrong = [*told(texts_wrong), *told(interrupt_wrong)]
+    wrong = [*told(texts_wrong), *told(lacking_wrong), *told(interrupt_wrong)]
     if daemon.missing_tool():
         print(f"skipped: all that needs Open vSwitch, as {daemon.missing_tool()} isn't installed")
     else:

@@ -6,7 +6,7 @@
 - On SEEDS cases of `model/fuzz.py` (20 where no number is given): the packets that filters leave are
   those that patterns find in the text, and what the matrix says of a packet is what the model's
   journal of that one packet says. Each row that decides some header of the matrix has one there.
-- Two journals of the same traffic differ in the fates that patterns find.
+- Two journals of the same traffic differ in the outcomes that patterns find.
 - The plan's sums are the model's, and code 15 says how many rules there were to place.
 """
 import io
@@ -71,7 +71,7 @@ def seed_faults(seed):
 
 
 def rest_faults(folder, world):
-    """Whether it is quiet is what the model says, and the rows that are told bring it to rest."""
+    """Whether it is quiet is what the model says, and the rows that are told make it quiet."""
     found = rest.answer(case_of(str(folder)))
     if found["quiet"] != world.is_quiet():
         yield f"quiet is told to be {found['quiet']}"
@@ -213,8 +213,8 @@ def compare_faults():
         wanted = [packet for packet in here if here[packet] != there[packet]]
         if [str(row["packet"]) for row in found["differ"]] != wanted or len(wanted) != 1:
             yield f"{found['differ']} differ, and not {wanted}"
-        if (found["same fate"], found["by another row"]) != (3, 2):
-            yield f"{found['by another row']} of {found['same fate']} have another row"
+        if (found["same outcome"], found["by another row"]) != (3, 2):
+            yield f"{found['by another row']} of {found['same outcome']} have another row"
 
 
 # ---- plans

@@ -102,7 +102,7 @@ def pipes_are_no_files(desk):
         (own / name).unlink(missing_ok=True)
         os.mkfifo(own / name)
         _, errors, status = desk.run(str(own), "--model")
-        assert status == 2 and f"{own / name} is no file" in errors, errors
+        assert status == 2 and f"{own / name} is not a file" in errors, errors
 
 
 @case

@@ -140,7 +140,7 @@ def wrong_policy_faults(folder):
 
 
 def named_faults(rng, folder):
-    """Lines with names in the place of numbers."""
+    """Lines with names instead of numbers."""
     plain = (SAMPLES["traffic"] / "office.txt").read_text().splitlines()[1:5]
     for seed in range(TEXTS):
         lines = [rng.choice(plain) for _ in range(12)]
@@ -150,7 +150,7 @@ def named_faults(rng, folder):
             lines[at] = re.sub(*rng.choice(ends), lines[at], count=1)
         (folder / "text").write_text("\n".join([*lines, ""]))
         status, written, said = run("traffic", folder / "text", "--all")
-        told = re.search(r"names in the place of numbers.*: lines? (.*)", said)
+        told = re.search(r"names instead of numbers.*: lines? (.*)", said)
         ranges = [part.split("-") for part in told[1].split(", ")] if told else []
         numbers = [at for ends in ranges for at in range(int(ends[0]), int(ends[-1]) + 1)]
         if status or numbers != [at + 1 for at in chosen]:

@@ -187,7 +187,7 @@ def a_long_journal_is_the_models(desk):
     assert len(found) > 1 << 20 and found.count("\n  entered ") == MANY
     desk.add_rt()
     _, errors, status = desk.run("own", "--build")
-    assert status == 0 and "the quick runner gives no answer" in errors, errors
+    assert status == 0 and "the quick runner prints no answer" in errors, errors
     assert (own / "journal.txt").read_text() == found
 
 

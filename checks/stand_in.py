@@ -6,7 +6,7 @@ usage: checks/stand_in.py ARGUMENTS       as `difane`: what the slow model says
        checks/stand_in.py --version       as `rt`: the kit that README.md names
 
 It is called by another name, by a link. As `rt try` it copies the files of `--data` into a folder,
-as the kit's help says, and gives no answer above 1 MiB.
+as the kit's help says, and prints no answer above 1 MiB.
 """
 import re
 import subprocess

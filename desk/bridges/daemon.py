@@ -61,6 +61,8 @@ class OpenVSwitch:
         self.home.cleanup()
 
     def begin(self):
+        if tool := missing_tool():
+            raise Failed(f"{tool} isn't installed (Debian: openvswitch-switch)")
         self.run("ovsdb-tool", "create", "conf.db", SCHEMA)
         self.start("ovsdb-server", "conf.db", "--remote=punix:db.sock")
         self.await_file("db.sock")

@@ -2,6 +2,7 @@
 import re
 from collections import Counter
 
+from parts.folder import Case
 from parts.journal import said_by
 from parts.table import plural
 
@@ -15,7 +16,7 @@ def read_text(text):
     held, journal = tables.read_tables(text)
     for number, line in enumerate(journal, text.count("\n") - len(journal) + 1):
         if said_by(line.removeprefix("  ")) is None:
-            raise tables.Refused(f"line {number}: this is no line of a journal: {line[:60]!r}")
+            raise tables.Refused(f"line {number}: this is not a line of a journal: {line[:60]!r}")
     return held, journal
 
 
@@ -30,7 +31,7 @@ def exit_of(action):
 def tunnel_to(target):
     """The name of the port that leads to a switch."""
     if len(target) > 12:
-        raise daemon.Failed(f"the name {target} has more than 12 letters, too long for a port")
+        raise daemon.Failed(f"the name {target} has more than 12 letters: too long for a port")
     return f"{TUNNEL}{target}"
 
 
@@ -206,8 +207,8 @@ def name_of(cookie, names):
 def compare(path):
     """Prints what the switch of these tables did with each packet; whether anything differs."""
     held = tables.read_file(path)
-    journal = (path.parent / "journal.txt").read_text().splitlines()
-    told = list(told_of(held.switch, journal))
+    case = Case(path.parent / "journal.txt", path.parent.name)
+    told = list(told_of(held.switch, [item.text for item in case.items()]))
     rules, regions = len(held.rules), len(held.elsewhere())
     with Bridge() as bridge:
         learnt = [rest[0] for what, _, *rest in told if what == "learn"]

@@ -175,7 +175,7 @@ def compare(folder):
     told, packets = told_of(case)
     net = Net(case.net())
     if strange := told.network.switches.keys() - {*net.names}:
-        raise tables.Refused(f"{folder}: the journal has a switch {min(strange)}, net.toml hasn't")
+        raise tables.Refused(f"{folder}: net.toml lacks the journal's switch {min(strange)}")
     used = {1, *(packet.version for packet in packets)}
     versions = [told.network.versions[number] for number in sorted(used)]
     held = all_tables(folder, case, net.names, versions)

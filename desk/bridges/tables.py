@@ -68,7 +68,7 @@ class Lines:
         if not text:
             raise Refused("the text is empty, and no text of `difane show`")
         if not text.endswith("\n"):
-            raise Refused(f"line {len(self.lines)}: the text is cut, its last line has no end")
+            raise Refused(f"line {len(self.lines)}: the text is cut off: its last line has no end")
 
     def take(self, shape):
         """The fields of the next line, which must have this shape."""

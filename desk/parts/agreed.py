@@ -16,7 +16,7 @@ INPUTS = ("net.toml", "schedule.csv", "policy*.csv")
 
 def is_from(case):
     """What to ask whoever reads of a journal that its inputs contradict."""
-    return f"is {case.journal.name} from an earlier run? desk/run {case.name} plays anew"
+    return f"is {case.journal.name} from an earlier run? desk/run {case.name} makes it again"
 
 
 def newer_inputs(case):
@@ -70,12 +70,16 @@ def plain(kind, fields):
         return fields
 
 
-def check_all(case, play):
+def check_rows(case):
     """That the journal has each row of the schedule; a drain or a flush may have nothing to do."""
-    for row, (kind, *_) in case.schedule.items():
+    for row, (kind, *_) in (case.schedule or {}).items() if case.sent < FULL else ():
         if kind not in PLAYED and row not in case.seen:
             raise Mistake(f"{case.journal.name} has no row {row}, and schedule.csv has: {kind}; "
                           f"{is_from(case)}")
+
+
+def check_all(case, play):
+    """That nothing is left over where the schedule has a drain or a flush."""
     packets, messages = play.packets.values(), play.network.messages.values()
     check_left(case, "drain", ((f"packet {one.number} travels", one.row, one.end_row)
                                for one in packets))
@@ -99,9 +103,9 @@ def check_meters(case, play):
     """That the last lines count the packets that left; a caution where there are none."""
     left = Counter(packet.port for packet in play.packets.values() if packet.end == "out")
     if play.meters and play.meters != left:
-        raise Mistake(f"{case.journal}: the meters count other packets than those that left")
+        raise Mistake(f"{case.journal}: the meters don't count the packets that left")
     if left and not play.meters:
-        print(f"{case.journal} has no lines `meter` at its end: it is cut, or its play stopped full",
+        print(f"{case.journal} has no lines `meter` at its end: it is cut off, or was full",
               file=sys.stderr)
 
 
@@ -137,7 +141,7 @@ def check_network(case, play):
         if packet.end == "out" and owners.get(packet.port) != packet.at:
             strange.append(f"the port {packet.port} at {packet.at}")
     if strange:
-        raise Mistake(f"the journal has {strange[0]}, and net.toml hasn't; {is_from(case)}")
+        raise Mistake(f"the journal has {strange[0]}, which net.toml doesn't have; {is_from(case)}")
 
 
 def check(case, play):

@@ -70,7 +70,7 @@ class Asked:
 
 
 def network_hints(asked):
-    """What is passed over in the network's file."""
+    """What is ignored in the network's file."""
     if asked.net_name is not None:
         yield from network_cautions(lines_of(asked.path(asked.net_name)), asked.net_name)
 

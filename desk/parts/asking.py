@@ -60,11 +60,11 @@ class Options:
         if "load" in names and (len(names) > 1 or self.folders):
             raise Mistake("load N takes no folder and no further command")
         if "--quiet" in self.flags and "replay" not in names:
-            raise Mistake("--quiet goes with replay only")
+            raise Mistake("--quiet is only for replay")
         if "--recover" in self.flags and names != ["replay"]:
-            raise Mistake("--recover goes with replay only, and with no further command")
+            raise Mistake("--recover is only for replay, without a further command")
         if self.trace and names != ["audit"]:
-            raise Mistake("--trace goes with audit only, and with no further command")
+            raise Mistake("--trace is only for audit, without a further command")
         if len(who) > 1:
             raise Mistake(f"{who[0]} and {who[1]} exclude each other: give one")
         if "" in self.folders:

@@ -1,4 +1,4 @@
-"""What the program accepts in files and seldom is meant: what is passed over, no drain."""
+"""What the program accepts in files and seldom is meant: what is ignored, no drain."""
 import ipaddress
 import re
 import tomllib
@@ -12,7 +12,7 @@ ROW_KEYS = {"switch": ["name", "ports", "authority"], "link": ["ends"]}
 
 
 def network_cautions(lines, name):
-    """The unknown keys of a network of these lines; none where they are no TOML."""
+    """The unknown keys of a network of these lines; none where they aren't TOML."""
     try:
         net = tomllib.loads("".join(lines))
     except ValueError:
@@ -37,7 +37,7 @@ def unknown_keys(table, known, lines, what, start=None):
             else:
                 at = key_line(lines, key, start)
             line = f", line {at}" if at else ""
-            yield f"{what}{line}: the key {key} is unknown and passed over{key_hint(key, known)}"
+            yield f"{what}{line}: the key {key} is unknown and ignored{key_hint(key, known)}"
 
 
 def key_hint(key, known):
@@ -104,7 +104,7 @@ def later_policy_cautions(folder):
     first = there.index(False) if False in there else len(there)
     for number, is_there in enumerate(there[first:], first + 2):
         if is_there:
-            yield f"policy{number}.csv is passed over, since policy{first + 2}.csv isn't there"
+            yield f"policy{number}.csv is ignored, since policy{first + 2}.csv isn't there"
 
 
 def name_cautions(folder):
@@ -113,7 +113,7 @@ def name_cautions(folder):
         small = path.name.lower()
         is_ours = re.fullmatch(r"policy([2-9]|[1-5]\d|6[0-4])?\.csv|schedule\.csv|net\.toml", small)
         if is_ours and small != path.name and not (folder / small).exists():
-            yield f"{path.name} is passed over: its name has to be {small}, in small letters"
+            yield f"{path.name} is ignored: its name has to be {small}, in small letters"
 
 
 def first_ones(texts, most=5):

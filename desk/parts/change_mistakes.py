@@ -50,7 +50,7 @@ def first_change(asked, name):
 
 
 def edit_hint(record):
-    """What to write in the place of the first field."""
+    """What to write instead of the first field."""
     first, *left = record.fields
     bare = fields.QUOTES.sub("", first.strip()).lower()
     if bare in EDIT_FORMS:

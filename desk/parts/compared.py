@@ -8,7 +8,7 @@ from .table import plural, table
 
 
 def answer(case, name):
-    """The packets whose fates differ, and how many have the same fate by another row."""
+    """The packets whose outcomes differ, and how many have the same outcome by another row."""
     one, two = case.play().packets, case_of(name).play().packets
     if len(one) != len(two):
         raise Mistake(f"the traffic isn't the same: {plural(len(one), 'packet')} and {len(two)}")
@@ -16,14 +16,14 @@ def answer(case, name):
     for left, right in pairs:
         if right is None or (left.ingress, left.header) != (right.ingress, right.header):
             raise Mistake(f"the traffic isn't the same: packet {left.number} is another one")
-    differ = [pair for pair in pairs if fate_of(pair[0]) != fate_of(pair[1])]
-    same = [pair for pair in pairs if fate_of(pair[0]) == fate_of(pair[1])]
+    differ = [pair for pair in pairs if outcome_of(pair[0]) != outcome_of(pair[1])]
+    same = [pair for pair in pairs if outcome_of(pair[0]) == outcome_of(pair[1])]
     rows = Counter((row_of(left), row_of(right)) for left, right in same)
     return {
         "packets": len(one),
-        "same fate": len(same),
+        "same outcome": len(same),
         "by another row": sum(count for (here, there), count in rows.items() if here != there),
-        "changes": counts(Counter((fate_of(left), fate_of(right)) for left, right in differ)),
+        "changes": counts(Counter((outcome_of(left), outcome_of(right)) for left, right in differ)),
         "differ": [difference_of(*pair) for pair in differ],
         "other rows": counts({key: n for key, n in rows.items() if key[0] != key[1]}),
     }
@@ -38,13 +38,13 @@ def counts(found):
 
 
 def difference_of(left, right):
-    """A packet whose fates differ, with the rows that decided it."""
+    """A packet whose outcomes differ, with the rows that decided it."""
     return {
         "packet": left.number,
         "switch": left.ingress,
-        "here": fate_of(left),
+        "here": outcome_of(left),
         "rule here": row_of(left),
-        "there": fate_of(right),
+        "there": outcome_of(right),
         "rule there": row_of(right),
         "header": left.header,
     }
@@ -55,15 +55,15 @@ def row_of(packet):
     return packet.decision["rule"] if packet.decision else "-"
 
 
-def fate_of(packet):
+def outcome_of(packet):
     """What became of a packet: its action, and its end where that is neither out nor dropped."""
     action = packet.decision["action"] if packet.decision else "undecided"
     return action if packet.end in ("out", "dropped") else f"{action}, {packet.end}"
 
 
 def text(found):
-    """The changed fates first, with headers."""
-    yield f"with another fate: {len(found['differ'])} of {plural(found['packets'], 'packet')}"
+    """The changed outcomes first, with headers."""
+    yield f"different outcome: {len(found['differ'])} of {plural(found['packets'], 'packet')}"
     if found["changes"]:
         rows = [(one["packets"], one["here"], one["there"]) for one in found["changes"]]
         yield from table(["packets", "here", "there"], rows)
@@ -73,4 +73,4 @@ def text(found):
         yield from table(heading, rows)
         yield ""
     others = found["by another row"]
-    yield f"with the same fate: {found['same fate']}, of which another row decided {others}"
+    yield f"same outcome: {found['same outcome']}, {others} of them decided by another row"

@@ -25,7 +25,7 @@ def number_fault(text, most, least=0):
     if text[0] in "+-":
         return "it has a sign, and numbers have none"
     if not re.fullmatch("[0-9]+", text):
-        return f"it is no number in digits, from {least} to {most}"
+        return f"it is not a number in digits, from {least} to {most}"
     if len(text) > 1 and text[0] == "0":
         return f"it has a leading zero: write {text.lstrip('0')[:20] or 0}"
     if len(text) > MOST_DIGITS or not least <= int(text) <= most:
@@ -44,16 +44,16 @@ def address_fault(text):
     if text == "":
         return "it is empty"
     if text == "any":
-        return "a packet has one address, and not any"
+        return "a packet has one address, not any"
     if "/" in text:
         return "a packet has one address, without a length"
     if ":" in text:
-        return "only addresses of IPv4 are read"
+        return "only IPv4 addresses are read"
     parts = text.split(".")
     if not any(map(str.isdigit, parts)):
-        return "it is no address of four numbers joined by dots, and names aren't looked up"
+        return "it is not an address of four numbers joined by dots, and names aren't looked up"
     if len(parts) != 4:
-        return f"an address has four numbers joined by dots, and here they are {len(parts)}"
+        return f"an address has four numbers joined by dots, and here there are {len(parts)}"
     return next(filter(None, (part_fault(part, 255, "number") for part in parts)), "")
 
 
@@ -65,7 +65,7 @@ def prefix_fault(text):
     if text == "*":
         return "all addresses are any"
     if slash and "." in length:
-        return "a length from 0 to 32 follows the slash, and no mask"
+        return "a length from 0 to 32 follows the slash, not a mask"
     if base == "any":
         return "any has no length"
     return address_fault(base) or (slash and part_fault(length, 32, "length"))
@@ -74,7 +74,7 @@ def prefix_fault(text):
 def port_fault(text):
     """Of a packet's port."""
     if text == "any":
-        return "a packet has one port, and not any; one without ports, as of icmp, has 0"
+        return "a packet has one port, not any; one without ports, as of icmp, has 0"
     if text == "":
         return "it is empty; a packet without ports, as of icmp, has 0"
     return number_fault(text, 65535)
@@ -126,7 +126,7 @@ def action_fault(text):
     if text in DROPS:
         return "the word is drop"
     if text in PERMITS or text.startswith("fwd"):
-        return "a packet goes on by out: and a port, as in out:3"
+        return "a packet is forwarded by out: and a port, as in out:3"
     if not text.startswith("out:"):
         return f"it is neither drop nor out: and a port from 0 to {MOST_PORT}"
     return part_fault(text.removeprefix("out:"), MOST_PORT, "port")
@@ -146,7 +146,7 @@ def name_fault(text):
     if text == "controller":
         return "controller is what a journal calls the controller"
     if len(text) > 16:
-        return f"it has {len(text)} letters, and 16 is the most"
+        return f"it has {len(text)} letters, and at most 16 are allowed"
     if not re.fullmatch("[A-Za-z][A-Za-z0-9_-]*", text):
         return "a name is a letter and then letters, digits, _ or - (ASCII)"
     return ""

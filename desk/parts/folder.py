@@ -28,12 +28,14 @@ class Case:
 
     def items(self):
         """The items of the journal, one at a time; its rows are those of the schedule."""
-        self.schedule, self.seen = agreed.schedule_of(self), set()
+        self.schedule, self.seen, self.sent = agreed.schedule_of(self), set(), 0
         for item in read_items(self.journal):
+            self.sent += item.kind == "sent"
             if item.kind == "row" and self.schedule is not None:
                 agreed.check_row(self, item)
                 self.seen.add(item.row)
             yield item
+        agreed.check_rows(self)
 
     def followed(self, play):
         """The items, each as the play has followed it; at the end all has to agree."""

@@ -156,7 +156,7 @@ def items_of(lines, name="the journal"):
         kind = bare.partition(" ")[0]
         said = said_by(bare) if is_indented(kind) == (bare != text) else None
         if said is None or (row == 0 and is_indented(kind)):
-            raise Mistake(f"{name}, line {number}: {text[:60]!r} is no line of a journal")
+            raise Mistake(f"{name}, line {number}: {text[:60]!r} is not a line of a journal")
         if kind in FACTS_AFTER:
             row, ended = 0, True
         elif kind == "row":
@@ -177,5 +177,5 @@ def whole_lines(file, path):
     """The lines of a file, of which each has its end: a number that is cut is another one."""
     for number, line in enumerate(file, 1):
         if not line.endswith("\n"):
-            raise Mistake(f"{path}, line {number}: the journal is cut, this line has no end")
+            raise Mistake(f"{path}, line {number}: the journal is cut off: this line has no end")
         yield line

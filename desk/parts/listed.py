@@ -37,7 +37,7 @@ def filters_of(words):
         if name not in FILTERS:
             raise Mistake(f"packets are filtered by {', '.join(FILTERS)}, and not by {name[:40]!r}")
         if name in wanted:
-            raise Mistake(f"the filter {name} is there twice")
+            raise Mistake(f"the filter {name} is given twice")
         if not value or not re.fullmatch(FILTERS[name], value[0], re.ASCII):
             form = FILTERS[name].replace("|", ", ") if "|" in FILTERS[name] else "its value"
             form = form.replace("[0-9]{1,10}", "a number")

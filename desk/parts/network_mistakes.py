@@ -14,11 +14,11 @@ import refusals
 
 LINK_ROWS = 100
 NETWORK = {
-    1: "the file is no TOML document in UTF-8",
+    1: "the file is not a TOML document in UTF-8",
     2: "a key that must be there is absent",
     3: "a value isn't of its key's type",
     4: "a number or a name is outside what its key takes, or there is no switch",
-    5: "an end of a link is no switch's name",
+    5: "an end of a link is not a switch's name",
     6: "an earlier switch has the name",
     7: "a port occurs twice: each is at one place in the whole file",
     8: "both ends of a link are one switch",
@@ -76,12 +76,12 @@ def no_document(path, name, lines):
         path.read_bytes().decode()
     except UnicodeDecodeError as error:
         line = path.read_bytes()[: error.start].count(b"\n") + 1
-        yield f"{name}, line {line}: the byte {path.read_bytes()[error.start]:#x} is no UTF-8"
+        yield f"{name}, line {line}: the byte {path.read_bytes()[error.start]:#x} is not UTF-8"
         return
     heading = lines[0].strip() if lines else ""
     if heading in HEADINGS:
         yield f"{name}, line 1: {heading}"
-        yield "this is no network: --net takes the name of a TOML file"
+        yield "this is not a network: --net takes the name of a TOML file"
         return
     try:
         tomllib.loads("".join(lines))
@@ -116,7 +116,7 @@ def type_name(value):
 def number_said(value, least, most):
     """What is wrong with a number, or an empty text."""
     if type(value) is not int:
-        return f"it is {type_name(value)}, and a whole number from {least} to {most} is wanted"
+        return f"it is {type_name(value)}, and a whole number from {least} to {most} is needed"
     return "" if least <= value <= most else f"{value} isn't from {least} to {most}"
 
 
@@ -145,7 +145,7 @@ def document_fault(net, name, lines, code):
 def switch_fault(net, table, code, number, place):
     """Of a switch."""
     if not isinstance(table, dict):
-        return [f"it is {type_name(table)}, and a table is wanted"]
+        return [f"it is {type_name(table)}, and a table is needed"]
     if code == 2:
         return ["the key name is absent", *network_cautions(place.lines, place.name)]
     if code in (3, 4):
@@ -161,12 +161,12 @@ def value_faults(table, place):
     """What is wrong with a switch's values, in the order in which they are looked at."""
     name, ports = table["name"], table.get("ports", [])
     if not isinstance(name, str):
-        yield f"{place.of('name')}: it is {type_name(name)}, and a text is wanted"
+        yield f"{place.of('name')}: it is {type_name(name)}, and a text is needed"
     else:
         fault = fields.name_fault(name)
         yield fault and f"{place.of('name')}: {fault}"
     if not isinstance(ports, list):
-        yield f"{place.of('ports')}: it is {type_name(ports)}, and an array is wanted, as [1, 2]"
+        yield f"{place.of('ports')}: it is {type_name(ports)}, and an array is needed, as [1, 2]"
         return
     for is_type in (True, False):
         for port in ports:
@@ -192,7 +192,7 @@ def twice(net, table, number):
 def link_fault(net, table, code, number, place):
     """Of a link."""
     if not isinstance(table, dict):
-        return [f"it is {type_name(table)}, and a table is wanted"]
+        return [f"it is {type_name(table)}, and a table is needed"]
     if code == 2:
         return ["the key ends is absent", *network_cautions(place.lines, place.name)]
     ends = table["ends"]
@@ -201,13 +201,13 @@ def link_fault(net, table, code, number, place):
             said = f"it is {type_name(ends)}"
         else:
             said = f"it has {', '.join(map(type_name, ends)) or 'nothing'}"
-        return [f'{place.of("ends")}: {said}, and two names are wanted, as ["a", "b"]']
+        return [f'{place.of("ends")}: {said}, and two names are needed, as ["a", "b"]']
     if code == 5:
         names = [row["name"] for row in net["switch"]]
         absent = next(end for end in ends if end not in names)
         near = get_close_matches(absent, names, 1)
         near = near or [name for name in names if name.lower() == absent.strip().lower()]
-        lines = [f"{place.of('ends')}: {quoted(absent)} is no switch"]
+        lines = [f"{place.of('ends')}: {quoted(absent)} is not a switch"]
         lines += [f"perhaps {name}; capitals and blanks count" for name in near[:1]]
         return [*lines, f"the switches are {', '.join(names[:20])}"]
     if code == 8:

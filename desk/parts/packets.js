@@ -140,7 +140,7 @@ function showChosen() {
   const decided = packet.rule ? `Version ${packet.version} decided it by rule ${ruleText(packet)}`
     + `${row ? ` (${row})` : ""}, ${foundText(packet)}.` : "It was not decided.";
   const path = packet.stood.map((k) => names[k]).join(" > ");
-  byId("packet-says").textContent = `${headerText(packet).join(" to ")}, in at ${packet.in}. `
+  byId("packet-says").textContent = `${headerText(packet).join(" to ")}, entered at ${packet.in}. `
     + `${decided} Its path: ${path}; ${wholeEndText(packet)}.`;
   showLines("packet-lines", packet.lines);
 }

@@ -93,7 +93,7 @@ class Play:
         packet = self.packet(item)
         packet.version = self.network.version(item)
         if item.said["by"] == "cache" and self.network.message(item).body != "cache":
-            raise item.mistake(f"message {item.said['message']} is no cache rule")
+            raise item.mistake(f"message {item.said['message']} is not a cache rule")
         packet.decision = {"row": item.row, **item.said}
         packet.target, self.decided = None, packet.number
 
@@ -113,7 +113,7 @@ class Play:
         """A row `lose` names the packet; otherwise its switch crashed."""
         packet = self.packet(item)
         crashed = f"the switch {packet.at} crashed, where it was"
-        packet.finish(item, "its row says so" if self.asked["event"] == "lose" else crashed)
+        packet.finish(item, "the schedule says so" if self.asked["event"] == "lose" else crashed)
 
     def on_meter(self, item):
         self.meters[item.said["port"]] = item.said["count"]

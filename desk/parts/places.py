@@ -44,7 +44,7 @@ def file_of(name):
 def check_kind(path):
     """That it is a file or a folder, which the program refuses; others may have no end."""
     if path.exists() and not (path.is_file() or path.is_dir()):
-        raise Mistake(f"{path} is no file but a pipe or a device; put a file in its place")
+        raise Mistake(f"{path} is not a file but a pipe or a device; put a file in its place")
 
 
 def joined(places):

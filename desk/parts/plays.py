@@ -31,7 +31,7 @@ def parser_of(text):
 def program_of(args):
     """The program that is to play, or None for the slow model."""
     if args.program and (args.model or not args.program.is_file()):
-        raise Mistake(f"{args.program} is no program, or --model is given too")
+        raise Mistake(f"{args.program} is not a program, or --model is given too")
     return args.program.resolve() if args.program else None if args.model else proved()
 
 
@@ -117,7 +117,7 @@ class Player:
         world = row_states.world_of(net, [self.folder / name for name in self.policies])
         world.play(rows)
         if len(world.journal.messages) >= runners.MANY_MESSAGES:
-            raise Mistake(f"{self.name}: too many messages for the slow model; take a program")
+            raise Mistake(f"{self.name}: too many messages for the slow model; use a program")
         lines = [*world.journal.lines, *world.journal.meter_lines()]
         return "".join(f"{line}\n" for line in lines)
 

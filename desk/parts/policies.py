@@ -16,7 +16,7 @@ REFUSED = {  # why an update is refused while it plays, by its code
     15: "too few switches have room for a partition",
     16: "eight versions live",
     17: "there are 64 versions",
-    ABSENT: "its change removes rows that the newest version hasn't",
+    ABSENT: "its change removes rows that the newest version doesn't have",
     TAKEN: "its change adds rows of priorities that the newest version has and keeps",
     TOO_MANY: "with its change, the newest version would have more than 2,000 rows",
 }
@@ -65,7 +65,7 @@ def read_policy(path):
         removed = {row.fields[1] for row in rows if row.fields[0] == "remove"}
         added = [row for row in rows if row.fields[0] == "add"]
         return Change(removed, [rule_at(path, row, row.fields[1:]) for row in added])
-    raise Mistake(f"{path} is no policy: {POLICY_HEADING} and rows of seven fields; nor is it a "
+    raise Mistake(f"{path} is not a policy: {POLICY_HEADING} and rows of seven fields; nor is it a "
                   "change, with op as its first column and rows that add or remove")
 
 

@@ -12,11 +12,11 @@ MOST_WORDS, MOST_LEAVES = 4096, 512
 POLICY = {
     1: f"a policy's first record is {POLICY_HEADING}",
     2: "a row of a policy has seven fields",
-    3: "the priority is no number from 0 to 4294967295",
-    4: "the source is no prefix",
-    5: "the destination is no prefix",
-    6: "the source ports are no range",
-    7: "the destination ports are no range",
+    3: "the priority is not a number from 0 to 4294967295",
+    4: "the source is not a prefix",
+    5: "the destination is not a prefix",
+    6: "the source ports are not a range",
+    7: "the destination ports are not a range",
     8: "the protocol has no such name or number",
     9: "the action is neither drop nor out: and a port from 0 to 63",
     10: "an earlier row has the priority",
@@ -24,7 +24,7 @@ POLICY = {
     12: f"the rows have more than {MOST_WORDS:,} words together",
     13: "the row's action names a port that the network lacks",
     14: f"the tree of the policy has more than {MOST_LEAVES} leaves",
-    15: "fewer switches than are wanted have room for a partition",
+    15: "fewer switches than are needed have room for a partition",
 }
 
 
@@ -46,7 +46,7 @@ def explain_policy(asked, name, code, row):
 def row_fault(asked, name, code, record, form, earlier, rule):
     """What a row of this form has for a code, by the fields of its rule."""
     if code == 11:
-        return ["this is the first row that is too many"]
+        return ["this is the first row beyond the limit"]
     if code == 2:
         return list(wrong_width(asked, name, record, form))
     if code in (10, 13):
@@ -71,7 +71,7 @@ def earlier_priority(asked, name, record):
 
 
 def absent_port(asked, action):
-    """The ports that the network has, and keys of its file that are passed over."""
+    """The ports that the network has, and keys of its file that are skipped."""
     port = action.removeprefix("out:")
     owned = [(row["name"], row["ports"]) for row in asked.switches() if row.get("ports")]
     said = "; ".join(f"{name} has {', '.join(map(str, ports))}" for name, ports in owned)

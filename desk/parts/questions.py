@@ -248,7 +248,7 @@ def loss_of(packet):
         "row": packet.end_row,
         "at": packet.at,
         "bound for": packet.bound_for() if packet.end != "closed" else "",
-        "cause": packet.cause if ended else "no further row lets it hop",
+        "cause": packet.cause if ended else "no later row moves it",
         "unusable": packet.unusable,
         "found down": [f"{one} {other} in row {row}" for one, other, row, _ in packet.found],
     }

@@ -1,4 +1,4 @@
-"""Why a network isn't quiet after a journal, and which rows bring it to rest."""
+"""Why a network isn't quiet after a journal, and which rows make it quiet."""
 from .network import DOWN
 from .table import table
 
@@ -116,10 +116,10 @@ def text(found):
         ]
         yield "messages that matter and weren't received:"
         yield from table(["message", "what it says", "row", "since then"], rows)
-    yield "rows that bring it to rest:"
+    yield "rows that make it quiet:"
     yield from (f"    {row}" for row in found["rows"])
     for number in found["may stay"]:
-        yield (f"message {number} is perhaps sent by no one again, since its sender is down or cut "
+        yield (f"message {number} may never be sent again: its sender is down or cut "
                "off, or a copy of it was received: so `quiet` may stay `no`")
 
 

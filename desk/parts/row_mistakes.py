@@ -37,7 +37,7 @@ def at_row(asked, name, row):
     record = record_at(asked.path(name), row)
     lines = [] if record is None else [said_record(name, record)]
     if record is not None and record.line != row + 1:
-        lines.append(f"row {row} is line {record.line}: the heading and blank lines are no rows")
+        lines.append(f"row {row} is line {record.line}: the heading and blank lines aren't rows")
     return record, lines
 
 
@@ -50,7 +50,7 @@ def open_quote(asked, name):
 
 
 def is_row(fields, heading):
-    """Whether a record in the place of this heading looks like a row after it."""
+    """Whether a record instead of this heading looks like a row after it."""
     if heading == POLICY_HEADING:
         return len(fields) == heading.count(",") + 1 and fields[0][:1].isdigit()
     return fields[0] in (EDIT_FORMS if heading == CHANGE_HEADING else FORMS)
@@ -106,13 +106,13 @@ def differing_columns(found, wanted):
     """The first column that has another name, or how many there are."""
     for number, (one, name) in enumerate(zip(found, wanted), 1):
         if one != name:
-            yield f"its column {number} is {quoted(one)}, in the place of {name}"
+            yield f"its column {number} is {quoted(one)}, instead of {name}"
             return
-    yield f"{len(found)} of its columns are there, and {len(wanted)} are wanted"
+    yield f"the number of columns is {len(found)}, instead of {len(wanted)}"
 
 
 def wrong_width(asked, name, record, form):
-    """How many fields there are, and the form that is wanted."""
+    """How many fields there are, and the form that is needed."""
     count, wanted = len(record.fields), form.count(",") + 1
     yield f"it has {count} field{'s' * (count != 1)}, and its form has {wanted}: {form}"
     if no_row_meant(record):
@@ -130,5 +130,5 @@ def no_row_meant(record):
     if record.fields[0].startswith("#"):
         return "there are no comments in these files"
     if not "".join(record.fields).strip():
-        return "a line with blanks is a row; only a line with nothing is passed over"
+        return "a line with blanks is a row; only an empty line is skipped"
     return ""

@@ -119,11 +119,11 @@ def kit_fault():
     if not has_sources():
         return "this copy has no sources: a clone builds the program"
     if shutil.which("rt") is None:
-        return f"the command rt isn't on the path: {readme_place()} tells which kit it is of"
+        return f"the command rt isn't on the path: {readme_place()} says which kit has it"
     wanted = re.search(r"logic\s+([0-9a-f]{16})", (TOP / "README.md").read_text())
     found = "".join(finished(["rt", "--version"], CRATE, "asks rt for its version")[:2]).strip().partition("\n")[0]
     if wanted and wanted[1] not in found:
-        return f"rt is of another kit: it is {found!r}, and {readme_place()} wants {wanted[1]}"
+        return f"rt is of another kit: it is {found!r}, and {readme_place()} needs {wanted[1]}"
     return ""
 
 
@@ -232,5 +232,5 @@ def answer_of(text, end, errors):
         return Answer(text, told[0] if told else "", int(status[1]), "build")
     why = re.search(r"^checked: no-answer: (.*)$", before, re.M)
     if not why and "no-answer" not in line:
-        raise Mistake(f"rt try gave no answer:\n{errors.rstrip()}")
-    return Answer("", why[1] if why else "the quick runner gave no answer", NO_ANSWER, "build")
+        raise Mistake(f"rt try printed no answer:\n{errors.rstrip()}")
+    return Answer("", why[1] if why else "the quick runner printed no answer", NO_ANSWER, "build")

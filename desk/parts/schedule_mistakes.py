@@ -12,11 +12,11 @@ SWITCH_FIELDS = {kind: form.count("S,T") + 1 for kind, form in FORMS.items() if 
 SCHEDULE = {
     1: f"a schedule's first record is {SCHEDULE_HEADING}",
     2: "a row of this kind has another number of fields",
-    3: "the first field is no kind of event",
+    3: "the first field is not a kind of event",
     4: "no switch has the name",
-    5: "a packet, a message or a place is no number from 0 to 999999999",
-    6: "a field of the packet's header is no address, port or protocol",
-    7: "the file is no number from 1 to that of the policy files",
+    5: "a packet, a message or a place is not a number from 0 to 999999999",
+    6: "a field of the packet's header is not an address, port or protocol",
+    7: "the file is not a number from 1 to that of the policy files",
     8: "a schedule has at most 100,000 rows",
     9: "both are switches, and no link joins them",
 }
@@ -50,7 +50,7 @@ def explain_schedule(asked, name, code, row):
     elif code == 7:
         lines += wrong_file(asked, left[0])
     elif code == 8:
-        lines.append("this is the first row that is too many")
+        lines.append("this is the first row beyond the limit")
     elif code == 9:
         lines += absent_link(asked, left)
     return lines

@@ -21,13 +21,13 @@ def rule_text(said):
 
 TEXTS = {
     "entered": "it enters at {switch} as packet {packet}",
-    "closed": "{switch} takes no packets: {cause}",
+    "closed": "{switch} accepts no packets: {cause}",
     "tunnelled": "{first} has no rule for it: it is sent to {last}, an authority of part {part} of "
                  "version {version}, by {way}",
     "hopped": "it moves on to {switch}",
     "sent": "message {message} takes this to the cache of {to}: {match} {action}",
     "delivered": "message {message} reaches {to}",
-    "forgotten": "message {message} is forgotten, and reaches no switch from now on",
+    "forgotten": "message {message} is forgotten, and won't reach any switch",
     "expired": "the cache rule of message {message} times out at {switch}",
     "exit": "it is sent to {bound}, by {way}",
     "out": "it leaves by port {port} of {at}",

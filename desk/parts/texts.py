@@ -56,7 +56,7 @@ def packet(found):
     rows = [(one["row"], one["line"], one["words"]) for one in found["lines"]]
     yield from table(["row", "line", "what happened"], rows)
     if found["end"] == TRAVELLING:
-        yield "it still travels: no further row lets it hop"
+        yield "it still travels: no later row moves it"
 
 
 def updates(found):

@@ -20,7 +20,7 @@ COMMANDS = {
 def explain_words(args):
     """The first rule of the command line that the arguments break."""
     said = " ".join(map(quoted_if_odd, args))
-    yield f"the arguments are off the grammar: {shorten(said, 90, placeholder=' ..') or 'none'}"
+    yield f"the grammar doesn't have these arguments: {shorten(said, 90, placeholder=' ..') or '-'}"
     otherwise = "options come before the names or after them"
     yield next(filter(None, word_faults(args)), otherwise)
 
@@ -34,7 +34,7 @@ def word_faults(args):
     if command not in COMMANDS:
         near = get_close_matches(command.strip("-").lower(), COMMANDS, 1)
         hint = f": perhaps {near[0]}" if near else ""
-        yield f"{quoted(command)} is no command{hint}; these are {', '.join(COMMANDS)}"
+        yield f"{quoted(command)} is not a command{hint}; these are {', '.join(COMMANDS)}"
         return
     yield from option_faults(rest, command)
     names = names_among(rest)
@@ -70,7 +70,7 @@ def option_faults(rest, command):
     if rest and rest[-1] == "--net" or "--net=" in rest:
         yield "--net takes the name of a network's file"
     if "--quiet" in rest and command != "replay":
-        yield "--quiet goes with replay only"
+        yield "--quiet is only for replay"
     if command in ("load", "audit") and any(arg.startswith("--net") for arg in rest):
         yield f"{command} takes no network"
     for at, arg in enumerate(rest):
@@ -78,7 +78,7 @@ def option_faults(rest, command):
         if arg.startswith("-") and not known:
             near = get_close_matches(arg, ["--net", "--quiet"], 1)
             hint = f", perhaps {near[0]}" if near else ""
-            yield f"{quoted(arg)} is no option{hint}, and no name begins with a dash: write ./{arg}"
+            yield f"{quoted(arg)} is not an option{hint}, and names don't begin with a dash: ./{arg}"
 
 
 def load_fault(names):

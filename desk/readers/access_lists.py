@@ -27,7 +27,7 @@ ENTRY = re.compile(
 )
 SHOWN = re.compile(r" \(\d+ match(es)?\)$| \(Compiled.*\)$")
 LOGS = {"log", "log-input"}
-NO_LIST, STRAY = "of no access list", "an entry of no access list"
+NO_LIST, STRAY = "outside any access list", "an entry outside any access list"
 
 
 class Entry(NamedTuple):
@@ -88,9 +88,9 @@ def take(lists, head, number, entry):
     elif head is None:
         lists.others.append((number, NO_LIST))
     elif head[1] is None:
-        lists.others.append((number, f"of {head[0]}, which isn't of IPv4"))
+        lists.others.append((number, f"in {head[0]}, which isn't IPv4"))
     elif entry is None or entry[2].lower().startswith("no "):
-        lists.refuse(head[0], number, "it is no entry of a list")
+        lists.refuse(head[0], number, "it is not an entry of a list")
     elif not entry[2].lower().startswith("remark"):
         words = entry[2].split()
         lists.add(head[0], entry[1], Entry(number, words, head[1] == "standard"))
@@ -104,7 +104,7 @@ def kind_of(number):
 
 
 def rules_of(lines, most, name):
-    """Each entry's line, and its rule or why it can't be said, and what is said of other lines."""
+    """Each entry's line, and its rule or why it is left out, and what is noted of other lines."""
     groups = Groups(lines)
     lists = read_lists(["!" if at in groups.lines else line for at, line in enumerate(lines, 1)])
     names = list(lists.entries)
@@ -118,7 +118,7 @@ def rules_of(lines, most, name):
     entries = sorted(lists.entries[chosen].items())
     found = [(entry.line, rule_of(entry, most, groups)) for _, entry in entries]
     others = [
-        (entry.line, f"of the list {name}")
+        (entry.line, f"in the list {name}")
         for name, entries in lists.entries.items()
         if name != chosen
         for entry in entries.values()
@@ -128,7 +128,7 @@ def rules_of(lines, most, name):
 
 
 def rule_of(entry, most, groups):
-    """The rule of an entry, or why it can't be said."""
+    """The rule of an entry, or why it is left out."""
     words = EntryWords(entry.words, most, groups)
     try:
         return words.standard() if entry.is_standard else words.extended()
@@ -138,7 +138,7 @@ def rule_of(entry, most, groups):
 
 
 def permits_of(words):
-    """Whether an entry that can't be said would permit, or nothing where it doesn't say."""
+    """Whether an entry that is left out would permit, or nothing where it doesn't say."""
     said = [word for word in words if word.lower() in ("permit", "deny")]
     return said[0].lower() == "permit" if said else None
 
@@ -174,7 +174,7 @@ class EntryWords(Words):
     def permits(self):
         word = self.take()
         if word not in ("permit", "deny"):
-            raise Unsaid(f"{word!r} can't be said")
+            raise Unsaid(f"{word!r} isn't supported")
         return word == "permit"
 
     def address(self):

@@ -8,12 +8,8 @@ import struct
 from readers.common import Refused, Unsaid
 from readers.packets import Packet, WITH_PORTS
 
-CLASSIC = {
-    b"\xa1\xb2\xc3\xd4": ">",
-    b"\xd4\xc3\xb2\xa1": "<",
-    b"\xa1\xb2\x3c\x4d": ">",
-    b"\x4d\x3c\xb2\xa1": "<",
-}
+CLASSIC = {b"\xa1\xb2\xc3\xd4": ">", b"\xd4\xc3\xb2\xa1": "<",
+           b"\xa1\xb2\x3c\x4d": ">", b"\x4d\x3c\xb2\xa1": "<"}
 SECTION = b"\x0a\x0d\x0d\x0a"
 ORDERS = {b"\x1a\x2b\x3c\x4d": ">", b"\x4d\x3c\x2b\x1a": "<"}
 INTERFACE, OLD_PACKET, SIMPLE_PACKET, ENHANCED_PACKET = 1, 2, 3, 6
@@ -36,7 +32,7 @@ def is_capture(start):
 
 
 def packets_of(file, start):
-    """Each packet's number, and the packet or why it can't be said; `start` was read before."""
+    """Each packet's number, and the packet or why it is left out; `start` was read before."""
     frames = sections(file) if start == SECTION else records(file, CLASSIC[start])
     for number, (link, data) in enumerate(frames, 1):
         try:
@@ -131,9 +127,9 @@ def packet_in(link, data):
         while kind in TAGS:
             kind, start = half(data, start + 2), start + 4
     else:
-        raise Unsaid(f"the link type {link} isn't read")
+        raise Unsaid(f"the link type {link} isn't supported")
     if kind != IPV4:
-        other = "802.3" if kind < LEAST_TYPE else f"of the type 0x{kind:04x}, no IPv4"
+        other = "802.3" if kind < LEAST_TYPE else f"of the type 0x{kind:04x}, not IPv4"
         raise Unsaid(KINDS.get(kind, other))
     return packet_at(data, start)
 
@@ -153,7 +149,7 @@ def packet_at(data, start):
         "!BxHxxHxBxxII", data, start
     )
     if first >> 4 != 4 or first & 15 < 5:
-        raise Unsaid("its header isn't IPv4's")
+        raise Unsaid("its header isn't IPv4")
     if fragment & OFFSET:
         raise Unsaid("a later fragment, which has no ports")
     ports = start + 4 * (first & 15)

@@ -40,7 +40,7 @@ class Chains:
 
     def add(self, number, line, table):
         if table != "filter":
-            self.others.append((number, f"of the table {table}"))
+            self.others.append((number, f"in the table {table}"))
         elif found := RULE.fullmatch(line):
             self.rules.setdefault(found[1], []).append((number, found[2] or ""))
         elif found := CHAIN.fullmatch(line):
@@ -48,7 +48,7 @@ class Chains:
             if found[2] == "ACCEPT":
                 self.accepting[found[1]] = number
         else:
-            self.others.append((number, "it is no line of iptables"))
+            self.others.append((number, "it is not a line of iptables"))
 
     def chosen(self, name):
         """The chain of this name, or the only one with rules to which no other jumps."""
@@ -78,8 +78,8 @@ class Chains:
             elif self.is_plain(target, (*above, chain)):
                 yield from self.jump(number, text, target, (*above, chain))
             else:
-                why = "its chain {} can't be said, for a RETURN before its end, -g or a loop"
-                why = why if target in self.rules else "its target {} can't be said"
+                why = "its chain {} isn't supported: it has a RETURN before its end, -g or a loop"
+                why = why if target in self.rules else "its target {} isn't supported"
                 yield number, Unsaid(why.format(target))
 
     def is_plain(self, target, above):
@@ -97,7 +97,7 @@ class Chains:
 
 
 def rules_of(lines, most, name):
-    """Each rule's line, and the rule or why it can't be said, and what is said of other lines."""
+    """Each rule's line, and the rule or why it is left out, and what is noted of other lines."""
     chains = Chains(lines, most)
     chosen = chains.chosen(name)
     pairs = list(chains.rules_of(chosen))
@@ -108,12 +108,12 @@ def rules_of(lines, most, name):
     jumps = {number for number, _ in pairs}
     for other, rules in chains.rules.items():
         if other != chosen and not jumps & {number for number, _ in rules}:
-            others += [(number, f"of the chain {other}") for number, _ in rules]
+            others += [(number, f"in the chain {other}") for number, _ in rules]
     return found, chains.others + others
 
 
 def rule_of(text, permits, most):
-    """The rule of the options of a line, or why it can't be said."""
+    """The rule of the options of a line, or why it is left out."""
     options = Options(most)
     try:
         options.read(words_of(text))

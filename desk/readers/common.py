@@ -12,33 +12,16 @@ from parts.words import dotted
 address_text = lru_cache(1 << 16)(dotted)
 SHOWN = 20  # reasons, and ranges of a reason, that a summary names
 ADDRESS = re.compile(r"(\d{1,3})\.(\d{1,3})\.(\d{1,3})\.(\d{1,3})", re.ASCII)
-NUMBERS = {
-    "icmp": 1,
-    "igmp": 2,
-    "ipip": 4,
-    "ipinip": 4,
-    "nos": 4,
-    "tcp": 6,
-    "udp": 17,
-    "dccp": 33,
-    "rsvp": 46,
-    "gre": 47,
-    "esp": 50,
-    "ah": 51,
-    "ahp": 51,
-    "eigrp": 88,
-    "ospf": 89,
-    "pim": 103,
-    "pcp": 108,
-    "vrrp": 112,
-    "sctp": 132,
-    "udplite": 136,
-}
+KNOWN = (
+    "icmp 1 igmp 2 ipip 4 ipinip 4 nos 4 tcp 6 udp 17 dccp 33 rsvp 46 gre 47 esp 50 ah 51 ahp 51 "
+    "eigrp 88 ospf 89 pim 103 pcp 108 vrrp 112 sctp 132 udplite 136"
+).split()
+NUMBERS = dict(zip(KNOWN[::2], map(int, KNOWN[1::2])))
 NAMES = {1: "icmp", 6: "tcp", 17: "udp"}
 
 
 class Unsaid(Exception):
-    """A line or a packet that difane's files can't say; the text says why.
+    """A line or a packet that difane's files can't express; the text says why.
 
     Of a line of a policy `permits` says whether it permits; nothing where that isn't known.
     """
@@ -112,7 +95,7 @@ def number_from(least, most):
 
     def number(text):
         if not re.fullmatch(r"[0-9]{1,9}", text) or not least <= int(text) <= most:
-            raise argparse.ArgumentTypeError(f"{text!r} is no number from {least} to {most}")
+            raise argparse.ArgumentTypeError(f"{text!r} is not a number from {least} to {most}")
         return int(text)
 
     return number

@@ -28,12 +28,12 @@ CUT = "the packet is cut short"
 LAST_PROTOCOL = 255
 FRAGMENT = "a later fragment, which has no ports"
 ALONE = "no addresses are in the next line"
-NAMES = "names in the place of numbers, which `tcpdump -nn` prints"
+NAMES = "names instead of numbers; `tcpdump -nn` prints numbers"
 UNKNOWN = "not as `tcpdump -nn` prints a packet of IPv4"
 
 
 def packets_of(lines):
-    """Each packet's line, and the packet or why it can't be said; other lines are passed over.
+    """Each packet's line, and the packet or why it is left out; other lines are skipped.
 
     With -v the addresses are in the line after that of the protocol.
     """
@@ -86,7 +86,7 @@ def is_no_packet(line):
 
 
 def spoken(found, protocol=None, offset=0):
-    """The packet of a line's addresses, or why it can't be said."""
+    """The packet of a line's addresses, or why it is left out."""
     source, sport, target, dport, rest = found.groups()
     addresses = address_of(source), address_of(target)
     try:
@@ -125,4 +125,4 @@ def protocol_by(has_ports, rest):
     for start, number in STARTS.items():
         if rest.startswith(start):
             return number
-    raise Unsaid(CUT if rest.startswith("[|") else "its protocol isn't known by its words")
+    raise Unsaid(CUT if rest.startswith("[|") else "unknown protocol")

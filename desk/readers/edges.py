@@ -1,4 +1,4 @@
-"""Reads lists of edges: two names a line, parted by blanks, or CSV."""
+"""Reads lists of edges: two names a line, separated by blanks, or CSV."""
 import csv
 import re
 
@@ -30,15 +30,15 @@ class Edges:
         """Adds a line: a link, or a switch where it has but one name."""
         wrong = next((text for text in texts if not is_name(text)), None)
         if wrong is not None or not texts:
-            self.left.add(number, f"{wrong or ''!r} is no switch's name {FORM}")
+            self.left.add(number, f"{wrong or ''!r} is not a switch's name {FORM}")
             return
         names = [named(text) for text in texts]
         if names != texts:
-            self.renamed.add(number, "names begin with a letter")
+            self.renamed.add(number, "as names begin with a letter")
         if len(names) == 2 and names[0] == names[1]:
             self.left.add(number, "a link from a switch to itself")
         elif frozenset(names) in self.links:
-            self.before.add(number, "the link is there before")
+            self.before.add(number, "a repeated link")
         else:
             self.switches |= dict.fromkeys(names)
             self.links |= {frozenset(names): names} if len(names) == 2 else {}
@@ -76,7 +76,7 @@ def check_columns(rows):
     counts = {sum(text[:1].isalpha() for text in fields[2:]): number for number, fields in rows}
     if len(counts) > 1:
         lines = " and ".join(map(str, sorted(counts.values())[:2]))
-        raise Refused(f"this is no list of edges: lines {lines} have other numbers of columns; a "
+        raise Refused(f"this is not a list of edges: lines {lines} differ in their columns; a "
                       "heading such as source,target says which columns count")
 
 

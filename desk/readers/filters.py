@@ -10,11 +10,11 @@ FILTER = re.compile(
     r"@(\S+/\d+)\s+(\S+/\d+)\s+(\d{1,5})\s*:\s*(\d{1,5})\s+(\d{1,5})\s*:\s*(\d{1,5})\s+"
     r"0x([0-9a-fA-F]{1,2})/0x([0-9a-fA-F]{1,2})(?:\s+0x([0-9a-fA-F]{1,4})/0x([0-9a-fA-F]{1,4}))?\s*"
 )
-FLAGS = "it asks for flags (--ignore-flags reads it as if it did not)"
+FLAGS = "it tests flags (--ignore-flags reads it as if it didn't)"
 
 
 def rules_of(lines, most, ignore_flags):
-    """Each filter's line, and its rule or why it can't be said; blank lines are passed over."""
+    """Each filter's line, and its rule or why it is left out; blank lines are skipped."""
     for number, line in enumerate(lines, 1):
         if line.strip():
             try:
@@ -25,7 +25,7 @@ def rules_of(lines, most, ignore_flags):
 
 
 def has_flags(lines):
-    """Whether a filter asks for flags."""
+    """Whether a filter tests flags."""
     found = filter(None, (FILTER.fullmatch(line.strip()) for line in lines))
     return any(int(each[10] or "0", 16) for each in found)
 
@@ -34,7 +34,7 @@ def rule_of(line, most, ignore_flags):
     """The rule of a line, which permits what it matches."""
     found = FILTER.fullmatch(line)
     if not found:
-        raise Unsaid("it is no filter of ClassBench")
+        raise Unsaid("it is not a filter of ClassBench")
     *prefixes, a, b, c, d, protocol, mask, _, flags = found.groups()
     if flags and int(flags, 16) and not ignore_flags:
         raise Unsaid(FLAGS)
@@ -48,7 +48,7 @@ def block_of(text):
     """A prefix, without the bits after its length."""
     found = prefix_of(text)
     if found is None:
-        raise Unsaid(f"{text} is no prefix of IPv4")
+        raise Unsaid(f"{text} is not an IPv4 prefix")
     address, length = found
     return prefixes_of(address, (1 << 32 - length) - 1, 1)[0]
 
@@ -56,7 +56,7 @@ def block_of(text):
 def range_of(first, last):
     low, high = int(first), int(last)
     if not low <= high <= LAST_PORT:
-        raise Unsaid(f"{first} : {last} is no range of ports")
+        raise Unsaid(f"{first} : {last} is not a range of ports")
     return low, high
 
 

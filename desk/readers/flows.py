@@ -43,7 +43,7 @@ def separator_of(heading):
 
 
 def packets_of(lines):
-    """Each flow's line, and its packet or why it can't be said."""
+    """Each flow's line, and its packet or why it is left out."""
     reader = csv.reader(lines, delimiter=separator_of(lines[0]), skipinitialspace=True)
     try:
         heading = next(reader)
@@ -71,18 +71,18 @@ def flows_of(reader, heading, places):
 
 
 def spoken(fields, places):
-    """The packet of a row, or why it can't be said."""
+    """The packet of a row, or why it is left out."""
     if len(fields) <= max(places.values()):
         return Unsaid("the row has too few columns")
     texts = {field: fields[place].strip() for field, place in places.items()}
     addresses = address_of(texts["source"]), address_of(texts["target"])
     if None in addresses:
         is_other = ":" in texts["source"] and ":" in texts["target"]
-        return Unsaid("IPv6" if is_other else "an address isn't IPv4's")
+        return Unsaid("IPv6" if is_other else "an address isn't IPv4")
     protocol = protocol_of(texts["protocol"])
     if protocol is None:
-        return Unsaid(f"the protocol {texts['protocol']!r} isn't known")
+        return Unsaid(f"unknown protocol {texts['protocol']!r}")
     ports = [texts["sport"], texts["dport"]] if protocol in WITH_PORTS else ["0", "0"]
     if not all(re.fullmatch(r"[0-9]{1,5}", text) and int(text) < 65536 for text in ports):
-        return Unsaid("a port is no number from 0 to 65535")
+        return Unsaid("a port is not a number from 0 to 65535")
     return Packet(*addresses, *map(int, ports), protocol)

@@ -41,7 +41,7 @@ class Groups:
         if name in above:
             raise Unsaid(f"the object group {name} has itself as a member")
         if (kind, name) not in self.members:
-            raise Unsaid(f"there is no object group {name} of the kind {kind}")
+            raise Unsaid(f"there is no {kind} object group {name}")
         if (kind, name) not in self.known:
             self.known[kind, name] = self.read(kind, name, (*above, name))
         return self.known[kind, name]
@@ -88,15 +88,15 @@ def addresses(words):
     if "/" in word + length:
         found = prefix_of(word + length)
         if found is None:
-            raise Unsaid(f"{word + length!r} is no prefix of IPv4")
+            raise Unsaid(f"{word + length!r} is not an IPv4 prefix")
         return prefixes_of(found[0], (1 << 32 - found[1]) - 1, 1)
     text = words.take()
     address, mask = address_of(word), address_of(text)
     if None in (address, mask):
-        raise Unsaid(f"{word} {text} is no address with a mask")
+        raise Unsaid(f"{word} {text} is not an address with a mask")
     free = ~mask & (1 << 32) - 1
     if free & free + 1:
-        raise Unsaid(f"{text} is no mask of a subnet")
+        raise Unsaid(f"{text} is not a mask of a subnet")
     return prefixes_of(address, free, 1)
 
 

@@ -15,7 +15,7 @@ def checked_prefix(where, text):
     """The address and the length of a prefix; `where` is printed before what is wrong with it."""
     found = prefix_of(text)
     if found is None:
-        raise Refused(f"{where}: {text!r} is no prefix of IPv4")
+        raise Refused(f"{where}: {text!r} is not an IPv4 prefix")
     address, length = found
     start = address >> 32 - length << 32 - length
     if start != address:
@@ -34,7 +34,7 @@ class Map:
         """Adds a prefix; `where` is printed before what is wrong with it."""
         address, length = checked_prefix(where, prefix)
         if not NAME.fullmatch(switch) or switch == "controller":
-            raise Refused(f"{where}: {switch!r} is no switch's name")
+            raise Refused(f"{where}: {switch!r} is not a switch's name")
         key = address >> 32 - length
         table = self.tables.setdefault(length, {})
         if key in table:
@@ -95,7 +95,7 @@ def toml_pairs(name):
             line = line_with(lines, line, prefix)
             where = f"{name}:{line}: {switch}"
             if not isinstance(prefix, str):
-                raise Refused(f"{where}: {prefix!r} is no prefix in quotes")
+                raise Refused(f"{where}: {prefix!r} is not a prefix in quotes")
             yield where, prefix, switch
 
 

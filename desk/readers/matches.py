@@ -9,13 +9,8 @@ from readers.rules import beside, but, prefixes_of, services
 MATCHES = {"tcp", "udp", "sctp", "dccp", "udplite", "multiport", "comment"}
 PASSED = {"--comment": 1, "--reject-with": 1, "-c": 2}
 FIELDS = {
-    "-s": "sources",
-    "-d": "targets",
-    "-p": "protocols",
-    "--sport": "sports",
-    "--dport": "dports",
-    "--sports": "sports",
-    "--dports": "dports",
+    "-s": "sources", "-d": "targets", "-p": "protocols", "--sport": "sports", "--dport": "dports",
+    "--sports": "sports", "--dports": "dports",
 }
 
 
@@ -48,9 +43,9 @@ class Options:
             read = {"-s": self.prefixes, "-d": self.prefixes, "-p": self.protocol}
             self.fields[name] = read.get(word, self.ports)(value, negated)
         elif word == "-m" and value not in MATCHES:
-            raise Unsaid(f"its match {value!r} can't be said")
+            raise Unsaid(f"its match {value!r} isn't supported")
         elif word not in ("-m", "-j", *PASSED):
-            raise Unsaid(f"{word!r} can't be said")
+            raise Unsaid(f"{word!r} isn't supported")
 
     def prefixes(self, text, negated):
         """The prefixes of an address, with a length or with a mask, or of all other addresses."""
@@ -60,22 +55,22 @@ class Options:
         if found is None and None not in (address_of(address), address_of(mask)):
             wildcard = ~address_of(mask) & (1 << 32) - 1
         if wildcard is None:
-            raise Unsaid(f"{text!r} is no address of IPv4")
+            raise Unsaid(f"{text!r} is not an IPv4 address")
         prefixes = prefixes_of(address_of(address), wildcard, self.most)
         if negated and len(prefixes) > 1:
-            raise Unsaid(f"all but {text!r} can't be said")
+            raise Unsaid(f"all but {text!r} isn't supported")
         return beside(prefixes[0]) if negated else prefixes
 
     def protocol(self, text, negated):
         found = None if text == "all" else protocol_of(text)
         if found is None and text != "all":
-            raise Unsaid(f"the protocol {text!r} isn't known")
+            raise Unsaid(f"unknown protocol {text!r}")
         if negated:
             return [number for number in ALL_PROTOCOLS if found not in (number, None)]
         return [found or None]  # 0 is any
 
     def ports(self, text, negated):
-        """The ranges of ports, parted by commas, or of all other ports."""
+        """The ranges of ports, separated by commas, or of all other ports."""
         ranges = [self.range(part) for part in text.split(",")]
         return but(ranges) if negated else ranges
 
@@ -83,15 +78,15 @@ class Options:
         low, colon, high = text.partition(":")
         low, high = low or "0", (high or str(LAST_PORT)) if colon else low
         if not all(re.fullmatch("[0-9]{1,5}", end) for end in (low, high)):
-            raise Unsaid(f"the port {text!r} isn't known")
+            raise Unsaid(f"unknown port {text!r}")
         if not int(low) <= int(high) <= LAST_PORT:
-            raise Unsaid(f"{text!r} is no range of ports")
+            raise Unsaid(f"{text!r} is not a range of ports")
         return int(low), int(high)
 
     def rule(self, permits):
         fields = self.fields
         names_ports = [fields["sports"], fields["dports"]] != [[ANY_PORT]] * 2
         if names_ports and not set(fields["protocols"]) <= WITH_PORTS:
-            raise Unsaid("it names ports in a protocol that has none")
+            raise Unsaid("it names ports for a protocol without ports")
         found = services(fields["sports"], fields["dports"], fields["protocols"])
         return Rule(permits, fields["sources"], fields["targets"], found)

@@ -22,7 +22,7 @@ class Routes:
         for where, text, port in pairs_of(name, HEADING):
             prefix = checked_prefix(where, text)
             if not PORT.fullmatch(port):
-                raise Refused(f"{where}: {port!r} is no port from 0 to 63")
+                raise Refused(f"{where}: {port!r} is not a port from 0 to 63")
             if prefix in self.ports:
                 raise Refused(f"{where}: {text} is named before")
             self.ports[prefix] = port

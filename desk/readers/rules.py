@@ -89,7 +89,7 @@ def wildcard_prefixes(address, wildcard, most):
     """The prefixes of an address and a wildcard as texts."""
     numbers = address_of(address), address_of(wildcard)
     if None in numbers:
-        raise Unsaid(f"{address} {wildcard} is no address with a wildcard")
+        raise Unsaid(f"{address} {wildcard} is not an address with a wildcard")
     return prefixes_of(*numbers, most)
 
 

@@ -30,7 +30,7 @@ class Words:
         word = self.take()
         found = None if word in ANY_PROTOCOL else protocol_of(word)
         if found is None and word not in ANY_PROTOCOL:
-            raise Unsaid(f"the protocol {word!r} isn't known")
+            raise Unsaid(f"unknown protocol {word!r}")
         return found
 
     def address(self):
@@ -42,7 +42,7 @@ class Words:
             return [self.host()]
         found = prefix_of(word)
         if found is None:
-            raise Unsaid(f"{word!r} is no address of IPv4")
+            raise Unsaid(f"{word!r} is not an IPv4 address")
         if "/" in word:
             return prefixes_of(found[0], (1 << 32 - found[1]) - 1, 1)
         if prefix_of(self.next()) is None:
@@ -53,7 +53,7 @@ class Words:
         word = self.take()
         found = prefix_of(word)
         if found is None or "/" in word:
-            raise Unsaid(f"the host {word!r} is no address of IPv4")
+            raise Unsaid(f"the host {word!r} is not an IPv4 address")
         return found
 
     def ports(self, protocol):
@@ -61,7 +61,7 @@ class Words:
         if self.next() not in TESTS:
             return [ANY_PORT]
         if protocol not in WITH_PORTS:
-            raise Unsaid("it names ports in a protocol that has none")
+            raise Unsaid("it names ports for a protocol without ports")
         test, ports = self.take(), [self.port(protocol)]
         if test == "range":
             ports.append(self.port(protocol))
@@ -73,7 +73,7 @@ class Words:
         word = self.take()
         found = port_of(word, protocol)
         if found is None:
-            raise Unsaid(f"the port {word!r} isn't known")
+            raise Unsaid(f"unknown port {word!r}")
         return found
 
     def end(self, passed=()):
@@ -81,4 +81,4 @@ class Words:
         while self.next() in passed and self.words:
             self.take()
         if self.words:
-            raise Unsaid(f"{self.next()!r} can't be said")
+            raise Unsaid(f"{self.next()!r} isn't supported")
