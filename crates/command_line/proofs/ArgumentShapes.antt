@@ -47,8 +47,7 @@ prefix_is : (needle xs : List ℕ) → pointwise eqb needle (take (length needle
     → xs ≡ needle ++ drop (length needle) xs
 prefix_is [] xs e = refl
 prefix_is (n ∷ ns) [] e = absurd (true≢false (sym e))
-prefix_is (n ∷ ns) (x ∷ xs) e =
-    let p = both (eqb n x) _ e in
+prefix_is (n ∷ ns) (x ∷ xs) e = let p = both (eqb n x) _ e in
     ap₂ (λ y ys. y ∷ ys) (sym (eqb-true n x p.0)) (prefix_is ns xs p.1)
 
 cut_or : Option (List ℕ × List (List ℕ)) → List ℕ × List (List ℕ)
@@ -62,75 +61,66 @@ pub record IsNetCut (all : List (List ℕ)) (net : List ℕ) (rest : List (List 
   pub good : is_good (net_given form net) ≡ true
 
 joined_is : (arg net : List ℕ) → joined_net arg ≡ Some net → arg ≡ codes "--net=" ++ net
-joined_is arg net e = go (starts_with eqb arg (codes "--net=")) refl e
-  where
-    go : (b : Bool) → starts_with eqb arg (codes "--net=") ≡ b
-        → cond (b && is_file_name (drop 6 arg)) (Some (drop 6 arg)) None ≡ Some net
+joined_is arg net e = go (starts_with eqb arg (codes "--net=")) refl e where
+  go : (b : Bool) → starts_with eqb arg (codes "--net=") ≡ b
+      → cond (b && is_file_name (drop 6 arg)) (Some (drop 6 arg)) None ≡ Some net
+      → arg ≡ codes "--net=" ++ net
+  go false s e = absurd (true≢false (ap is_some (sym e)))
+  go true s e = named (is_file_name (drop 6 arg)) e where
+    named : (b : Bool) → cond b (Some (drop 6 arg)) None ≡ Some net
         → arg ≡ codes "--net=" ++ net
-    go false s e = absurd (true≢false (ap is_some (sym e)))
-    go true s e = named (is_file_name (drop 6 arg)) e
-      where
-        named : (b : Bool) → cond b (Some (drop 6 arg)) None ≡ Some net
-            → arg ≡ codes "--net=" ++ net
-        named false e = absurd (true≢false (ap is_some (sym e)))
-        named true e = prefix_is (codes "--net=") arg s
-            ∙ ap (λ text. codes "--net=" ++ text) (ap (λ o. unwrap_or o []) e)
+    named false e = absurd (true≢false (ap is_some (sym e)))
+    named true e = prefix_is (codes "--net=") arg s
+        ∙ ap (λ text. codes "--net=" ++ text) (ap (λ o. unwrap_or o []) e)
 
 pair_is : (option : List ℕ) (args : List (List ℕ)) (net : List ℕ) (rest : List (List ℕ))
     → cut_pair option args ≡ Some (net, rest) → IsNetCut (option ∷ args) net rest
 unfolding cut_or
 pair_is option [] net rest e = absurd (true≢false (ap is_some (sym e)))
-pair_is option (value ∷ args) net rest e = go (bytes_eq option (codes "--net")) refl e
-  where
-    go : (b : Bool) → bytes_eq option (codes "--net") ≡ b
-        → cond {A = Option (List ℕ × List (List ℕ))} (b && is_file_name value) (Some (value, args)) None
-        ≡ Some (net, rest)
-        → IsNetCut (option ∷ value ∷ args) net rest
-    go false s e = absurd (true≢false (ap is_some (sym e)))
-    go true s e = named (is_file_name value) refl e
-      where
-        named : (b : Bool) → is_file_name value ≡ b
-            → cond {A = Option (List ℕ × List (List ℕ))} b (Some (value, args)) None
-            ≡ Some (net, rest)
-            → IsNetCut (option ∷ value ∷ args) net rest
-        named false n e = absurd (true≢false (ap is_some (sym e)))
-        named true n e = record {
-          form = false;
-          args = ap (λ o. o ∷ value ∷ args) ((bytes_eq-Decides option (codes "--net")).0 s)
-              ∙ ap₂ (λ v ws. codes "--net" ∷ v ∷ ws) (ap (λ o. (cut_or o).0) e)
-              (ap (λ o. (cut_or o).1) e);
-          good = ap (λ o. is_file_name (cut_or o).0) (sym e) ∙ n;
-        }
+pair_is option (value ∷ args) net rest e = go (bytes_eq option (codes "--net")) refl e where
+  go : (b : Bool) → bytes_eq option (codes "--net") ≡ b
+      → cond {A = Option (List ℕ × List (List ℕ))} (b && is_file_name value) (Some (value, args)) None
+      ≡ Some (net, rest)
+      → IsNetCut (option ∷ value ∷ args) net rest
+  go false s e = absurd (true≢false (ap is_some (sym e)))
+  go true s e = named (is_file_name value) refl e where
+    named : (b : Bool) → is_file_name value ≡ b → cond {A = Option (List ℕ × List (List ℕ))} b
+        (Some (value, args)) None ≡ Some (net, rest) → IsNetCut (option ∷ value ∷ args) net rest
+    named false n e = absurd (true≢false (ap is_some (sym e)))
+    named true n e = record {
+      form = false;
+      args = ap (λ o. o ∷ value ∷ args) ((bytes_eq-Decides option (codes "--net")).0 s)
+          ∙ ap₂ (λ v ws. codes "--net" ∷ v ∷ ws) (ap (λ o. (cut_or o).0) e)
+          (ap (λ o. (cut_or o).1) e);
+      good = ap (λ o. is_file_name (cut_or o).0) (sym e) ∙ n;
+    }
 
 net_cut : (args : List (List ℕ)) (net : List ℕ) (rest : List (List ℕ))
     → cut_net args ≡ Some (net, rest) → IsNetCut args net rest
 unfolding cut_or
 net_cut [] net rest e = absurd (true≢false (ap is_some (sym e)))
-net_cut (option ∷ args) net rest e = go (joined_net option) refl e
-  where
-    go : (o : Option (List ℕ)) → joined_net option ≡ o
-        → option_map_or (λ n. Some (n, args)) o (cut_pair option args) ≡ Some (net, rest)
-        → IsNetCut (option ∷ args) net rest
-    go None s e = pair_is option args net rest e
-    go (Some value) s e = record {
-      form = true;
-      args = ap₂ (λ v ws. v ∷ ws)
-          (joined_is option value s
-          ∙ ap (λ o. codes "--net=" ++ (cut_or o).0) e)
-          (ap (λ o. (cut_or o).1) e);
-      good = refl;
-    }
+net_cut (option ∷ args) net rest e = go (joined_net option) refl e where
+  go : (o : Option (List ℕ)) → joined_net option ≡ o
+      → option_map_or (λ n. Some (n, args)) o (cut_pair option args) ≡ Some (net, rest)
+      → IsNetCut (option ∷ args) net rest
+  go None s e = pair_is option args net rest e
+  go (Some value) s e = record {
+    form = true;
+    args = ap₂ (λ v ws. v ∷ ws) (joined_is option value s
+        ∙ ap (λ o. codes "--net=" ++ (cut_or o).0) e)
+        (ap (λ o. (cut_or o).1) e);
+    good = refl;
+  }
 
 quiet_cut : (args rest : List (List ℕ)) → cut_quiet args ≡ Some rest
     → args ≡ codes "--quiet" ∷ rest
 quiet_cut [] rest e = absurd (true≢false (ap is_some (sym e)))
-quiet_cut (option ∷ args) rest e = go (bytes_eq option (codes "--quiet")) refl e
-  where
-    go : (b : Bool) → bytes_eq option (codes "--quiet") ≡ b
-        → cond b (Some args) None ≡ Some rest → option ∷ args ≡ codes "--quiet" ∷ rest
-    go false s e = absurd (true≢false (ap is_some (sym e)))
-    go true s e = ap₂ (λ o ws. o ∷ ws) ((bytes_eq-Decides option (codes "--quiet")).0 s)
-        (ap (λ o. unwrap_or o []) e)
+quiet_cut (option ∷ args) rest e = go (bytes_eq option (codes "--quiet")) refl e where
+  go : (b : Bool) → bytes_eq option (codes "--quiet") ≡ b
+      → cond b (Some args) None ≡ Some rest → option ∷ args ≡ codes "--quiet" ∷ rest
+  go false s e = absurd (true≢false (ap is_some (sym e)))
+  go true s e = ap₂ (λ o ws. o ∷ ws) ((bytes_eq-Decides option (codes "--quiet")).0 s)
+      (ap (λ o. unwrap_or o []) e)
 
 form_good : (form : Bool) (net : List ℕ) (more : Bool) → is_good (net_given form net) ≡ true
     → more ≡ true → (is_good (net_given form net) && more) ≡ true
@@ -138,86 +128,79 @@ form_good form net more e m = rw (e, m) refl
 
 pub quiet_and_net_is : (args : List (List ℕ))
     → IsCut (codes "--quiet" ∷ args) (quiet_and_net args)
-quiet_and_net_is args = go (cut_net args) refl
-  where
-    go : (o : Option (List ℕ × List (List ℕ))) → cut_net args ≡ o
-        → IsCut (codes "--quiet" ∷ args) (elim o [
-          | None ↦ record { net = None; quiet = true; args = args }
-          | Some found ↦ record { net = Some found.0; quiet = true; args = found.1 }
-        ])
-    go None e = record { first = true; form = true; args = refl; good = refl }
-    go (Some found) e =
-        let net = net_cut args found.0 found.1 e in
-        record {
-          first = false;
-          form = net.form;
-          args = ap (λ ws. codes "--quiet" ∷ ws) (net.args
-              ∙ ap (λ ws. ws ++ found.1) (sym (append-nil (spell (net_given net.form found.0)))));
-          good = form_good net.form found.0 true net.good refl;
-        }
+quiet_and_net_is args = go (cut_net args) refl where
+  go : (o : Option (List ℕ × List (List ℕ))) → cut_net args ≡ o
+      → IsCut (codes "--quiet" ∷ args) (elim o [
+        | None ↦ record { net = None; quiet = true; args = args }
+        | Some found ↦ record { net = Some found.0; quiet = true; args = found.1 }
+      ])
+  go None e = record { first = true; form = true; args = refl; good = refl }
+  go (Some found) e = let net = net_cut args found.0 found.1 e in record {
+    first = false;
+    form = net.form;
+    args = ap (λ ws. codes "--quiet" ∷ ws) (net.args
+        ∙ ap (λ ws. ws ++ found.1) (sym (append-nil (spell (net_given net.form found.0)))));
+    good = form_good net.form found.0 true net.good refl;
+  }
 
 pub net_and_quiet_is : (form : Bool) (net : List ℕ) (args : List (List ℕ))
     → is_good (net_given form net) ≡ true
     → IsCut (spell (net_given form net) ++ args) (net_and_quiet net args)
-net_and_quiet_is form net args good = go (cut_quiet args) refl
-  where
-    spelling : List (List ℕ)
-    spelling = spell (net_given form net)
+net_and_quiet_is form net args good = go (cut_quiet args) refl where
+  spelling : List (List ℕ)
+  spelling = spell (net_given form net)
 
-    go : (o : Option (List (List ℕ))) → cut_quiet args ≡ o
-        → IsCut (spell (net_given form net) ++ args) (elim o [
-          | None ↦ record { net = Some net; quiet = false; args = args }
-          | Some rest ↦ record { net = Some net; quiet = true; args = rest }
-        ])
-    go None e = record {
-      first = true;
-      form = form;
-      args = ap (λ ws. ws ++ args) (sym (append-nil (spell (net_given form net))));
-      good = form_good form net true good refl;
-    }
-    go (Some rest) e = record {
-      first = true;
-      form = form;
-      args = ap (λ ws. spell (net_given form net) ++ ws) (quiet_cut args rest e)
-          ∙ sym (append_assoc (spell (net_given form net)) (codes "--quiet" ∷ []) rest);
-      good = form_good form net true good refl;
-    }
+  go : (o : Option (List (List ℕ))) → cut_quiet args ≡ o
+      → IsCut (spell (net_given form net) ++ args) (elim o [
+        | None ↦ record { net = Some net; quiet = false; args = args }
+        | Some rest ↦ record { net = Some net; quiet = true; args = rest }
+      ])
+  go None e = record {
+    first = true;
+    form = form;
+    args = ap (λ ws. ws ++ args) (sym (append-nil (spell (net_given form net))));
+    good = form_good form net true good refl;
+  }
+  go (Some rest) e = record {
+    first = true;
+    form = form;
+    args = ap (λ ws. spell (net_given form net) ++ ws) (quiet_cut args rest e)
+        ∙ sym (append_assoc (spell (net_given form net)) (codes "--quiet" ∷ []) rest);
+    good = form_good form net true good refl;
+  }
 
 pub cut_is : (args : List (List ℕ)) → IsCut args (cut_options args)
-cut_is args = go (cut_quiet args) refl
-  where
-    after_net : (o : Option (List ℕ × List (List ℕ))) → cut_net args ≡ o → IsCut args (elim o [
+cut_is args = go (cut_quiet args) refl where
+  after_net : (o : Option (List ℕ × List (List ℕ))) → cut_net args ≡ o → IsCut args (elim o [
+    | None ↦ record { net = None; quiet = false; args = args }
+    | Some found ↦ net_and_quiet found.0 found.1
+  ])
+  after_net None e = record { first = true; form = true; args = refl; good = refl }
+  after_net (Some found) e = let net = net_cut args found.0 found.1 e in
+      subst (λ ws. IsCut ws (net_and_quiet found.0 found.1)) (sym net.args)
+      (net_and_quiet_is net.form found.0 found.1 net.good)
+
+  go : (o : Option (List (List ℕ))) → cut_quiet args ≡ o → IsCut args (elim o [
+    | Some rest ↦ quiet_and_net rest
+    | None ↦ elim (cut_net args) [
       | None ↦ record { net = None; quiet = false; args = args }
       | Some found ↦ net_and_quiet found.0 found.1
-    ])
-    after_net None e = record { first = true; form = true; args = refl; good = refl }
-    after_net (Some found) e =
-        let net = net_cut args found.0 found.1 e in
-        subst (λ ws. IsCut ws (net_and_quiet found.0 found.1)) (sym net.args)
-        (net_and_quiet_is net.form found.0 found.1 net.good)
-
-    go : (o : Option (List (List ℕ))) → cut_quiet args ≡ o → IsCut args (elim o [
-      | Some rest ↦ quiet_and_net rest
-      | None ↦ elim (cut_net args) [
-        | None ↦ record { net = None; quiet = false; args = args }
-        | Some found ↦ net_and_quiet found.0 found.1
-      ]
-    ])
-    go None e = after_net (cut_net args) refl
-    go (Some rest) e = subst (λ ws. IsCut ws (quiet_and_net rest)) (sym (quiet_cut args rest e))
-        (quiet_and_net_is rest)
+    ]
+  ])
+  go None e = after_net (cut_net args) refl
+  go (Some rest) e = subst (λ ws. IsCut ws (quiet_and_net rest)) (sym (quiet_cut args rest e))
+      (quiet_and_net_is rest)
 
 -- ---- names
 
 pub names_good : (args : List (List ℕ))
     → list_all is_file_name (take (prefix_len is_file_name args) args) ≡ true
 names_good [] = refl
-names_good (arg ∷ args) = go (is_file_name arg) refl (names_good args)
-  where
-    go : (b : Bool) → is_file_name arg ≡ b
-        → list_all is_file_name (take (prefix_len is_file_name args) args) ≡ true
-        → list_all is_file_name (take (cond b (1 + prefix_len is_file_name args) 0) (arg ∷ args)) ≡ true
-    go false e rest = refl
-    go true e rest =
-        let one : 1 + prefix_len is_file_name args ≡ suc (prefix_len is_file_name args) = omega arith in
-        rw (one, e) rest
+names_good (arg ∷ args) = go (is_file_name arg) refl (names_good args) where
+  go : (b : Bool) → is_file_name arg ≡ b
+      → list_all is_file_name (take (prefix_len is_file_name args) args) ≡ true
+      → list_all is_file_name (take (cond b (1 + prefix_len is_file_name args) 0) (arg ∷ args)) ≡ true
+  go false e rest = refl
+  go true e rest =
+      let one : 1 + prefix_len is_file_name args ≡ suc (prefix_len is_file_name args) = omega arith in
+      rw (one, e) rest

@@ -40,8 +40,7 @@ within o false false (Some v) true w = rw (w.has_net refl, w.has_flag refl) refl
 
 within_front : (o : Options) (net more : Option (List ℕ)) (quiet again : Bool)
     → IsWithin o (option_or net more) (quiet || again) → IsWithin o net quiet
-within_front o None more false again w =
-    let not : false ≡ true → ⊥ = λ e. true≢false (sym e) in
+within_front o None more false again w = let not : false ≡ true → ⊥ = λ e. true≢false (sym e) in
     record { has_net = λ e. absurd (not e); has_flag = λ e. absurd (not e) }
 within_front o None more true again w =
     record { has_net = λ e. absurd (true≢false (sym e)); has_flag = λ e. w.has_flag refl }
@@ -88,33 +87,23 @@ rows_of_line o rows = fold with_default rows (rules o)
 
 -- what is found, by the options of the command: both, the network's alone, or none
 module _ (n : List ℕ) (ns : List (List ℕ)) where
-  found_both : (first second : Bool)
-      (net : Option (List ℕ)) (quiet : Bool) (more : Option (List ℕ)) (again : Bool)
-      → (is_some net && is_some more) ≡ false → (quiet && again) ≡ false
-      → Found (net_and true) (rows_of_line (net_and true) (uses second more again
-      (used names_rule (n ∷ ns) (uses first net quiet []))))
+  found_both : (first second : Bool) (net : Option (List ℕ)) (quiet : Bool) (more : Option (List ℕ))
+      (again : Bool) → (is_some net && is_some more) ≡ false → (quiet && again) ≡ false
+      → Found (net_and true) (rows_of_line (net_and true)
+      (uses second more again (used names_rule (n ∷ ns) (uses first net quiet []))))
       (record { names = n ∷ ns; net = option_or net more; quiet = quiet || again })
   unfolding uses rows_of_line
-  found_both f s None false None false a b =
-      record { names = refl; net = refl; quiet = refl }
-  found_both f s None false None true a b =
-      record { names = refl; net = refl; quiet = refl }
-  found_both f s None false (Some v) false a b =
-      record { names = refl; net = refl; quiet = refl }
-  found_both f true None false (Some v) true a b =
-      record { names = refl; net = refl; quiet = refl }
+  found_both f s None false None false a b = record { names = refl; net = refl; quiet = refl }
+  found_both f s None false None true a b = record { names = refl; net = refl; quiet = refl }
+  found_both f s None false (Some v) false a b = record { names = refl; net = refl; quiet = refl }
+  found_both f true None false (Some v) true a b = record { names = refl; net = refl; quiet = refl }
   found_both f false None false (Some v) true a b =
       record { names = refl; net = refl; quiet = refl }
-  found_both f s None true None false a b =
-      record { names = refl; net = refl; quiet = refl }
-  found_both f s None true (Some v) false a b =
-      record { names = refl; net = refl; quiet = refl }
-  found_both f s (Some v) false None false a b =
-      record { names = refl; net = refl; quiet = refl }
-  found_both f s (Some v) false None true a b =
-      record { names = refl; net = refl; quiet = refl }
-  found_both true s (Some v) true None false a b =
-      record { names = refl; net = refl; quiet = refl }
+  found_both f s None true None false a b = record { names = refl; net = refl; quiet = refl }
+  found_both f s None true (Some v) false a b = record { names = refl; net = refl; quiet = refl }
+  found_both f s (Some v) false None false a b = record { names = refl; net = refl; quiet = refl }
+  found_both f s (Some v) false None true a b = record { names = refl; net = refl; quiet = refl }
+  found_both true s (Some v) true None false a b = record { names = refl; net = refl; quiet = refl }
   found_both false s (Some v) true None false a b =
       record { names = refl; net = refl; quiet = refl }
   found_both f s None true None true a b = absurd (true≢false b)
@@ -122,46 +111,33 @@ module _ (n : List ℕ) (ns : List (List ℕ)) where
   found_both f s (Some v) quiet (Some w) again a b = absurd (true≢false a)
   found_both f s (Some v) true None true a b = absurd (true≢false b)
 
-  found_net : (first second : Bool)
-      (net more : Option (List ℕ)) → (is_some net && is_some more) ≡ false
-      → Found (net_and false) (rows_of_line (net_and false) (uses second more false
-      (used names_rule (n ∷ ns) (uses first net false []))))
+  found_net : (first second : Bool) (net more : Option (List ℕ))
+      → (is_some net && is_some more) ≡ false → Found (net_and false) (rows_of_line (net_and false)
+      (uses second more false (used names_rule (n ∷ ns) (uses first net false []))))
       (record { names = n ∷ ns; net = option_or net more; quiet = false })
   unfolding uses rows_of_line
-  found_net f s None None a =
-      record { names = refl; net = refl; quiet = refl }
-  found_net f s None (Some v) a =
-      record { names = refl; net = refl; quiet = refl }
-  found_net f s (Some v) None a =
-      record { names = refl; net = refl; quiet = refl }
+  found_net f s None None a = record { names = refl; net = refl; quiet = refl }
+  found_net f s None (Some v) a = record { names = refl; net = refl; quiet = refl }
+  found_net f s (Some v) None a = record { names = refl; net = refl; quiet = refl }
   found_net f s (Some v) (Some w) a = absurd (true≢false a)
 
-  found : (o : Options) (first second : Bool)
-      (net : Option (List ℕ)) (quiet : Bool) (more : Option (List ℕ)) (again : Bool)
-      → (is_some net && is_some more) ≡ false → (quiet && again) ≡ false
-      → IsWithin o net quiet → IsWithin o more again
-      → Found o (rows_of_line o (uses second more again
-      (used names_rule (n ∷ ns) (uses first net quiet []))))
+  found : (o : Options) (first second : Bool) (net : Option (List ℕ))
+      (quiet : Bool) (more : Option (List ℕ)) (again : Bool) → (is_some net && is_some more) ≡ false
+      → (quiet && again) ≡ false → IsWithin o net quiet → IsWithin o more again → Found o
+      (rows_of_line o (uses second more again (used names_rule (n ∷ ns) (uses first net quiet []))))
       (record { names = n ∷ ns; net = option_or net more; quiet = quiet || again })
   unfolding uses rows_of_line
-  found (net_and true) f s net quiet more again a b w v =
-      found_both f s net quiet more again a b
-  found (net_and false) f s net false more false a b w v =
-      found_net f s net more a
+  found (net_and true) f s net quiet more again a b w v = found_both f s net quiet more again a b
+  found (net_and false) f s net false more false a b w v = found_net f s net more a
   found (net_and false) f s net true more again a b w v =
       absurd (true≢false (sym (w.has_flag refl)))
   found (net_and false) f s net false more true a b w v =
       absurd (true≢false (sym (v.has_flag refl)))
-  found none f s None false None false a b w v =
-      record { names = refl; net = refl; quiet = refl }
-  found none f s (Some x) quiet more again a b w v =
-      absurd (true≢false (sym (w.has_net refl)))
-  found none f s None quiet (Some x) again a b w v =
-      absurd (true≢false (sym (v.has_net refl)))
-  found none f s None true None again a b w v =
-      absurd (true≢false (sym (w.has_flag refl)))
-  found none f s None false None true a b w v =
-      absurd (true≢false (sym (v.has_flag refl)))
+  found none f s None false None false a b w v = record { names = refl; net = refl; quiet = refl }
+  found none f s (Some x) quiet more again a b w v = absurd (true≢false (sym (w.has_net refl)))
+  found none f s None quiet (Some x) again a b w v = absurd (true≢false (sym (v.has_net refl)))
+  found none f s None true None again a b w v = absurd (true≢false (sym (w.has_flag refl)))
+  found none f s None false None true a b w v = absurd (true≢false (sym (v.has_flag refl)))
 
 -- ---- the arguments of a line
 
@@ -190,52 +166,49 @@ pub record HasParts (args : List (List ℕ)) (line : StatedLine) : Type 0 where
 
 parts_of : (args : List (List ℕ)) (line : StatedLine) → line_of args ≡ Some line
     → HasParts args line
-parts_of args line e = go (end_together front back) refl e
-  where
-    front : Cut
-    front = cut_options args
+parts_of args line e = go (end_together front back) refl e where
+  front : Cut
+  front = cut_options args
 
-    count : ℕ
-    count = prefix_len is_file_name front.args
+  count : ℕ
+  count = prefix_len is_file_name front.args
 
-    back : Cut
-    back = cut_options (drop count front.args)
+  back : Cut
+  back = cut_options (drop count front.args)
 
-    names : List (List ℕ)
-    names = take count front.args
+  names : List (List ℕ)
+  names = take count front.args
 
-    go : (b : Bool) → end_together front back ≡ b
-        → cond b (Some (record {
-          names = names;
-          net = option_or front.net back.net;
-          quiet = front.quiet || back.quiet;
-        })) None ≡ Some line → HasParts args line
-    go false s e = absurd (true≢false (ap is_some (sym e)))
-    go true s e =
-        let line_is : record {
-          names = names;
-          net = option_or front.net back.net;
-          quiet = front.quiet || back.quiet;
-        } ≡ line = ap (λ o. unwrap_or o line) e in
-        let q = both (not (is_some front.net && is_some back.net)
-        && not (front.quiet && back.quiet)) _ s in
-        let p = both (not (is_some front.net && is_some back.net)) _ q.0 in
-        let size : length names ≡ count = length-prefix_len is_file_name front.args in
-        subst (HasParts args) line_is (record {
-          front = front;
-          back = back;
-          front_cut = cut_is args;
-          back_cut = subst (λ k. IsCut (drop k front.args) back) (sym size)
-              (cut_is (drop count front.args));
-          names = joined_by count front.args
-              ∙ ap (λ k. names ++ drop k front.args) (sym size);
-          good = names_good front.args;
-          ends = no_args back.args q.1;
-          net = refl;
-          quiet = refl;
-          one_net = not-true _ p.0;
-          one_flag = not-true _ p.1;
-        })
+  go : (b : Bool) → end_together front back ≡ b → cond b (Some (record {
+    names = names;
+    net = option_or front.net back.net;
+    quiet = front.quiet || back.quiet;
+  })) None ≡ Some line → HasParts args line
+  go false s e = absurd (true≢false (ap is_some (sym e)))
+  go true s e =
+      let line_is : record {
+        names = names;
+        net = option_or front.net back.net;
+        quiet = front.quiet || back.quiet;
+      } ≡ line = ap (λ o. unwrap_or o line) e in
+      let q = both (not (is_some front.net && is_some back.net)
+      && not (front.quiet && back.quiet)) _ s in
+      let p = both (not (is_some front.net && is_some back.net)) _ q.0 in
+      let size : length names ≡ count = length-prefix_len is_file_name front.args in
+      subst (HasParts args) line_is (record {
+        front = front;
+        back = back;
+        front_cut = cut_is args;
+        back_cut = subst (λ k. IsCut (drop k front.args) back) (sym size)
+            (cut_is (drop count front.args));
+        names = joined_by count front.args ∙ ap (λ k. names ++ drop k front.args) (sym size);
+        good = names_good front.args;
+        ends = no_args back.args q.1;
+        net = refl;
+        quiet = refl;
+        one_net = not-true _ p.0;
+        one_flag = not-true _ p.1;
+      })
 
 -- the walk over them, to its end
 pub record WalksTo (name : List ℕ) (o : Options) (args : List (List ℕ))
@@ -280,25 +253,21 @@ module _ (name : List ℕ) (o : Options) (args : List (List ℕ))
       let whole = goes_far name o _ _ _ (spelled front) (n ∷ ns ++ spelled back) one.goes behind in
       let rest : drop (length (n ∷ ns)) parts.front.args ≡ spelled back =
       parts.back_cut.args ∙ ap (λ ws. spelled back ++ ws) parts.ends ∙ append-nil (spelled back) in
-      let is : args ≡ spelled front ++ (n ∷ ns ++ spelled back) =
-      parts.front_cut.args
+      let is : args ≡ spelled front ++ (n ∷ ns ++ spelled back) = parts.front_cut.args
       ∙ ap (λ ws. spelled front ++ ws) (parts.names ∙ ap (λ ws. (n ∷ ns) ++ ws) rest) in
       let used_rows : rows_at two.at two.left
       ≡ uses parts.back_cut.first parts.back.net parts.back.quiet
       (used names_rule (n ∷ ns) (uses parts.front_cut.first parts.front.net parts.front.quiet [])) =
-      two.rows
-      ∙ ap (λ r. use_all back (used names_rule (n ∷ ns) r)) (one.rows ∙ uses_are _ _ _ _ [])
-      ∙ uses_are _ _ _ _ _ in
-      record {
+      two.rows ∙ ap (λ r. use_all back (used names_rule (n ∷ ns) r))
+      (one.rows ∙ uses_are _ _ _ _ []) ∙ uses_are _ _ _ _ _ in record {
         at = two.at;
         left = two.left;
         goes = subst (λ ws. Goes name o (walk_at apart []) ws (walk_at two.at two.left)) (sym is)
             whole;
         stands = two.stands;
-        found = rw (used_rows, parts.net, parts.quiet)
-            (found n ns o parts.front_cut.first parts.back_cut.first parts.front.net
-            parts.front.quiet parts.back.net parts.back.quiet parts.one_net parts.one_flag
-            fore aft);
+        found = rw (used_rows, parts.net, parts.quiet) (found n ns o parts.front_cut.first
+            parts.back_cut.first parts.front.net parts.front.quiet parts.back.net parts.back.quiet
+            parts.one_net parts.one_flag fore aft);
       }
 
 -- ---- the parse
@@ -352,17 +321,15 @@ module _ (name : List ℕ) where
 
   pub matched : (o : Options) (all : List (List ℕ)) (line : StatedLine)
       → WalksTo name o (drop 1 all) line → Found o (matches_of (app_with name o) all) line
-  matched o all line w = subst (λ rows. Found o rows line) (sym rows_are) w.found
-    where
-      rows_are : matches_of (app_with name o) all ≡ rows_of_line o (rows_at w.at w.left)
-      rows_are =
-          ap (rows_after (built (app_with name o)).top.rules (names_of (built (app_with name o))))
-          (no_program o all)
-          ∙ ap (λ (s : Shape). rows_after s.rules (names_of (built (app_with name o))) (drop 1 all))
-          (shape_is name o)
-          ∙ ap (λ names. rows_after (rules o) names (drop 1 all)) (no_names o)
-          ∙ ap (λ (v : Walk). finished (rules o) v.held) w.goes.walk
-          ∙ settled_at o w.at w.left w.stands
+  matched o all line w = subst (λ rows. Found o rows line) (sym rows_are) w.found where
+    rows_are : matches_of (app_with name o) all ≡ rows_of_line o (rows_at w.at w.left)
+    rows_are =
+        ap (rows_after (built (app_with name o)).top.rules (names_of (built (app_with name o))))
+        (no_program o all)
+        ∙ ap (λ (s : Shape). rows_after s.rules (names_of (built (app_with name o))) (drop 1 all))
+        (shape_is name o) ∙ ap (λ names. rows_after (rules o) names (drop 1 all)) (no_names o)
+        ∙ ap (λ (v : Walk). finished (rules o) v.held) w.goes.walk
+        ∙ settled_at o w.at w.left w.stands
 
   -- each line with names is read
   pub reads : (o : Options) (args : List (List ℕ)) (line : StatedLine) → line_of args ≡ Some line
@@ -381,10 +348,9 @@ module _ (name : List ℕ) where
 
 -- ---- what was matched
 
-pub matches_found : (name : List ℕ) (o : Options) (app : App) (all : List (List ℕ)) (m : ArgMatches)
-    (line : StatedLine) → app ≡ app_with name o → HasMatchesOf app all m
-    → WalksTo name o (drop 1 all) line
-    → Found o (rows_of (found_of m)) line
+pub matches_found : (name : List ℕ) (o : Options) (app : App) (all : List (List ℕ))
+    (m : ArgMatches) (line : StatedLine) → app ≡ app_with name o → HasMatchesOf app all m
+    → WalksTo name o (drop 1 all) line → Found o (rows_of (found_of m)) line
 matches_found name o app all m line is has w =
     let rows : rows_of (found_of m) ≡ matches_of app all =
     (has (ap is_simple is ∙ simple name o)).0 in
@@ -416,8 +382,7 @@ module _ (o : Options) (f : matches.Found) (line : StatedLine) (found : Found o 
   names_there =
       go (matched_of f (codes "names")) (raw_values-rows f (codes "names") ∙ found.names)
     where
-      go : (o : Option MatchedArg) → option_map raw_values o ≡ Some line.names
-          → is_some o ≡ true
+      go : (o : Option MatchedArg) → option_map raw_values o ≡ Some line.names → is_some o ≡ true
       go None e = ap is_some e
       go (Some x) e = refl
 
@@ -435,10 +400,8 @@ module _ (o : Options) (f : matches.Found) (line : StatedLine) (found : Found o 
       → IsFlagRead o (one_text f (codes "quiet")) quiet
       → line ≡ record { names = names; net = net; quiet = quiet }
   line_is names net quiet given_names given_net given_quiet =
-      let same_names : line.names ≡ names =
-      ap (λ o. unwrap_or o [])
+      let same_names : line.names ≡ names = ap (λ o. unwrap_or o [])
       (sym found.names ∙ sym (raw_values-rows f (codes "names")) ∙ given_names) in
       let same_net : line.net ≡ net = one_net o _ line.net net net_there given_net in
-      let same_quiet : line.quiet ≡ quiet =
-      one_flag o _ line.quiet quiet flag_there given_quiet in
+      let same_quiet : line.quiet ≡ quiet = one_flag o _ line.quiet quiet flag_there given_quiet in
       λ i. record { names = same_names i; net = same_net i; quiet = same_quiet i }

@@ -137,12 +137,11 @@ record IsPlainArg (arg : List ℕ) : Type 0 where
 
 plain_arg : (arg : List ℕ) → is_file_name arg ≡ true → IsPlainArg arg
 plain_arg [] e = absurd (true≢false (sym e))
-plain_arg (x ∷ xs) e = go (x == 45) refl e
-  where
-    go : (b : Bool) → (x == 45) ≡ b → (nat_lt 0 (length (x ∷ xs)) && not b) ≡ true
-        → IsPlainArg (x ∷ xs)
-    go true s e = absurd (true≢false (sym (both (nat_lt 0 (length (x ∷ xs))) false e).1))
-    go false s e = record { dashes = rw s refl; long = rw s refl; short = rw s refl }
+plain_arg (x ∷ xs) e = go (x == 45) refl e where
+  go : (b : Bool) → (x == 45) ≡ b → (nat_lt 0 (length (x ∷ xs)) && not b) ≡ true
+      → IsPlainArg (x ∷ xs)
+  go true s e = absurd (true≢false (sym (both (nat_lt 0 (length (x ∷ xs))) false e).1))
+  go false s e = record { dashes = rw s refl; long = rw s refl; short = rw s refl }
 
 all_pass : (vs : List (List ℕ)) → values_pass names_rule vs ≡ true
 all_pass [] = refl
@@ -158,11 +157,10 @@ names_pass n ns rows few =
 
 -- a second use would replace the first, so what was used is not asked
 again_passes : (id : List ℕ) (rows : List Row) → (not (has_row id rows) || true) ≡ true
-again_passes id rows = go (not (has_row id rows))
-  where
-    go : (b : Bool) → (b || true) ≡ true
-    go true = refl
-    go false = refl
+again_passes id rows = go (not (has_row id rows)) where
+  go : (b : Bool) → (b || true) ≡ true
+  go true = refl
+  go false = refl
 
 pub settles : (o : Options) (a : At) (rows : List Row) → MayStand o a
     → settle_passes (rules o) true (walk_at a rows).held ≡ true
@@ -276,13 +274,11 @@ module _ (name : List ℕ) where
       → MayStand o a → IsApart a
       → Goes name o (walk_at a rows) (n ∷ []) (walk_at (named n []) (rows_at a rows))
   unfolding walked
-  name_first o apart rows n good may behind =
-      let arg = plain_arg n good in
+  name_first o apart rows n good may behind = let arg = plain_arg n good in
       goes_on o _ _ _ n [] (rw (arg.dashes, arg.long, arg.short) refl)
       (rw (arg.dashes, arg.long, arg.short) refl) (goes_nowhere o _)
   name_first none (valued net) rows n good may behind = absurd (true≢false (sym may))
-  name_first (net_and flag) (valued net) rows n good may behind =
-      let arg = plain_arg n good in
+  name_first (net_and flag) (valued net) rows n good may behind = let arg = plain_arg n good in
       goes_on (net_and flag) _ _ _ n [] (rw (arg.dashes, arg.long, arg.short) refl)
       (rw (arg.dashes, arg.long, arg.short, again_passes (codes "net") rows) refl)
       (goes_nowhere (net_and flag) _)
@@ -293,8 +289,7 @@ module _ (name : List ℕ) where
       → list_all is_file_name ms ≡ true
       → Goes name o (walk_at (named n ns) rows) ms (walk_at (named n (ns ++ ms)) rows)
   unfolding walked
-  names_walk o n ns [] rows good =
-      rw (append-nil ns) (goes_nowhere o (walk_at (named n ns) rows))
+  names_walk o n ns [] rows good = rw (append-nil ns) (goes_nowhere o (walk_at (named n ns) rows))
   names_walk o n ns (m ∷ ms) rows good =
       let p = both (is_file_name m) _ good in
       let arg = plain_arg m p.0 in
@@ -314,13 +309,11 @@ module _ (name : List ℕ) where
   told : (flag : Bool) (net : List ℕ) (rows : List Row) → is_file_name net ≡ true
       → Goes name (net_and flag) (walk_asking rows) (net ∷ []) (walk_at (valued net) rows)
   unfolding walked
-  told flag net rows good =
-      let arg = plain_arg net good in
+  told flag net rows good = let arg = plain_arg net good in
       goes_on (net_and flag) _ _ _ net [] (rw (arg.dashes, arg.long, arg.short) refl)
       (rw (arg.dashes, arg.long, arg.short) refl) (goes_nowhere (net_and flag) _)
 
-  may_join : (flag : Bool) (net : List ℕ) (a : At) (rows : List Row)
-      → MayStand (net_and flag) a
+  may_join : (flag : Bool) (net : List ℕ) (a : At) (rows : List Row) → MayStand (net_and flag) a
       → turn_passes (shape name (net_and flag)) [] (walk_at a rows) (codes "--net=" ++ net) ≡ true
   may_join flag net apart rows few = rw (again_passes (codes "net") rows) refl
   may_join flag net (valued v) rows few = rw (
@@ -350,15 +343,12 @@ module _ (name : List ℕ) where
   given_walks none (joined net) a rows good may few = absurd (true≢false (sym may))
   given_walks none (pair net) a rows good may few = absurd (true≢false (sym may))
   given_walks none quiet a rows good may few = absurd (true≢false (sym may))
-  given_walks (net_and flag) (joined net) a rows good may few =
-      goes_on (net_and flag) _ _ _ _ [] (joins flag net a rows) (may_join flag net a rows few)
-      (goes_nowhere (net_and flag) _)
-  given_walks (net_and flag) (pair net) a rows good may few =
-      goes_on (net_and flag) _ _ _ _ (net ∷ []) (asks flag a rows) (may_ask flag a rows few)
-      (told flag net (rows_at a rows) good)
-  given_walks (net_and true) quiet a rows good may few =
-      goes_on (net_and true) _ _ _ _ [] (flags a rows) (may_flag a rows few)
-      (goes_nowhere (net_and true) _)
+  given_walks (net_and flag) (joined net) a rows good may few = goes_on (net_and flag) _ _ _ _ []
+      (joins flag net a rows) (may_join flag net a rows few) (goes_nowhere (net_and flag) _)
+  given_walks (net_and flag) (pair net) a rows good may few = goes_on (net_and flag) _ _ _ _
+      (net ∷ []) (asks flag a rows) (may_ask flag a rows few) (told flag net (rows_at a rows) good)
+  given_walks (net_and true) quiet a rows good may few = goes_on (net_and true) _ _ _ _ []
+      (flags a rows) (may_flag a rows few) (goes_nowhere (net_and true) _)
   given_walks (net_and false) quiet a rows good may few = absurd (true≢false (sym may))
 
   pub options_walk : (o : Options) (gs : List Given) (a : At) (rows : List Row)
@@ -376,8 +366,7 @@ module _ (name : List ℕ) where
       let p = both (is_good g) _ good in
       let q = both (may_give o g) _ may in
       let then = rows_then g (rows_at a rows) in
-      let more = options_walk o gs (after g) then p.1 q.1 (stands_after o g q.0) in
-      record {
+      let more = options_walk o gs (after g) then p.1 q.1 (stands_after o g q.0) in record {
         at = more.at;
         left = more.left;
         goes = goes_far o _ _ _ (spell g) (spelled gs) (given_walks o g a rows p.0 q.0 stands)

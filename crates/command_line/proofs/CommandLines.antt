@@ -23,8 +23,7 @@ play_names : (told : Report) (line : StatedLine) (names : List (List ℕ))
 play_names told line [] e = absurd (true≢false (sym e))
 play_names told line (s ∷ ps) e =
     let may = both (nat_le 1 (length ps)) _ (passes_from_is_some _ _ e) in
-    let most : length ps ≤ 64 = leb-true (length ps) 64 may.1 in
-    (omega arith, omega (arith, most))
+    let most : length ps ≤ 64 = leb-true (length ps) 64 may.1 in (omega arith, omega (arith, most))
 
 -- a command without the flag
 unflagged : (quiet : Bool) (o : Option Command) → is_some (cond quiet None o) ≡ true
@@ -40,33 +39,30 @@ print_names count line some few e =
     (omega (arith, is, some), omega (arith, is, few))
 
 load_names : (line : StatedLine) → is_some (load_of line) ≡ true → HaveNames line.names
-load_names line e = go (is_some line.net || line.quiet) line.names e
-  where
-    go : (b : Bool) (names : List (List ℕ))
-        → is_some (cond b None (load_from (load_number names))) ≡ true → HaveNames names
-    go true names e = absurd (true≢false (sym e))
-    go false [] e = absurd (true≢false (sym e))
-    go false (n ∷ []) e = (omega arith, omega arith)
-    go false (n ∷ m ∷ ns) e = absurd (true≢false (sym e))
+load_names line e = go (is_some line.net || line.quiet) line.names e where
+  go : (b : Bool) (names : List (List ℕ))
+      → is_some (cond b None (load_from (load_number names))) ≡ true → HaveNames names
+  go true names e = absurd (true≢false (sym e))
+  go false [] e = absurd (true≢false (sym e))
+  go false (n ∷ []) e = (omega arith, omega arith)
+  go false (n ∷ m ∷ ns) e = absurd (true≢false (sym e))
 
 audit_names : (line : StatedLine) → is_some (audit_of line) ≡ true → HaveNames line.names
-audit_names line e = go (is_some line.net || line.quiet) line.names e
-  where
-    go : (b : Bool) (names : List (List ℕ)) → is_some (cond b None (audit_from names)) ≡ true
-        → HaveNames names
-    go true names e = absurd (true≢false (sym e))
-    go false [] e = absurd (true≢false (sym e))
-    go false (s ∷ ps) e =
-        let may = both (nat_le 1 (length ps)) _ (passes_from_is_some _ _ e) in
-        let most : length ps ≤ 64 = leb-true (length ps) 64 may.1 in
-        (omega arith, omega (arith, most))
+audit_names line e = go (is_some line.net || line.quiet) line.names e where
+  go : (b : Bool) (names : List (List ℕ)) → is_some (cond b None (audit_from names)) ≡ true
+      → HaveNames names
+  go true names e = absurd (true≢false (sym e))
+  go false [] e = absurd (true≢false (sym e))
+  go false (s ∷ ps) e =
+      let may = both (nat_le 1 (length ps)) _ (passes_from_is_some _ _ e) in
+      let most : length ps ≤ 64 = leb-true (length ps) 64 may.1 in
+      (omega arith, omega (arith, most))
 
 -- each line of a command has names
 line_names : (k : CommandKind) (line : StatedLine) → is_some (command_by (kind_name k) line) ≡ true
     → HaveNames line.names
 line_names kind.Replay line e = play_names (report.Lines line.quiet) line line.names e
-line_names kind.Flows line e =
-    play_names report.Flows line line.names (unflagged line.quiet _ e).1
+line_names kind.Flows line e = play_names report.Flows line line.names (unflagged line.quiet _ e).1
 line_names kind.Rebalance line e =
     play_names report.Placement line line.names (unflagged line.quiet _ e).1
 line_names kind.Compile line e = print_names 1 line (omega arith) (omega arith) e
@@ -92,19 +88,16 @@ print_within count line e =
 bare_within : (line : StatedLine) (o : Option Command)
     → is_some (cond (is_some line.net || line.quiet) None o) ≡ true
     → IsWithin none line.net line.quiet
-bare_within line o e =
-    let bare = neither (is_some line.net) line.quiet o e in
+bare_within line o e = let bare = neither (is_some line.net) line.quiet o e in
     record { has_net = λ some. sym bare.0 ∙ some; has_flag = λ some. sym bare.1 ∙ some }
 
 -- each line of a command has options of its own alone
 line_within : (k : CommandKind) (line : StatedLine) → is_some (command_by (kind_name k) line) ≡ true
     → IsWithin (options_of k) line.net line.quiet
 line_within kind.Replay line e = record { has_net = λ some. refl; has_flag = λ some. refl }
-line_within kind.Flows line e =
-    let none = (unflagged line.quiet _ e).0 in
+line_within kind.Flows line e = let none = (unflagged line.quiet _ e).0 in
     record { has_net = λ some. refl; has_flag = λ some. sym none ∙ some }
-line_within kind.Rebalance line e =
-    let none = (unflagged line.quiet _ e).0 in
+line_within kind.Rebalance line e = let none = (unflagged line.quiet _ e).0 in
     record { has_net = λ some. refl; has_flag = λ some. sym none ∙ some }
 line_within kind.Compile line e = print_within 1 line e
 line_within kind.Show line e = print_within 2 line e
@@ -119,19 +112,15 @@ pub record Walked (k : CommandKind) (args : List (List ℕ)) : Type 0 where
 
 pub line_walked : (k : CommandKind) (args : List (List ℕ)) → is_some (command_in k args) ≡ true
     → Walked k args
-line_walked k args e = go (line_of args) refl e
-  where
-    go : (o : Option StatedLine) → line_of args ≡ o
-        → is_some (option_and_then (command_by (kind_name k)) o) ≡ true → Walked k args
-    go None is e = absurd (true≢false (sym e))
-    go (Some line) is e =
-        let names = line_names k line e in
-        record {
-          line = line;
-          is = is;
-          walks = reads (kind_name k) (options_of k) args line is names.0 names.1
-              (line_within k line e);
-        }
+line_walked k args e = go (line_of args) refl e where
+  go : (o : Option StatedLine) → line_of args ≡ o
+      → is_some (option_and_then (command_by (kind_name k)) o) ≡ true → Walked k args
+  go None is e = absurd (true≢false (sym e))
+  go (Some line) is e = let names = line_names k line e in record {
+    line = line;
+    is = is;
+    walks = reads (kind_name k) (options_of k) args line is names.0 names.1 (line_within k line e);
+  }
 
 -- that command takes the arguments, and what it matches is the line
 module _ (k : CommandKind) (app : App) (all : List (List ℕ)) (is : app ≡ line_app k)

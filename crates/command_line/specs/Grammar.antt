@@ -80,13 +80,11 @@ end_together front back =
     && length back.args == 0
 
 abbrev pub line_from : Cut → List (List ℕ) → Cut → Option StatedLine
-line_from front names back =
-    if end_together front back
-    then Some (record {
-      names = names;
-      net = option_or front.net back.net;
-      quiet = front.quiet || back.quiet;
-    })
+line_from front names back = if end_together front back then Some (record {
+  names = names;
+  net = option_or front.net back.net;
+  quiet = front.quiet || back.quiet;
+})
     else None
 
 -- options, then names up to the next option or the end, then options
@@ -155,8 +153,7 @@ load_from (Some n) = if nat_le 1 n then Some (Load n) else None
 
 -- `load` has no option
 abbrev pub load_of : StatedLine → Option Command
-load_of line =
-    if is_some line.net || line.quiet then None else load_from (load_number line.names)
+load_of line = if is_some line.net || line.quiet then None else load_from (load_number line.names)
 
 -- an audit names as many policies as a replay may
 abbrev pub audit_from : List (List ℕ) → Option Command

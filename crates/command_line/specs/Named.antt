@@ -36,8 +36,7 @@ print_named args =
     record { policy = args.policy.now; switch = net_named args.switch; net = net_named args.net }
 
 abbrev pub audit_named : AuditArgs → AuditCommand
-audit_named args =
-    record { trace = args.trace.now; policies = names_seen args.policies.items }
+audit_named args = record { trace = args.trace.now; policies = names_seen args.policies.items }
 
 -- the command that names these files
 abbrev pub command_named : Command → grammar_commands.Command

@@ -15,8 +15,7 @@ test_gt a b gt = grind (arith, nat_tests)
 -- all numbers pass
 all_from : (to a n : ℕ) → to ≤ a → filter (leb to) (range_with_len a n) ≡ range_with_len a n
 all_from to a zero le = refl
-all_from to a (suc n) le =
-    ap (λ b. cond b (a ∷ filter (leb to) (range_with_len (a + 1) n))
+all_from to a (suc n) le = ap (λ b. cond b (a ∷ filter (leb to) (range_with_len (a + 1) n))
     (filter (leb to) (range_with_len (a + 1) n))) (test_le to a le)
     ∙ ap (λ l. a ∷ l) (all_from to (a + 1) n (omega arith))
 
@@ -48,30 +47,27 @@ versions_picked : (to : ℕ) (plans : List KeptPlan)
     → map (λ kept. kept.version) (plans_from to plans) ≡ filter (leb to)
     (map (λ kept. kept.version) plans)
 versions_picked to [] = refl
-versions_picked to (kept ∷ plans) = by_test (leb to kept.version) (versions_picked to plans)
-  where
-    by_test : (b : Bool) → map (λ kept. kept.version) (plans_from to plans) ≡ filter (leb to)
-        (map (λ kept. kept.version) plans)
-        → map (λ kept. kept.version) (cond b (kept ∷ plans_from to plans) (plans_from to plans))
-        ≡ cond b (kept.version ∷ filter (leb to) (map (λ kept. kept.version) plans))
-        (filter (leb to) (map (λ kept. kept.version) plans))
-    by_test true same = ap (λ l. kept.version ∷ l) same
-    by_test false same = same
+versions_picked to (kept ∷ plans) = by_test (leb to kept.version) (versions_picked to plans) where
+  by_test : (b : Bool) → map (λ kept. kept.version) (plans_from to plans) ≡ filter (leb to)
+      (map (λ kept. kept.version) plans)
+      → map (λ kept. kept.version) (cond b (kept ∷ plans_from to plans) (plans_from to plans))
+      ≡ cond b (kept.version ∷ filter (leb to) (map (λ kept. kept.version) plans))
+      (filter (leb to) (map (λ kept. kept.version) plans))
+  by_test true same = ap (λ l. kept.version ∷ l) same
+  by_test false same = same
 
 -- no plan is let go twice
 pub plans_twice : (to : ℕ) (plans : List KeptPlan) → plans_from to (plans_from to plans)
     ≡ plans_from to plans
 plans_twice to [] = refl
-plans_twice to (kept ∷ plans) = by_test (leb to kept.version) refl (plans_twice to plans)
-  where
-    by_test : (b : Bool) → leb to kept.version ≡ b → plans_from to (plans_from to plans)
-        ≡ plans_from to plans → plans_from to
-        (cond b (kept ∷ plans_from to plans) (plans_from to plans)) ≡ cond b
-        (kept ∷ plans_from to plans) (plans_from to plans)
-    by_test true is same = ap
-        (λ b. cond b (kept ∷ plans_from to (plans_from to plans))
-        (plans_from to (plans_from to plans))) is ∙ ap (λ l. kept ∷ l) same
-    by_test false is same = same
+plans_twice to (kept ∷ plans) = by_test (leb to kept.version) refl (plans_twice to plans) where
+  by_test : (b : Bool) → leb to kept.version ≡ b → plans_from to (plans_from to plans)
+      ≡ plans_from to plans → plans_from to
+      (cond b (kept ∷ plans_from to plans) (plans_from to plans)) ≡ cond b
+      (kept ∷ plans_from to plans) (plans_from to plans)
+  by_test true is same = ap (λ b. cond b (kept ∷ plans_from to (plans_from to plans))
+      (plans_from to (plans_from to plans))) is ∙ ap (λ l. kept ∷ l) same
+  by_test false is same = same
 
 -- the plans that are kept as the marks settle are those of the versions from the current one to the
 -- last
@@ -117,11 +113,10 @@ one_sound next sound (suc k) d within = absurd (omega (arith, within))
 abbrev pub IsWhole : MarksValue → List KeptPlan → Type 0
 IsWhole marks plans = IsController (record { marks = marks; plans = plans })
 
-pub whole : (old before marks : MarksValue) (answer : Settled)
-    (kept plans : List KeptPlan) → StaySettled old marks
-    → Settles before marks answer → before.current ≤ before.count → map (λ kept. kept.version) kept
-    ≡ live_from_current before → AreSoundPlans kept → plans ≡ plans_from marks.current kept
-    → IsWhole marks plans
+pub whole : (old before marks : MarksValue) (answer : Settled) (kept plans : List KeptPlan)
+    → StaySettled old marks → Settles before marks answer
+    → before.current ≤ before.count → map (λ kept. kept.version) kept ≡ live_from_current before
+    → AreSoundPlans kept → plans ≡ plans_from marks.current kept → IsWhole marks plans
 whole old before marks answer kept plans stays is low versions sound picked =
     let passes : KeptPlan → Bool = λ kept. leb marks.current kept.version in
     let some = All-filter passes (λ kept. IsSoundPlan kept.plan) kept sound in record {
@@ -191,11 +186,9 @@ module _ (old : MarksValue) (kept : List KeptPlan) (next : KeptPlan) (marks : Ma
       (All-append (λ kept. IsSoundPlan kept.plan) kept _ is.sound (one_sound next sound))
       (with_next pushed picked)
 
-  pub stays_more : IsSoundPlan next.plan → next.version ≡ old.count + 1
-      → (value : ControllerValue)
-      → record { marks = old; plans = kept } ≡ value
-      → IsWhole old kept → StaySettled old marks → Settles (with_version old) marks answer
-      → IsPushed → plans ≡ plans_from marks.current mid
+  pub stays_more : IsSoundPlan next.plan → next.version ≡ old.count + 1 → (value : ControllerValue)
+      → record { marks = old; plans = kept } ≡ value → IsWhole old kept → StaySettled old marks
+      → Settles (with_version old) marks answer → IsPushed → plans ≡ plans_from marks.current mid
       → StaysController value (record { marks = marks; plans = plans })
   stays_more sound number value seen is stays settled pushed picked =
       let P : ControllerValue → Type 0 = λ value. StaysController value

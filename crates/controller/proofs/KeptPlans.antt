@@ -28,8 +28,7 @@ found_at_place (kept ∷ plans) first (suc n) v d are low high =
         ≡ Some (get_or (kept ∷ plans) (v - first) d)
     by_test true is at later =
         let same : kept.version ≡ v = eqb-true _ _ is in
-        let place : v - first ≡ 0 = omega (arith, same, its) in
-        rw place refl
+        let place : v - first ≡ 0 = omega (arith, same, its) in rw place refl
     by_test false is (inl same) later = absurd (false≢true (sym is ∙ eq-eqb _ _ (its ∙ same)))
     by_test false is (inr other) later =
         let place : v - first ≡ suc (v - (first + 1)) = omega (arith, low, other) in
@@ -39,8 +38,7 @@ module _ (controller : ControllerValue) (is : IsController controller) (version 
     (low : controller.marks.current ≤ version) (high : version ≤ controller.marks.count) where
   count_is : length controller.plans ≡ controller.marks.count + 1 - controller.marks.current
   count_is = sym (length-map controller.plans (λ (kept : KeptPlan). kept.version))
-      ∙ ap length is.versions
-      ∙ length-range_with_len controller.marks.current
+      ∙ ap length is.versions ∙ length-range_with_len controller.marks.current
       (controller.marks.count + 1 - controller.marks.current)
 
   pub kept_there : version - controller.marks.current < length controller.plans
@@ -68,11 +66,10 @@ module _ (controller : ControllerValue) (is : IsController controller) (version 
 
 pub current_there : (controller : ControllerValue) → IsController controller
     → 0 < length controller.plans
-current_there controller is =
-    omega (
-      arith,
-      kept_there controller is controller.marks.current (omega arith) is.marks.bounds.last,
-    )
+current_there controller is = omega (
+  arith,
+  kept_there controller is controller.marks.current (omega arith) is.marks.bounds.last,
+)
 
 -- the first is that of the current version
 pub current_kept : (controller : ControllerValue) → IsController controller → (kept : KeptPlan)

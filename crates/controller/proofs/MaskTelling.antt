@@ -18,19 +18,17 @@ same_number before after answer is = ap length is.switches ∙ length-map before
 
 -- where the number rose it is the new one
 rose : (old new number : ℕ) → rises_to old new ≡ Some number → (number ≡ new) × (ltb old new ≡ true)
-rose old new number is = by_test (ltb old new) refl is
-  where
-    by_test : (b : Bool) → ltb old new ≡ b → cond b (Some new) None ≡ Some number → (number ≡ new)
-        × (ltb old new ≡ true)
-    by_test true test is = (cc, test)
-    by_test false test is = cc
+rose old new number is = by_test (ltb old new) refl is where
+  by_test : (b : Bool) → ltb old new ≡ b → cond b (Some new) None ≡ Some number → (number ≡ new)
+      × (ltb old new ≡ true)
+  by_test true test is = (cc, test)
+  by_test false test is = cc
 
 stays : (old new : ℕ) → rises_to old new ≡ None → ltb old new ≡ false
-stays old new is = by_test (ltb old new) refl is
-  where
-    by_test : (b : Bool) → ltb old new ≡ b → cond b (Some new) None ≡ None → ltb old new ≡ false
-    by_test true test is = cc
-    by_test false test is = test
+stays old new is = by_test (ltb old new) refl is where
+  by_test : (b : Bool) → ltb old new ≡ b → cond b (Some new) None ≡ None → ltb old new ≡ false
+  by_test true test is = cc
+  by_test false test is = test
 
 and_first : (test : Bool) (passes : SwitchRecord → Bool) (mask : ℕ) (switches : List SwitchRecord)
     → test ≡ true → Names mask (λ known. test && passes known) switches → Names mask passes switches
@@ -66,8 +64,7 @@ pub rising_none : (old new : ℕ) (answered : Option ℕ) (says : ℕ → Act) (
     (after : MarksValue) (switches : List SwitchRecord) (base : List Act)
     → answered ≡ rises_to old new → answered ≡ None
     → base ≡ base ++ rising_acts old new says body after switches
-rising_none old new answered says body after switches base is none =
-    sym (append-nil base)
+rising_none old new answered says body after switches base is none = sym (append-nil base)
     ∙ ap (λ b. base ++ cond b (says new ∷ posts_to after (λ boot. body boot new)
     (switches_where (λ known. is_member known.phase) switches)) [])
     (sym (stays old new (sym is ∙ none)))
@@ -77,10 +74,9 @@ pub opens_told : (before after : MarksValue) (answer : Settled) (n current : ℕ
     → acts ≡ old ++ posts_to after (λ boot. OpenAt boot current) (switches_named answer.opens n)
     → Settles before after answer → acts ≡ old ++ open_acts before after
 opens_told before after answer n current old acts all is_current made is =
-    let who : switches_named answer.opens n ≡ switches_where (opens_at after.current)
-    before.switches =
-    those_named answer.opens n _ before.switches (all ∙ same_number before after answer is)
-    is.tells.opens in
+    let who : switches_named answer.opens n
+    ≡ switches_where (opens_at after.current) before.switches = those_named answer.opens n _
+    before.switches (all ∙ same_number before after answer is) is.tells.opens in
     made ∙ ap (λ l. old ++ posts_to after (λ boot. OpenAt boot current) l) who
     ∙ ap (λ v. old ++ posts_to after (λ boot. OpenAt boot v)
     (switches_where (opens_at after.current) before.switches)) is_current
@@ -88,8 +84,7 @@ opens_told before after answer n current old acts all is_current made is =
 -- a mark that is told to have risen is the new one
 pub told_current : (before after : MarksValue) (number : ℕ)
     → rises_to before.current after.current ≡ Some number → after.current ≡ number
-told_current before after number told =
-    sym (rose before.current after.current number told).0
+told_current before after number told = sym (rose before.current after.current number told).0
 
 -- the three parts, one after another
 pub settling_told : (touched : List WordValue) (before after : MarksValue)

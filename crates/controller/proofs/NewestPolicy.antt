@@ -15,13 +15,11 @@ policy_kept version plans = option_map (λ (kept : KeptPlan). kept.plan.policy) 
 pub still_found : (current version : ℕ) (plans : List KeptPlan) → current ≤ version
     → found version (plans_from current plans) ≡ found version plans
 still_found current version [] low = refl
-still_found current version (kept ∷ plans) low =
-    by_tests (leb current kept.version) (kept.version == version) refl refl
-    (still_found current version plans low)
+still_found current version (kept ∷ plans) low = by_tests (leb current kept.version)
+    (kept.version == version) refl refl (still_found current version plans low)
   where
-    by_tests : (stays is_it : Bool) → leb current kept.version ≡ stays
-        → (kept.version == version) ≡ is_it
-        → found version (plans_from current plans) ≡ found version plans
+    by_tests : (stays is_it : Bool) → leb current kept.version ≡ stays → (kept.version == version)
+        ≡ is_it → found version (plans_from current plans) ≡ found version plans
         → found version (cond stays (kept ∷ plans_from current plans) (plans_from current plans))
         ≡ cond is_it (Some kept) (found version plans)
     by_tests true is_it stays is rest =
@@ -34,8 +32,7 @@ still_found current version (kept ∷ plans) low =
 last_found : (first n version : ℕ) (plans : List KeptPlan) (last : KeptPlan)
     → map (λ (kept : KeptPlan). kept.version) plans ≡ range_with_len first n
     → last.version ≡ version → version ≡ first + n → found version (plans ++ last ∷ []) ≡ Some last
-last_found first zero version [] last are is at =
-    ap (λ b. cond b (Some last) None) (eq-eqb _ _ is)
+last_found first zero version [] last are is at = ap (λ b. cond b (Some last) None) (eq-eqb _ _ is)
 last_found first (suc n) version [] last are is at = absurd cc
 last_found first zero version (kept ∷ plans) last are is at = absurd cc
 last_found first (suc n) version (kept ∷ plans) last are is at =
@@ -68,6 +65,5 @@ newest_added old new next was is number submits =
 pub newest_stays : (before : MarksValue) (old new : ControllerValue) → IsController new
     → SettlesWith before old.plans new → before.count ≡ old.marks.count
     → newest_policy new ≡ newest_policy old
-newest_stays before old new is settles same =
-    newest_settled before old.plans new is settles
+newest_stays before old new is settles same = newest_settled before old.plans new is settles
     ∙ ap (λ version. policy_kept version old.plans) same

@@ -21,10 +21,8 @@ those_below passes switches n = filter (λ s. option_map_or passes (slice_get sw
 pub those_named : (mask n : ℕ) (passes : SwitchRecord → Bool) (switches : List SwitchRecord)
     → n ≡ length switches → Names mask passes switches → switches_named mask n
     ≡ switches_where passes switches
-those_named mask n passes switches all names =
-    ap (switches_named mask) all ∙ picked_same _ _
-    (λ s. ap (λ b. eqb b 1) (names s)
-    ∙ bit_of (option_map_or passes (slice_get switches s) false))
+those_named mask n passes switches all names = ap (switches_named mask) all ∙ picked_same _ _
+    (λ s. ap (λ b. eqb b 1) (names s) ∙ bit_of (option_map_or passes (slice_get switches s) false))
     (range_with_len 0 (length switches))
   where
     bit_of : (b : Bool) → eqb (from_bool b) 1 ≡ b

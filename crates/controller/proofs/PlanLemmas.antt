@@ -36,8 +36,7 @@ plan_sound rows net plan network is = record {
 
 some_targets : (rows : List Row) (net : Net) (plan : List Hosted) → IsPlan rows net plan
     → All (λ hosted. 0 < length hosted.1) plan
-some_targets rows net plan is = λ k d within.
-    let first = λ (hosted : Hosted). hosted.0 in
+some_targets rows net plan is = λ k d within. let first = λ (hosted : Hosted). hosted.0 in
     let second = λ (hosted : Hosted). hosted.1 in
     let sizes : length (sizes_of (map first plan)) ≡ length plan =
     length-map (map first plan) (λ part. length part.rules) ∙ length-map plan first in
@@ -64,13 +63,11 @@ retargeted_sound rows plan targets len is =
     let each : length targets ≡ length parts = len ∙ sym count in
     let firsts : map part_of (zip parts targets) ≡ parts = firsts-zip parts targets each in
     let pairs : length (zip parts targets) ≡ length parts =
-    grind (arith, length-zip parts targets, each) in
-    record {
+    grind (arith, length-zip parts targets, each) in record {
       sound = rw firsts is.sound;
       covers = rw firsts is.covers;
       few = omega (arith, pairs, count, is.few);
-      few_rules = λ k d within.
-          let here : k < length parts = omega (arith, within, pairs) in
+      few_rules = λ k d within. let here : k < length parts = omega (arith, within, pairs) in
           let same = ap (λ (h : Hosted). h.0)
           (get_or-zip parts targets k d here (omega (arith, here, each)))
           ∙ get_or-map part_of plan k d d.0 (omega (arith, here, count)) in
@@ -94,8 +91,7 @@ retargeted_leads rows plan targets len is some version switch header sound =
     grind (arith, length-zip parts targets, each) in
     tables_lead rows (zip parts targets) version switch header
     (retargeted_sound rows plan targets len is).sound
-    (λ k d within.
-    let here : k < length parts = omega (arith, within, pairs) in
+    (λ k d within. let here : k < length parts = omega (arith, within, pairs) in
     let there : k < length targets = omega (arith, here, each) in
     let same = ap (λ (h : Hosted). h.1) (get_or-zip parts targets k d here there) in
     omega (arith, some k d.1 there, ap length same)) sound

@@ -15,8 +15,7 @@ lists_then one two three some others first last = λ words is.
 
 many_told : (these : List WordValue) → 16 < length these → few_touched these ≡ all_touched
 many_told these past =
-    let is : nat_lt 16 (length these) ≡ true = grind (arith, nat_tests) in
-    rw is refl
+    let is : nat_lt 16 (length these) ≡ true = grind (arith, nat_tests) in rw is refl
 
 -- what is told of the words that are listed is what is told of all
 pub told_alike : (listed words : List WordValue) → AreListed listed words

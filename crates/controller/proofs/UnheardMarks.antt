@@ -25,16 +25,13 @@ those_none passes switches fail = picked_same _ (λ _. false) fails
     (range_with_len 0 (length switches)) ∙ none_picked (range_with_len 0 (length switches))
   where
     fails : (s : ℕ) → option_map_or passes (slice_get switches s) false ≡ false
-    fails s = by_test (ltb s (length switches)) refl
-      where
-        by_test : (b : Bool) → ltb s (length switches) ≡ b
-            → option_map_or passes (slice_get switches s) false ≡ false
-        by_test true is =
-            let within : s < length switches = grind (arith, nat_tests) in
-            passes_there passes switches s unknown_switch within ∙ fail s unknown_switch within
-        by_test false is =
-            let past : length switches ≤ s = grind (arith, nat_tests) in
-            ap (λ o. option_map_or passes o false) (slice_get_past switches s past)
+    fails s = by_test (ltb s (length switches)) refl where
+      by_test : (b : Bool) → ltb s (length switches) ≡ b
+          → option_map_or passes (slice_get switches s) false ≡ false
+      by_test true is = let within : s < length switches = grind (arith, nat_tests) in
+          passes_there passes switches s unknown_switch within ∙ fail s unknown_switch within
+      by_test false is = let past : length switches ≤ s = grind (arith, nat_tests) in
+          ap (λ o. option_map_or passes o false) (slice_get_past switches s past)
 
 -- nothing is sent
 pub nothing_sent : (touched : List WordValue) (marks : MarksValue) → AreMarksSettled marks
@@ -48,10 +45,9 @@ nothing_sent touched marks is =
     (λ boot. body.OpenAt boot marks.current))
     (those_none (opens_at marks.current) marks.switches is.opened) in
     let three : collect_acts marks marks ≡ [] =
-    ap (λ b. cond b (Retired marks.retired ∷ posts_to marks
-    (λ boot. body.Collect boot marks.retired)
-    (switches_where (λ known. is_member known.phase) marks.switches)) []) (not_below marks.retired)
-    in
+    ap (λ b. cond b (Retired marks.retired ∷ posts_to marks (λ boot. body.Collect boot
+    marks.retired) (switches_where (λ known. is_member known.phase) marks.switches)) [])
+    (not_below marks.retired) in
     ap (λ l. l ++ open_acts marks marks ++ collect_acts marks marks) one
     ∙ ap (λ l. l ++ collect_acts marks marks) two ∙ three
 

@@ -69,8 +69,7 @@ live_from_current marks = range_with_len marks.current (marks.count + 1 - marks.
 pub record IsController (controller : ControllerValue) : Type 0 where
   pub marks : AreMarksSettled controller.marks
   pub sound : All (λ kept. IsSoundPlan kept.plan) controller.plans
-  pub versions : (map (λ kept. kept.version) controller.plans
-      ≡ live_from_current controller.marks)
+  pub versions : (map (λ kept. kept.version) controller.plans ≡ live_from_current controller.marks)
 
 -- still a controller, of the same switches
 pub record StaysController (old new : ControllerValue) : Type 0 where

@@ -94,8 +94,7 @@ marks_after _ marks = marks
 -- to a new boot, which has no tables, the versions from the current one to the last
 abbrev pub installs_after : Body → MarksValue → ControllerValue → List Act
 installs_after (Hello switch boot) old new = if takes_hello boot (record_of old switch)
-    then map (install_act switch boot) (plans_from new.marks.current new.plans)
-    else []
+    then map (install_act switch boot) (plans_from new.marks.current new.plans) else []
 installs_after _ old new = []
 
 -- settling, and then what a new boot lacks
@@ -132,14 +131,12 @@ missing_installs controller s first =
 -- to a member the current stamp with what its change touches, if it acknowledged a lower one
 abbrev pub stamp_again : List WordValue → MarksValue → ℕ → List Act
 stamp_again touched marks s = if nat_lt (record_of marks s).acked_stamp marks.current
-    then post_act s (Stamp (boot_recorded marks s) marks.current touched) ∷ []
-    else []
+    then post_act s (Stamp (boot_recorded marks s) marks.current touched) ∷ [] else []
 
 -- to a member the message to drop the tables of the retired versions, if there are any
 abbrev pub collect_again : MarksValue → ℕ → List Act
 collect_again marks s = if nat_lt 0 marks.retired
-    then post_act s (Collect (boot_recorded marks s) marks.retired) ∷ []
-    else []
+    then post_act s (Collect (boot_recorded marks s) marks.retired) ∷ [] else []
 
 -- what a switch in this phase may lack
 abbrev pub resend_acts_to : Phase → ControllerValue → ℕ → List Act

@@ -17,10 +17,9 @@ LeavesLess xs read = (length read.2 < length xs) ⊎ ((read.1 ≡ st.StartRecord
 
 less_of : (xs : List ℕ) (one other : Read) → Some one ≡ Some other → LeavesLess xs one
     → LeavesLess xs other
-less_of xs one other same less = subst (LeavesLess xs) (some_same one other same) less
-  where
-    some_same : (a b : Read) → Some a ≡ Some b → a ≡ b
-    some_same a b e = cc e
+less_of xs one other same less = subst (LeavesLess xs) (some_same one other same) less where
+  some_same : (a b : Read) → Some a ≡ Some b → a ≡ b
+  some_same a b e = cc e
 
 at_end : (ends : Bool) (fields : List (List ℕ)) (read : Read)
     → cond ends (Some (fields, st.StartRecord, [])) None ≡ Some read → LeavesLess [] read
@@ -28,8 +27,7 @@ at_end true fields read e = less_of [] (fields, st.StartRecord, []) read e (inr 
 at_end false fields read e = cc e
 
 one_byte : (ends : Bool) (c : ℕ) (rest : List ℕ) (fields : List (List ℕ)) (s : State)
-    (later : Option Read) (read : Read) →
-    cond ends (Some (fields, s, rest)) later ≡ Some read
+    (later : Option Read) (read : Read) → cond ends (Some (fields, s, rest)) later ≡ Some read
     → (later ≡ Some read → LeavesLess rest read) → LeavesLess (c ∷ rest) read
 one_byte true c rest fields s later read e less = less_of (c ∷ rest) (fields, s, rest) read e
     (inl (omega arith))
@@ -40,9 +38,8 @@ leaves_less : (cfg : Config) (s : State) (fields : List (List ℕ)) (field xs : 
     → next_record cfg s fields field xs ≡ Some read → LeavesLess xs read
 unfolding next_record
 leaves_less cfg s fields field [] read e = at_end (ends_at_end s) (fields ++ (field ∷ [])) read e
-leaves_less cfg s fields field (c ∷ rest) read e =
-    one_byte (is_end (step cfg s c).1) c rest (fields_after (step cfg s c).1 fields field)
-    (step cfg s c).0 _ read e
+leaves_less cfg s fields field (c ∷ rest) read e = one_byte (is_end (step cfg s c).1) c rest
+    (fields_after (step cfg s c).1 fields field) (step cfg s c).0 _ read e
     (leaves_less cfg (step cfg s c).0 (fields_after (step cfg s c).1 fields field)
     (field_after (step cfg s c).1 c field) rest read)
 
@@ -60,9 +57,8 @@ same_rest cfg m n xs read (inl fewer) same = same fewer
 same_rest cfg m n xs read (inr (start, none)) same =
     rw (start, none) (over cfg m ∙ sym (over cfg n))
 
-same_next : (cfg : Config) (m n : ℕ) (next : Option Read)
-    → ((read : Read) → next ≡ Some read → records_from cfg m read.1 read.2 ≡ records_from cfg n
-    read.1 read.2)
+same_next : (cfg : Config) (m n : ℕ) (next : Option Read) → ((read : Read) → next ≡ Some read
+    → records_from cfg m read.1 read.2 ≡ records_from cfg n read.1 read.2)
     → records_next (records_from cfg m) next ≡ records_next (records_from cfg n) next
 same_next cfg m n None same = refl
 same_next cfg m n (Some read) same = ap (λ (rest : List (List (List ℕ))). read.0 ∷ rest)
@@ -85,9 +81,8 @@ unfolding records_from
 none_left cfg n s xs e = rw (add-one, e) refl
 
 one_left : (cfg : Config) (s : State) (xs : List ℕ) (read : Read) → next_record cfg s [] [] xs
-    ≡ Some read
-    → records_from cfg (length xs + 1) s xs ≡ read.0 ∷ records_from cfg (length read.2 + 1) read.1
-    read.2
+    ≡ Some read → records_from cfg (length xs + 1) s xs
+    ≡ read.0 ∷ records_from cfg (length read.2 + 1) read.1 read.2
 unfolding records_from
 one_left cfg s xs read e = rw (add-one (length xs), e)
     (ap (λ (rest : List (List (List ℕ))). read.0 ∷ rest)
@@ -112,8 +107,7 @@ one_reached fields s s2 xs ys (read, next, same, rest) = one_left default_config
 
 -- a read takes the first of the records that were left, or finds none where none was
 pub takes_next : (old new : Reader (Bor (List ℕ))) (found : Bool) (fields : List (List ℕ))
-    (xs : List ℕ)
-    → reader_config old ≡ default_config → bytes_left old ≡ Some xs
+    (xs : List ℕ) → reader_config old ≡ default_config → bytes_left old ≡ Some xs
     → ReadRecord (λ slice. Some slice.now) old new found fields
     → TakesRecord (records_left old) found fields (cond (not found) [] (records_left new))
 takes_next old new false fields xs config source read = (

@@ -21,12 +21,10 @@ says_bucket later earlier says = elim (means_of later earlier says) [
 ]
 
 pub bucket_below : (body : Body) → bucket_of body < 64
-bucket_below body = by_test (nat_lt (subject body) 64) refl
-  where
-    by_test : (b : Bool) → nat_lt (subject body) 64 ≡ b
-        → (if b then subject body else 0) < 64
-    by_test true e = grind (arith, nat_tests)
-    by_test false e = omega arith
+bucket_below body = by_test (nat_lt (subject body) 64) refl where
+  by_test : (b : Bool) → nat_lt (subject body) 64 ≡ b → (if b then subject body else 0) < 64
+  by_test true e = grind (arith, nat_tests)
+  by_test false e = omega arith
 
 -- ---- among messages
 
@@ -55,9 +53,8 @@ has_either (x ∷ xs) ys message has = elim has [
 ]
 
 -- with one more at the end
-has_more : (messages : List Message) (next message : Message)
-    → HasSaying (messages ++ next ∷ []) message
-    ↔ (HasSaying messages message ⊎ SaysAsMuch next message)
+has_more : (messages : List Message) (next message : Message) → HasSaying (messages ++ next ∷ [])
+    message ↔ (HasSaying messages message ⊎ SaysAsMuch next message)
 has_more messages next message = (
   λ has. elim (has_either messages (next ∷ []) message has) [
     | inl first ↦ inl first
@@ -74,8 +71,7 @@ pub none_more : (messages : List Message) (i : ℕ) (next message : Message) →
     → next ≡ get_or messages i next → (HasSaying (take i messages) message → ⊥)
     → (SaysAsMuch next message → ⊥) → HasSaying (take (i + 1) messages) message → ⊥
 none_more messages i next message within is none not has =
-    elim ((has_more (take i messages) next message).0
-    (subst (λ ms. HasSaying ms message)
+    elim ((has_more (take i messages) next message).0 (subst (λ ms. HasSaying ms message)
     (take_more messages i next within ∙ ap (λ x. take i messages ++ x ∷ []) (sym is)) has)) [
       | inl first ↦ none first
       | inr here ↦ not here
@@ -84,10 +80,9 @@ none_more messages i next message within is none not has =
 -- or does
 pub some_at : (messages : List Message) (i : ℕ) (next message : Message) → i < length messages
     → next ≡ get_or messages i next → SaysAsMuch next message → HasSaying messages message
-some_at messages i next message within is says =
-    subst (λ ms. HasSaying ms message) (take-append-drop (i + 1) messages)
-    (has_left (take (i + 1) messages) (drop (i + 1) messages) message
-    (subst (λ ms. HasSaying ms message)
+some_at messages i next message within is says = subst (λ ms. HasSaying ms message)
+    (take-append-drop (i + 1) messages) (has_left (take (i + 1) messages) (drop (i + 1) messages)
+    message (subst (λ ms. HasSaying ms message)
     (sym (take_more messages i next within ∙ ap (λ x. take i messages ++ x ∷ []) (sym is)))
     ((has_more (take i messages) next message).1 (inr says))))
 
@@ -119,8 +114,7 @@ kept_in_bucket buckets c bucket message at there is =
 
 pub kept_nowhere : (buckets : List Bucket) (c : ℕ) (message : Message)
     → c ≡ bucket_of message.body → length buckets ≤ c → IsKeptInBucket buckets message → ⊥
-kept_nowhere buckets c message at past kept =
-    subst (λ ms. HasSaying ms message)
+kept_nowhere buckets c message at past kept = subst (λ ms. HasSaying ms message)
     (ap (messages_at buckets) (sym at)
     ∙ ap (λ o. option_map_or bucket_messages o []) (slice_get_past buckets c past)) kept
 
@@ -157,8 +151,7 @@ kept_more before after place old bucket next message there at was is now count =
     by_test true e =
         let same : own ≡ place = sym (eqb-true place own e) in
         let here : messages_at after own ≡ old.messages.items ++ next ∷ [] =
-        after_is
-        ∙ ap (λ n. (get_or (set before place bucket) n old).messages.items) same
+        after_is ∙ ap (λ n. (get_or (set before place bucket) n old).messages.items) same
         ∙ ap bucket_messages (get_or-set_same before place bucket old there) ∙ now in
         let mine : old.messages.items ≡ messages_at before own =
         ap bucket_messages was ∙ ap (λ n. (get_or before n old).messages.items) (sym same)
@@ -174,8 +167,7 @@ kept_more before after place old bucket next message there at was is now count =
           ])),
         )
     by_test false e =
-        let apart : own ≢ place =
-        λ same. absurd (clash (sym (eq-eqb place own (sym same)) ∙ e)) in
+        let apart : own ≢ place = λ same. absurd (clash (sym (eq-eqb place own (sym same)) ∙ e)) in
         let stays : messages_at after own ≡ messages_at before own =
         after_is ∙ ap bucket_messages (get_or-set_other before place own bucket old apart)
         ∙ sym (in_got before own old within) in (
@@ -195,26 +187,21 @@ pub empty_more : (buckets : List Bucket) (next : Bucket) (n : ℕ) → length bu
     → ((i : ℕ) (d : Bucket) → i < n → (get_or buckets i d).messages.items ≡ [])
     → next.messages.items ≡ [] → (i : ℕ) (d : Bucket) → i < n + 1
     → (get_or (buckets ++ next ∷ []) i d).messages.items ≡ []
-empty_more buckets next n count were none i d below =
-    elim (cases_lt i n) [
-      | inl less ↦
-          ap (λ (l : Bucket). l.messages.items)
-          (get_or_append_left buckets (next ∷ []) d i (omega (arith, less, count)))
-          ∙ were i d less
-      | inr more ↦
-          let same : i ≡ n = omega (arith, more, below) in
-          ap (λ (l : Bucket). l.messages.items)
-          (ap (λ k. get_or (buckets ++ next ∷ []) k d) same ∙ get_or_push buckets next d n count)
-          ∙ none
-    ]
+empty_more buckets next n count were none i d below = elim (cases_lt i n) [
+  | inl less ↦ ap (λ (l : Bucket). l.messages.items)
+      (get_or_append_left buckets (next ∷ []) d i (omega (arith, less, count))) ∙ were i d less
+  | inr more ↦ let same : i ≡ n = omega (arith, more, below) in
+      ap (λ (l : Bucket). l.messages.items)
+      (ap (λ k. get_or (buckets ++ next ∷ []) k d) same ∙ get_or_push buckets next d n count)
+      ∙ none
+]
 
 pub none_kept : (buckets : List Bucket) (message : Message) → AreEmpty buckets
     → IsKeptInBucket buckets message → ⊥
-none_kept buckets message are kept =
-    elim (slice_get_cases buckets (bucket_of message.body)).1 [
-      | inl some ↦ subst (λ ms. HasSaying ms message)
-          (ap (λ o. option_map_or bucket_messages o []) some.2 ∙ ap bucket_messages (sym some.3)
-          ∙ are.each (bucket_of message.body) some.0 (bucket_below message.body)) kept
-      | inr past ↦ subst (λ ms. HasSaying ms message)
-          (ap (λ o. option_map_or bucket_messages o []) past.1) kept
-    ]
+none_kept buckets message are kept = elim (slice_get_cases buckets (bucket_of message.body)).1 [
+  | inl some ↦ subst (λ ms. HasSaying ms message)
+      (ap (λ o. option_map_or bucket_messages o []) some.2 ∙ ap bucket_messages (sym some.3)
+      ∙ are.each (bucket_of message.body) some.0 (bucket_below message.body)) kept
+  | inr past ↦ subst (λ ms. HasSaying ms message)
+      (ap (λ o. option_map_or bucket_messages o []) past.1) kept
+]

@@ -17,8 +17,7 @@ abbrev is_found : List Item → ℕ → Bool
 is_found journal s = not (is_missed (status_in journal s))
 
 rows_found : (journal : List Item) (rows : List Traffic) (first : ℕ)
-    → ((s : ℕ) (d : Traffic) → s < length rows
-    → IsTraffic journal [] (first + s) (get_or rows s d))
+    → ((s : ℕ) (d : Traffic) → s < length rows → IsTraffic journal [] (first + s) (get_or rows s d))
     → list_all (λ row. not (is_missed row.status)) rows
     ≡ list_all (is_found journal) (range_with_len first (length rows))
 rows_found journal [] first are = refl
@@ -26,10 +25,9 @@ rows_found journal (row ∷ rows) first are =
     let here : row.status ≡ status_in journal first =
     (subst (λ s. IsTraffic journal [] s row) (omega arith) (are 0 row (omega arith))).status in
     let rest : list_all (λ row. not (is_missed row.status)) rows
-    ≡ list_all (is_found journal) (range_with_len (first + 1) (length rows)) =
-    rows_found journal rows (first + 1)
-    (λ s d within. subst (λ n. IsTraffic journal [] n (get_or rows s d)) (omega arith)
-    (are (suc s) d (omega (arith, within)))) in
+    ≡ list_all (is_found journal) (range_with_len (first + 1) (length rows)) = rows_found journal
+    rows (first + 1) (λ s d within. subst (λ n. IsTraffic journal [] n (get_or rows s d))
+    (omega arith) (are (suc s) d (omega (arith, within)))) in
     rw (here, rest) refl
 
 not_missed : (up waited : Bool) → not (not up && waited) ≡ true → IsTrue (up || not waited)
@@ -49,30 +47,25 @@ pub switches_found : (setting : Setting) (journal : List Item) (rows : List Traf
     ↔ All (λ s. IsTrue (is_up journal s || not (is_waited_for journal s))) (switches_of setting)
 switches_found setting journal rows are count = (
   λ none. All-from_recursion Fine (switches_of setting)
-      (each_of_in Fine (switches_of setting)
-      (λ s is. not_missed (is_up journal s) (is_waited_for journal s)
-      (all_in Found s (switches_of setting)
+      (each_of_in Fine (switches_of setting) (λ s is. not_missed (is_up journal s)
+      (is_waited_for journal s) (all_in Found s (switches_of setting)
       (AllPass-from_list_all (is_found journal) (switches_of setting) (sym same ∙ none)) is))),
-  λ fine. same ∙ list_all-from_AllPass (is_found journal) (switches_of setting)
-      (All-from_recursion Found (switches_of setting)
-      (each_of_in Found (switches_of setting)
-      (λ s is. is_not_missed (is_up journal s) (is_waited_for journal s)
-      (all_in Fine s (switches_of setting) fine is)))),
-)
-  where
-    Fine : ℕ → Type 0
-    Fine s = IsTrue (is_up journal s || not (is_waited_for journal s))
+  λ fine. same
+      ∙ list_all-from_AllPass (is_found journal) (switches_of setting) (All-from_recursion Found
+      (switches_of setting) (each_of_in Found (switches_of setting) (λ s is. is_not_missed
+      (is_up journal s) (is_waited_for journal s) (all_in Fine s (switches_of setting) fine is)))),
+) where
+  Fine : ℕ → Type 0
+  Fine s = IsTrue (is_up journal s || not (is_waited_for journal s))
 
-    Found : ℕ → Type 0
-    Found s = is_found journal s ≡ true
+  Found : ℕ → Type 0
+  Found s = is_found journal s ≡ true
 
-    same : list_all (λ row. not (is_missed row.status)) rows
-        ≡ list_all (is_found journal) (switches_of setting)
-    same =
-        rows_found journal rows 0
-        (λ s d within. subst (λ n. IsTraffic journal [] n (get_or rows s d)) (omega arith)
-        (are s d within))
-        ∙ ap (λ n. list_all (is_found journal) (range_with_len 0 n)) (sym count)
+  same : list_all (λ row. not (is_missed row.status)) rows
+      ≡ list_all (is_found journal) (switches_of setting)
+  same = rows_found journal rows 0 (λ s d within. subst
+      (λ n. IsTraffic journal [] n (get_or rows s d)) (omega arith) (are s d within))
+      ∙ ap (λ n. list_all (is_found journal) (range_with_len 0 n)) (sym count)
 
 -- ---- the last items of a journal
 
@@ -103,9 +96,8 @@ pub marks_before : (items : List Item) (place from n : ℕ) (next : Item) (marks
     → has_mark marks n ≡ was_delivered (drop from items) n
     → has_mark now n ≡ (is_delivery n next || has_mark marks n)
     → has_mark now n ≡ was_delivered (drop place items) n
-marks_before items place from n next marks now at there is was step =
-    mark_first marks now next (drop (place + 1) items) n
-    (was ∙ ap (λ k. was_delivered (drop k items) n) at) step
+marks_before items place from n next marks now at there is was step = mark_first marks now next
+    (drop (place + 1) items) n (was ∙ ap (λ k. was_delivered (drop k items) n) at) step
     ∙ ap (λ js. was_delivered js n) (sym (item_before items place next there is))
 
 pub read_next : (items : List Item) (place from : ℕ) (next : Item) (marks : List Bool)
@@ -122,35 +114,29 @@ read_next items place from next marks rows now answer at there is right was one 
   one = one;
 }
 
-module _ (items : List Item) (place : ℕ) (next : Item) (marks : List Bool)
-    (rows now : List Traffic) (answer : Bool) (there : place < length items)
-    (is : next ≡ get_or items place next)
+module _ (items : List Item) (place : ℕ) (next : Item) (marks : List Bool) (rows now : List Traffic)
+    (answer : Bool) (there : place < length items) (is : next ≡ get_or items place next)
     (read : IsReadNext items (drop (place + 1) items) next marks rows now answer) where
   first : drop place items ≡ next ∷ drop (place + 1) items
   first = item_before items place next there is
 
-  pub rows_before : length now ≡ length rows
-      → ((s : ℕ) (d : Traffic) → is_named s (concerned_switch next) ≡ false
-      → get_or now s d ≡ get_or rows s d)
+  pub rows_before : length now ≡ length rows → ((s : ℕ) (d : Traffic)
+      → is_named s (concerned_switch next) ≡ false → get_or now s d ≡ get_or rows s d)
       → AreTraffic items (drop place items) now
-  rows_before count others =
-      subst (λ js. AreTraffic items js now) (sym first)
+  rows_before count others = subst (λ js. AreTraffic items js now) (sym first)
       (traffic_first items (drop (place + 1) items) next marks rows now answer read count others)
 
   module _ (setting : Setting) (count : length setting.net.switches ≡ length rows) where
     pub received_before : (from : ℕ) → from ≡ place + 1 → IsTrue answer
         → AreReceived setting items (drop from items) → AreReceived setting items (drop place items)
-    received_before from at met received =
-        subst (AreReceived setting items) (sym first)
+    received_before from at met received = subst (AreReceived setting items) (sym first)
         (received_first setting items (drop (place + 1) items) next marks rows now answer count read
         met (subst (λ k. AreReceived setting items (drop k items)) at received))
 
     -- a message that matters wasn't received
     pub waiting_answer : ConcernsOne rows next → IsFalse answer → IsQuiet setting items → ⊥
-    waiting_answer concerns unmet quiet =
-        not_received setting items (drop (place + 1) items) next marks rows now answer count read
-        concerns unmet
-        (subst (AreReceived setting items) first
+    waiting_answer concerns unmet quiet = not_received setting items (drop (place + 1) items) next
+        marks rows now answer count read concerns unmet (subst (AreReceived setting items) first
         (received_tail setting items items place quiet.messages))
 
 -- ---- before any item is read
@@ -160,8 +146,7 @@ none_left items place few = at_drop_all (λ (js : List Item). js) items place fe
 
 pub marks_at_end : (items : List Item) (place n : ℕ) (marks : List Bool) → length items ≤ place
     → marks ≡ [] → has_mark marks n ≡ was_delivered (drop place items) n
-marks_at_end items place n marks few none =
-    ap (λ now. has_mark now n) none ∙ none_delivered n
+marks_at_end items place n marks few none = ap (λ now. has_mark now n) none ∙ none_delivered n
     ∙ ap (λ js. was_delivered js n) (sym (none_left items place few))
 
 pub rows_at_end : (items : List Item) (place : ℕ) (rows : List Traffic) → length items ≤ place

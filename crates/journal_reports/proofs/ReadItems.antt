@@ -22,12 +22,11 @@ none_delivered n = refl
 
 one_delivered : (next : Item) (n : ℕ) → was_delivered (next ∷ []) n ≡ is_delivery n next
 unfolding was_delivered
-one_delivered next n = by_test (is_delivery n next) refl
-  where
-    by_test : (b : Bool) → is_delivery n next ≡ b
-        → nat_lt 0 (count_of (is_delivery n) (next ∷ [])) ≡ b
-    by_test true e = rw e refl
-    by_test false e = rw e refl
+one_delivered next n = by_test (is_delivery n next) refl where
+  by_test : (b : Bool) → is_delivery n next ≡ b
+      → nat_lt 0 (count_of (is_delivery n) (next ∷ [])) ≡ b
+  by_test true e = rw e refl
+  by_test false e = rw e refl
 
 delivered_first : (next : Item) (after : List Item) (n : ℕ)
     → was_delivered (next ∷ after) n ≡ (is_delivery n next || was_delivered after n)
@@ -54,14 +53,12 @@ sent_mark marks number message after right =
 in_status : (journal after : List Item) (s : ℕ) (message : Message)
     → matters_to (status_in journal s) (not (list_any (begins_boot s) after)) message
     ≡ matters journal s message after
-in_status journal after s message = by_receiver message.to message.body
-  where
-    by_receiver : (to : Place) (body : Body)
-        → matters_to (status_in journal s) (not (list_any (begins_boot s) after))
-        (record { to = to; body = body })
-        ≡ matters journal s (record { to = to; body = body }) after
-    by_receiver (receiver.Switch t) body = refl
-    by_receiver receiver.Controller body = refl
+in_status journal after s message = by_receiver message.to message.body where
+  by_receiver : (to : Place) (body : Body) → matters_to (status_in journal s)
+      (not (list_any (begins_boot s) after)) (record { to = to; body = body })
+      ≡ matters journal s (record { to = to; body = body }) after
+  by_receiver (receiver.Switch t) body = refl
+  by_receiver receiver.Controller body = refl
 
 in_row : (journal after : List Item) (s : ℕ) (row : Traffic) (message : Message)
     → IsTraffic journal after s row
@@ -72,40 +69,35 @@ in_row journal after s row message is =
     ∙ in_status journal after s message
 
 -- it is to it, or of it
-matters_named : (status : SwitchStatus) (in_boot : Bool) (message : Message)
-    → matters_to status in_boot message ≡ true
-    → is_named status.switch (switch_of_message message) ≡ true
-matters_named status in_boot message matter = by_receiver message.to message.body matter
-  where
-    by_speaker : (body : Body) (o : Option (ℕ × ℕ))
-        → (status.is_up && option_map_or (is_of_boot status.switch status.boot) o false
-        && not (is_old_answer status.current body)) ≡ true
-        → is_named status.switch (option_map (λ (of : ℕ × ℕ). of.0) o) ≡ true
-    by_speaker body None matter =
-        let clash : false ≡ true = (and_parts status.is_up false (and_parts _ _ matter).0).1 in
-        absurd cc
-    by_speaker body (Some (t, own)) matter =
-        (and_parts _ _ (and_parts _ _ (and_parts _ _ matter).0).1).0
+matters_named : (status : SwitchStatus) (in_boot : Bool) (message : Message) → matters_to status
+    in_boot message ≡ true → is_named status.switch (switch_of_message message) ≡ true
+matters_named status in_boot message matter = by_receiver message.to message.body matter where
+  by_speaker : (body : Body) (o : Option (ℕ × ℕ))
+      → (status.is_up && option_map_or (is_of_boot status.switch status.boot) o false
+      && not (is_old_answer status.current body)) ≡ true
+      → is_named status.switch (option_map (λ (of : ℕ × ℕ). of.0) o) ≡ true
+  by_speaker body None matter =
+      let clash : false ≡ true = (and_parts status.is_up false (and_parts _ _ matter).0).1 in
+      absurd cc
+  by_speaker body (Some (t, own)) matter =
+      (and_parts _ _ (and_parts _ _ (and_parts _ _ matter).0).1).0
 
-    by_receiver : (to : Place) (body : Body)
-        → matters_to status in_boot (record { to = to; body = body }) ≡ true
-        → is_named status.switch (switch_of_message (record { to = to; body = body })) ≡ true
-    by_receiver (receiver.Switch t) body matter =
-        let for = and_parts _ _ (and_parts _ _ matter).0 in
-        (and_parts _ _ (and_parts _ _ for.0).0).1
-    by_receiver receiver.Controller body matter = by_speaker body (speaker body) matter
+  by_receiver : (to : Place) (body : Body)
+      → matters_to status in_boot (record { to = to; body = body }) ≡ true
+      → is_named status.switch (switch_of_message (record { to = to; body = body })) ≡ true
+  by_receiver (receiver.Switch t) body matter =
+      let for = and_parts _ _ (and_parts _ _ matter).0 in (and_parts _ _ (and_parts _ _ for.0).0).1
+  by_receiver receiver.Controller body matter = by_speaker body (speaker body) matter
 
 named : (journal after : List Item) (s : ℕ) (message : Message)
     → IsTrue (matters journal s message after) → is_named s (switch_of_message message) ≡ true
-named journal after s message matter =
-    matters_named (status_in journal s) (not (list_any (begins_boot s) after)) message
-    (in_status journal after s message ∙ matter)
+named journal after s message matter = matters_named (status_in journal s)
+    (not (list_any (begins_boot s) after)) message (in_status journal after s message ∙ matter)
 
 -- and it does behind fewer items
 matters_less : (journal : List Item) (next : Item) (after : List Item) (s : ℕ) (message : Message)
     → IsTrue (matters journal s message (next ∷ after)) → IsTrue (matters journal s message after)
-matters_less journal next after s message matter =
-    sym (in_status journal after s message)
+matters_less journal next after s message matter = sym (in_status journal after s message)
     ∙ fewer (begins_boot s next) (list_any (begins_boot s) after) message.to message.body
     (in_status journal (next ∷ after) s message ∙ matter)
   where
@@ -116,8 +108,7 @@ matters_less journal next after s message matter =
     fewer true b receiver.Controller body matter = matter
     fewer true b (receiver.Switch t) body matter =
         let for = and_parts _ _ (and_parts _ _ matter).0 in
-        let clash : false ≡ true = (and_parts _ _ for.0).1 in
-        absurd cc
+        let clash : false ≡ true = (and_parts _ _ for.0).1 in absurd cc
 
 -- ---- the messages that are kept
 
@@ -125,16 +116,14 @@ matters_less journal next after s message matter =
 says_if : (journal after : List Item) (s : ℕ) (row : Traffic) (later message : Message)
     → IsTraffic journal after s row → IsTrue (matters journal s message after)
     → Replaces later message → SaysAsMuch later message
-says_if journal after s row later message is matter replaces =
-    says_of later message
-    (no_cache_rule row.status row.is_in_boot message (in_row journal after s row message is ∙ matter))
-    replaces
+says_if journal after s row later message is matter replaces = says_of later message
+    (no_cache_rule row.status row.is_in_boot message
+    (in_row journal after s row message is ∙ matter)) replaces
 
-kept_on : (journal after : List Item) (s : ℕ) (next : Item) (marks : List Bool)
-    (row now : Traffic) (answer : Bool)
-    → ((n : ℕ) → has_mark marks n ≡ was_delivered (next ∷ after) n)
-    → IsTraffic journal after s row → IsAfter marks next row now answer → (message : Message)
-    → IsTrue (matters journal s message (next ∷ after))
+kept_on : (journal after : List Item) (s : ℕ) (next : Item) (marks : List Bool) (row now : Traffic)
+    (answer : Bool) → ((n : ℕ) → has_mark marks n ≡ was_delivered (next ∷ after) n)
+    → IsTraffic journal after s row → IsAfter marks next row now answer
+    → (message : Message) → IsTrue (matters journal s message (next ∷ after))
     → IsKeptInBucket now.buckets.items message ↔ IsReplaced message (next ∷ after)
 kept_on journal after s (item.Sent number later) marks row now answer right is step message matter = (
   λ kept. elim ((step.kept is.count message).0 kept) [
@@ -145,8 +134,7 @@ kept_on journal after s (item.Sent number later) marks row now answer right is s
     )
   ],
   λ replaced. (step.kept is.count message).1 (elim replaced [
-    | inl here ↦
-        let says = says_if journal after s row later message is matter here.0 in
+    | inl here ↦ let says = says_if journal after s row later message is matter here.0 in
         inr (record {
           matters = matters_too row.status row.is_in_boot later message says
               (in_row journal after s row message is ∙ matter);
@@ -167,25 +155,22 @@ kept_on journal after s next marks row now answer right is step message matter =
 
 traffic_on : (journal after : List Item) (s : ℕ) (next : Item) (marks : List Bool)
     (row now : Traffic) (answer : Bool)
-    → ((n : ℕ) → has_mark marks n ≡ was_delivered (next ∷ after) n)
-    → IsTraffic journal after s row → IsAfter marks next row now answer
-    → IsTraffic journal (next ∷ after) s now
+    → ((n : ℕ) → has_mark marks n ≡ was_delivered (next ∷ after) n) → IsTraffic journal after s row
+    → IsAfter marks next row now answer → IsTraffic journal (next ∷ after) s now
 traffic_on journal after s next marks row now answer right is step = record {
   status = step.status ∙ is.status;
-  in_boot = step.in_boot
-      ∙ ap (λ b. b && not (begins_boot row.status.switch next)) is.in_boot
+  in_boot = step.in_boot ∙ ap (λ b. b && not (begins_boot row.status.switch next)) is.in_boot
       ∙ ap (λ (status : SwitchStatus). not (list_any (begins_boot s) after)
       && not (begins_boot status.switch next)) is.status
       ∙ neither (list_any (begins_boot s) after) (begins_boot s next);
   count = step.count ∙ is.count;
   kept = kept_on journal after s next marks row now answer right is step;
-}
-  where
-    neither : (a b : Bool) → (not a && not b) ≡ not (b || a)
-    neither true true = refl
-    neither true false = refl
-    neither false true = refl
-    neither false false = refl
+} where
+  neither : (a b : Bool) → (not a && not b) ≡ not (b || a)
+  neither true true = refl
+  neither true false = refl
+  neither false true = refl
+  neither false false = refl
 
 -- an item that doesn't concern the switch begins no boot of it
 no_boot_of : (s : ℕ) (next : Item) → is_named s (concerned_switch next) ≡ false
@@ -202,27 +187,23 @@ traffic_stays journal after s next row other is = record {
       ∙ ap (λ b. not (b || list_any (begins_boot s) after)) (sym (no_boot_of s next other));
   count = is.count;
   kept = by_item next other;
-}
-  where
-    by_item : (next : Item) → is_named s (concerned_switch next) ≡ false → (message : Message)
-        → IsTrue (matters journal s message (next ∷ after))
-        → IsKeptInBucket row.buckets.items message ↔ IsReplaced message (next ∷ after)
-    by_item (item.Sent number later) other message matter = (
-      λ kept. inr ((is.kept message matter).0 kept),
-      λ replaced. elim replaced [
-        | inl here ↦
-            let says = says_if journal after s row later message is matter here.0 in
-            let its : IsTrue (matters journal s later after) =
-            sym (in_row journal after s row later is)
-            ∙ matters_too row.status row.is_in_boot later message says
-            (in_row journal after s row message is ∙ matter) in
-            let clash : false ≡ true = sym other ∙ named journal after s later its in
-            absurd cc
-        | inr behind ↦ (is.kept message matter).1 behind
-      ],
-    )
-    by_item next other message matter =
-        is.kept message (matters_less journal next after s message matter)
+} where
+  by_item : (next : Item) → is_named s (concerned_switch next) ≡ false → (message : Message)
+      → IsTrue (matters journal s message (next ∷ after))
+      → IsKeptInBucket row.buckets.items message ↔ IsReplaced message (next ∷ after)
+  by_item (item.Sent number later) other message matter = (
+    λ kept. inr ((is.kept message matter).0 kept),
+    λ replaced. elim replaced [
+      | inl here ↦ let says = says_if journal after s row later message is matter here.0 in
+          let its : IsTrue (matters journal s later after) =
+          sym (in_row journal after s row later is) ∙ matters_too row.status row.is_in_boot later
+          message says (in_row journal after s row message is ∙ matter) in
+          let clash : false ≡ true = sym other ∙ named journal after s later its in absurd cc
+      | inr behind ↦ (is.kept message matter).1 behind
+    ],
+  )
+  by_item next other message matter =
+      is.kept message (matters_less journal next after s message matter)
 
 -- one item before those that were read is read, with the marks of what was delivered: of the
 -- switches that it concerns the new rows are known, and what is answered
@@ -230,17 +211,14 @@ pub record IsReadNext (journal after : List Item) (next : Item) (marks : List Bo
     (rows now : List Traffic) (answer : Bool) : Type 0 where
   pub right : (n : ℕ) → has_mark marks n ≡ was_delivered (next ∷ after) n
   pub was : AreTraffic journal after rows
-  pub one : (s : ℕ) (d : Traffic) → s < length rows
-      → is_named s (concerned_switch next) ≡ true
+  pub one : (s : ℕ) (d : Traffic) → s < length rows → is_named s (concerned_switch next) ≡ true
       → IsAfter marks next (get_or rows s d) (get_or now s d) answer
 
 -- so it is with all switches
 pub traffic_first : (journal after : List Item) (next : Item) (marks : List Bool)
-    (rows now : List Traffic) (answer : Bool)
-    → IsReadNext journal after next marks rows now answer → length now ≡ length rows
-    → ((s : ℕ) (d : Traffic) → is_named s (concerned_switch next) ≡ false
-    → get_or now s d ≡ get_or rows s d)
-    → AreTraffic journal (next ∷ after) now
+    (rows now : List Traffic) (answer : Bool) → IsReadNext journal after next marks rows now answer
+    → length now ≡ length rows → ((s : ℕ) (d : Traffic) → is_named s (concerned_switch next) ≡ false
+    → get_or now s d ≡ get_or rows s d) → AreTraffic journal (next ∷ after) now
 traffic_first journal after next marks rows now answer read count others s d there =
     by_test (is_named s (concerned_switch next)) refl
   where
@@ -249,11 +227,9 @@ traffic_first journal after next marks rows now answer read count others s d the
 
     by_test : (b : Bool) → is_named s (concerned_switch next) ≡ b
         → IsTraffic journal (next ∷ after) s (get_or now s d)
-    by_test true e =
-        traffic_on journal after s next marks (get_or rows s d) (get_or now s d) answer
+    by_test true e = traffic_on journal after s next marks (get_or rows s d) (get_or now s d) answer
         read.right (read.was s d here) (read.one s d here e)
-    by_test false e =
-        subst (IsTraffic journal (next ∷ after) s) (sym (others s d e))
+    by_test false e = subst (IsTraffic journal (next ∷ after) s) (sym (others s d e))
         (traffic_stays journal after s next (get_or rows s d) e (read.was s d here))
 
 -- ---- what was received
@@ -264,16 +240,14 @@ some_row [] s there = absurd (omega arith)
 some_row (row ∷ rows) s there = row
 
 -- the answer yes, behind items that were
-pub received_first : (setting : Setting) (journal after : List Item) (next : Item)
-    (marks : List Bool) (rows now : List Traffic) (answer : Bool)
+pub received_first : (setting : Setting) (journal after : List Item)
+    (next : Item) (marks : List Bool) (rows now : List Traffic) (answer : Bool)
     → length setting.net.switches ≡ length rows
-    → IsReadNext journal after next marks rows now answer
-    → IsTrue answer → AreReceived setting journal after
-    → AreReceived setting journal (next ∷ after)
+    → IsReadNext journal after next marks rows now answer → IsTrue answer
+    → AreReceived setting journal after → AreReceived setting journal (next ∷ after)
 received_first setting journal after (item.Sent number message) marks rows now answer count read
     met received = (
-      λ s there matter.
-          let below : s < length rows = omega (arith, there, count) in
+      λ s there matter. let below : s < length rows = omega (arith, there, count) in
           each s below (some_row rows s below) matter,
       received,
     )
@@ -285,18 +259,16 @@ received_first setting journal after (item.Sent number message) marks rows now a
         let is : IsTraffic journal after s row = read.was s d there in
         elim ((read.one s d there (named journal after s message matter)).met.0 met
         (in_row journal after s row message is ∙ matter)) [
-          | inl delivered ↦
-              inl (sym (sent_mark marks number message after read.right) ∙ delivered)
+          | inl delivered ↦ inl (sym (sent_mark marks number message after read.right) ∙ delivered)
           | inr kept ↦ inr ((is.kept message matter).0 kept)
         ]
 received_first setting journal after next marks rows now answer count read met received = received
 
 -- the answer no
-pub not_received : (setting : Setting) (journal after : List Item) (next : Item)
-    (marks : List Bool) (rows now : List Traffic) (answer : Bool)
-    → length setting.net.switches ≡ length rows
-    → IsReadNext journal after next marks rows now answer
-    → ConcernsOne rows next → IsFalse answer → AreReceived setting journal (next ∷ after) → ⊥
+pub not_received : (setting : Setting) (journal after : List Item) (next : Item) (marks : List Bool)
+    (rows now : List Traffic) (answer : Bool) → length setting.net.switches ≡ length rows
+    → IsReadNext journal after next marks rows now answer → ConcernsOne rows next → IsFalse answer
+    → AreReceived setting journal (next ∷ after) → ⊥
 not_received setting journal after next marks rows now answer count read concerns unmet received =
     clash (sym unmet ∙ step.met.1 (met next read.right received))
   where
@@ -321,9 +293,8 @@ not_received setting journal after next marks rows now answer count read concern
         elim (received.0 s (omega (arith, concerns.there, count))
         (sym (in_row journal after s row message is) ∙ matter)) [
           | inl delivered ↦ inl (sent_mark marks number message after right ∙ delivered)
-          | inr replaced ↦
-              inr ((is.kept message (sym (in_row journal after s row message is) ∙ matter)).1
-              replaced)
+          | inr replaced ↦ inr
+              ((is.kept message (sym (in_row journal after s row message is) ∙ matter)).1 replaced)
         ]
     met next right received = tt
 
@@ -333,16 +304,14 @@ and_not : (b : Bool) → b ≡ (b && not false)
 and_not true = refl
 and_not false = refl
 
-pub after_sent : {E : Type 0} (marks : List Bool) (number : ℕ) (message : Message)
-    (row now : Traffic) (delivered : Bool) (result : Result Bool E)
+pub after_sent : {E : Type 0} (marks : List Bool)
+    (number : ℕ) (message : Message) (row now : Traffic) (delivered : Bool) (result : Result Bool E)
     → delivered ≡ has_mark marks number
     → OnOk result (now.status ≡ row.status) → OnOk result (now.is_in_boot ≡ row.is_in_boot)
-    → OnOk result (length now.buckets.items ≡ length row.buckets.items)
-    → OnOk result (length row.buckets.items ≡ 64 → (other : Message)
-    → IsKeptInBucket now.buckets.items other
-    ↔ (IsKeptInBucket row.buckets.items other ⊎ IsAdded row delivered message other))
-    → IfOk result (λ answer. IsTrue answer
-    ↔ (IsTrue (matters_to row.status row.is_in_boot message)
+    → OnOk result (length now.buckets.items ≡ length row.buckets.items) → OnOk result
+    (length row.buckets.items ≡ 64 → (other : Message) → IsKeptInBucket now.buckets.items other ↔
+    (IsKeptInBucket row.buckets.items other ⊎ IsAdded row delivered message other))
+    → IfOk result (λ answer. IsTrue answer ↔ (IsTrue (matters_to row.status row.is_in_boot message)
     → IsTrue delivered ⊎ IsKeptInBucket row.buckets.items message))
     → IfOk result (λ answer. IsAfter marks (item.Sent number message) row now answer)
 after_sent marks number message row now delivered (Ok answer) is status in_boot count kept received =
@@ -352,8 +321,7 @@ after_sent marks number message row now delivered (Ok answer) is status in_boot 
       count = count;
       kept = λ many other. subst (λ d. IsKeptInBucket now.buckets.items other
           ↔ (IsKeptInBucket row.buckets.items other ⊎ IsAdded row d message other)) is (kept many other);
-      met = subst (λ d. IsTrue answer
-          ↔ (IsTrue (matters_to row.status row.is_in_boot message)
+      met = subst (λ d. IsTrue answer ↔ (IsTrue (matters_to row.status row.is_in_boot message)
           → IsTrue d ⊎ IsKeptInBucket row.buckets.items message)) is received;
     }
 after_sent marks number message row now delivered (Err e) is status in_boot count kept received = tt
@@ -377,26 +345,22 @@ pub traffic_at_end : (journal : List Item) (rows : List Traffic) (next : Traffic
     → length rows ≡ n → AreTraffic journal [] rows → next.status ≡ status_in journal n
     → next.is_in_boot ≡ true → AreEmpty next.buckets.items
     → AreTraffic journal [] (rows ++ next ∷ [])
-traffic_at_end journal rows next n count was status in_boot none s d there =
-    elim (cases_lt s n) [
-      | inl less ↦
-          let below : s < length rows = omega (arith, less, count) in
-          subst (IsTraffic journal [] s)
-          (sym (get_or_append_left rows (next ∷ []) d s below)) (was s d below)
-      | inr more ↦
-          let same : n ≡ s =
-          omega (arith, more, count, there, length-append rows (next ∷ [])) in
-          subst (λ k. IsTraffic journal [] k (get_or (rows ++ next ∷ []) k d)) same
-          (subst (IsTraffic journal [] n) (sym (get_or_push rows next d n count)) first)
-    ]
-  where
-    first : IsTraffic journal [] n next
-    first = record {
-      status = status;
-      in_boot = in_boot;
-      count = none.count;
-      kept = λ message matter. (
-        λ kept. none_kept next.buckets.items message none kept,
-        λ replaced. absurd replaced,
-      );
-    }
+traffic_at_end journal rows next n count was status in_boot none s d there = elim (cases_lt s n) [
+  | inl less ↦ let below : s < length rows = omega (arith, less, count) in
+      subst (IsTraffic journal [] s)
+      (sym (get_or_append_left rows (next ∷ []) d s below)) (was s d below)
+  | inr more ↦ let same : n ≡ s =
+      omega (arith, more, count, there, length-append rows (next ∷ [])) in
+      subst (λ k. IsTraffic journal [] k (get_or (rows ++ next ∷ []) k d)) same
+      (subst (IsTraffic journal [] n) (sym (get_or_push rows next d n count)) first)
+] where
+  first : IsTraffic journal [] n next
+  first = record {
+    status = status;
+    in_boot = in_boot;
+    count = none.count;
+    kept = λ message matter. (
+      λ kept. none_kept next.buckets.items message none kept,
+      λ replaced. absurd replaced,
+    );
+  }

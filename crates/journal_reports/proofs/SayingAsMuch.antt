@@ -16,21 +16,20 @@ use Rattle.journal_reports.specs.Exports.{HaveSameLists, SaysAsMuch, is_same, is
 advert_means : (one other : Advert) (b : Bool) → is_same one other ≡ b
     → (b || (one.origin == other.origin && is_newer one other)) ≡ true
     → (one ≡ other) ⊎ IsTrue (one.origin == other.origin && is_newer one other)
-advert_means one other true e says = inl (same_advert one other e)
-  where
-    same_advert : (one other : Advert) → is_same one other ≡ true → one ≡ other
-    same_advert one other e =
-        let parts = and_parts _ _ e in
-        let first = and_parts _ _ parts.0 in
-        let second = and_parts _ _ first.0 in
-        let origin : one.origin ≡ other.origin = eqb-true _ _ second.0 in
-        let boot : one.boot ≡ other.boot = eqb-true _ _ second.1 in
-        let seq : one.seq ≡ other.seq = eqb-true _ _ first.1 in
-        let up : one.up ≡ other.up = eqb-true _ _ parts.1 in
-        ap (λ o. record { origin = o; boot = one.boot; seq = one.seq; up = one.up }) origin
-        ∙ ap (λ b. record { origin = other.origin; boot = b; seq = one.seq; up = one.up }) boot
-        ∙ ap (λ n. record { origin = other.origin; boot = other.boot; seq = n; up = one.up }) seq
-        ∙ ap (λ u. record { origin = other.origin; boot = other.boot; seq = other.seq; up = u }) up
+advert_means one other true e says = inl (same_advert one other e) where
+  same_advert : (one other : Advert) → is_same one other ≡ true → one ≡ other
+  same_advert one other e =
+      let parts = and_parts _ _ e in
+      let first = and_parts _ _ parts.0 in
+      let second = and_parts _ _ first.0 in
+      let origin : one.origin ≡ other.origin = eqb-true _ _ second.0 in
+      let boot : one.boot ≡ other.boot = eqb-true _ _ second.1 in
+      let seq : one.seq ≡ other.seq = eqb-true _ _ first.1 in
+      let up : one.up ≡ other.up = eqb-true _ _ parts.1 in
+      ap (λ o. record { origin = o; boot = one.boot; seq = one.seq; up = one.up }) origin
+      ∙ ap (λ b. record { origin = other.origin; boot = b; seq = one.seq; up = one.up }) boot
+      ∙ ap (λ n. record { origin = other.origin; boot = other.boot; seq = n; up = one.up }) seq
+      ∙ ap (λ u. record { origin = other.origin; boot = other.boot; seq = other.seq; up = u }) up
 advert_means one other false e says = inr says
 
 -- a body is another one, or a later one
@@ -61,15 +60,13 @@ pub means_of : (later earlier : Message) → SaysAsMuch later earlier
 means_of later earlier says =
     body_means later.body earlier.body (and_parts _ _ says.message).1 says.lists
 
-receiver_means : (later earlier : Place) → is_same_receiver later earlier ≡ true
-    → later ≡ earlier
+receiver_means : (later earlier : Place) → is_same_receiver later earlier ≡ true → later ≡ earlier
 receiver_means (receiver.Switch s) (receiver.Switch t) same = ap receiver.Switch (eqb-true s t same)
 receiver_means receiver.Controller receiver.Controller same = refl
 receiver_means later earlier same = absurd cc
 
 receiver_of : (later earlier : Message) → SaysAsMuch later earlier → later.to ≡ earlier.to
-receiver_of later earlier says =
-    receiver_means later.to earlier.to (and_parts _ _ says.message).0
+receiver_of later earlier says = receiver_means later.to earlier.to (and_parts _ _ says.message).0
 
 -- so it replaces the other one
 pub replaces_of : (later earlier : Message) → SaysAsMuch later earlier → Replaces later earlier
@@ -125,8 +122,7 @@ pub record IsMore (later earlier : Body) : Type 0 where
 pub later_more : (later earlier : Body) → IsTrue (is_later_body later earlier)
     → IsMore later earlier
 later_more (Stamp boot version touched) (Stamp of other others) later =
-    let parts = and_parts _ _ later in
-    record {
+    let parts = and_parts _ _ later in record {
       covers = record { replaces = grind (arith, nat_tests); lists = inl parts.1 };
       alike = λ current. record {
         advert = refl;
@@ -150,8 +146,7 @@ later_more (Collect boot version) (Collect of other) later = record {
 }
 later_more (Stamped s boot version) (Stamped t of other) later =
     let who = and_parts _ _ (and_parts _ _ later).0 in
-    let own : boot ≡ of = eqb-true boot of who.1 in
-    record {
+    let own : boot ≡ of = eqb-true boot of who.1 in record {
       covers = record { replaces = grind (arith, nat_tests); lists = tt };
       alike = λ current. record {
         advert = refl;
@@ -195,8 +190,7 @@ says_of later earlier plain replaces =
 later_through : (one two three : Body) → IsTrue (is_later_body one two)
     → IsTrue (is_later_body two three) → IsTrue (is_later_body one three)
 later_through (Stamp boot version touched) (Stamp of other others) (Stamp own third words) first
-    second =
-    grind (arith, nat_tests)
+    second = grind (arith, nat_tests)
 later_through (Collect boot version) (Collect of other) (Collect own third) first second =
     grind (arith, nat_tests)
 later_through (Stamped s boot version) (Stamped t of other) (Stamped r own third) first second =
@@ -204,8 +198,7 @@ later_through (Stamped s boot version) (Stamped t of other) (Stamped r own third
 later_through (Advertise one) (Advertise two) (Advertise three) first second =
     let mine = and_parts _ _ first in
     let its = and_parts _ _ second in
-    let origin : (one.origin == three.origin) ≡ true =
-    eq-eqb one.origin three.origin
+    let origin : (one.origin == three.origin) ≡ true = eq-eqb one.origin three.origin
     (eqb-true one.origin two.origin mine.0 ∙ eqb-true two.origin three.origin its.0) in
     let newest : is_newer one three ≡ true = newer_through one two three mine.1 its.1 in
     rw (origin, newest) refl
@@ -213,39 +206,33 @@ later_through one two three first second = absurd cc
 
 pub says_through : (one two three : Message) → SaysAsMuch one two → SaysAsMuch two three
     → SaysAsMuch one three
-says_through one two three first second =
-    elim (means_of one two first) [
-      | inl same ↦ subst (λ m. SaysAsMuch m three)
-          (sym (same_message one two (receiver_of one two first) same)) second
-      | inr later ↦ elim (means_of two three second) [
-        | inl same ↦ subst (SaysAsMuch one)
-            (same_message two three (receiver_of two three second) same) first
-        | inr more ↦
-            covers_says one three (receiver_of one two first ∙ receiver_of two three second)
-            (later_more one.body three.body
-            (later_through one.body two.body three.body later more)).covers
-      ]
-    ]
-  where
-    same_message : (a b : Message) → a.to ≡ b.to → a.body ≡ b.body → a ≡ b
-    same_message a b to body =
-        ap (λ t. record { to = t; body = a.body }) to
-        ∙ ap (λ x. record { to = b.to; body = x }) body
+says_through one two three first second = elim (means_of one two first) [
+  | inl same ↦ subst (λ m. SaysAsMuch m three)
+      (sym (same_message one two (receiver_of one two first) same)) second
+  | inr later ↦ elim (means_of two three second) [
+    | inl same ↦ subst (SaysAsMuch one)
+        (same_message two three (receiver_of two three second) same) first
+    | inr more ↦ covers_says one three
+        (receiver_of one two first ∙ receiver_of two three second) (later_more one.body
+        three.body (later_through one.body two.body three.body later more)).covers
+  ]
+] where
+  same_message : (a b : Message) → a.to ≡ b.to → a.body ≡ b.body → a ≡ b
+  same_message a b to body = ap (λ t. record { to = t; body = a.body }) to
+      ∙ ap (λ x. record { to = b.to; body = x }) body
 
 -- ---- what says as much as a message that matters does too
 
 alike : (current : ℕ) (later earlier : Body) → IsSameOrLater later earlier
     → AreAlike current later earlier
-alike current later earlier (inl same) =
-    subst (λ body. AreAlike current body earlier) (sym same)
+alike current later earlier (inl same) = subst (λ body. AreAlike current body earlier) (sym same)
     (record { advert = refl; boot = refl; speaks = refl; tables = refl; answer = refl })
 alike current later earlier (inr more) = (later_more later earlier more).alike current
 
 pub matters_too : (status : SwitchStatus) (in_boot : Bool) (later earlier : Message)
     → SaysAsMuch later earlier → matters_to status in_boot earlier ≡ true
     → matters_to status in_boot later ≡ true
-matters_too status in_boot later earlier says matter =
-    by_receiver later.to later.body earlier.body
+matters_too status in_boot later earlier says matter = by_receiver later.to later.body earlier.body
     (alike status.current later.body earlier.body (means_of later earlier says))
     (subst (λ to. matters_to status in_boot (record { to = to; body = earlier.body }) ≡ true)
     (sym (receiver_of later earlier says)) matter)
@@ -255,22 +242,19 @@ matters_too status in_boot later earlier says matter =
         → matters_to status in_boot (record { to = to; body = later }) ≡ true
     by_receiver (receiver.Switch s) later earlier same matter =
         rw (same.advert, same.boot, same.tables) matter
-    by_receiver receiver.Controller later earlier same matter =
-        rw (same.speaks, same.answer) matter
+    by_receiver receiver.Controller later earlier same matter = rw (same.speaks, same.answer) matter
 
 -- a cache rule never matters
 pub no_cache_rule : (status : SwitchStatus) (in_boot : Bool) (message : Message)
     → matters_to status in_boot message ≡ true → IsFalse (is_cache_rule message.body)
-no_cache_rule status in_boot message matter = by_body message.to message.body matter
-  where
-    false_true : {X : Type 0} → false ≡ true → X
-    false_true e = absurd cc
+no_cache_rule status in_boot message matter = by_body message.to message.body matter where
+  false_true : {X : Type 0} → false ≡ true → X
+  false_true e = absurd cc
 
-    by_body : (to : Place) (body : Body)
-        → matters_to status in_boot (record { to = to; body = body }) ≡ true
-        → IsFalse (is_cache_rule body)
-    by_body (receiver.Switch s) (CacheRule version word rule action) matter =
-        false_true (and_parts _ _ (and_parts _ _ matter).0).1
-    by_body receiver.Controller (CacheRule version word rule action) matter =
-        false_true (and_parts _ _ (and_parts _ _ matter).0).1
-    by_body to body matter = refl
+  by_body : (to : Place) (body : Body) → matters_to status in_boot
+      (record { to = to; body = body }) ≡ true → IsFalse (is_cache_rule body)
+  by_body (receiver.Switch s) (CacheRule version word rule action) matter =
+      false_true (and_parts _ _ (and_parts _ _ matter).0).1
+  by_body receiver.Controller (CacheRule version word rule action) matter =
+      false_true (and_parts _ _ (and_parts _ _ matter).0).1
+  by_body to body matter = refl

@@ -8,19 +8,17 @@ use Rattle.journal_reports.specs.Exports.{CountsHaveRoom, counted_with, is_cache
 
 count_more : (test : Item → Bool) (before : List Item) (item : Item)
     → count_of test (before ++ item ∷ []) ≡ one_more (test item) (count_of test before)
-count_more test before item = count_of_append test before (item ∷ []) ∙ go (test item) refl
-  where
-    go : (b : Bool) → test item ≡ b
-        → count_of test before + count_of test (item ∷ []) ≡ one_more b (count_of test before)
-    go true e = rw e (omega arith)
-    go false e = rw e (omega arith)
+count_more test before item = count_of_append test before (item ∷ []) ∙ go (test item) refl where
+  go : (b : Bool) → test item ≡ b
+      → count_of test before + count_of test (item ∷ []) ≡ one_more b (count_of test before)
+  go true e = rw e (omega arith)
+  go false e = rw e (omega arith)
 
 told_more : (tells : Item → Option ℕ) (before : List Item) (item : Item) (other : ℕ)
     → unwrap_or (last_given tells (before ++ item ∷ [])) other
     ≡ unwrap_or (tells item) (unwrap_or (last_given tells before) other)
-told_more tells before item other =
-    ap (λ o. unwrap_or o other) (last_given_append tells before (item ∷ []))
-    ∙ go (tells item) (last_given tells before)
+told_more tells before item other = ap (λ o. unwrap_or o other)
+    (last_given_append tells before (item ∷ [])) ∙ go (tells item) (last_given tells before)
   where
     go : (told earlier : Option ℕ) → unwrap_or (option_or (option_or None told) earlier) other
         ≡ unwrap_or told (unwrap_or earlier other)

@@ -10,13 +10,12 @@ use Rattle.journal_reports.specs.Exports.{status_in, status_item, status_with}
 
 status_more : (before : List Item) (item : Item) (s : ℕ)
     → status_in (before ++ item ∷ []) s ≡ status_with item (status_in before s)
-status_more before item s =
-    rw (
-      up_more before item s,
-      boot_more before item s,
-      waited_more before item s,
-      current_more before item,
-    ) refl
+status_more before item s = rw (
+  up_more before item s,
+  boot_more before item s,
+  waited_more before item s,
+  current_more before item,
+) refl
 
 status_told : (told : List Item) (item : Item) (s : ℕ)
     → status_in (told ++ status_item item) s ≡ status_with item (status_in told s)
@@ -48,9 +47,8 @@ status_of_item items i s next status after within is was now =
     ∙ ap (λ js. status_in js s) (sym (item_more items i next within is))
 
 pub told_of_item : (items : List Item) (i s : ℕ) (next : Item) (told after : List Item)
-    → i < length items → next ≡ get_or items i next
-    → status_in told s ≡ status_in (take i items) s → after ≡ told ++ status_item next
-    → status_in after s ≡ status_in (take (i + 1) items) s
+    → i < length items → next ≡ get_or items i next → status_in told s ≡ status_in (take i items) s
+    → after ≡ told ++ status_item next → status_in after s ≡ status_in (take (i + 1) items) s
 told_of_item items i s next told after within is was now =
     status_of_item items i s next (status_in told s) (status_in after s) within is was
     (ap (λ js. status_in js s) now ∙ status_told told next s)

@@ -30,8 +30,7 @@ pub record IsAdded (row : Traffic) (delivered : Bool) (message other : Message) 
 
 -- the item sends such a message, which the row then keeps
 abbrev pub Adds : List Bool → Traffic → Item → Message → Type 0
-Adds marks row (item.Sent number message) other =
-    IsAdded row (has_mark marks number) message other
+Adds marks row (item.Sent number message) other = IsAdded row (has_mark marks number) message other
 Adds marks row _ other = ⊥
 
 -- a message that the item sends doesn't matter, or was delivered, or one that says as much is kept

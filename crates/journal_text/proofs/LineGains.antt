@@ -16,9 +16,8 @@ line_of net item = item_line net item ++ 10 ∷ []
 pub lines_more : (net : Net) (items : List Item) (i : ℕ) (item : Item) → i < length items
     → item ≡ get_or items i item
     → journal_text net (take (i + 1) items) ≡ journal_text net (take i items) ++ line_of net item
-lines_more net items i item within is =
-    ap (journal_text net) (take_more items i item within
-    ∙ ap (λ x. take i items ++ x ∷ []) (sym is))
+lines_more net items i item within is = ap (journal_text net)
+    (take_more items i item within ∙ ap (λ x. take i items ++ x ∷ []) (sym is))
     ∙ flat_map-append (line_of net) (take i items) (item ∷ [])
     ∙ ap (λ line. journal_text net (take i items) ++ line) (append-nil (line_of net item))
 
@@ -86,11 +85,10 @@ fails error = Err error
 
 -- an error as the lines up to an item were to be gathered, and no fault was counted before
 pub gathers_no_more : (net : Net) {items journal : List Item} (i : ℕ) (takes_memory : Bool)
-    (first old new : SinkState) (error : SinkError) {waiting line piece : List ℕ} → items ≡ journal
-    → IsHeld (journal_text net (take i items)) first.bytes old.bytes waiting line
-    → old.faults ≡ first.faults → piece ≡ line
-    → ((text : List ℕ) (before : Option (List ℕ)) → IsGathered text before old.bytes waiting
-    → GainedPart before (text ++ piece) new.bytes)
+    (first old new : SinkState) (error : SinkError) {waiting line piece : List ℕ}
+    → items ≡ journal → IsHeld (journal_text net (take i items)) first.bytes old.bytes waiting line
+    → old.faults ≡ first.faults → piece ≡ line → ((text : List ℕ) (before : Option (List ℕ))
+    → IsGathered text before old.bytes waiting → GainedPart before (text ++ piece) new.bytes)
     → old.faults ≤ new.faults → (fails error ≢ Err Failed → new.faults ≡ old.faults)
     → (IsErrOf (fails error) Failed → Rose old.faults new.faults)
     → (IsErrOf (fails error) NoMemory → IsTrue takes_memory)
@@ -101,8 +99,7 @@ gathers_no_more net {items} i takes_memory first old new error all is none same 
       whole = tt;
       part = part_upto net items i first.bytes new.bytes
           (subst (λ (text : List ℕ). GainedPart first.bytes text new.bytes)
-          (ap (λ l. is.front ++ l) same ∙ sym is.whole)
-          (part is.front first.bytes is.gathered));
+          (ap (λ l. is.front ++ l) same ∙ sym is.whole) (part is.front first.bytes is.gathered));
       faults = omega (arith, none, faults);
       calm = λ not. calm not ∙ none;
       failed = λ f. omega (arith, none, failed f);
@@ -119,11 +116,10 @@ held_whole line text fits = take_all 2048 (line ++ text) (omega (arith, fits, le
 -- a text that is empty has no lines
 no_items : (net : Net) (items : List Item) → journal_text net items ≡ [] → items ≡ []
 no_items net [] none = refl
-no_items net (item ∷ items) none = absurd (some (item_line net item) none)
-  where
-    some : (line : List ℕ) → (line ++ 10 ∷ []) ++ journal_text net items ≡ [] → ⊥
-    some [] e = cc e
-    some (c ∷ cs) e = cc e
+no_items net (item ∷ items) none = absurd (some (item_line net item) none) where
+  some : (line : List ℕ) → (line ++ 10 ∷ []) ++ journal_text net items ≡ [] → ⊥
+  some [] e = cc e
+  some (c ∷ cs) e = cc e
 
 pub some_items : (net : Net) {items journal : List Item} {none : Bool} → items ≡ journal
     → none ≡ (length items == 0) → none ≡ false → journal_text net journal ≡ [] → ⊥

@@ -48,8 +48,7 @@ module _ (laws : NameLaws) (net : Net) (sound : IsNet net) where
   route_within route is = widened (names_within laws net sound route) 1088 (omega (arith, is))
 
   mask_within : (mask : ℕ) → IsWithin 1088 (mask_text net mask)
-  mask_within mask =
-      elim (mask == 0) as (λ b. IsWithin 1088
+  mask_within mask = elim (mask == 0) as (λ b. IsWithin 1088
       (if b then codes " -" else names_text net (filter (has mask) switches))) [
         | true ↦ widened (all_of (codes " -")) 1088 (omega arith)
         | false ↦ route_within (filter (has mask) switches) (few_switches mask)
@@ -261,5 +260,4 @@ line_within laws net sound item is =
 
 pub lines_within : NameLaws → LinesFit
 lines_within laws net item sound is =
-    let line = widened (line_within laws net sound item is) 2048 (omega arith) in
-    line.size
+    let line = widened (line_within laws net sound item is) 2048 (omega arith) in line.size

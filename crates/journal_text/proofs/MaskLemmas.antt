@@ -22,16 +22,14 @@ picks_first p q a (suc n) s from below is gone least others = elim (cases_eq a s
       let apart : (j : ℕ) → a + 1 ≤ j → j ≢ s = λ j above e. omega (arith, above, here, e) in
       let rest = picks_agree p q (a + 1) n (λ j above. sym (others j (apart j above))) in
       rw (here, is, gone, sym here, rest) refl
-  | inr apart ↦
-      let before : p a ≡ false = least a (omega (arith, from, apart)) in
+  | inr apart ↦ let before : p a ≡ false = least a (omega (arith, from, apart)) in
       rw (others a apart, before)
       (picks_first p q (a + 1) n s (omega (arith, from, apart)) (omega (arith, below)) is gone least
       others)
 ]
 
 -- the least switch of a mask, and then those of the rest
-pub least_first : (mask : ℕ) → mask < 2 ^ 64 → (mask ≡ 0 → ⊥)
-    → filter (has mask) switches
+pub least_first : (mask : ℕ) → mask < 2 ^ 64 → (mask ≡ 0 → ⊥) → filter (has mask) switches
     ≡ least_in mask ∷ filter (has (bit_xor mask (2 ^ least_in mask))) switches
 unfolding switches
 least_first mask fits some =
@@ -44,8 +42,7 @@ least_first mask fits some =
 -- no switch
 pub none_left : (mask : ℕ) → mask ≡ 0 → filter (has mask) switches ≡ []
 unfolding switches
-none_left mask none = rw none (all_out 0 64)
-  where
-    all_out : (a n : ℕ) → filter (has 0) (range_with_len a n) ≡ []
-    all_out a zero = refl
-    all_out a (suc n) = rw (has-zero a) (all_out (a + 1) n)
+none_left mask none = rw none (all_out 0 64) where
+  all_out : (a n : ℕ) → filter (has 0) (range_with_len a n) ≡ []
+  all_out a zero = refl
+  all_out a (suc n) = rw (has-zero a) (all_out (a + 1) n)

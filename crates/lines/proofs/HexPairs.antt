@@ -11,8 +11,7 @@ abbrev pub glyph : ℕ → ℕ
 glyph n = digit_glyph false n
 
 -- the table has both digits of a number below 256
-pub pairs_at : (n : ℕ) → n < 256
-    → (get_or HEX_PAIRS (n * 2) 0 ≡ glyph (n / 16))
+pub pairs_at : (n : ℕ) → n < 256 → (get_or HEX_PAIRS (n * 2) 0 ≡ glyph (n / 16))
     × (get_or HEX_PAIRS (n * 2 + 1) 0 ≡ glyph (n % 16))
 pairs_at n within = pair_at HEX_PAIRS (λ n. glyph (n / 16)) (λ n. glyph (n % 16)) 256 n tt within
 
@@ -21,11 +20,9 @@ more : (at left : ℕ) (digits : List ℕ) → at < length digits
     → hex_digits (at + 1) left ++ drop (at + 1) digits
     ≡ hex_digits at (left / 16) ++ drop at (set digits at (glyph (left % 16)))
 unfolding hex_digits
-more at left digits within =
-    ap (λ n. hex_digits n left ++ drop (at + 1) digits) (add-one at)
-    ∙ append_assoc (hex_digits at (left / 16)) (glyph (left % 16) ∷ []) (drop (at + 1) digits)
-    ∙ ap (λ ys. hex_digits at (left / 16) ++ ys)
-    (sym (drop-set digits at (glyph (left % 16)) within))
+more at left digits within = ap (λ n. hex_digits n left ++ drop (at + 1) digits) (add-one at)
+    ∙ append_assoc (hex_digits at (left / 16)) (glyph (left % 16) ∷ []) (drop (at + 1) digits) ∙ ap
+    (λ ys. hex_digits at (left / 16) ++ ys) (sym (drop-set digits at (glyph (left % 16)) within))
 
 -- two digits more stand
 pub two_more : (at left : ℕ) (digits : List ℕ) → at + 1 < length digits

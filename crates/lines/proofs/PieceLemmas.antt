@@ -20,12 +20,11 @@ part line piece room full = sym
     (ap (λ n. take n (line ++ piece)) full ∙ take-append-add line piece room)
 
 -- the first bytes of a piece, and then the last ones, from a place within the first
-pub halves : (n len : ℕ) (old piece : List ℕ) → n ≤ length piece → length piece ≤ n + n
-    → len + length piece ≤ length old
+pub halves : (n len : ℕ) (old piece : List ℕ) → n ≤ length piece
+    → length piece ≤ n + n → len + length piece ≤ length old
     → take (len + length piece) (put_mid (len + (length piece - n))
-    (len + length piece - (len + (length piece - n)))
-    (put_mid len (len + n - len) old (take n piece))
-    (take (length piece - (length piece - n)) (drop (length piece - n) piece)))
+    (len + length piece - (len + (length piece - n))) (put_mid len (len + n - len) old
+    (take n piece)) (take (length piece - (length piece - n)) (drop (length piece - n) piece)))
     ≡ take len old ++ piece
 halves n len old piece long short room =
     let split = length piece - n in

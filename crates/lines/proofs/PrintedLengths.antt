@@ -54,11 +54,10 @@ action_within Drop is = widened (all_of (codes "drop")) 14 (omega arith)
 
 address_within : (a : ℕ) → a < 2 ^ 32 → IsWithin 43 (address_text a)
 unfolding address_text
-address_within a small =
-    joined_within (number (a / 2 ^ 24) (omega (arith, small))) (joined_within (all_of (46 ∷ []))
-    (joined_within (number (a / 2 ^ 16 % 2 ^ 8) (omega arith)) (joined_within (all_of (46 ∷ []))
-    (joined_within (number (a / 2 ^ 8 % 2 ^ 8) (omega arith)) (joined_within (all_of (46 ∷ []))
-    (number (a % 2 ^ 8) (omega arith)))))))
+address_within a small = joined_within (number (a / 2 ^ 24) (omega (arith, small)))
+    (joined_within (all_of (46 ∷ [])) (joined_within (number (a / 2 ^ 16 % 2 ^ 8) (omega arith))
+    (joined_within (all_of (46 ∷ [])) (joined_within (number (a / 2 ^ 8 % 2 ^ 8) (omega arith))
+    (joined_within (all_of (46 ∷ [])) (number (a % 2 ^ 8) (omega arith)))))))
 
 proto_within : (n : ℕ) → n < 2 ^ 8 → IsWithin 10 (proto_number_text n)
 unfolding proto_number_text
@@ -97,25 +96,23 @@ digits_within (suc count) n =
 
 pub word_within : (w : WordValue) → IsWithin 53 (word_text w)
 unfolding word_text
-word_within w =
-    joined_within (digits_within 26 w.value)
+word_within w = joined_within (digits_within 26 w.value)
     (joined_within (all_of (47 ∷ [])) (digits_within 26 w.mask))
 
 -- ---- names
 
 module _ (laws : NameLaws) (net : Net) (sound : IsNet net) where
   pub name_within : (s : ℕ) → IsWithin 16 (name_of net s)
-  name_within s = by (slice_get_cases net.switches s).1
-    where
-      by : ((row : SwitchRow) × (s < length net.switches) × (slice_get net.switches s ≡ Some row)
-          × (get_or net.switches s row ≡ row))
-          ⊎ ((length net.switches ≤ s) × (slice_get net.switches s ≡ None))
-          → IsWithin 16 (name_of net s)
-      by (inl w) =
-          let is : IsSwitchRow w.0 = subst IsSwitchRow w.3
-          (All-get_or IsSwitchRow net.switches s w.0 w.1 sound.switches) in
-          rw w.2 (record { size = (laws.size w.0.name is.name).1 })
-      by (inr w) = rw w.1 (record { size = omega arith })
+  name_within s = by (slice_get_cases net.switches s).1 where
+    by : ((row : SwitchRow) × (s < length net.switches) × (slice_get net.switches s ≡ Some row)
+        × (get_or net.switches s row ≡ row))
+        ⊎ ((length net.switches ≤ s) × (slice_get net.switches s ≡ None))
+        → IsWithin 16 (name_of net s)
+    by (inl w) =
+        let is : IsSwitchRow w.0 = subst IsSwitchRow w.3
+        (All-get_or IsSwitchRow net.switches s w.0 w.1 sound.switches) in
+        rw w.2 (record { size = (laws.size w.0.name is.name).1 })
+    by (inr w) = rw w.1 (record { size = omega arith })
 
   -- each name takes 17 bytes with its blank
   pub names_within : (list : List ℕ) → IsWithin (length list * 17) (names_text net list)

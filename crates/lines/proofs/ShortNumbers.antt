@@ -33,8 +33,7 @@ decimal_two n from within =
     rw (decimal_step n from (omega arith), decimal_digit (n / 10) (omega arith)) refl
 
 -- the last two digits
-pub decimal_pair : (n : ℕ) → 100 ≤ n → n < 1000000
-    → decimal n ≡ decimal (n / 100) ++ pair (n % 100)
+pub decimal_pair : (n : ℕ) → 100 ≤ n → n < 1000000 → decimal n ≡ decimal (n / 100) ++ pair (n % 100)
 decimal_pair n from within =
     let front : n / 10 / 10 ≡ n / 100 = omega arith in
     let ten : n / 10 % 10 ≡ n % 100 / 10 = omega arith in
@@ -51,8 +50,7 @@ decimal_pair n from within =
 -- the last four digits
 pub decimal_pairs : (n : ℕ) → 10000 ≤ n → n < 1000000
     → decimal n ≡ decimal (n / 10000) ++ (pair (n / 100 % 100) ++ pair (n % 100))
-decimal_pairs n from within =
-    let front : n / 100 / 100 ≡ n / 10000 = omega arith in
+decimal_pairs n from within = let front : n / 100 / 100 ≡ n / 10000 = omega arith in
     rw (
       decimal_pair n (omega arith) within,
       decimal_pair (n / 100) (omega arith) (omega arith),

@@ -14,13 +14,11 @@ are_frames m fs has is = record { fits = has.fits; frames_are = is }
 
 -- the one chunk is the spelling
 pub spelled_alone : (f : List ℕ) → (of : AreOfMessage (f ∷ [])) → IsSpelling of.0 (chunk_of f)
-spelled_alone f of =
-    subst (IsSpelling of.0) (append-nil (chunk_of f))
+spelled_alone f of = subst (IsSpelling of.0) (append-nil (chunk_of f))
     (spelled_by of.0 (f ∷ []) (are_frames of.0 (f ∷ []) of.1 of.2))
 
 pub alone_are : (f bytes : List ℕ) (m : Message) → AreOfMessage (f ∷ []) → bytes ≡ chunk_of f
-    → IsSpelling m bytes
-    → AreFrames m (f ∷ [])
+    → IsSpelling m bytes → AreFrames m (f ∷ [])
 alone_are f bytes m of is spelled =
     let same : m ≡ of.0 = one_message (chunk_of f) m of.0 (subst (IsSpelling m) is spelled)
     (spelled_alone f of) in

@@ -20,10 +20,8 @@ known : (kept : List (List (List ℕ))) (first : First) (m : Message) (to : Plac
     → frames_in kept first ≡ posted_frames (record m { to = to }) → AreLike kept first m
 known kept first m to is same =
     let its = is.are in
-    let other : record m { to = to } ≡ its.0 =
-    known_by_frames its.0 (record m { to = to }) its.1.fits
-    (sym same ∙ its.2 ∙ sym (framed_is its.0 its.1.fits)) in
-    record {
+    let other : record m { to = to } ≡ its.0 = known_by_frames its.0 (record m { to = to })
+    its.1.fits (sym same ∙ its.2 ∙ sym (framed_is its.0 its.1.fits)) in record {
       to = to;
       there = is.there;
       has = subst HasFrames (sym other) its.1;

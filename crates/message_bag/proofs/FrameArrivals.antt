@@ -16,13 +16,12 @@ use Rattle.message_bag.proofs.FrameSizes.{IsSized, frames_rise, frames_sized, le
 of_count : (from count : ℕ) (fs : List (List ℕ)) (place : ℕ) (f : List ℕ) → AreRising from count fs
     → held_at fs place ≡ Some f → IsOfCount count f
 of_count from count [] place f rising at = absurd (cc at)
-of_count from count (g ∷ gs) place f rising at =
-    elim (cases_eq (place_in_frame g) place) [
-      | inl same ↦ subst (IsOfCount count) (first_is g f gs place same at) rising.1
-      | inr other ↦
-          let miss : held_at (g ∷ gs) place ≡ held_at gs place = rw (ne_eqb (place_in_frame g) place other) refl in
-          of_count (place_in_frame g + 1) count gs place f rising.2 (sym miss ∙ at)
-    ]
+of_count from count (g ∷ gs) place f rising at = elim (cases_eq (place_in_frame g) place) [
+  | inl same ↦ subst (IsOfCount count) (first_is g f gs place same at) rising.1
+  | inr other ↦
+      let miss : held_at (g ∷ gs) place ≡ held_at gs place = rw (ne_eqb (place_in_frame g) place other) refl in
+      of_count (place_in_frame g + 1) count gs place f rising.2 (sym miss ∙ at)
+]
 
 pub record IsOneOf (m : Message) (f : List ℕ) : Type 0 where
   pub at : held_at (frames m) (place_in_frame f) ≡ Some f
@@ -32,8 +31,7 @@ pub record IsOneOf (m : Message) (f : List ℕ) : Type 0 where
 pub is_one_of : (m : Message) (f : List ℕ) → HasFrames m → Contains (frames m) f → IsOneOf m f
 is_one_of m f has there =
     let count = length (chunks m) in
-    let at = held_there 0 count (frames m) f (frames_rise m has) there in
-    record {
+    let at = held_there 0 count (frames m) f (frames_rise m has) there in record {
       at = at;
       of = of_count 0 count (frames m) (place_in_frame f) f (frames_rise m has) at;
       sized = All-contains IsSized (frames m) f (frames_sized m has.fits) there;
@@ -45,10 +43,8 @@ passes m p n some = some_passes (p n) (held_at (frames m) n) (subst IsSome (held
 
 -- where all places are held, all frames are
 all_are : (m : Message) (p : ℕ → Bool) → HasFrames m
-    → AreAllHeld (part p (frames m)) (length (chunks m))
-    → part p (frames m) ≡ frames m
-all_are m p has held =
-    part_all p 0 (length (chunks m)) (frames m) (frames_rise m has)
+    → AreAllHeld (part p (frames m)) (length (chunks m)) → part p (frames m) ≡ frames m
+all_are m p has held = part_all p 0 (length (chunks m)) (frames m) (frames_rise m has)
     (λ n lt. passes m p n (held n lt))
 
 -- the frames of a message are not refused, whichever of them are held
@@ -87,10 +83,8 @@ come_elsewhere f fed n other = rw (ne_eqb (place_in_frame f) n (λ e. other (sym
 
 joins : (m : Message) (f : List ℕ) (fed : List (List ℕ)) → HasFrames m → IsOneOf m f
     → with_frame (part (has_come fed) (frames m)) f ≡ part (has_come (f ∷ fed)) (frames m)
-joins m f fed has one =
-    with_part (has_come fed) (has_come (f ∷ fed)) 0 (length (chunks m)) (frames m) f
-    (frames_rise m has) one.at
-    (come_elsewhere f fed) (come_here f fed)
+joins m f fed has one = with_part (has_come fed) (has_come (f ∷ fed)) 0 (length (chunks m))
+    (frames m) f (frames_rise m has) one.at (come_elsewhere f fed) (come_here f fed)
 
 held_is : (m : Message) (fed : List (List ℕ)) → HasFrames m → AreOf m fed
     → held_after fed ≡ part (has_come fed) (frames m)
@@ -119,10 +113,8 @@ places_come m fed has among n lt =
 
 pub whole : (m : Message) (fed : List (List ℕ)) → HasFrames m → AreOf m fed → AreAllAmong m fed
     → held_after fed ≡ frames m
-whole m fed has of among =
-    held_is m fed has of
-    ∙ part_all (has_come fed) 0 (length (chunks m)) (frames m) (frames_rise m has)
-    (places_come m fed has among)
+whole m fed has of among = held_is m fed has of ∙ part_all (has_come fed) 0 (length (chunks m))
+    (frames m) (frames_rise m has) (places_come m fed has among)
 
 -- a frame whose place has come has come itself
 frame_come : (m : Message) (fed : List (List ℕ)) (g : List ℕ) → HasFrames m → AreOf m fed → Contains (frames m) g
@@ -137,29 +129,26 @@ frame_come m fed g has of there come =
 
 pub all_come : (m : Message) (f : List ℕ) (fed : List (List ℕ)) → HasFrames m → AreOf m (f ∷ fed)
     → (AreAllHeld (held_after (f ∷ fed)) (count_in_frame f) ↔ AreAllAmong m (f ∷ fed))
-all_come m f fed has of = (forth, back)
-  where
-    count : ℕ
-    count = length (chunks m)
+all_come m f fed has of = (forth, back) where
+  count : ℕ
+  count = length (chunks m)
 
-    one : IsOneOf m f
-    one = is_one_of m f has (All-head (Contains (frames m)) f fed of)
+  one : IsOneOf m f
+  one = is_one_of m f has (All-head (Contains (frames m)) f fed of)
 
-    forth : AreAllHeld (held_after (f ∷ fed)) (count_in_frame f) → AreAllAmong m (f ∷ fed)
-    forth held = λ k d lt.
-        let g = slice_index_or (frames m) k d in
-        let there : Contains (frames m) g = All-contains_itself (frames m) k d lt in
-        let below : place_in_frame g < count = (is_one_of m g has there).of.below in
-        let all : AreAllHeld (part (has_come (f ∷ fed)) (frames m)) count =
-        subst (AreAllHeld (part (has_come (f ∷ fed)) (frames m))) one.of.count_is
-        (subst (λ fs. AreAllHeld fs (count_in_frame f)) (held_is m (f ∷ fed) has of) held) in
-        frame_come m (f ∷ fed) g has of there (passes m (has_come (f ∷ fed)) (place_in_frame g) (all (place_in_frame g) below))
+  forth : AreAllHeld (held_after (f ∷ fed)) (count_in_frame f) → AreAllAmong m (f ∷ fed)
+  forth held = λ k d lt. let g = slice_index_or (frames m) k d in
+      let there : Contains (frames m) g = All-contains_itself (frames m) k d lt in
+      let below : place_in_frame g < count = (is_one_of m g has there).of.below in
+      let all : AreAllHeld (part (has_come (f ∷ fed)) (frames m)) count =
+      subst (AreAllHeld (part (has_come (f ∷ fed)) (frames m))) one.of.count_is
+      (subst (λ fs. AreAllHeld fs (count_in_frame f)) (held_is m (f ∷ fed) has of) held) in
+      frame_come m (f ∷ fed) g has of there (passes m (has_come (f ∷ fed)) (place_in_frame g) (all (place_in_frame g) below))
 
-    back : AreAllAmong m (f ∷ fed) → AreAllHeld (held_after (f ∷ fed)) (count_in_frame f)
-    back among =
-        subst (λ fs. AreAllHeld fs (count_in_frame f)) (sym (whole m (f ∷ fed) has of among))
-        (subst (AreAllHeld (frames m)) (sym one.of.count_is)
-        (all_held count (frames m) (frames_rise m has) (length_frames m)))
+  back : AreAllAmong m (f ∷ fed) → AreAllHeld (held_after (f ∷ fed)) (count_in_frame f)
+  back among = subst (λ fs. AreAllHeld fs (count_in_frame f))
+      (sym (whole m (f ∷ fed) has of among)) (subst (AreAllHeld (frames m)) (sym one.of.count_is)
+      (all_held count (frames m) (frames_rise m has) (length_frames m)))
 
 -- ---- frames are of one message
 

@@ -65,8 +65,7 @@ slices_are (suc count) bytes enough =
       short = omega (arith, length-take most_of_chunk bytes);
     } in (
       first,
-      slices_are count (drop most_of_chunk bytes)
-          (omega (arith, length-drop most_of_chunk bytes)),
+      slices_are count (drop most_of_chunk bytes) (omega (arith, length-drop most_of_chunk bytes)),
     )
 
 all_of : (b : Body) (bytes : List ℕ) → length (spelled_fields b) ≤ 521
@@ -97,8 +96,7 @@ head_is b bytes fits long = all_of b bytes (fits_short b refl fits) long
 
 pub fields_of_message : (m : Message) → message.fits m ≡ true → fields_fit m.body ≡ true
 unfolding message body
-fields_of_message m fits =
-    (and_parts (receiver.fits m.to) (fields_fit m.body)
+fields_of_message m fits = (and_parts (receiver.fits m.to) (fields_fit m.body)
     (and_parts (receiver.fits m.to && fields_fit m.body) (suits_receiver m.to m.body) fits).0).1
 
 chunks_are : (m : Message) → message.fits m ≡ true → AllByRecursion IsChunk (chunks m)
@@ -106,12 +104,11 @@ chunks_are m fits =
     let bytes = message.spell m in
     let rest = length bytes - head_len m.body bytes in (
       head_is m.body bytes (fields_of_message m fits) (length_message m),
-      slices_are (div_ceil rest most_of_chunk) (drop (head_len m.body bytes) bytes)
-          (omega (
-            arith,
-            length-drop (head_len m.body bytes) bytes,
-            (div_ceil_times rest most_of_chunk (omega arith)).1,
-          )),
+      slices_are (div_ceil rest most_of_chunk) (drop (head_len m.body bytes) bytes) (omega (
+        arith,
+        length-drop (head_len m.body bytes) bytes,
+        (div_ceil_times rest most_of_chunk (omega arith)).1,
+      )),
     )
 
 sized : (place count : ℕ) (parts : List (List ℕ)) → AllByRecursion IsChunk parts

@@ -13,12 +13,9 @@ framed_is m fits = rw fits refl
 pub known_by_frames : (m other : Message) → form.fits m ≡ true → posted_frames other
     ≡ posted_frames m → other ≡ m
 unfolding posted_frames
-known_by_frames m other fits same =
-    by_fit (form.fits other) refl (same ∙ framed_is m fits)
-  where
-    by_fit : (b : Bool) → form.fits other ≡ b → (if b then frames other else []) ≡ frames m
-        → other ≡ m
-    by_fit true is are =
-        same_message m other (frames m) (record { fits = fits; frames_are = refl })
-        (record { fits = is; frames_are = sym are })
-    by_fit false is none = absurd (cc none)
+known_by_frames m other fits same = by_fit (form.fits other) refl (same ∙ framed_is m fits) where
+  by_fit : (b : Bool) → form.fits other ≡ b → (if b then frames other else []) ≡ frames m
+      → other ≡ m
+  by_fit true is are = same_message m other (frames m) (record { fits = fits; frames_are = refl })
+      (record { fits = is; frames_are = sym are })
+  by_fit false is none = absurd (cc none)

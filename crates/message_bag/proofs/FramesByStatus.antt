@@ -24,9 +24,8 @@ zip_set change (m ∷ all) (s ∷ statuses) (suc i) same =
         → zip all (option_map_or (λ status. set statuses i (change status)) o statuses)
         ≡ option_map_or (λ post. set (zip all statuses) i (with_status change post)) p
         (zip all statuses)
-        → zip (m ∷ all)
-        (option_map_or (λ status. set (s ∷ statuses) (suc i) (change status)) o (s ∷ statuses))
-        ≡ option_map_or (λ post. set ((m, s) ∷ zip all statuses) (suc i)
+        → zip (m ∷ all) (option_map_or (λ status. set (s ∷ statuses) (suc i) (change status)) o
+        (s ∷ statuses)) ≡ option_map_or (λ post. set ((m, s) ∷ zip all statuses) (suc i)
         (with_status change post)) p ((m, s) ∷ zip all statuses)
     by_one None None is = ap (λ more. (m, s) ∷ more) is
     by_one None (Some p) is = ap (λ more. (m, s) ∷ more) is
@@ -38,8 +37,7 @@ zip_changed : (change : MessageState → MessageState) (all : List (List (List �
     → zip all (with_changed change statuses number)
     ≡ with_changed (with_status change) (zip all statuses) number
 zip_changed change all statuses zero same = refl
-zip_changed change all statuses (suc place) same =
-    zip_set change all statuses place same
+zip_changed change all statuses (suc place) same = zip_set change all statuses place same
 
 -- so the posts change, by whatever name they go
 pub posts_changed : (change : MessageState → MessageState) (all : List (List (List ℕ)))
@@ -78,20 +76,19 @@ pub deliverable_same : (all : List (List (List ℕ))) (statuses : List MessageSt
     → length all ≡ length statuses
     → is_deliverable statuses number ≡ is_some (frames_posted (zip all statuses) number)
 deliverable_same all statuses zero same = refl
-deliverable_same all statuses (suc place) same = at_place all statuses place same
-  where
-    by_flag : (b : Bool) (m : List (List ℕ)) → not b ≡ is_some (if b then None else Some m)
-    by_flag true m = refl
-    by_flag false m = refl
+deliverable_same all statuses (suc place) same = at_place all statuses place same where
+  by_flag : (b : Bool) (m : List (List ℕ)) → not b ≡ is_some (if b then None else Some m)
+  by_flag true m = refl
+  by_flag false m = refl
 
-    at_place : (all : List (List (List ℕ))) (statuses : List MessageState) (i : ℕ)
-        → length all ≡ length statuses → option_map_or may_be_delivered (slice_get statuses i) false
-        ≡ is_some (option_and_then remembered_frames (slice_get (zip all statuses) i))
-    at_place [] [] i same = refl
-    at_place [] (s ∷ statuses) i same = absurd (omega (arith, same))
-    at_place (m ∷ all) [] i same = absurd (omega (arith, same))
-    at_place (m ∷ all) (s ∷ statuses) zero same = by_flag s.forgotten m
-    at_place (m ∷ all) (s ∷ statuses) (suc i) same = at_place all statuses i (omega (arith, same))
+  at_place : (all : List (List (List ℕ))) (statuses : List MessageState) (i : ℕ)
+      → length all ≡ length statuses → option_map_or may_be_delivered (slice_get statuses i) false
+      ≡ is_some (option_and_then remembered_frames (slice_get (zip all statuses) i))
+  at_place [] [] i same = refl
+  at_place [] (s ∷ statuses) i same = absurd (omega (arith, same))
+  at_place (m ∷ all) [] i same = absurd (omega (arith, same))
+  at_place (m ∷ all) (s ∷ statuses) zero same = by_flag s.forgotten m
+  at_place (m ∷ all) (s ∷ statuses) (suc i) same = at_place all statuses i (omega (arith, same))
 
 -- by whatever name the posts go
 pub deliverable_as : (all : List (List (List ℕ))) (statuses : List MessageState) (posts : List Post)
@@ -105,27 +102,23 @@ pub the_frames : (all : List (List (List ℕ))) (statuses : List MessageState) (
     (fs : List (List ℕ)) → is_deliverable statuses number ≡ true
     → slice_get all (number - 1) ≡ Some fs → frames_posted (zip all statuses) number ≡ Some fs
 the_frames all statuses zero fs is kept = absurd cc
-the_frames all statuses (suc place) fs is kept =
-    let at : suc place - 1 ≡ place = omega arith in
+the_frames all statuses (suc place) fs is kept = let at : suc place - 1 ≡ place = omega arith in
     at_place all statuses place is (ap (slice_get all) (sym at) ∙ kept)
   where
     at_place : (all : List (List (List ℕ))) (statuses : List MessageState) (i : ℕ)
-        → option_map_or may_be_delivered (slice_get statuses i) false ≡ true
-        → slice_get all i ≡ Some fs
-        → option_and_then remembered_frames (slice_get (zip all statuses) i) ≡ Some fs
+        → option_map_or may_be_delivered (slice_get statuses i) false ≡ true → slice_get all i
+        ≡ Some fs → option_and_then remembered_frames (slice_get (zip all statuses) i) ≡ Some fs
     at_place [] statuses i is kept = absurd (cc kept)
     at_place (m ∷ all) [] i is kept = absurd (cc is)
-    at_place (m ∷ all) (s ∷ statuses) zero is kept = by_flag s.forgotten is
-      where
-        by_flag : (b : Bool) → not b ≡ true → (if b then None else Some m) ≡ Some fs
-        by_flag true is = absurd cc
-        by_flag false is = kept
+    at_place (m ∷ all) (s ∷ statuses) zero is kept = by_flag s.forgotten is where
+      by_flag : (b : Bool) → not b ≡ true → (if b then None else Some m) ≡ Some fs
+      by_flag true is = absurd cc
+      by_flag false is = kept
     at_place (m ∷ all) (s ∷ statuses) (suc i) is kept = at_place all statuses i is kept
 
 -- such a number is one of a message
 pub deliverable_within : (statuses : List MessageState) (number : ℕ)
-    → is_deliverable statuses number ≡ true
-    → (1 ≤ number) × (number ≤ length statuses)
+    → is_deliverable statuses number ≡ true → (1 ≤ number) × (number ≤ length statuses)
 deliverable_within statuses zero is = absurd cc
 deliverable_within statuses (suc place) is =
     let there = within statuses place is in (omega arith, omega (arith, there))

@@ -38,12 +38,10 @@ cut first rest len =
 abbrev framed : Body → List ℕ → List (List ℕ)
 framed b to =
     let rest = body.spell b in
-    let len = first_len b rest in
-    frames_of ((to ++ take len rest) ∷ others len rest)
+    let len = first_len b rest in frames_of ((to ++ take len rest) ∷ others len rest)
 
 frames_are : (m : Message) → frames m ≡ framed m.body (receiver.spell m.to)
-frames_are m =
-    let rest = body.spell m.body in
+frames_are m = let rest = body.spell m.body in
     ap (λ bytes. frames_of (chunks_behind_head (head_len m.body bytes) bytes)) (spelled m)
     ∙ ap (λ head. frames_of (chunks_behind_head head (receiver.spell m.to ++ rest))) (head_is m.body m.to rest)
     ∙ ap frames_of (cut (receiver.spell m.to) rest (first_len m.body rest))

@@ -42,13 +42,11 @@ part_same p q from count (f ∷ fs) rising same =
 
 -- what is held at a place
 pub held_part : (p : ℕ → Bool) (fs : List (List ℕ)) (n : ℕ) → held_at (part p fs) n ≡ cond (p n) (held_at fs n) None
-held_part p [] n = by_test (p n)
-  where
-    by_test : (b : Bool) → held_at [] n ≡ cond b (held_at [] n) None
-    by_test true = refl
-    by_test false = refl
-held_part p (f ∷ fs) n =
-    let rest = held_part p fs n in
+held_part p [] n = by_test (p n) where
+  by_test : (b : Bool) → held_at [] n ≡ cond b (held_at [] n) None
+  by_test true = refl
+  by_test false = refl
+held_part p (f ∷ fs) n = let rest = held_part p fs n in
     elim (cases_eq (place_in_frame f) n) [
       | inl same ↦ here (p (place_in_frame f)) (ap p (sym same)) (rw same (same_place n)) rest
       | inr other ↦ behind (p (place_in_frame f)) (ne_eqb (place_in_frame f) n other) rest
@@ -125,16 +123,14 @@ held_there from count fs f rising there = held_from from count fs f there.0 risi
 pub found_there : (fs : List (List ℕ)) (place : ℕ) (f : List ℕ) → held_at fs place ≡ Some f
     → Contains fs f × (place_in_frame f ≡ place)
 found_there [] place f at = absurd (none_is_not f at)
-found_there (g ∷ gs) place f at =
-    elim (cases_eq (place_in_frame g) place) [
-      | inl same ↦
-          let is : g ≡ f = first_is g f gs place same at in
-          ((0, omega arith, is), ap place_in_frame (sym is) ∙ same)
-      | inr other ↦
-          let miss : held_at (g ∷ gs) place ≡ held_at gs place = rw (ne_eqb (place_in_frame g) place other) refl in
-          let rest = found_there gs place f (sym miss ∙ at) in
-          ((suc rest.0.0, omega (arith, rest.0.1), rest.0.2), rest.1)
-    ]
+found_there (g ∷ gs) place f at = elim (cases_eq (place_in_frame g) place) [
+  | inl same ↦ let is : g ≡ f = first_is g f gs place same at in
+      ((0, omega arith, is), ap place_in_frame (sym is) ∙ same)
+  | inr other ↦
+      let miss : held_at (g ∷ gs) place ≡ held_at gs place = rw (ne_eqb (place_in_frame g) place other) refl in
+      let rest = found_there gs place f (sym miss ∙ at) in
+      ((suc rest.0.0, omega (arith, rest.0.1), rest.0.2), rest.1)
+]
 
 some_either : (b : Bool) (x : List ℕ) (o : Option (List ℕ)) → IsSome o → IsSome (cond b (Some x) o)
 some_either true x o some = refl

@@ -19,9 +19,8 @@ pub none_before : (m : Message) → frames_before m 0 ≡ []
 none_before m = part_none (λ n. ltb n 0) (frames m) (λ n. le-ltb n 0 (omega arith))
 
 pub all_before : (m : Message) → HasFrames m → frames_before m (length (frames m)) ≡ frames m
-all_before m has =
-    part_all (λ n. ltb n (length (frames m))) 0 (length (chunks m)) (frames m) (frames_rise m has)
-    (λ n lt. lt-ltb _ _ (omega (arith, length_frames m)))
+all_before m has = part_all (λ n. ltb n (length (frames m))) 0 (length (chunks m)) (frames m)
+    (frames_rise m has) (λ n lt. lt-ltb _ _ (omega (arith, length_frames m)))
 
 -- ---- the frame of a place
 
@@ -41,14 +40,13 @@ there (g ∷ gs) (suc i) f at = let rest = there gs i f at in (suc rest.0, omega
 
 -- one place more
 beside : (n place : ℕ) → n ≢ place → ltb n (place + 1) ≡ ltb n place
-beside n place other =
-    elim (cases_lt n place) [
-      | inl lt ↦ lt-ltb n (place + 1) (omega arith) ∙ sym (lt-ltb n place lt)
-      | inr ge ↦ elim (cases_lt place n) [
-        | inl above ↦ le-ltb n (place + 1) (omega arith) ∙ sym (le-ltb n place ge)
-        | inr le ↦ absurd (other (omega arith))
-      ]
-    ]
+beside n place other = elim (cases_lt n place) [
+  | inl lt ↦ lt-ltb n (place + 1) (omega arith) ∙ sym (lt-ltb n place lt)
+  | inr ge ↦ elim (cases_lt place n) [
+    | inl above ↦ le-ltb n (place + 1) (omega arith) ∙ sym (le-ltb n place ge)
+    | inr le ↦ absurd (other (omega arith))
+  ]
+]
 
 -- what comes of the frame of the next place
 pub record ComesNext (m : Message) (place : ℕ) (f : List ℕ) : Type 0 where
@@ -62,8 +60,7 @@ pub comes_next : (m : Message) (place : ℕ) (f : List ℕ) → HasFrames m → 
 comes_next m place f has at = record {
   taken = never_refused m (λ n. ltb n place) (λ n. ltb n (place + 1)) f has one joined;
   held = joined;
-  some = λ last.
-      subst (AreAllHeld (frames_before m (place + 1))) (sym one.of.count_is)
+  some = λ last. subst (AreAllHeld (frames_before m (place + 1))) (sym one.of.count_is)
       (subst (λ fs. AreAllHeld fs (length (chunks m)))
       (sym (ap (frames_before m) last ∙ all_before m has))
       (all_held (length (chunks m)) (frames m) (frames_rise m has) (length_frames m)));
@@ -72,22 +69,20 @@ comes_next m place f has at = record {
         (subst (AreAllHeld (frames_before m (place + 1))) one.of.count_is held (place + 1) (omega (arith, length_frames m))))
     | inr ge ↦ omega (arith, slice_get_within (frames m) place f at)
   ];
-}
-  where
-    missing : (n : ℕ) → IsSome (held_at (frames_before m n) n) → ⊥
-    missing n some =
-        let passed : ltb n n ≡ true = some_passes (ltb n n) (held_at (frames m) n) (subst IsSome (held_part (λ k. ltb k n) (frames m) n) some) in
-        absurd (cc (sym passed ∙ le-ltb n n (omega arith)))
+} where
+  missing : (n : ℕ) → IsSome (held_at (frames_before m n) n) → ⊥
+  missing n some =
+      let passed : ltb n n ≡ true = some_passes (ltb n n) (held_at (frames m) n) (subst IsSome (held_part (λ k. ltb k n) (frames m) n) some) in
+      absurd (cc (sym passed ∙ le-ltb n n (omega arith)))
 
-    one : IsOneOf m f
-    one = is_one_of m f has (there (frames m) place f at)
+  one : IsOneOf m f
+  one = is_one_of m f has (there (frames m) place f at)
 
-    here : place_in_frame f ≡ place
-    here = place_from 0 (length (chunks m)) (chunks m) place f (omega arith) (few_frames m has) at
-        ∙ omega arith
+  here : place_in_frame f ≡ place
+  here = place_from 0 (length (chunks m)) (chunks m) place f (omega arith) (few_frames m has) at
+      ∙ omega arith
 
-    joined : with_frame (frames_before m place) f ≡ frames_before m (place + 1)
-    joined =
-        with_part (λ n. ltb n place) (λ n. ltb n (place + 1)) 0 (length (chunks m)) (frames m) f
-        (frames_rise m has) one.at
-        (λ n other. beside n place (λ e. other (e ∙ sym here))) (lt-ltb _ _ (omega (arith, here)))
+  joined : with_frame (frames_before m place) f ≡ frames_before m (place + 1)
+  joined = with_part (λ n. ltb n place) (λ n. ltb n (place + 1)) 0 (length (chunks m)) (frames m)
+      f (frames_rise m has) one.at (λ n other. beside n place (λ e. other (e ∙ sym here)))
+      (lt-ltb _ _ (omega (arith, here)))

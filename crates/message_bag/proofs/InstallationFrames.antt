@@ -17,8 +17,7 @@ use Rattle.message_bag.proofs.InstallationSpelling.{fits_parts, fits_whole, inst
 -- ---- a message of one frame
 
 whole : (bytes : List ℕ) → chunks_behind_head (length bytes) bytes ≡ bytes ∷ []
-whole bytes =
-    let none : length bytes - length bytes ≡ 0 = omega arith in
+whole bytes = let none : length bytes - length bytes ≡ 0 = omega arith in
     rw (none, take_all (length bytes) bytes (omega arith)) refl
 
 head_of : (b : Body) (bytes : List ℕ) → tables_version b ≡ None → head_len b bytes ≡ length bytes
@@ -115,29 +114,25 @@ own_is : (fs : List (List ℕ)) (own : List ℕ) → slice_get fs 0 ≡ Some own
 own_is [] own at = absurd (cc at)
 own_is (f ∷ fs) own at = same_Some f own at
 
-own_header : (t : Tables) (fs : List (List ℕ)) (own : List ℕ) → CarryTables t fs → slice_get fs 0
-    ≡ Some own
-    → take 8 own ≡ n4.spell 0 ++ n4.spell (length fs)
-own_header t fs own carry at =
-    ap (take 8) (sym (own_is fs own at)) ∙ carry.header
-    ∙ ap (λ n. n4.spell 0 ++ n4.spell n) (sym carry.count)
+own_header : (t : Tables) (fs : List (List ℕ)) (own : List ℕ) → CarryTables t fs
+    → slice_get fs 0 ≡ Some own → take 8 own ≡ n4.spell 0 ++ n4.spell (length fs)
+own_header t fs own carry at = ap (take 8) (sym (own_is fs own at))
+    ∙ carry.header ∙ ap (λ n. n4.spell 0 ++ n4.spell n) (sym carry.count)
 
 pub own_long : (t : Tables) (fs : List (List ℕ)) (own : List ℕ) → CarryTables t fs → slice_get fs 0
     ≡ Some own → 8 ≤ length own
-own_long t fs own carry at =
-    omega (
-      arith,
-      length-take 8 own,
-      ap length (own_header t fs own carry at),
-      length-append (n4.spell 0) (n4.spell (length fs)),
-      length_n4 0,
-      length_n4 (length fs),
-    )
+own_long t fs own carry at = omega (
+  arith,
+  length-take 8 own,
+  ap length (own_header t fs own carry at),
+  length-append (n4.spell 0) (n4.spell (length fs)),
+  length_n4 0,
+  length_n4 (length fs),
+)
 
 first_put : (t : Tables) (fs : List (List ℕ)) (own before with_header after chunk : List ℕ)
-    → CarryTables t fs
-    → slice_get fs 0 ≡ Some own → with_header ≡ before ++ take 8 own → after ≡ with_header ++ chunk
-    → after ≡ before ++ frame 0 (length fs) chunk
+    → CarryTables t fs → slice_get fs 0 ≡ Some own → with_header ≡ before ++ take 8 own
+    → after ≡ with_header ++ chunk → after ≡ before ++ frame 0 (length fs) chunk
 unfolding frame
 first_put t fs own before with_header after chunk carry at put more =
     more ∙ ap (λ b. b ++ chunk) put ∙ append_assoc before (take 8 own) chunk
@@ -193,19 +188,17 @@ of_body to b first t fits are = absurd (lone (record { to = to; body = b }) firs
 is_installed : (first : List ℕ) (t : Tables) → AreOfMessage (first ∷ table_frames t) → IsInstalled first t
 is_installed first t of = of_body of.0.to of.0.body first t of.1.fits of.2
 
-pub has_front : (first bytes : List ℕ) (t : Tables) → AreOfMessage (first ∷ table_frames t) → bytes
-    ≡ chunk_of first
-    → (to : Place) × (boot : ℕ) × IsFront to boot bytes
-has_front first bytes t of is =
-    let i = is_installed first t of in (
-      i.to,
-      i.boot,
-      record {
-        fits = i.fits;
-        spelled = is ∙ ap chunk_of i.first_is ∙ chunk_of_frame 0 (frame_count t)
-            (spelled_front i.to i.boot);
-      },
-    )
+pub has_front : (first bytes : List ℕ) (t : Tables) → AreOfMessage (first ∷ table_frames t)
+    → bytes ≡ chunk_of first → (to : Place) × (boot : ℕ) × IsFront to boot bytes
+has_front first bytes t of is = let i = is_installed first t of in (
+  i.to,
+  i.boot,
+  record {
+    fits = i.fits;
+    spelled = is ∙ ap chunk_of i.first_is ∙ chunk_of_frame 0 (frame_count t)
+        (spelled_front i.to i.boot);
+  },
+)
 
 pub again_installed : (first bytes : List ℕ) (t : Tables) (to : Place) (boot : ℕ) → AreOfMessage (first ∷ table_frames t)
     → tables.fits t ≡ true → bytes ≡ chunk_of first → IsFront to boot bytes
@@ -225,6 +218,5 @@ again_installed first bytes t to boot of fits is front_is =
     (one_front bytes i.to to i.boot boot its front_is) whole
 
 pub long_installed : (first : List ℕ) (t : Tables) → AreOfMessage (first ∷ table_frames t) → 8 ≤ length first
-long_installed first t of =
-    let i = is_installed first t of in
+long_installed first t of = let i = is_installed first t of in
     omega (arith, ap length i.first_is, length_frame 0 (frame_count t) (spelled_front i.to i.boot))

@@ -21,27 +21,24 @@ spelled to boot t =
 
 length_front : (to : Place) (boot : ℕ) → length (spelled_front to boot) ≡ 6
 unfolding message_front
-length_front to boot =
-    omega (
-      arith,
-      length-append (receiver.spell to) (n1.spell 1 ++ n4.spell boot),
-      length-append (n1.spell 1) (n4.spell boot),
-      length_receiver to,
-      length_kind (Install boot (record { version = 0; parts = []; auth = [] })),
-      length_n4 boot,
-    )
+length_front to boot = omega (
+  arith,
+  length-append (receiver.spell to) (n1.spell 1 ++ n4.spell boot),
+  length-append (n1.spell 1) (n4.spell boot),
+  length_receiver to,
+  length_kind (Install boot (record { version = 0; parts = []; auth = [] })),
+  length_n4 boot,
+)
 
-cut_behind : (head rest : List ℕ) → length head ≡ 6
-    → chunks_behind_head 6 (head ++ rest) ≡ head
-    ∷ equal_chunks (div_ceil (length rest) most_of_chunk) most_of_chunk rest
+cut_behind : (head rest : List ℕ) → length head ≡ 6 → chunks_behind_head 6 (head ++ rest)
+    ≡ head ∷ equal_chunks (div_ceil (length rest) most_of_chunk) most_of_chunk rest
 cut_behind head rest len =
     let left : length (head ++ rest) - 6 ≡ length rest = omega (arith, length-append head rest) in
     rw (left, take_at head rest 6 len, drop_at head rest 6 len) refl
 
 pub installed : (to : Place) (boot : ℕ) (t : Tables)
     → frames (record { to = to; body = Install boot t }) ≡ install_frames to boot t
-installed to boot t =
-    ap frames_of (ap (chunks_behind_head 6) (spelled to boot t)
+installed to boot t = ap frames_of (ap (chunks_behind_head 6) (spelled to boot t)
     ∙ cut_behind (spelled_front to boot) (tables.spell t) (length_front to boot))
     ∙ ap (λ n. frame 0 n (spelled_front to boot) ∷ frames_from 1 n (table_chunks t))
     (sym (add-one (length (table_chunks t))))
@@ -60,12 +57,10 @@ fits_parts to boot t fits =
     (rw (parts.0, fields.0) refl, fields.1, all.1)
 
 pub fits_whole : (to : Place) (boot : ℕ) (t : Tables) → message_front.fits (to, (1, boot)) ≡ true
-    → tables.fits t ≡ true
-    → suits_receiver to (Install boot t) ≡ true
+    → tables.fits t ≡ true → suits_receiver to (Install boot t) ≡ true
     → message.fits (record { to = to; body = Install boot t }) ≡ true
 unfolding message body install_form message_front n1
-fits_whole to boot t head rest is =
-    let parts = and_parts (receiver.fits to) (n4.fits boot) head in
+fits_whole to boot t head rest is = let parts = and_parts (receiver.fits to) (n4.fits boot) head in
     rw (parts.0, parts.1, rest, is) refl
 
 -- it doesn't matter of which boot and which tables

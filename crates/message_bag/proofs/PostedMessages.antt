@@ -42,12 +42,10 @@ all_stay before after (first ∷ firsts) grown kept =
 
 pub still_kept : (before after : List (List (List ℕ))) (firsts : List First) → IsGrown before after
     → All (AreKeptFrames before) firsts → All (AreKeptFrames after) firsts
-still_kept before after firsts grown kept = λ k d lt.
-    let is = kept k d lt in
-    record {
-      there = there_still before after _ grown is.there;
-      are = subst AreOfMessage (sym (stays before after _ grown is.there)) is.are;
-    }
+still_kept before after firsts grown kept = λ k d lt. let is = kept k d lt in record {
+  there = there_still before after _ grown is.there;
+  are = subst AreOfMessage (sym (stays before after _ grown is.there)) is.are;
+}
 
 -- one more: the bag has the frames of its message at the end
 pub posted : (m : Message) (before after : List (List (List ℕ))) (firsts longer : List First) (first : First)
@@ -100,8 +98,7 @@ pub tables_are : (m : Message) (kept : List (List (List ℕ))) (number boot : �
     → m.body ≡ Install boot t → CarryTables t (get_or kept number [])
     → bytes ≡ frame 0 (length (get_or kept number [])) (spelled_front m.to boot)
     → frames_in kept (bytes, Some number) ≡ frames m
-tables_are m kept number boot t bytes carries carry is =
-    let fs = get_or kept number [] in
+tables_are m kept number boot t bytes carries carry is = let fs = get_or kept number [] in
     ap (λ f. f ∷ drop 1 fs) (is ∙ ap (λ n. frame 0 n (spelled_front m.to boot)) carry.count)
     ∙ ap (λ others. frame 0 (frame_count t) (spelled_front m.to boot) ∷ others) carry.behind.are
     ∙ sym (carried m boot t carries)

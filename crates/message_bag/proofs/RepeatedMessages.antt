@@ -12,11 +12,10 @@ use Rattle.message_bag.specs.declared.sharing_bag.PostedAdvert.{PostedAdvert}
 numbered_within : {X : Type 0} (xs : List X) (number : ℕ) → IsSome (item_numbered xs number)
     → (1 ≤ number) × (number ≤ length xs)
 numbered_within xs zero is = absurd cc
-numbered_within xs (suc place) is = by_one (slice_get xs place) refl is
-  where
-    by_one : (o : Option _) → slice_get xs place ≡ o → IsSome o → (1 ≤ suc place) × (suc place ≤ length xs)
-    by_one None at is = absurd cc
-    by_one (Some x) at is = let there = slice_get_within xs place x at in (omega arith, omega (arith, there))
+numbered_within xs (suc place) is = by_one (slice_get xs place) refl is where
+  by_one : (o : Option _) → slice_get xs place ≡ o → IsSome o → (1 ≤ suc place) × (suc place ≤ length xs)
+  by_one None at is = absurd cc
+  by_one (Some x) at is = let there = slice_get_within xs place x at in (omega arith, omega (arith, there))
 
 -- what had a number still has it
 still_numbered : {X : Type 0} (xs : List X) (x y : X) (number : ℕ) → item_numbered xs number ≡ Some x
@@ -42,8 +41,7 @@ repeated kept firsts longer bag (suc place) view more =
         → IfSome (option_map (frames_in kept) o) (λ fs. map (frames_in kept) firsts ++ frames_in kept (get_or firsts (suc place - 1) no_first) ∷ []
         ≡ map (frames_in kept) firsts ++ fs ∷ [])
     by_one None at = tt
-    by_one (Some first) at =
-        let same : suc place - 1 ≡ place = omega arith in
+    by_one (Some first) at = let same : suc place - 1 ≡ place = omega arith in
         ap (λ one. map (frames_in kept) firsts ++ frames_in kept one ∷ [])
         (ap (λ i. get_or firsts i no_first) same ∙ get_or_from_slice_get firsts place first no_first at)
 

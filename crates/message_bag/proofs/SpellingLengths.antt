@@ -26,14 +26,13 @@ length_kind b = refl
 -- the receiver and the kind, and then the fields
 pub length_message : (m : Message) → length (message.spell m) ≡ 2 + length (spelled_fields m.body)
 unfolding message body
-length_message m =
-    omega (
-      arith,
-      length-append (receiver.spell m.to) (n1.spell (kind_number m.body) ++ spelled_fields m.body),
-      length-append (n1.spell (kind_number m.body)) (spelled_fields m.body),
-      length_receiver m.to,
-      length_kind m.body,
-    )
+length_message m = omega (
+  arith,
+  length-append (receiver.spell m.to) (n1.spell (kind_number m.body) ++ spelled_fields m.body),
+  length-append (n1.spell (kind_number m.body)) (spelled_fields m.body),
+  length_receiver m.to,
+  length_kind m.body,
+)
 
 -- a body that brings no list
 abbrev pub is_alone : Body → Bool
@@ -74,17 +73,16 @@ action_len (Out port) = omega arith
 rule_fields : (version : ℕ) (w : WordValue) (rule : Option ℕ) (act : Action)
     → length (cache_rule_form.spell (version, (w, (rule, act)))) ≤ 46
 unfolding cache_rule_form
-rule_fields version w rule act =
-    omega (
-      arith,
-      length-append (n4.spell version) (word.spell w ++ (rule_name.spell rule ++ action.spell act)),
-      length-append (word.spell w) (rule_name.spell rule ++ action.spell act),
-      length-append (rule_name.spell rule) (action.spell act),
-      length_n4 version,
-      word_len w,
-      rule_len rule,
-      action_len act,
-    )
+rule_fields version w rule act = omega (
+  arith,
+  length-append (n4.spell version) (word.spell w ++ (rule_name.spell rule ++ action.spell act)),
+  length-append (word.spell w) (rule_name.spell rule ++ action.spell act),
+  length-append (rule_name.spell rule) (action.spell act),
+  length_n4 version,
+  word_len w,
+  rule_len rule,
+  action_len act,
+)
 
 pub fields_short : (b : Body) → is_alone b ≡ true → length (spelled_fields b) ≤ 46
 fields_short (OpenAt boot version) alone = omega (arith, two_numbers boot version)
@@ -99,13 +97,12 @@ fields_short b alone = absurd cc
 -- a stamp has at most sixteen words
 words_len : (touched : List WordValue) → length (flat_map word.spell touched) ≡ 32 * length touched
 words_len [] = refl
-words_len (w ∷ touched) =
-    omega (
-      arith,
-      length-append (word.spell w) (flat_map word.spell touched),
-      word_len w,
-      words_len touched,
-    )
+words_len (w ∷ touched) = omega (
+  arith,
+  length-append (word.spell w) (flat_map word.spell touched),
+  word_len w,
+  words_len touched,
+)
 
 pub few_words : (list : List WordValue) → touched.fits list ≡ true → length list ≤ 16
 unfolding touched touched_count
@@ -120,33 +117,30 @@ length_n1 n = refl
 
 touched_len : (list : List WordValue) → length list ≤ 16 → length (touched.spell list) ≤ 513
 unfolding touched touched_count
-touched_len list few =
-    omega (
-      arith,
-      length-append (n1.spell (length list)) (flat_map word.spell list),
-      length_n1 (length list),
-      words_len list,
-      few,
-    )
+touched_len list few = omega (
+  arith,
+  length-append (n1.spell (length list)) (flat_map word.spell list),
+  length_n1 (length list),
+  words_len list,
+  few,
+)
 
 pub stamp_short : (boot version : ℕ) (list : List WordValue) → length list ≤ 16
     → length (spelled_fields (Stamp boot version list)) ≤ 521
 unfolding stamp_form
-stamp_short boot version list few =
-    omega (
-      arith,
-      length-append (n4.spell boot) (n4.spell version ++ touched.spell list),
-      length-append (n4.spell version) (touched.spell list),
-      length_n4 boot,
-      length_n4 version,
-      touched_len list few,
-    )
+stamp_short boot version list few = omega (
+  arith,
+  length-append (n4.spell boot) (n4.spell version ++ touched.spell list),
+  length-append (n4.spell version) (touched.spell list),
+  length_n4 boot,
+  length_n4 version,
+  touched_len list few,
+)
 
 -- of an installation there is the boot
 pub install_long : (boot : ℕ) (t : Tables) → 4 ≤ length (spelled_fields (Install boot t))
 unfolding install_form
-install_long boot t =
-    omega (arith, length-append (n4.spell boot) (tables.spell t), length_n4 boot)
+install_long boot t = omega (arith, length-append (n4.spell boot) (tables.spell t), length_n4 boot)
 
 -- so a message without tables is short
 sent_short : (m : Message) → length (spelled_fields m.body) ≤ 521

@@ -31,12 +31,10 @@ begin head rest len =
     let bytes = head ++ rest in
     let long : length bytes ≡ 4 + length rest = omega (arith, length-append head rest) in
     let some : div_ceil (length bytes) most_of_chunk
-    ≡ suc (div_ceil (4 + length rest) most_of_chunk - 1) =
-    omega (
+    ≡ suc (div_ceil (4 + length rest) most_of_chunk - 1) = omega (
       arith,
       ap (λ n. div_ceil n most_of_chunk) long,
-      div_ceil_times (length bytes)
-          most_of_chunk (omega arith),
+      div_ceil_times (length bytes) most_of_chunk (omega arith),
     ) in
     let whole : most_of_chunk ≡ length head + 16372 = omega arith in
     let first : take most_of_chunk bytes ≡ head ++ take 16372 rest =
@@ -53,8 +51,7 @@ chunks_are : (t : Tables) → table_chunks t ≡ (n4.spell t.version ++ take 163
     ∷ others (rows t)
 chunks_are t =
     ap (λ bytes. equal_chunks (div_ceil (length bytes) most_of_chunk) most_of_chunk bytes)
-    (spelled t)
-    ∙ begin (n4.spell t.version) (rows t) (length_n4 t.version)
+    (spelled t) ∙ begin (n4.spell t.version) (rows t) (length_n4 t.version)
 
 -- ---- the frames
 

@@ -17,8 +17,7 @@ module _ {E : Type 0} (all : List (List (List ℕ))) (states : List MessageState
       → IfOk r (λ answer. is_some answer ≡ is_post_deliverable (zip all states) number)
   found_known (Err error) none = tt
   found_known (Ok (Some message)) none = sym is ∙ deliverable_same all states number same
-  found_known (Ok None) none =
-      let within = deliverable_within states number is in
+  found_known (Ok None) none = let within = deliverable_within states number is in
       elim (none.0 refl) [
         | inl zero_is ↦ absurd (omega (arith, zero_is, within.0))
         | inr past ↦ absurd (omega (arith, past, within.1, same))

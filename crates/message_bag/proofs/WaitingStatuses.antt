@@ -5,9 +5,8 @@ use Rattle.message_bag.proofs.NumberedPosts.{length_changed, numbered_changed, n
 use Rattle.message_bag.specs.Exports.{ArePassed, IsFirstWaiting, is_deliverable, is_waiting, item_numbered, may_be_delivered, next_waiting, waiting_status, waits, with_changed}
 use Rattle.message_bag.specs.declared.deliveries.MessageState.{MessageState}
 
-waits_as : (statuses after : List MessageState) (number : ℕ) (b : Bool)
-    → item_numbered after number ≡ item_numbered statuses number → is_waiting statuses number ≡ b
-    → is_waiting after number ≡ b
+waits_as : (statuses after : List MessageState) (number : ℕ) (b : Bool) → item_numbered after number
+    ≡ item_numbered statuses number → is_waiting statuses number ≡ b → is_waiting after number ≡ b
 waits_as statuses after number b same is = ap (λ o. option_map_or waits o false) same ∙ is
 
 status_before : (statuses : List MessageState) (status : MessageState) (number : ℕ) → number ≤ length statuses
@@ -23,9 +22,8 @@ status_last statuses status number last = numbered_pushed statuses status number
     (eq-eqb number (length statuses + 1) last)
 
 -- a status behind the others leaves what waits before it, and waits itself
-pub pushed_passed : (passed : ℕ) (statuses : List MessageState)
-    → length statuses + 1 < 2 ^ 32 → ArePassed passed statuses
-    → ArePassed passed (statuses ++ waiting_status ∷ [])
+pub pushed_passed : (passed : ℕ) (statuses : List MessageState) → length statuses + 1 < 2 ^ 32
+    → ArePassed passed statuses → ArePassed passed (statuses ++ waiting_status ∷ [])
 pushed_passed passed statuses few are =
     let after = statuses ++ waiting_status ∷ [] in
     let longer : length after ≡ length statuses + 1 = length-append statuses (waiting_status ∷ [])
@@ -54,8 +52,7 @@ without_last n all before is last =
 
 -- so it is without a status that waits behind the others
 pub taken_back : (passed : ℕ) (statuses : List MessageState)
-    → ArePassed passed (statuses ++ waiting_status ∷ [])
-    → ArePassed passed statuses
+    → ArePassed passed (statuses ++ waiting_status ∷ []) → ArePassed passed statuses
 taken_back passed statuses are =
     let longer = length-append statuses (waiting_status ∷ []) in
     let within : passed ≤ length statuses = elim (cases_lt (length statuses) passed) [
@@ -65,8 +62,7 @@ taken_back passed statuses are =
           (status_last statuses waiting_status (length statuses + 1) refl) in
           let not_last = are.none (length statuses + 1) (omega (arith, past)) in cc)
       | inr within ↦ within
-    ] in
-    record {
+    ] in record {
       few = omega (arith, are.few, longer);
       within = within;
       here = λ below. waits_as (statuses ++ waiting_status ∷ []) statuses (passed + 1) true
@@ -116,9 +112,8 @@ pub changed_from : (change : MessageState → MessageState) (before statuses : L
     → IsTrue (is_deliverable statuses number) → before ≡ statuses
     → status ≡ get_or before (number - 1) status
     → set statuses (number - 1) (change status) ≡ with_changed change statuses number
-changed_from change before statuses number status is same here =
-    changed_at change statuses number status is
-    (subst (λ statuses. status ≡ get_or statuses (number - 1) status) same here)
+changed_from change before statuses number status is same here = changed_at change statuses number
+    status is (subst (λ statuses. status ≡ get_or statuses (number - 1) status) same here)
 
 -- the messages up to the first that waits have been passed
 pub changed_passed : (change : MessageState → MessageState) (passed number first : ℕ)
@@ -137,8 +132,7 @@ changed_passed change passed number first before statuses seen status still are 
     let long : length after ≡ length before =
     ap length changed ∙ length_changed change statuses number ∙ sym (ap length same) in
     let is : IsFirstWaiting after passed first =
-    subst (λ statuses. IsFirstWaiting statuses passed first) sees found in
-    record {
+    subst (λ statuses. IsFirstWaiting statuses passed first) sees found in record {
       few = omega (arith, are.few);
       within = is.within (omega (arith, are.within));
       here = is.here;
@@ -155,20 +149,17 @@ found_at : (p : ℕ → Bool) (from n at : ℕ)
     → ((number : ℕ) → from ≤ number → number < at → p number ≡ false)
     → from ≤ at → at < from + n → p at ≡ true → find p (range_with_len from n) ≡ Some at
 found_at p from zero at none above below here = absurd (omega arith)
-found_at p from (suc n) at none above below here =
-    elim (cases_eq from at) [
-      | inl same ↦ now same
-      | inr other ↦ later (none from (omega arith) (omega arith))
-          (found_at p (from + 1) n at (λ number past before. none number (omega arith) before)
-          (omega arith) (omega arith) here)
-    ]
-  where
-    now : from ≡ at → find p (range_with_len from (suc n)) ≡ Some at
-    now same = grind (arith, common_steps)
+found_at p from (suc n) at none above below here = elim (cases_eq from at) [
+  | inl same ↦ now same
+  | inr other ↦ later (none from (omega arith) (omega arith)) (found_at p (from + 1) n at
+      (λ number past before. none number (omega arith) before) (omega arith) (omega arith) here)
+] where
+  now : from ≡ at → find p (range_with_len from (suc n)) ≡ Some at
+  now same = grind (arith, common_steps)
 
-    later : p from ≡ false → find p (range_with_len (from + 1) n) ≡ Some at
-        → find p (range_with_len from (suc n)) ≡ Some at
-    later not_here rest = grind (arith, common_steps)
+  later : p from ≡ false → find p (range_with_len (from + 1) n) ≡ Some at
+      → find p (range_with_len from (suc n)) ≡ Some at
+  later not_here rest = grind (arith, common_steps)
 
 not_found : (p : ℕ → Bool) (from n : ℕ)
     → ((number : ℕ) → from ≤ number → number < from + n → p number ≡ false)
@@ -200,11 +191,10 @@ searched {passed = passed} {start = start} {place = place} from are begins first
 none_before : {statuses : List MessageState} {passed from start place : ℕ} → IsSearched statuses passed from start place
     → (number : ℕ) → from ≤ number → number ≤ place → is_waiting statuses number ≡ false
 none_before is zero above below = refl
-none_before {passed = passed} is (suc at) above below =
-    elim (cases_lt passed (suc at)) [
-      | inl past ↦ is.first.none (suc at) (omega (arith, is.begins)) below
-      | inr within ↦ is.are.none (suc at) within
-    ]
+none_before {passed = passed} is (suc at) above below = elim (cases_lt passed (suc at)) [
+  | inl past ↦ is.first.none (suc at) (omega (arith, is.begins)) below
+  | inr within ↦ is.are.none (suc at) within
+]
 
 pub next_is : {statuses : List MessageState} {passed from start place : ℕ} → IsSearched statuses passed from start place
     → place < length statuses → Some (place + 1) ≡ next_waiting statuses from
@@ -215,6 +205,5 @@ next_is {statuses = statuses} {from = from} {place = place} is within =
 
 pub next_is_none : {statuses : List MessageState} {passed from start place : ℕ} → IsSearched statuses passed from start place
     → length statuses ≤ place → None ≡ next_waiting statuses from
-next_is_none {statuses = statuses} {from = from} is past =
-    sym (not_found (is_waiting statuses) from (length statuses + 1 - from)
-    (λ number above below. none_before is number above (omega arith)))
+next_is_none {statuses = statuses} {from = from} is past = sym (not_found (is_waiting statuses) from
+    (length statuses + 1 - from) (λ number above below. none_before is number above (omega arith)))

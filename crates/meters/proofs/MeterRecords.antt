@@ -45,8 +45,7 @@ module _ {M : Type 0} (seen : M → Seen) (one : ℕ × Leaving) where
 -- ---- more leavings
 
 -- the records of the earlier leavings come first
-pub gone_on : (left more : PortLeavings) (meters : List Seen)
-    → gone_after (left ++ more) meters
+pub gone_on : (left more : PortLeavings) (meters : List Seen) → gone_after (left ++ more) meters
     ≡ gone_after left meters ++ gone_after more (meters_after left meters)
 gone_on [] more meters = ap (gone_after more) (sym (kept-nothing meters))
 gone_on (one ∷ left) more meters =

@@ -22,12 +22,10 @@ holding-append left more meter =
 is_over_within-cons : (one : Leaving) (more : List Leaving) (meter : Seen)
     → is_ended_within (one ∷ more) meter
     ≡ (has_ended (meter_with (one ∷ []) meter) || is_ended_within more (meter_with (one ∷ []) meter))
-is_over_within-cons one more meter =
-    ap (λ rest. has_ended (meter_with (one ∷ []) meter) || rest) (list_any-shift
-    (λ k. has_ended (meter_with (take k (one ∷ more)) meter))
-    (λ k. has_ended (meter_with (take k more) (meter_with (one ∷ []) meter)))
-    (λ k. rw add-one (ap has_ended (holding-append (one ∷ []) (take k more) meter)))
-    1 (length more))
+is_over_within-cons one more meter = ap (λ rest. has_ended (meter_with (one ∷ []) meter) || rest)
+    (list_any-shift (λ k. has_ended (meter_with (take k (one ∷ more)) meter))
+    (λ k. has_ended (meter_with (take k more) (meter_with (one ∷ []) meter))) (λ k. rw add-one
+    (ap has_ended (holding-append (one ∷ []) (take k more) meter))) 1 (length more))
 
 is_over_within-append : (left more : List Leaving) (meter : Seen)
     → is_ended_within (left ++ more) meter
@@ -74,8 +72,7 @@ pub kept-one : (left : PortLeavings) (meter : Seen)
     → meters_after left (meter ∷ []) ≡ cond (is_ended_within (leavings_of meter.port left) meter) []
     (meter_with (leavings_of meter.port left) meter ∷ [])
 unfolding meters_after
-kept-one left meter =
-    map-cond (λ m. meter_with (leavings_of m.port left) m) meter
+kept-one left meter = map-cond (λ m. meter_with (leavings_of m.port left) m) meter
     (is_ended_within (leavings_of meter.port left) meter)
 
 map-chosen : {M : Type 0} (seen : M → Seen) (first : M) (chosen : Bool) (some : List M)
@@ -115,21 +112,19 @@ over_after_one leaving old new over is_new is_over_now =
 
 pub kept-stay : (port : ℕ) (leaving : Leaving) (old new : Seen) → old.port ≡ port
     → IsNoted leaving old new stay.Stay → meters_after ((port, leaving) ∷ []) (old ∷ []) ≡ new ∷ []
-kept-stay port leaving old new here noted =
-    rw (
-      kept-one ((port, leaving) ∷ []) old,
-      leavings_here port leaving old here,
-      over_after_one leaving old new false noted.0 noted.1,
-    ) (ap (λ m. m ∷ []) (sym noted.0))
+kept-stay port leaving old new here noted = rw (
+  kept-one ((port, leaving) ∷ []) old,
+  leavings_here port leaving old here,
+  over_after_one leaving old new false noted.0 noted.1,
+) (ap (λ m. m ∷ []) (sym noted.0))
 
 pub kept-leave : (port : ℕ) (leaving : Leaving) (old new : Seen) → old.port ≡ port
     → IsNoted leaving old new stay.Leave → meters_after ((port, leaving) ∷ []) (old ∷ []) ≡ []
-kept-leave port leaving old new here noted =
-    rw (
-      kept-one ((port, leaving) ∷ []) old,
-      leavings_here port leaving old here,
-      over_after_one leaving old new true noted.0 noted.1,
-    ) refl
+kept-leave port leaving old new here noted = rw (
+  kept-one ((port, leaving) ∷ []) old,
+  leavings_here port leaving old here,
+  over_after_one leaving old new true noted.0 noted.1,
+) refl
 
 pub kept_elsewhere : (port : ℕ) (leaving : Leaving) (meter : Seen) → meter.port ≢ port
     → meters_after ((port, leaving) ∷ []) (meter ∷ []) ≡ meter ∷ []
@@ -211,8 +206,7 @@ pub kept_on : (left more : PortLeavings) (meters : List Seen)
     → meters_after (left ++ more) meters ≡ meters_after more (meters_after left meters)
 unfolding meters_after
 kept_on left more [] = refl
-kept_on left more (meter ∷ meters) =
-    let both = left ++ more in
+kept_on left more (meter ∷ meters) = let both = left ++ more in
     kept-append both (meter ∷ []) meters
     ∙ ap (λ first. first ++ meters_after both meters) (kept_on_one left more meter)
     ∙ ap (λ rest. meters_after more (meters_after left (meter ∷ [])) ++ rest)

@@ -26,8 +26,7 @@ eqb_turn a b = grind (arith, nat_tests)
 any_with : (mask p : ℕ) (ports : List ℕ) → list_any (in_mask (bit_or mask (2 ^ p))) ports
     ≡ (list_any (in_mask mask) ports || list_any (nat_eq p) ports)
 any_with mask p [] = refl
-any_with mask p (q ∷ ports) =
-    rw (in_mask_with mask p q, any_with mask p ports, eqb_turn q p)
+any_with mask p (q ∷ ports) = rw (in_mask_with mask p q, any_with mask p ports, eqb_turn q p)
     (or_swap (in_mask mask q) (nat_eq p q) (list_any (in_mask mask) ports)
     (list_any (nat_eq p) ports))
 
@@ -47,8 +46,7 @@ one_more false false seen false = refl
 pub are_fresh_is : (mask : ℕ) (ports : List ℕ)
     → are_fresh mask ports ≡ (are_distinct ports && not (list_any (in_mask mask) ports))
 are_fresh_is mask [] = refl
-are_fresh_is mask (p ∷ ports) =
-    rw (are_fresh_is (bit_or mask (2 ^ p)) ports, any_with mask p ports)
+are_fresh_is mask (p ∷ ports) = rw (are_fresh_is (bit_or mask (2 ^ p)) ports, any_with mask p ports)
     (one_more (in_mask mask p) (are_distinct ports) (list_any (in_mask mask) ports)
     (list_any (nat_eq p) ports))
 
@@ -103,12 +101,11 @@ pub ports_tested : (table : Members) (d : Data) (vs : List Value) (integers port
     → ports ≡ list_all (λ v. is_some (port_read (view v))) vs
     → ports_at table ≡ require integers refusal.WrongType
     (require ports refusal.Range (Ok (filter_map port_read (map view vs))))
-ports_tested table d vs integers ports there values are_integers are_ports =
-    rw (
-      ← there,
-      values,
-      list_all-map (λ port. is_some (as_integer port)) view vs,
-      list_all-map (λ port. is_some (port_read port)) view vs,
-      are_integers,
-      are_ports,
-    ) refl
+ports_tested table d vs integers ports there values are_integers are_ports = rw (
+  ← there,
+  values,
+  list_all-map (λ port. is_some (as_integer port)) view vs,
+  list_all-map (λ port. is_some (port_read port)) view vs,
+  are_integers,
+  are_ports,
+) refl

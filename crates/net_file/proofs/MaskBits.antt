@@ -13,11 +13,10 @@ in_mask_or = masks.has-or
 
 pub in_mask_pow : (p k : ℕ) → in_mask (2 ^ p) k ≡ nat_eq k p
 unfolding has
-in_mask_pow p k =
-    elim (cases_eq k p) [
-      | inl same ↦ rw (eq-eqb k p same, same) (masks.has-pow_same p)
-      | inr other ↦ rw (ne_eqb k p other) (masks.has-pow_other p k other)
-    ]
+in_mask_pow p k = elim (cases_eq k p) [
+  | inl same ↦ rw (eq-eqb k p same, same) (masks.has-pow_same p)
+  | inr other ↦ rw (ne_eqb k p other) (masks.has-pow_other p k other)
+]
 
 -- one more bit
 pub in_mask_with : (mask p k : ℕ) → in_mask (bit_or mask (2 ^ p)) k ≡ (in_mask mask k || nat_eq k p)

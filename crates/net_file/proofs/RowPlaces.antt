@@ -45,17 +45,16 @@ plain_bytes (b ∷ bytes) h (suc k) d within = plain_bytes bytes
 
 plain_label : (name : List ℕ) → is_label name ≡ true → All IsPlainByte name
 plain_label [] h = absurd (false≢true h)
-plain_label (b ∷ more) h = at
-  where
-    parts : (is_ascii_alphabetic b && are_name_bytes more ≡ true) × (nat_le (length more) 15 ≡ true)
-    parts = and_parts (is_ascii_alphabetic b && are_name_bytes more) (nat_le (length more) 15) h
+plain_label (b ∷ more) h = at where
+  parts : (is_ascii_alphabetic b && are_name_bytes more ≡ true) × (nat_le (length more) 15 ≡ true)
+  parts = and_parts (is_ascii_alphabetic b && are_name_bytes more) (nat_le (length more) 15) h
 
-    letters : (is_ascii_alphabetic b ≡ true) × (are_name_bytes more ≡ true)
-    letters = and_parts (is_ascii_alphabetic b) (are_name_bytes more) parts.0
+  letters : (is_ascii_alphabetic b ≡ true) × (are_name_bytes more ≡ true)
+  letters = and_parts (is_ascii_alphabetic b) (are_name_bytes more) parts.0
 
-    at : All IsPlainByte (b ∷ more)
-    at zero d within = plain_letter b letters.0
-    at (suc k) d within = plain_bytes more letters.1 k d (omega arith)
+  at : All IsPlainByte (b ∷ more)
+  at zero d within = plain_letter b letters.0
+  at (suc k) d within = plain_bytes more letters.1 k d (omega arith)
 
 label_size : (name : List ℕ) → is_label name ≡ true → (1 ≤ length name) × (length name ≤ 16)
 label_size [] h = absurd (false≢true h)
@@ -75,8 +74,7 @@ name_parts name h =
 
 earlier_apart : (net : Net) (s k : ℕ) (row : SwitchRow) → IsNet net
     → slice_get net.switches s ≡ Some row → k < s → AreApart (get_or net.switches k row) row
-earlier_apart net s k row sound there before =
-    subst (AreApart (get_or net.switches k row))
+earlier_apart net s k row sound there before = subst (AreApart (get_or net.switches k row))
     (get_or_from_slice_get net.switches s row row there)
     (sound.apart k s row before (slice_get_within net.switches s row there))
 
@@ -89,9 +87,8 @@ names = record {
   number = λ net s row sound there.
       position_at (λ (other : SwitchRow). bytes_eq other.name row.name) net.switches s row there
       (same_bytes row.name) (λ k before. (earlier_apart net s k row sound there before).names);
-  named = λ switches name s e.
-      let (row, there, same) = position_row (λ (row : SwitchRow). bytes_eq row.name name) switches s
-      no_switch e in
+  named = λ switches name s e. let (row, there, same) =
+      position_row (λ (row : SwitchRow). bytes_eq row.name name) switches s no_switch e in
       (row, there, (bytes_eq-Decides row.name name).0 same);
   below = λ switches name s e.
       (position-Some (λ (row : SwitchRow). bytes_eq row.name name) switches s no_switch e).0;
@@ -101,32 +98,27 @@ names = record {
 -- ---- ports
 
 port_small : (net : Net) (port s : ℕ) → IsNet net → owner_of net.switches port ≡ Some s → port < 64
-port_small net port s sound e =
-    elim (cases_lt port 64) [
-      | inl small ↦ small
-      | inr past ↦ absurd (none_is_some (sym (no_owner net.switches port sound.switches past) ∙ e))
-    ]
-  where
-    none_is_some : ◌≡◌ {A = Option ℕ} None (Some s) → ⊥
-    none_is_some h = false≢true (ap is_some h)
+port_small net port s sound e = elim (cases_lt port 64) [
+  | inl small ↦ small
+  | inr past ↦ absurd (none_is_some (sym (no_owner net.switches port sound.switches past) ∙ e))
+] where
+  none_is_some : ◌≡◌ {A = Option ℕ} None (Some s) → ⊥
+  none_is_some h = false≢true (ap is_some h)
 
 port_bits : (net : Net) (port : ℕ) → IsNet net → in_mask (port_mask net.switches) port ≡ is_some
     (owner_of net.switches port)
-port_bits net port sound =
-    elim (cases_lt port 64) [
-      | inl small ↦ in_mask_of (have_port net.switches) port small
-          ∙ sym (some_position (has_port port) net.switches)
-      | inr past ↦ in_mask_past _ port (mask_of_lt (have_port net.switches)) past
-          ∙ sym (ap is_some (no_owner net.switches port sound.switches past))
-    ]
+port_bits net port sound = elim (cases_lt port 64) [
+  | inl small ↦ in_mask_of (have_port net.switches) port small
+      ∙ sym (some_position (has_port port) net.switches)
+  | inr past ↦ in_mask_past _ port (mask_of_lt (have_port net.switches)) past
+      ∙ sym (ap is_some (no_owner net.switches port sound.switches past))
+]
 
 pub ports : PortLaws
 ports = record {
-  owner = λ net port s row sound there has.
-      position_at (has_port port) net.switches s row there has
-      (λ k before. false_from_ne_true _
-      (λ shared. both_ways _ ((earlier_apart net s k row sound there before).ports port shared)
-      has));
+  owner = λ net port s row sound there has. position_at (has_port port) net.switches s row there has
+      (λ k before. false_from_ne_true _ (λ shared. both_ways _
+      ((earlier_apart net s k row sound there before).ports port shared) has));
   has = λ switches port s e. position_row (has_port port) switches s no_switch e;
   below = λ switches port s e. (position-Some (has_port port) switches s no_switch e).0;
   small = port_small;
@@ -137,11 +129,10 @@ ports = record {
 
 pub linked_turn : (links : List LinkRow) (s x : ℕ) → are_linked links s x ≡ are_linked links x s
 linked_turn [] s x = refl
-linked_turn (link ∷ links) s x =
-    rw (
-      or_comm (link.one == s && link.two == x) (link.one == x && link.two == s),
-      linked_turn links s x,
-    ) refl
+linked_turn (link ∷ links) s x = rw (
+  or_comm (link.one == s && link.two == x) (link.one == x && link.two == s),
+  linked_turn links s x,
+) refl
 
 not_joined : (count s : ℕ) (link : LinkRow) → IsLink count link → joins s s link ≡ false
 not_joined count s link sound = false_from_ne_true _ (λ both.
@@ -149,8 +140,7 @@ not_joined count s link sound = false_from_ne_true _ (λ both.
     [ inl here ↦ apart here | inr here ↦ apart here ])
   where
     apart : (link.one == s && link.two == s) ≡ true → ⊥
-    apart here =
-        let (one, two) = and_parts (link.one == s) (link.two == s) here in
+    apart here = let (one, two) = and_parts (link.one == s) (link.two == s) here in
         sound.apart (eqb-true link.one s one ∙ sym (eqb-true link.two s two))
 
 pub joined_below : (count s x : ℕ) (link : LinkRow) → IsLink count link → joins s x link ≡ true
@@ -176,12 +166,10 @@ links = record {
   not_itself = λ net s sound. list_any_none (joins s s) net.links
       (λ k d within. not_joined (length net.switches) s _ (sound.links k d within));
   below = linked_below;
-  mask = λ net s sound k.
-      elim (cases_lt k 64) [
-        | inl small ↦ in_mask_of (are_linked net.links s) k small
-        | inr past ↦ in_mask_past _ k (mask_of_lt (are_linked net.links s)) past
-            ∙ sym (false_from_ne_true _
-            (λ linked. absurd (omega
-            (arith, linked_below net s k sound linked, sound.few_switches))))
-      ];
+  mask = λ net s sound k. elim (cases_lt k 64) [
+    | inl small ↦ in_mask_of (are_linked net.links s) k small
+    | inr past ↦ in_mask_past _ k (mask_of_lt (are_linked net.links s)) past
+        ∙ sym (false_from_ne_true _ (λ linked. absurd
+        (omega (arith, linked_below net s k sound linked, sound.few_switches))))
+  ];
 }

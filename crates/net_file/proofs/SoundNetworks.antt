@@ -57,38 +57,34 @@ number_range low high d n e =
 
 setting_range : (table : Members) (key : List ℕ) (low high default n : ℕ) → low ≤ default
     → default ≤ high → number_or_default table key low high default ≡ Ok n → (low ≤ n) × (n ≤ high)
-setting_range table key low high default n from to e = at (get_member key table) e
-  where
-    at : (o : Option Data) → option_map_or (number_stated low high) o (Ok default) ≡ Ok n → (low ≤ n)
-        × (n ≤ high)
-    at None e = let same = ok_value default n e in (rw (← same) from, rw (← same) to)
-    at (Some d) e = number_range low high d n e
+setting_range table key low high default n from to e = at (get_member key table) e where
+  at : (o : Option Data) → option_map_or (number_stated low high) o (Ok default) ≡ Ok n → (low ≤ n)
+      × (n ≤ high)
+  at None e = let same = ok_value default n e in (rw (← same) from, rw (← same) to)
+  at (Some d) e = number_range low high d n e
 
 name_is : (keys : Members) (key name : List ℕ) → at_key name_in (Err refusal.MissingKey) keys key
     ≡ Ok name → is_name name ≡ true
-name_is keys key name e = at (get_member key keys) e
-  where
-    at : (o : Option Data) → option_map_or name_in o (Err refusal.MissingKey) ≡ Ok name
-        → is_name name ≡ true
-    at None e = not_ok refusal.MissingKey name e
-    at (Some d) e =
-        let (text, is, rest) = with_value_ok (of_type (as_str d))
-        (λ text. require (is_name text) refusal.Range (Ok text)) name e in
-        let (valid, same) = require_ok (is_name text) refusal.Range (Ok text) name rest in
-        rw (← ok_value text name same) valid
+name_is keys key name e = at (get_member key keys) e where
+  at : (o : Option Data) → option_map_or name_in o (Err refusal.MissingKey) ≡ Ok name
+      → is_name name ≡ true
+  at None e = not_ok refusal.MissingKey name e
+  at (Some d) e =
+      let (text, is, rest) = with_value_ok (of_type (as_str d))
+      (λ text. require (is_name text) refusal.Range (Ok text)) name e in
+      let (valid, same) = require_ok (is_name text) refusal.Range (Ok text) name rest in
+      rw (← ok_value text name same) valid
 
 -- ---- rows
 
 -- what each step keeps holds of the rows in the end
-rows_kept : {X : Type 0} (P : List X → Type 0) (base : ℕ)
-    (read : List X → Data → Result X NetRefusal)
+rows_kept : {X : Type 0} (P : List X → Type 0)
+    (base : ℕ) (read : List X → Data → Result X NetRefusal)
     → ((earlier : List X) (d : Data) (row : X) → P earlier → read earlier d ≡ Ok row
-    → P (earlier ++ row ∷ []))
-    → (earlier : List X) (ds : List Data) (rows : List X) → P earlier
+    → P (earlier ++ row ∷ [])) → (earlier : List X) (ds : List Data) (rows : List X) → P earlier
     → rows_read base read earlier ds ≡ Ok rows → P rows
 rows_kept P base read step earlier [] rows start e = subst P (ok_value earlier rows e) start
-rows_kept {X} P base read step earlier (d ∷ ds) rows start e =
-    elim (read earlier d) as
+rows_kept {X} P base read step earlier (d ∷ ds) rows start e = elim (read earlier d) as
     (λ (r : Result X NetRefusal). read earlier d ≡ r
     → with_value (in_row (base + (length earlier + 1)) r)
     (λ row. rows_read base read (earlier ++ row ∷ []) ds) ≡ Ok rows → P rows) [
@@ -103,8 +99,7 @@ rows_count : {X : Type 0} (base : ℕ) (read : List X → Data → Result X NetR
     (ds : List Data) (rows : List X) → rows_read base read earlier ds ≡ Ok rows
     → length rows ≡ length earlier + length ds
 rows_count base read earlier [] rows e = rw (← ok_value earlier rows e) (omega arith)
-rows_count {X} base read earlier (d ∷ ds) rows e =
-    elim (read earlier d) as
+rows_count {X} base read earlier (d ∷ ds) rows e = elim (read earlier d) as
     (λ (r : Result X NetRefusal). with_value (in_row (base + (length earlier + 1)) r)
     (λ row. rows_read base read (earlier ++ row ∷ []) ds) ≡ Ok rows
     → length rows ≡ length earlier + length (d ∷ ds)) [
@@ -180,17 +175,14 @@ AreSwitches rows = All IsSwitchRow rows × AllPairs AreApart rows
 
 switches_push : (earlier : List SwitchRow) (d : Data) (row : SwitchRow) → AreSwitches earlier
     → switch_read earlier d ≡ Ok row → AreSwitches (earlier ++ row ∷ [])
-switches_push earlier d row sound e =
-    let new = switch_new earlier d row e in (
-      All-push IsSwitchRow earlier row sound.0 new.switch,
-      all_pairs_push AreApart earlier row sound.1 (λ k x within. record {
-        names = none_passes (λ other. bytes_eq other.name row.name) earlier k x within
-            new.name;
-        ports = λ port has. false_from_ne_true _
-            (λ shared. both_ways _ (new.ports port shared)
-            (list_any_at (has_port port) earlier k x within has));
-      }),
-    )
+switches_push earlier d row sound e = let new = switch_new earlier d row e in (
+  All-push IsSwitchRow earlier row sound.0 new.switch,
+  all_pairs_push AreApart earlier row sound.1 (λ k x within. record {
+    names = none_passes (λ other. bytes_eq other.name row.name) earlier k x within new.name;
+    ports = λ port has. false_from_ne_true _ (λ shared. both_ways _ (new.ports port shared)
+        (list_any_at (has_port port) earlier k x within has));
+  }),
+)
 
 -- ---- links
 
@@ -202,13 +194,12 @@ no_switch = record { name = []; ports = 0; room = 0 }
 
 end_below : (switches : List SwitchRow) (name : List ℕ) (n : ℕ) → end_read switches name ≡ Ok n
     → n < length switches
-end_below switches name n e = at (switch_number switches name) refl e
-  where
-    at : (o : Option ℕ) → switch_number switches name ≡ o → ok_or o refusal.UnknownName ≡ Ok n
-        → n < length switches
-    at None is h = not_ok refusal.UnknownName n h
-    at (Some k) is h = rw (← ok_value k n h)
-        (position-Some (λ (row : SwitchRow). bytes_eq row.name name) switches k no_switch is).0
+end_below switches name n e = at (switch_number switches name) refl e where
+  at : (o : Option ℕ) → switch_number switches name ≡ o → ok_or o refusal.UnknownName ≡ Ok n
+      → n < length switches
+  at None is h = not_ok refusal.UnknownName n h
+  at (Some k) is h = rw (← ok_value k n h)
+      (position-Some (λ (row : SwitchRow). bytes_eq row.name name) switches k no_switch is).0
 
 -- a link that joins no switches that an earlier one joins
 record IsNewLink (count : ℕ) (earlier : List LinkRow) (link : LinkRow) : Type 0 where
@@ -238,12 +229,11 @@ link_new switches earlier d link e =
 links_push : (switches : List SwitchRow) (earlier : List LinkRow) (d : Data) (link : LinkRow)
     → AreLinks (length switches) earlier → link_of switches earlier d ≡ Ok link
     → AreLinks (length switches) (earlier ++ link ∷ [])
-links_push switches earlier d link sound e =
-    let new = link_new switches earlier d link e in (
-      All-push (IsLink (length switches)) earlier link sound.0 new.sound,
-      all_pairs_push AreOther earlier link sound.1
-          (λ k x within. none_passes (joins link.one link.two) earlier k x within new.other),
-    )
+links_push switches earlier d link sound e = let new = link_new switches earlier d link e in (
+  All-push (IsLink (length switches)) earlier link sound.0 new.sound,
+  all_pairs_push AreOther earlier link sound.1
+      (λ k x within. none_passes (joins link.one link.two) earlier k x within new.other),
+)
 
 -- ---- documents
 

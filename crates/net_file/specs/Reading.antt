@@ -88,9 +88,7 @@ port_bits ports = mask_of (λ port. list_any (nat_eq port) ports)
 
 -- the switch that these keys state, after the earlier switches
 abbrev pub switch_with : List SwitchRow → Members → Result SwitchRow NetRefusal
-switch_with earlier keys =
-    with_value (name_at keys) (λ name.
-    with_value (ports_at keys) (λ ports.
+switch_with earlier keys = with_value (name_at keys) (λ name. with_value (ports_at keys) (λ ports.
     with_value (number_or_default keys (codes "authority") 0 8192 0) (λ room.
     require (not (have_name earlier name)) refusal.DuplicateName (
     require (are_new earlier ports) refusal.DuplicatePort (

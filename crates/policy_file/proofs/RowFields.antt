@@ -58,15 +58,14 @@ is_heading-seven fields from seven =
 
 pub is_heading-other : (fields : List (List ℕ)) (from : ℕ) → length fields ≢ from + 7
     → is_heading policy_heading (drop from fields) ≡ false
-is_heading-other fields from other = by (is_heading policy_heading (drop from fields)) refl
-  where
-    by : (is : Bool) → is_heading policy_heading (drop from fields) ≡ is
-        → is_heading policy_heading (drop from fields) ≡ false
-    by false e = e
-    by true e =
-        let seven : length (drop from fields) ≡ 7 =
-        pointwise_long bytes_eq (drop from fields) policy_heading e in
-        absurd (other (omega (arith, length-drop from fields, seven)))
+is_heading-other fields from other = by (is_heading policy_heading (drop from fields)) refl where
+  by : (is : Bool) → is_heading policy_heading (drop from fields) ≡ is
+      → is_heading policy_heading (drop from fields) ≡ false
+  by false e = e
+  by true e =
+      let seven : length (drop from fields) ≡ 7 =
+      pointwise_long bytes_eq (drop from fields) policy_heading e in
+      absurd (other (omega (arith, length-drop from fields, seven)))
 
 pub row_of-seven : (fields : List (List ℕ)) (from : ℕ) → length fields ≡ from + 7
     → row_read (drop from fields) ≡ row_read

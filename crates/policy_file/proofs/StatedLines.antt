@@ -38,9 +38,8 @@ plain_line x y fields plain = ap (λ body. body ++ 10 ∷ []) (plain_body x (y �
 one_record : (fields : List (List ℕ)) (tail : List ℕ) → IsPlainRecord fields
     → next_record default_config st.StartRecord [] [] (fields_line fields ++ tail) ≡ Some
     (fields, st.StartRecord, tail)
-one_record (x ∷ y ∷ fields) tail plain =
-    ap (λ text. next_record default_config st.StartRecord [] [] (text ++ tail))
-    (sym (plain_line x y fields plain)) ∙ read-write-many x y fields tail
+one_record (x ∷ y ∷ fields) tail plain = ap (λ text. next_record default_config st.StartRecord [] []
+    (text ++ tail)) (sym (plain_line x y fields plain)) ∙ read-write-many x y fields tail
 one_record [] tail plain = absurd plain
 one_record (x ∷ []) tail plain = absurd plain
 
@@ -51,8 +50,7 @@ module _ {X : Type 0} (fields : X → List (List ℕ)) where
   pub rows_text-more : (rows : List X) (i : ℕ) (d : X) → i < length rows
       → rows_text fields (take (i + 1) rows)
       ≡ rows_text fields (take i rows) ++ fields_line (fields (get_or rows i d))
-  rows_text-more rows i d within =
-      ap (rows_text fields) (take_more rows i d within)
+  rows_text-more rows i d within = ap (rows_text fields) (take_more rows i d within)
       ∙ flat_map-append (λ row. fields_line (fields row)) (take i rows) (get_or rows i d ∷ [])
       ∙ ap (λ last. rows_text fields (take i rows) ++ last) (append-nil _)
 
@@ -71,8 +69,7 @@ module _ {X : Type 0} (fields : X → List (List ℕ)) where
 
   lines_are_long : (rows : List X) → length rows ≤ length (rows_text fields rows)
   lines_are_long [] = omega arith
-  lines_are_long (row ∷ rows) =
-      let rest = lines_are_long rows in
+  lines_are_long (row ∷ rows) = let rest = lines_are_long rows in
       omega (
         arith,
         length-append (fields_line (fields row)) (rows_text fields rows),
@@ -80,8 +77,7 @@ module _ {X : Type 0} (fields : X → List (List ℕ)) where
       )
 
   pub records_of_text : (heading : List (List ℕ)) (rows : List X) → IsPlainRecord heading
-      → ArePlainRows rows
-      → records default_config (fields_line heading ++ rows_text fields rows)
+      → ArePlainRows rows → records default_config (fields_line heading ++ rows_text fields rows)
       ≡ heading ∷ map fields rows
   unfolding records_from
   records_of_text heading rows clean plain =
@@ -107,8 +103,7 @@ module _ {X : Type 0} (fields : X → List (List ℕ)) where
 
   -- the records that rows were printed as state them
   pub rows_back : (format : RowFormat X) (rows : List X) → NoneRepeats format rows (length rows)
-      → length rows ≤ 2000 → StateRows format rows
-      → is_heading format.heading format.heading ≡ true
+      → length rows ≤ 2000 → StateRows format rows → is_heading format.heading format.heading ≡ true
       → rows_under_heading format (format.heading ∷ map fields rows) ≡ Ok rows
   rows_back format rows fresh few back heads =
       let long : length (map fields rows) ≡ length rows = length-map rows fields in
@@ -165,8 +160,7 @@ no_change laws rows policy small = rw (policy_records laws rows policy small) re
 pub whole_back : PlainTextLaws → AreStatedRows → (rows : List Row) → IsPolicy rows
     → length rows ≤ 2000 → HaveSmallPorts rows → policy_file_of (policy_text rows) ≡ Ok (Whole rows)
 unfolding policy_file_of
-whole_back laws stated rows policy few small =
-    let text = policy_text rows in
+whole_back laws stated rows policy few small = let text = policy_text rows in
     ap (λ change. cond change (on_ok Change (change_of text)) (on_ok Whole (policy_of text)))
     (no_change laws rows policy small)
     ∙ ap (on_ok Whole) (policy_back laws stated rows policy few small)
@@ -194,9 +188,8 @@ change_records laws edits change small = records_of_text edit_fields change_head
     (recursion_from_All (λ edit. IsPlainRecord (edit_fields edit)) edits
     (λ k d h. plain_edit laws _ (change.sound k d h) (small k d h)))
 
-pub change_back : PlainTextLaws → AreRead → AreStatedRows → (edits : List Edit)
-    → IsAmendment edits → length edits ≤ 2000 → AddSmallPorts edits
-    → change_of (change_text edits) ≡ Ok edits
+pub change_back : PlainTextLaws → AreRead → AreStatedRows → (edits : List Edit) → IsAmendment edits
+    → length edits ≤ 2000 → AddSmallPorts edits → change_of (change_text edits) ≡ Ok edits
 unfolding change_of strip_bom
 change_back laws read stated edits change few small = rw (change_records laws edits change small)
     (rows_back edit_fields change_rows edits (all_fresh_edits edits change.distinct) few
@@ -212,8 +205,7 @@ pub change_file_back : PlainTextLaws → AreRead → AreStatedRows → (edits : 
     → IsAmendment edits → length edits ≤ 2000 → AddSmallPorts edits
     → policy_file_of (change_text edits) ≡ Ok (Change edits)
 unfolding policy_file_of
-change_file_back laws read stated edits change few small =
-    let text = change_text edits in
+change_file_back laws read stated edits change few small = let text = change_text edits in
     ap (λ is. cond is (on_ok Change (change_of text)) (on_ok Whole (policy_of text)))
     (is_change laws edits change small)
     ∙ ap (on_ok Change) (change_back laws read stated edits change few small)

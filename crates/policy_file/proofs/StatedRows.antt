@@ -22,14 +22,12 @@ none_below at (suc n) none = ap (λ o. option_or o (at n))
 first_is : {X : Type 0} (at : ℕ → Option X) (n p : ℕ) (x : X) → p < n → at p ≡ Some x
     → ((k : ℕ) → k < p → at k ≡ None) → first_some at n ≡ Some x
 first_is at zero p x within is none = absurd (omega arith)
-first_is at (suc n) p x within is none =
-    elim (cases_lt p n) [
-      | inl less ↦ ap (λ o. option_or o (at n)) (first_is at n p x less is none)
-      | inr more ↦
-          let same : n ≡ p = omega arith in
-          ap (λ o. option_or o (at n)) (none_below at n (λ k h. none k (omega arith))) ∙ ap at same
-          ∙ is
-    ]
+first_is at (suc n) p x within is none = elim (cases_lt p n) [
+  | inl less ↦ ap (λ o. option_or o (at n)) (first_is at n p x less is none)
+  | inr more ↦ let same : n ≡ p = omega arith in
+      ap (λ o. option_or o (at n)) (none_below at n (λ k h. none k (omega arith))) ∙ ap at same
+      ∙ is
+]
 
 -- ---- rows that records state
 
@@ -44,8 +42,7 @@ module _ {X : Type 0} (format : RowFormat X) where
       → StateEach format records rows → format.read fields ≡ Ok row
       → StateEach format (records ++ fields ∷ []) (rows ++ row ∷ [])
   state_push records rows fields row stated is =
-      map-append format.read records (fields ∷ [])
-      ∙ ap (λ xs. xs ++ format.read fields ∷ []) stated
+      map-append format.read records (fields ∷ []) ∙ ap (λ xs. xs ++ format.read fields ∷ []) stated
       ∙ ap (λ r. map fine rows ++ r ∷ []) is ∙ sym (map-append fine rows (row ∷ []))
 
   state_take : (records : Records) (rows : List X) (k : ℕ) → StateEach format records rows
@@ -92,9 +89,8 @@ module _ {X : Type 0} (format : RowFormat X) where
 
   -- after rows that the first records state: only what an earlier row has
   refused_in : (records : Records) (rows : List X) (k : ℕ) (d : X) → Stated records rows
-      → k < length rows → length rows ≤ 2000
-      → refusal_at format records k ≡ cond (format.repeats (take k rows) (get_or rows k d))
-      (Some why.SamePriority) None
+      → k < length rows → length rows ≤ 2000 → refusal_at format records k
+      ≡ cond (format.repeats (take k rows) (get_or rows k d)) (Some why.SamePriority) None
   refused_in records rows k d stated within few =
       let n = length rows in
       let first : get_or records k [] ≡ get_or (take n records) k [] =
@@ -167,10 +163,8 @@ module _ {X : Type 0} (format : RowFormat X) where
       (take_all (length rows) records (omega arith)) read.stated in
       ap (λ first. option_map_or Err first (Ok (rows_stated format records)))
       (none_below (λ place. option_map (at_row place) (refusal_at format records place))
-      (length records)
-      (λ k h. ap (option_map (at_row k))
-      (clean records rows (length rows) read.stated read.few (omega arith) none k
-      (omega arith))))
+      (length records) (λ k h. ap (option_map (at_row k))
+      (clean records rows (length rows) read.stated read.few (omega arith) none k (omega arith))))
       ∙ ap Ok (state_rows records rows stated)
 
 -- ---- rows of distinct priorities, and distinct edits
@@ -179,8 +173,7 @@ pub fresh_rows : (rows : List Row) (p : ℕ) → HaveDistinctPriorities (take p 
     → NoneRepeats policy_rows rows p
 fresh_rows rows p distinct k d less within =
     list_any_none (λ (x : Row). eqb x.priority (get_or rows k d).priority) (take k rows)
-    (λ j e inside.
-    let before : j < k = omega (arith, length-take k rows) in
+    (λ j e inside. let before : j < k = omega (arith, length-take k rows) in
     let one : get_or (take k rows) j e ≡ get_or (take p rows) j e = get_or-take k rows j e before
     ∙ sym (get_or-take p rows j e (omega arith)) in
     let other : get_or rows k d ≡ get_or (take p rows) k e = get_or_default rows k d e within
@@ -213,36 +206,28 @@ pub next_of : (records : Records) (n : ℕ) (fields : List (List ℕ)) (after le
     (found : Bool) → found ≡ true → left ≡ drop n records → TakesRecord left found fields after
     → IsNext records n fields after
 next_of records n fields after left false is at takes = cc is
-next_of records n fields after left true is at takes =
-    elim (cases_lt n (length records)) [
-      | inl within ↦
-          let split = drop_more records n [] within in
-          let first : get_or records n [] ≡ fields = cc in
-          record {
-            within = within;
-            more = take_more records n [] within
-                ∙ ap (λ x. take n records ++ x ∷ []) first;
-            rest = cc;
-            here = first;
-          }
-      | inr past ↦
-          let none = drop_all n records past in
-          absurd (cc)
-    ]
+next_of records n fields after left true is at takes = elim (cases_lt n (length records)) [
+  | inl within ↦ let split = drop_more records n [] within in
+      let first : get_or records n [] ≡ fields = cc in record {
+        within = within;
+        more = take_more records n [] within ∙ ap (λ x. take n records ++ x ∷ []) first;
+        rest = cc;
+        here = first;
+      }
+  | inr past ↦ let none = drop_all n records past in
+      absurd (cc)
+]
 
 -- no record is left after the first n
 ends_at : (records : Records) (n : ℕ) (fields : List (List ℕ)) (after left : Records)
     (found : Bool) → found ≡ false → left ≡ drop n records → TakesRecord left found fields after
     → n ≤ length records → length records ≡ n
 ends_at records n fields after left true is at takes most = cc is
-ends_at records n fields after left false is at takes most =
-    elim (cases_lt n (length records)) [
-      | inl within ↦
-          let split = drop_more records n [] within in
-          let none = takes.0 in
-          absurd (cc)
-      | inr past ↦ omega arith
-    ]
+ends_at records n fields after left false is at takes most = elim (cases_lt n (length records)) [
+  | inl within ↦ let split = drop_more records n [] within in
+      let none = takes.0 in absurd (cc)
+  | inr past ↦ omega arith
+]
 
 module _ {X : Type 0} (format : RowFormat X) where
   -- no record is left behind those that state these rows
@@ -264,25 +249,22 @@ module _ {X : Type 0} (format : RowFormat X) where
   refused_row records n fields after refusal next room is =
       ap (λ b. cond b (Some why.TooManyRows) (refusal_after format
       (rows_stated format (take n records)) (format.read (get_or records n []))))
-      (ne_eqb n 2000 (λ full. absurd (omega arith)))
-      ∙ ap (λ fields. refusal_after format (rows_stated format (take n records))
-      (format.read fields)) next.here
+      (ne_eqb n 2000 (λ full. absurd (omega arith))) ∙ ap (λ fields. refusal_after format
+      (rows_stated format (take n records)) (format.read fields)) next.here
       ∙ ap (refusal_after format (rows_stated format (take n records))) is
 
   -- there are too many
   pub too_many : (records : Records) (n : ℕ) → n ≡ 2000
       → refusal_at format records n ≡ Some why.TooManyRows
-  too_many records n full =
-      ap (λ b. cond b (Some why.TooManyRows) (refusal_after format
+  too_many records n full = ap (λ b. cond b (Some why.TooManyRows) (refusal_after format
       (rows_stated format (take n records)) (format.read (get_or records n []))))
       (eq-eqb n 2000 full)
 
   -- ---- the heading
 
   pub under_heading : (before after : Records) (fields : List (List ℕ)) (found : Bool)
-      → found ≡ true → TakesRecord before found fields after
-      → is_heading format.heading fields ≡ true
-      → rows_under_heading format before ≡ rows_of format after
+      → found ≡ true → TakesRecord before found fields after → is_heading format.heading fields
+      ≡ true → rows_under_heading format before ≡ rows_of format after
   under_heading before after fields false is takes heading = cc is
   under_heading before after fields true is takes heading = rw (takes, heading) refl
 

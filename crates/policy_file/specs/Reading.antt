@@ -38,14 +38,11 @@ with_field None refusal next = Err refusal
 -- the row that the fields state, or the refusal of the first field that can't be read
 abbrev pub row_read : List (List ℕ) → Result Row PolicyRefusal
 row_read (priority ∷ src ∷ dst ∷ sport ∷ dport ∷ proto ∷ action ∷ []) =
-    with_field (number_up_to 4294967295 priority) why.Priority (λ priority.
-    with_field (prefix_of src) why.Src (λ src.
-    with_field (prefix_of dst) why.Dst (λ dst.
-    with_field (range_of sport) why.Sport (λ sport.
-    with_field (range_of dport) why.Dport (λ dport.
-    with_field (proto_of proto) why.Proto (λ proto.
-    with_field (action_of action) why.Action (λ action.
-    Ok (record {
+    with_field (number_up_to 4294967295 priority) why.Priority
+    (λ priority. with_field (prefix_of src) why.Src
+    (λ src. with_field (prefix_of dst) why.Dst (λ dst. with_field (range_of sport) why.Sport
+    (λ sport. with_field (range_of dport) why.Dport (λ dport. with_field (proto_of proto) why.Proto
+    (λ proto. with_field (action_of action) why.Action (λ action. Ok (record {
       priority = priority;
       src = src;
       dst = dst;
@@ -77,8 +74,7 @@ refusal_after format earlier (Ok row) =
     if format.repeats earlier row then Some why.SamePriority else None
 
 -- why the record at this place is refused, if it is: a file has at most 2,000 rows
-abbrev pub refusal_at : {X : Type 0} → RowFormat X → List (List (List ℕ)) → ℕ
-    → Option PolicyRefusal
+abbrev pub refusal_at : {X : Type 0} → RowFormat X → List (List (List ℕ)) → ℕ → Option PolicyRefusal
 refusal_at format records place =
     if place == 2000 then Some why.TooManyRows
     else refusal_after format (rows_stated format (take place records))
@@ -118,8 +114,7 @@ rows_under_heading format (first ∷ records) =
     if is_heading format.heading first then rows_of format records else no_heading
 
 -- the rows that a text states
-abbrev pub rows_in : {X : Type 0} → RowFormat X → List ℕ
-    → Result (List X) (InRow PolicyRefusal)
+abbrev pub rows_in : {X : Type 0} → RowFormat X → List ℕ → Result (List X) (InRow PolicyRefusal)
 rows_in format bytes = rows_under_heading format (records_of bytes)
 
 -- ---- policies

@@ -21,8 +21,7 @@ traffic-sum weights P s = sum-filter (λ p. get_or weights p 0) (λ p. is_primar
 traffic-le : (n : ℕ) (weights : List ℕ) (P : List (List ℕ)) (s : ℕ) → s < n
     → traffic weights P s ≤ greatest_traffic n weights P
 unfolding greatest_traffic
-traffic-le n weights P s within =
-    let of : ℕ → ℕ = traffic weights P in
+traffic-le n weights P s within = let of : ℕ → ℕ = traffic weights P in
     omega (
       arith,
       most-each 0 (map of (range_with_len 0 n)) s
@@ -51,11 +50,10 @@ primary-among (x ∷ xs) some = or_left (eqb x x) (list_any (eqb x) []) (eq-eqb 
 front-among : (test : ℕ → Bool) (xs : List ℕ) → list_any test (take 1 xs) ≡ true
     → list_any test xs ≡ true
 front-among test [] among = among
-front-among test (x ∷ xs) among = by_case (test x) (list_any test xs) among
-  where
-    by_case : (b c : Bool) → (b || false) ≡ true → (b || c) ≡ true
-    by_case true c is = refl
-    by_case false c is = grind arith
+front-among test (x ∷ xs) among = by_case (test x) (list_any test xs) among where
+  by_case : (b c : Bool) → (b || false) ≡ true → (b || c) ≡ true
+  by_case true c is = refl
+  by_case false c is = grind arith
 
 -- the partition's first target
 abbrev first_of : List (List ℕ) → ℕ → ℕ
@@ -100,8 +98,7 @@ weight-le n sizes weights rooms backups P settled p within =
 no-traffic : (n : ℕ) (sizes weights rooms : List ℕ) (backups : ℕ) (P : List (List ℕ))
     → IsSettled n sizes weights rooms backups P → (s : ℕ) → get_or rooms s 0 ≡ 0
     → traffic weights P s ≡ 0
-no-traffic n sizes weights rooms backups P settled s none =
-    traffic-sum weights P s
+no-traffic n sizes weights rooms backups P settled s none = traffic-sum weights P s
     ∙ sum_none (carried weights P s) (range_with_len 0 (length weights))
     (each_by_count (λ p. carried weights P s p ≡ 0) (range_with_len 0 (length weights))
     (λ p there. by_case p (range-within p (length weights) there) (is_primary P p s) refl))
@@ -109,8 +106,7 @@ no-traffic n sizes weights rooms backups P settled s none =
     by_case : (p : ℕ) → p < length weights → (b : Bool) → is_primary P p s ≡ b
         → carried weights P s p ≡ 0
     by_case p within false is = ap (λ b. cond b (get_or weights p 0) 0) is
-    by_case p within true is =
-        let here : p < length sizes = omega (arith, settled.each, within) in
+    by_case p within true is = let here : p < length sizes = omega (arith, settled.each, within) in
         absurd (omega (
           arith,
           passing-le sizes (λ o. is_target P o s) p here (front-among (eqb s) (targets_at P p) is),
@@ -162,11 +158,7 @@ total-le n sizes weights rooms backups P settled =
         let all : cond (is_primary P p s) (get_or weights p 0) 0 ≡ get_or weights p 0 =
         ap (λ b. cond b (get_or weights p 0) 0)
         (is-first sizes rooms backups P p settled.fits here) in
-        omega (
-          arith,
-          term-le (λ t. cond (is_primary P p t) (get_or weights p 0) 0) n s below,
-          all,
-        )
+        omega (arith, term-le (λ t. cond (is_primary P p t) (get_or weights p 0) 0) n s below, all)
 
     by_case : (s : ℕ) → s < n → (room : ℕ) → get_or rooms s 0 ≡ room
         → traffic weights P s ≤ cond (not (eqb (get_or rooms s 0) 0)) (greatest_traffic n weights P) 0
@@ -176,8 +168,7 @@ total-le n sizes weights rooms backups P settled =
         omega (arith, none, no-traffic n sizes weights rooms backups P settled s is)
     by_case s below (suc room) is =
         let some : cond (not (eqb (get_or rooms s 0) 0)) (greatest_traffic n weights P) 0
-        ≡ greatest_traffic n weights P =
-        ap (λ b. cond (not b) (greatest_traffic n weights P) 0)
+        ≡ greatest_traffic n weights P = ap (λ b. cond (not b) (greatest_traffic n weights P) 0)
         (ne_eqb (get_or rooms s 0) 0 (λ same. absurd (omega (arith, same, is)))) in
         omega (arith, some, traffic-le n weights P s below)
 
@@ -189,50 +180,44 @@ max_le : (a b m : ℕ) → a ≤ m → b ≤ m → max a b ≤ m
 max_le a b m low high = omega arith
 
 pub bound-le : (n : ℕ) (sizes weights rooms : List ℕ) (backups : ℕ) (P : List (List ℕ))
-    → IsSettled n sizes weights rooms backups P
-    → bound weights rooms ≤ greatest_traffic n weights P
+    → IsSettled n sizes weights rooms backups P → bound weights rooms ≤ greatest_traffic n weights P
 unfolding bound
-bound-le n sizes weights rooms backups P settled = by_case (eqb (usable_rooms rooms) 0) refl
-  where
-    by_case : (b : Bool) → eqb (usable_rooms rooms) 0 ≡ b
-        → cond b 0 (max (greatest weights) (div_ceil (sum weights) (usable_rooms rooms)))
-        ≤ greatest_traffic n weights P
-    by_case true is = omega arith
-    by_case false is =
-        let some = some_of (usable_rooms rooms) is in
-        let highest : greatest weights ≤ greatest_traffic n weights P =
-        most-le (greatest_traffic n weights P) 0 weights (omega arith)
-        (weight-le n sizes weights rooms backups P settled) in
-        let even : div_ceil (sum weights) (usable_rooms rooms) ≤ greatest_traffic n weights P =
-        share-le (sum weights) (usable_rooms rooms) (greatest_traffic n weights P)
-        (div_ceil (sum weights) (usable_rooms rooms))
-        (div_ceil_times (sum weights) (usable_rooms rooms) some).1
-        (total-le n sizes weights rooms backups P settled) in
-        max_le (greatest weights) (div_ceil (sum weights) (usable_rooms rooms))
-        (greatest_traffic n weights P) highest even
+bound-le n sizes weights rooms backups P settled = by_case (eqb (usable_rooms rooms) 0) refl where
+  by_case : (b : Bool) → eqb (usable_rooms rooms) 0 ≡ b
+      → cond b 0 (max (greatest weights) (div_ceil (sum weights) (usable_rooms rooms)))
+      ≤ greatest_traffic n weights P
+  by_case true is = omega arith
+  by_case false is =
+      let some = some_of (usable_rooms rooms) is in
+      let highest : greatest weights ≤ greatest_traffic n weights P =
+      most-le (greatest_traffic n weights P) 0 weights (omega arith)
+      (weight-le n sizes weights rooms backups P settled) in
+      let even : div_ceil (sum weights) (usable_rooms rooms) ≤ greatest_traffic n weights P =
+      share-le (sum weights) (usable_rooms rooms) (greatest_traffic n weights P)
+      (div_ceil (sum weights) (usable_rooms rooms)) (div_ceil_times (sum weights)
+      (usable_rooms rooms) some).1 (total-le n sizes weights rooms backups P settled) in
+      max_le (greatest weights) (div_ceil (sum weights) (usable_rooms rooms))
+      (greatest_traffic n weights P) highest even
 
 -- ---- running sums
 
 front-is : (xs : List ℕ) (s : ℕ) → 0 < length xs
     → list_any (eqb s) (take 1 xs) ≡ eqb s (get_or xs 0 0)
 front-is [] s some = absurd (omega arith)
-front-is (x ∷ xs) s some = by_case (eqb s x)
-  where
-    by_case : (b : Bool) → (b || false) ≡ b
-    by_case true = refl
-    by_case false = refl
+front-is (x ∷ xs) s some = by_case (eqb s x) where
+  by_case : (b : Bool) → (b || false) ≡ b
+  by_case true = refl
+  by_case false = refl
 
 -- the first target takes the weight
 pub first-takes : (old targets : List ℕ) (more s : ℕ) → 0 < length targets
     → get_or targets 0 0 < length old
     → get_or (set old (get_or targets 0 0) (get_or old (get_or targets 0 0) 0 + more)) s 0
     ≡ get_or old s 0 + cond (list_any (eqb s) (take 1 targets)) more 0
-first-takes old targets more s some there =
-    let first = get_or targets 0 0 in
+first-takes old targets more s some there = let first = get_or targets 0 0 in
     rw (front-is targets s some)
     (elim (cases_eq s first) [
-      | inl same ↦
-          let new = set old first (get_or old first 0 + more) in
+      | inl same ↦ let new = set old first (get_or old first 0 + more) in
           rw (eq-eqb s first same)
           (omega (
             arith,
@@ -240,8 +225,7 @@ first-takes old targets more s some there =
             get_or-set_same old first (get_or old first 0 + more) 0 there,
             ap (λ z. get_or old z 0) same,
           ))
-      | inr other ↦
-          rw (ne_eqb s first other)
+      | inr other ↦ rw (ne_eqb s first other)
           (omega (arith, get_or-set_other old first s (get_or old first 0 + more) 0 other))
     ])
 
@@ -284,11 +268,10 @@ pub carried-step : (weights : List ℕ) (P : List (List ℕ)) (s k before after 
     → xs ≡ targets_at P k → before ≡ sum_by (carried weights P s) (range_with_len 0 k)
     → after ≡ before + cond (list_any (eqb s) (take 1 xs)) (get_or weights k 0) 0
     → after ≡ sum_by (carried weights P s) (range_with_len 0 (k + 1))
-carried-step weights P s k before after xs same was is =
-    omega (
-      arith,
-      was,
-      is,
-      carried-more weights P s k,
-      ap (λ ts. cond (list_any (eqb s) (take 1 ts)) (get_or weights k 0) 0) same,
-    )
+carried-step weights P s k before after xs same was is = omega (
+  arith,
+  was,
+  is,
+  carried-more weights P s k,
+  ap (λ ts. cond (list_any (eqb s) (take 1 ts)) (get_or weights k 0) 0) same,
+)

@@ -15,26 +15,24 @@ sum-le f g (x ∷ xs) each =
 pub sum-scaled : (m : ℕ) (test : ℕ → Bool) (xs : List ℕ)
     → sum_by (λ x. cond (test x) m 0) xs ≡ sum_by (λ x. cond (test x) 1 0) xs * m
 sum-scaled m test [] = omega arith
-sum-scaled m test (x ∷ xs) = by_case (test x) refl (sum-scaled m test xs)
-  where
-    by_case : (b : Bool) → test x ≡ b
-        → sum_by (λ y. cond (test y) m 0) xs ≡ sum_by (λ y. cond (test y) 1 0) xs * m
-        → sum_by (λ y. cond (test y) m 0) (x ∷ xs)
-        ≡ sum_by (λ y. cond (test y) 1 0) (x ∷ xs) * m
-    by_case true is rest =
-        let large : cond (test x) m 0 ≡ m = ap (λ b. cond b m 0) is in
-        let one : cond (test x) 1 0 ≡ 1 = ap (λ b. cond b 1 0) is in
-        let count = sum_by-cons (λ y. cond (test y) 1 0) x xs
-        ∙ ap (λ n. n + sum_by (λ y. cond (test y) 1 0) xs) one in
-        let times = ap (λ n. n * m) count in
-        omega (arith, sum_by-cons (λ y. cond (test y) m 0) x xs, large, times, rest)
-    by_case false is rest =
-        let large : cond (test x) m 0 ≡ 0 = ap (λ b. cond b m 0) is in
-        let one : cond (test x) 1 0 ≡ 0 = ap (λ b. cond b 1 0) is in
-        let count = sum_by-cons (λ y. cond (test y) 1 0) x xs
-        ∙ ap (λ n. n + sum_by (λ y. cond (test y) 1 0) xs) one in
-        let times = ap (λ n. n * m) count in
-        omega (arith, sum_by-cons (λ y. cond (test y) m 0) x xs, large, times, rest)
+sum-scaled m test (x ∷ xs) = by_case (test x) refl (sum-scaled m test xs) where
+  by_case : (b : Bool) → test x ≡ b → sum_by (λ y. cond (test y) m 0) xs
+      ≡ sum_by (λ y. cond (test y) 1 0) xs * m
+      → sum_by (λ y. cond (test y) m 0) (x ∷ xs) ≡ sum_by (λ y. cond (test y) 1 0) (x ∷ xs) * m
+  by_case true is rest =
+      let large : cond (test x) m 0 ≡ m = ap (λ b. cond b m 0) is in
+      let one : cond (test x) 1 0 ≡ 1 = ap (λ b. cond b 1 0) is in
+      let count = sum_by-cons (λ y. cond (test y) 1 0) x xs
+      ∙ ap (λ n. n + sum_by (λ y. cond (test y) 1 0) xs) one in
+      let times = ap (λ n. n * m) count in
+      omega (arith, sum_by-cons (λ y. cond (test y) m 0) x xs, large, times, rest)
+  by_case false is rest =
+      let large : cond (test x) m 0 ≡ 0 = ap (λ b. cond b m 0) is in
+      let one : cond (test x) 1 0 ≡ 0 = ap (λ b. cond b 1 0) is in
+      let count = sum_by-cons (λ y. cond (test y) 1 0) x xs
+      ∙ ap (λ n. n + sum_by (λ y. cond (test y) 1 0) xs) one in
+      let times = ap (λ n. n * m) count in
+      omega (arith, sum_by-cons (λ y. cond (test y) m 0) x xs, large, times, rest)
 
 -- ---- over places
 
@@ -42,19 +40,17 @@ sum-scaled m test (x ∷ xs) = by_case (test x) refl (sum-scaled m test xs)
 sum-next : (f : ℕ → ℕ) (a n : ℕ)
     → sum_by f (range_with_len (a + 1) n) ≡ sum_by (λ k. f (k + 1)) (range_with_len a n)
 sum-next f a zero = refl
-sum-next f a (suc n) =
-    omega (
-      arith,
-      sum_by-cons f (a + 1) (range_with_len (a + 1 + 1) n),
-      sum_by-cons (λ k. f (k + 1)) a (range_with_len (a + 1) n),
-      sum-next f (a + 1) n,
-    )
+sum-next f a (suc n) = omega (
+  arith,
+  sum_by-cons f (a + 1) (range_with_len (a + 1 + 1) n),
+  sum_by-cons (λ k. f (k + 1)) a (range_with_len (a + 1) n),
+  sum-next f (a + 1) n,
+)
 
 -- over the places of a list, or over more, where nothing counts past the end
 pub sum-places : (g : ℕ → ℕ) → g 0 ≡ 0 → (xs : List ℕ) (n : ℕ) → length xs ≤ n
     → sum_by (λ k. g (get_or xs k 0)) (range_with_len 0 n) ≡ sum_by g xs
-sum-places g none [] n few =
-    let f : ℕ → ℕ = λ k. g (get_or [] k 0) in
+sum-places g none [] n few = let f : ℕ → ℕ = λ k. g (get_or [] k 0) in
     sum_none f (range_with_len 0 n)
     (each_by_count (λ k. f k ≡ 0) (range_with_len 0 n) (λ k there. none))
 sum-places g none (x ∷ xs) zero few = absurd (omega arith)
@@ -126,27 +122,24 @@ put_both : (weight : ℕ → ℕ) (held : ℕ → ℕ → Bool) (p : ℕ) (ps ss
     → sum_by (λ s. put_at weight held p s + put_by weight held ps s) ss
     ≡ sum_by (put_at weight held p) ss + sum_by (put_by weight held ps) ss
 put_both weight held p ps [] = refl
-put_both weight held p ps (s ∷ ss) =
-    omega (
-      arith,
-      sum_by-cons (λ t. put_at weight held p t + put_by weight held ps t) s ss,
-      sum_by-cons (put_at weight held p) s ss,
-      sum_by-cons (put_by weight held ps) s ss,
-      put_both weight held p ps ss,
-    )
+put_both weight held p ps (s ∷ ss) = omega (
+  arith,
+  sum_by-cons (λ t. put_at weight held p t + put_by weight held ps t) s ss,
+  sum_by-cons (put_at weight held p) s ss,
+  sum_by-cons (put_by weight held ps) s ss,
+  put_both weight held p ps ss,
+)
 
 -- where some switch has what each partition weighs, the sum over partitions is within that over
 -- switches
 pub shared-le : (weight : ℕ → ℕ) (held : ℕ → ℕ → Bool) (switches parts : List ℕ)
     → AllByRecursion (λ p. weight p ≤ sum_by (λ s. cond (held p s) (weight p) 0) switches) parts
-    → sum_by weight parts
-    ≤ sum_by (λ s. sum_by (λ p. cond (held p s) (weight p) 0) parts) switches
+    → sum_by weight parts ≤ sum_by (λ s. sum_by (λ p. cond (held p s) (weight p) 0) parts) switches
 shared-le weight held switches [] each = omega arith
 shared-le weight held switches (p ∷ ps) each =
     let split : sum_by (put_by weight held (p ∷ ps)) switches
     ≡ sum_by (λ s. put_at weight held p s + put_by weight held ps s) switches =
-    ap (λ f. sum_by f switches)
-    (fun_ext (λ s. sum_by-cons (λ q. put_at weight held q s) p ps)) in
+    ap (λ f. sum_by f switches) (fun_ext (λ s. sum_by-cons (λ q. put_at weight held q s) p ps)) in
     omega (
       arith,
       sum_by-cons weight p ps,
@@ -163,8 +156,7 @@ most-all : (b : ℕ) (xs : List ℕ)
     → (b ≤ fold max b xs) × ((k : ℕ) → k < length xs → get_or xs k 0 ≤ fold max b xs)
 most-all b [] = (omega arith, λ k within. absurd (omega arith))
 most-all b (x ∷ xs) =
-    let rest = most-all (max b x) xs in
-    (omega (arith, rest.0), by_place rest.0 rest.1)
+    let rest = most-all (max b x) xs in (omega (arith, rest.0), by_place rest.0 rest.1)
   where
     by_place : max b x ≤ fold max (max b x) xs
         → ((k : ℕ) → k < length xs → get_or xs k 0 ≤ fold max (max b x) xs) → (k : ℕ)
@@ -178,19 +170,15 @@ most-each b xs k within = (most-all b xs).1 k within
 pub most-le : (m b : ℕ) (xs : List ℕ) → b ≤ m
     → ((k : ℕ) → k < length xs → get_or xs k 0 ≤ m) → fold max b xs ≤ m
 most-le m b [] start each = start
-most-le m b (x ∷ xs) start each =
-    let here : x ≤ m = each 0 (omega arith) in
+most-le m b (x ∷ xs) start each = let here : x ≤ m = each 0 (omega arith) in
     most-le m (max b x) xs (omega arith) (λ k within. each (suc k) (omega arith))
 
 -- ---- an even share
 
 -- a quotient that is rounded up is within what each has
 pub share-le : (total n each q : ℕ) → q * n < total + n → total ≤ n * each → q ≤ each
-share-le total n each q rounded fits =
-    elim (cases_lt each q) [
-      | inl more ↦
-          let next : each + 1 ≤ q = omega arith in
-          let grows : n * (each + 1) ≤ n * q = mul-le-mul_left n next in
-          absurd (omega arith)
-      | inr less ↦ less
-    ]
+share-le total n each q rounded fits = elim (cases_lt each q) [
+  | inl more ↦ let next : each + 1 ≤ q = omega arith in
+      let grows : n * (each + 1) ≤ n * q = mul-le-mul_left n next in absurd (omega arith)
+  | inr less ↦ less
+]

@@ -21,9 +21,8 @@ hosted-fit t P each hosted =
           (targets_at P p) (due p within);
       there = λ p within. first_there _ _ t.rooms (get_or t.sizes p 0) (1 + t.backups)
           (targets_at P p) (due p within);
-      within = λ s.
-          let among : List ℕ → ℕ = sum_by
-          (λ p. cond (list_any (eqb s) (targets_at P p)) (get_or t.sizes p 0) 0) in
+      within = λ s. let among : List ℕ → ℕ =
+          sum_by (λ p. cond (list_any (eqb s) (targets_at P p)) (get_or t.sizes p 0) 0) in
           omega (
             arith,
             sum-filter (λ p. get_or t.sizes p 0) (λ p. is_target P p s)
@@ -41,9 +40,8 @@ pub kept_by_peak : (sizes weights rooms : List ℕ) (backups : ℕ) (old P : Lis
     → KeepsPlacement sizes weights rooms backups old old
 kept_by_peak sizes weights rooms backups old P spread most = record {
   same = refl;
-  none = λ other is.
-      let same : P ≡ other = same_hosted (spreading sizes weights rooms backups) P other spread is
-      in subst (λ Q. peak weights old ≤ peak weights Q) same most;
+  none = λ other is. let same : P ≡ other = same_hosted (spreading sizes weights rooms backups) P
+      other spread is in subst (λ Q. peak weights old ≤ peak weights Q) same most;
 }
 
 -- where a partition is refused there is none
@@ -61,26 +59,23 @@ proposed-fits : (sizes weights rooms : List ℕ) (backups : ℕ) (old new : List
     → ((P : List (List ℕ)) → IsSpread sizes weights rooms backups P → Fits sizes rooms backups P)
     → Fits sizes rooms backups old → IsProposal sizes weights rooms backups old new
     → Fits sizes rooms backups new
-proposed-fits sizes weights rooms backups old new all fits proposal =
-    elim proposal [
-      | inl lower ↦ all new lower.spread
-      | inr kept ↦ subst (Fits sizes rooms backups) (sym kept.same) fits
-    ]
+proposed-fits sizes weights rooms backups old new all fits proposal = elim proposal [
+  | inl lower ↦ all new lower.spread
+  | inr kept ↦ subst (Fits sizes rooms backups) (sym kept.same) fits
+]
 
 proposed-le : (sizes weights rooms : List ℕ) (backups : ℕ) (old new : List (List ℕ))
     → IsProposal sizes weights rooms backups old new → peak weights new ≤ peak weights old
-proposed-le sizes weights rooms backups old new proposal =
-    elim proposal [
-      | inl lower ↦ omega (arith, lower.lower)
-      | inr kept ↦ omega (arith, ap (peak weights) kept.same)
-    ]
+proposed-le sizes weights rooms backups old new proposal = elim proposal [
+  | inl lower ↦ omega (arith, lower.lower)
+  | inr kept ↦ omega (arith, ap (peak weights) kept.same)
+]
 
 pub spread_laws_hold : (sizes weights rooms : List ℕ) (backups : ℕ)
     → AreWeighed sizes weights rooms → SpreadLaws sizes weights rooms backups
 spread_laws_hold sizes weights rooms backups weighed =
     let t = spreading sizes weights rooms backups in
-    let fits = λ (P : List (List ℕ)). hosted-fit t P weighed.each in
-    record {
+    let fits = λ (P : List (List ℕ)). hosted-fit t P weighed.each in record {
       fits = fits;
       placed = λ P. hosted-fit (placing sizes rooms backups) P refl;
       one = same_hosted t;

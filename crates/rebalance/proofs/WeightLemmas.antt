@@ -15,8 +15,7 @@ pub current_goes_on : (before : List Item) (item : Item) (current : ℕ)
     → current ≡ current_mark before
     → unwrap_or (gives_current item) current ≡ current_mark (before ++ item ∷ [])
 unfolding current_mark
-current_goes_on before item current is =
-    ap (unwrap_or (gives_current item)) is
+current_goes_on before item current is = ap (unwrap_or (gives_current item)) is
     ∙ sym (ap (λ o. unwrap_or o 1) (last_given_append gives_current before (item ∷ []))
     ∙ go (gives_current item) (last_given gives_current before))
   where
@@ -29,52 +28,45 @@ current_goes_on before item current is =
 
 kept_one : (tells : Item → Option ℕ) (item : Item)
     → filter_map tells (item ∷ []) ≡ option_to_list (tells item)
-kept_one tells item = by_case (tells item) refl
-  where
-    by_case : (told : Option ℕ) → tells item ≡ told
-        → filter_map tells (item ∷ []) ≡ option_to_list (tells item)
-    by_case None is = rw is refl
-    by_case (Some p) is = rw is refl
+kept_one tells item = by_case (tells item) refl where
+  by_case : (told : Option ℕ) → tells item ≡ told
+      → filter_map tells (item ∷ []) ≡ option_to_list (tells item)
+  by_case None is = rw is refl
+  by_case (Some p) is = rw is refl
 
 kept_more : (tells : Item → Option ℕ) (p : ℕ) (before : List Item) (item : Item)
     → count_by (eqb p) (filter_map tells (before ++ item ∷ []))
     ≡ count_by (eqb p) (filter_map tells before) + count_by (eqb p) (option_to_list (tells item))
-kept_more tells p before item =
-    ap (count_by (eqb p)) (filter_map-append tells before (item ∷ []))
-    ∙ sum_by-append (λ q. cond (eqb p q) 1 0) (filter_map tells before)
-    (filter_map tells (item ∷ []))
-    ∙ ap (λ xs. count_by (eqb p) (filter_map tells before) + count_by (eqb p) xs)
+kept_more tells p before item = ap (count_by (eqb p)) (filter_map-append tells before (item ∷ []))
+    ∙ sum_by-append (λ q. cond (eqb p q) 1 0) (filter_map tells before) (filter_map tells
+    (item ∷ [])) ∙ ap (λ xs. count_by (eqb p) (filter_map tells before) + count_by (eqb p) xs)
     (kept_one tells item)
 
 length-kept : (tells : Item → Option ℕ) (items : List Item)
     → length (filter_map tells items) ≤ length items
 length-kept tells [] = omega arith
-length-kept tells (item ∷ items) = by_case (tells item) refl (length-kept tells items)
-  where
-    by_case : (told : Option ℕ) → tells item ≡ told
-        → length (filter_map tells items) ≤ length items
-        → length (filter_map tells (item ∷ items)) ≤ length (item ∷ items)
-    by_case None is rest = rw is (omega (arith, rest))
-    by_case (Some p) is rest = rw is (omega (arith, rest))
+length-kept tells (item ∷ items) = by_case (tells item) refl (length-kept tells items) where
+  by_case : (told : Option ℕ) → tells item ≡ told → length (filter_map tells items) ≤ length items
+      → length (filter_map tells (item ∷ items)) ≤ length (item ∷ items)
+  by_case None is rest = rw is (omega (arith, rest))
+  by_case (Some p) is rest = rw is (omega (arith, rest))
 
 -- how often among these items, by this version
 abbrev pub asked_count : ℕ → ℕ → List Item → ℕ
 asked_count version partition items = count_by (eqb partition) (all_asked version items)
 
 pub asked_more : (version partition : ℕ) (before : List Item) (item : Item)
-    → asked_count version partition (before ++ item ∷ [])
-    ≡ asked_count version partition before
+    → asked_count version partition (before ++ item ∷ []) ≡ asked_count version partition before
     + count_by (eqb partition) (option_to_list (asked_in version item))
 asked_more version partition before item = kept_more (asked_in version) partition before item
 
 pub asked-room : (version partition : ℕ) (items : List Item)
     → asked_count version partition items ≤ length items
-asked-room version partition items =
-    omega (
-      arith,
-      count_by-le-length (eqb partition) (all_asked version items),
-      length-kept (asked_in version) items,
-    )
+asked-room version partition items = omega (
+  arith,
+  count_by-le-length (eqb partition) (all_asked version items),
+  length-kept (asked_in version) items,
+)
 
 -- one more item, of which so much is told
 pub asked-step : (version p : ℕ) (items : List Item) (i : ℕ) (item : Item) (told : Option ℕ)
@@ -100,8 +92,7 @@ pub weights-are : (journal : List Item) (parts : ℕ) (numbers : List ℕ) → l
     → ((p : ℕ) → p < parts → get_or numbers p 0 ≡ asked_count (current_mark journal) p journal)
     → numbers ≡ weights_of journal parts
 unfolding weight
-weights-are journal parts numbers len each =
-    let of : ℕ → ℕ = weight journal in
+weights-are journal parts numbers len each = let of : ℕ → ℕ = weight journal in
     same_lists numbers (map of (range_with_len 0 parts))
     (omega (arith, len, length-map-range_with_len of 0 parts))
     (λ k d within. get_or_default numbers k d 0 within ∙ each k (omega (arith, within, len))
@@ -128,25 +119,17 @@ none_below a (suc n) x below =
 -- one of them at most is a given one
 one_place : (a n x : ℕ) → sum_by (is_at x) (range_with_len a n) ≤ 1
 one_place a zero x = omega arith
-one_place a (suc n) x =
-    elim (cases_eq a x) [
-      | inl same ↦
-          let head : is_at x a ≡ 1 = ap (λ b. cond b 1 0) (eq-eqb a x same) in
-          omega (
-            arith,
-            sum_by-cons (is_at x) a (range_with_len (a + 1) n),
-            head,
-            none_below (a + 1) n x (omega (arith, same)),
-          )
-      | inr other ↦
-          let head : is_at x a ≡ 0 = ap (λ b. cond b 1 0) (ne_eqb a x other) in
-          omega (
-            arith,
-            sum_by-cons (is_at x) a (range_with_len (a + 1) n),
-            head,
-            one_place (a + 1) n x,
-          )
-    ]
+one_place a (suc n) x = elim (cases_eq a x) [
+  | inl same ↦ let head : is_at x a ≡ 1 = ap (λ b. cond b 1 0) (eq-eqb a x same) in
+      omega (
+        arith,
+        sum_by-cons (is_at x) a (range_with_len (a + 1) n),
+        head,
+        none_below (a + 1) n x (omega (arith, same)),
+      )
+  | inr other ↦ let head : is_at x a ≡ 0 = ap (λ b. cond b 1 0) (ne_eqb a x other) in
+      omega (arith, sum_by-cons (is_at x) a (range_with_len (a + 1) n), head, one_place (a + 1) n x)
+]
 
 -- how often each place is among these
 abbrev times : List ℕ → ℕ → ℕ
@@ -155,15 +138,14 @@ times xs p = sum_by (λ x. cond (eqb p x) 1 0) xs
 times_more : (x : ℕ) (xs places : List ℕ)
     → sum_by (times (x ∷ xs)) places ≡ sum_by (is_at x) places + sum_by (times xs) places
 times_more x xs [] = refl
-times_more x xs (p ∷ ps) =
-    omega (
-      arith,
-      sum_by-cons (times (x ∷ xs)) p ps,
-      sum_by-cons (times xs) p ps,
-      sum_by-cons (is_at x) p ps,
-      sum_by-cons (λ y. cond (eqb p y) 1 0) x xs,
-      times_more x xs ps,
-    )
+times_more x xs (p ∷ ps) = omega (
+  arith,
+  sum_by-cons (times (x ∷ xs)) p ps,
+  sum_by-cons (times xs) p ps,
+  sum_by-cons (is_at x) p ps,
+  sum_by-cons (λ y. cond (eqb p y) 1 0) x xs,
+  times_more x xs ps,
+)
 
 times_none : (places : List ℕ) → sum_by (times []) places ≡ 0
 times_none [] = refl

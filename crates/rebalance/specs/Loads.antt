@@ -72,8 +72,7 @@ usable_rooms rooms = count_by (λ room. not (room == 0)) rooms
 -- the bound of the peak: the greatest weight or, if greater, an even share for switches with room
 unfoldable pub bound : List ℕ → List ℕ → ℕ
 bound weights rooms = if usable_rooms rooms == 0
-    then 0
-    else max (greatest weights) (div_ceil (sum weights) (usable_rooms rooms))
+    then 0 else max (greatest weights) (div_ceil (sum weights) (usable_rooms rooms))
 
 -- ---- where there is room
 

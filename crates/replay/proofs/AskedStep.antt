@@ -74,24 +74,21 @@ pub asked : DrainsEnd → DeliveriesRise → (world : WorldValue) (row : ℕ) (e
     → next_step event is_begun world.journal ≡ Some step
     → Asked (setting_at world) row event is_begun world.journal step
 asked hops rise world row (One own) true step refines is = cc is
-asked hops rise world row (One own) false step refines is =
-    let same : own ≡ step = cc is in
+asked hops rise world row (One own) false step refines is = let same : own ≡ step = cc is in
     subst (Asked (setting_at world) row (One own) false world.journal) same
     (record { may = λ may few room. may; none = refl; brought = refl; fewer = λ room. omega arith })
 asked hops rise world row Flush is_begun step refines is =
     let journal = world.journal in
     let at = found_by Deliver (next_waiting journal) step is in
     subst (Asked (setting_at world) row Flush is_begun journal) at.made (record {
-      may = λ may few room.
-          omega (arith, least_is_small journal at.number at.is room);
+      may = λ may few room. omega (arith, least_is_small journal at.number at.is room);
       none = refl;
       brought = refl;
-      fewer = λ room.
-          subst (λ o. flush_left (next_waiting (journal
-          ++ piece (setting_at world) journal row (Deliver at.number))) < flush_left o) (sym at.is)
-          (nearer (next_waiting (journal
-          ++ piece (setting_at world) journal row (Deliver at.number))) at.number
-          (omega (arith, least_is_small journal at.number at.is room))
+      fewer = λ room. subst (λ o. flush_left
+          (next_waiting (journal ++ piece (setting_at world) journal row (Deliver at.number)))
+          < flush_left o) (sym at.is) (nearer
+          (next_waiting (journal ++ piece (setting_at world) journal row (Deliver at.number)))
+          at.number (omega (arith, least_is_small journal at.number at.is room))
           (λ m is. rise (setting_at world) journal row at.number m at.is is));
     })
 asked hops rise world row Drain is_begun step refines is =
@@ -99,8 +96,7 @@ asked hops rise world row Drain is_begun step refines is =
     let at = found_by Hop (next_travelling journal) step is in
     let whole = tie_of world refines in
     subst (Asked (setting_at world) row Drain is_begun journal) at.made (record {
-      may = λ may few room.
-          omega (arith, few, least_is_packet journal at.number at.is);
+      may = λ may few room. omega (arith, few, least_is_packet journal at.number at.is);
       none = refl;
       brought = refl;
       fewer = λ room. hops (setting_at world) journal row at.number whole.sound

@@ -10,11 +10,9 @@ left_append here items = sym (flat_map-append left_by here items)
 
 -- what stands behind the items that were there before
 pub rest_is : (here after before items : List Item) → before ≡ here → items ≡ after
-    → take (length items - length before) (drop (length before) items)
-    ≡ drop (length here) after
-rest_is here after before items old is =
-    take_all (length items - length before) (drop (length before) items)
-    (omega (arith, length-drop (length before) items))
+    → take (length items - length before) (drop (length before) items) ≡ drop (length here) after
+rest_is here after before items old is = take_all (length items - length before)
+    (drop (length before) items) (omega (arith, length-drop (length before) items))
     ∙ ap (λ (xs : List Item). drop (length xs) items) old ∙ ap (drop (length here)) is
 
 -- they keep up with a step that wrote some items, which they noted
@@ -26,8 +24,7 @@ keep_up_next start here after items noted old now new written keep stay own =
     own ∙ ap (drop (length here)) written ∙ drop-append_seam here items in
     let whole : left_in here ++ left_in noted ≡ left_in after =
     ap (λ more. left_in here ++ left_in more) own_items ∙ left_append here items
-    ∙ ap left_in (sym written) in
-    record {
+    ∙ ap left_in (sym written) in record {
       more = keep.more ++ left_in noted;
       left = sym whole ∙ ap (λ left. left ++ left_in noted) keep.left
           ∙ append_assoc (left_in start) keep.more (left_in noted);

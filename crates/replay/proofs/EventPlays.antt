@@ -27,17 +27,15 @@ pub record StopsOn (setting : Setting) (before : List Item) (row : ℕ) (events 
 -- a play of these events goes on from this journal to that one
 abbrev pub PlaysOn : Setting → List Item → ℕ → List Event → List Item → Option ℕ → Type 0
 PlaysOn setting before row events journal None = GoesOn setting before row events journal
-PlaysOn setting before row events journal (Some at) =
-    StopsOn setting before row events journal at
+PlaysOn setting before row events journal (Some at) = StopsOn setting before row events journal at
 
 -- ---- one more event
 
 room_on : (setting : Setting) (before after : List Item) (mine rest : List StepOfRow)
     → after ≡ after_steps setting before mine → HaveRoom setting before mine
     → HaveRoom setting after rest → HaveRoom setting before (mine ++ rest)
-room_on setting before after mine rest written room more =
-    rooms_append setting before mine rest room
-    (subst (λ journal. HaveRoom setting journal rest) written more)
+room_on setting before after mine rest written room more = rooms_append setting before mine rest
+    room (subst (λ journal. HaveRoom setting journal rest) written more)
 
 written_on : (setting : Setting) (before after whole : List Item) (mine rest : List StepOfRow)
     → after ≡ after_steps setting before mine → whole ≡ after_steps setting after rest
@@ -99,8 +97,7 @@ plays_on_by setting before after whole row events i d stop within happens rest =
 
 pub plays_no_more : (setting : Setting) (journal : List Item) (row : ℕ)
     → PlaysOn setting journal row [] journal None
-plays_no_more setting journal row =
-    record { steps = []; allowed = refl; room = tt; written = refl }
+plays_no_more setting journal row = record { steps = []; allowed = refl; room = tt; written = refl }
 
 -- within the next event, of which a step would begin full
 pub stops_by : (setting : Setting) (before after : List Item) (row : ℕ) (events : List Event)

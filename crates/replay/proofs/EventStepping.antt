@@ -60,8 +60,7 @@ first_on : (setting : Setting) (row : ℕ) (event : Event) (is_begun : Bool) (st
     → next_step event is_begun (after_steps setting start steps) ≡ Some step
     → AreFirstStepsOf setting row event start (steps ++ one row step ∷ [])
 first_on setting row (One own) false start [] step first begun is =
-    let same : own ≡ step = cc is in
-    inr (ap (λ s. one row s ∷ []) (sym same))
+    let same : own ≡ step = cc is in inr (ap (λ s. one row s ∷ []) (sym same))
 first_on setting row (One own) true start steps step first begun is = absurd (cc is)
 first_on setting row (One own) false start (x ∷ steps) step first begun is = absurd (cc begun)
 first_on setting row Flush is_begun start steps step first begun is =
@@ -74,9 +73,8 @@ begun_on [] step = refl
 begun_on (x ∷ steps) step = refl
 
 -- with the step that it asks for next, it took first steps too
-with_next : (setting : Setting) (row : ℕ) (event : Event) (is_begun : Bool)
-    (start here : List Item) (step : Step)
-    → (took : Took setting row event is_begun start here)
+with_next : (setting : Setting) (row : ℕ) (event : Event) (is_begun : Bool) (start here : List Item)
+    (step : Step) → (took : Took setting row event is_begun start here)
     → next_step event is_begun here ≡ Some step
     → AreFirstStepsOf setting row event start (took.steps ++ one row step ∷ [])
 with_next setting row event is_begun start here step took is =
@@ -85,8 +83,7 @@ with_next setting row event is_begun start here step took is =
 
 -- behind which the journal is
 after_next : (setting : Setting) (row : ℕ) (event : Event) (is_begun : Bool)
-    (start here : List Item) (step : Step)
-    → (took : Took setting row event is_begun start here)
+    (start here : List Item) (step : Step) → (took : Took setting row event is_begun start here)
     → after_steps setting start (took.steps ++ one row step ∷ [])
     ≡ here ++ piece setting here row step
 after_next setting row event is_begun start here step took =
@@ -150,8 +147,7 @@ begins_next setting row event is_begun start here after step took is part = reco
       ∙ append_assoc start took.items part.written;
   lacking = part.rest;
   whole = after_next setting row event is_begun start here step took
-      ∙ ap (λ items. here ++ items) part.split
-      ∙ sym (append_assoc here part.written part.rest)
+      ∙ ap (λ items. here ++ items) part.split ∙ sym (append_assoc here part.written part.rest)
       ∙ ap (λ items. items ++ part.rest) (sym part.grown);
 }
 
@@ -175,9 +171,8 @@ one_of step steps begun (inr is) = is
 
 all_on : (setting : Setting) (row : ℕ) (event : Event) (is_begun : Bool) (start : List Item)
     (steps : List StepOfRow) → AreFirstStepsOf setting row event start steps
-    → is_begun ≡ is_some_step steps
-    → next_step event is_begun (after_steps setting start steps) ≡ None
-    → AreStepsOf setting row event start steps
+    → is_begun ≡ is_some_step steps → next_step event is_begun (after_steps setting start steps)
+    ≡ None → AreStepsOf setting row event start steps
 all_on setting row (One own) false start steps first begun is = absurd (cc is)
 all_on setting row (One own) true start steps first begun is =
     one_of (one row own) steps begun first

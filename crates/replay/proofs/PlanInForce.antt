@@ -34,18 +34,16 @@ pub kept_in_force : (setting : Setting) (journal : List Item) (controller : Cont
     → current_plan controller ≡ Some plan → IsPlanInForce setting journal plan
 kept_in_force setting journal controller plan sound is bounds planned kept =
     let current = current_mark journal in
-    let own : option_map (λ (kept : KeptPlan). kept.plan)
-    (find (λ (kept : KeptPlan). kept.version == current)
-    (plans_of setting journal current (version_count journal + 1 - current))) ≡ Some plan =
-    ap (λ plans. option_map (λ (kept : KeptPlan). kept.plan)
+    let own : option_map (λ (kept : KeptPlan). kept.plan) (find (λ (kept : KeptPlan). kept.version
+    == current) (plans_of setting journal current (version_count journal + 1 - current)))
+    ≡ Some plan = ap (λ plans. option_map (λ (kept : KeptPlan). kept.plan)
     (find (λ (kept : KeptPlan). kept.version == current) plans)) (sym is.plans)
     ∙ ap (λ mark. option_map (λ (kept : KeptPlan). kept.plan)
     (find (λ (kept : KeptPlan). kept.version == mark) controller.plans)) (sym is.marks.current)
     ∙ kept in
     let same = first_found setting journal current (version_count journal + 1 - current) plan own in
     let has : HasPlan setting journal current =
-    planned.planned (begins_planned setting sound) current bounds.first bounds.there in
-    record {
+    planned.planned (begins_planned setting sound) current bounds.first bounds.there in record {
       policy = ap (λ (p : PlanValue). p.policy) same;
       hosted = ap (λ (p : PlanValue). p.hosted) same;
       parts = subst (λ (p : PlanValue). IsPlan p.policy setting.net p.hosted) (sym same)

@@ -7,9 +7,7 @@ use Rattle.update_machine.specs.declared.full.TheConstants.{FULL_AT}
 one_more : (from count i : ℕ) (found : Option ℕ) (b : Bool)
     → (found ≡ Some i → i < from + 1 + count) → cond b (Some from) found ≡ Some i
     → i < from + suc count
-one_more from count i found true rest is =
-    let same : from ≡ i = cc is in
-    omega (arith, same)
+one_more from count i found true rest is = let same : from ≡ i = cc is in omega (arith, same)
 one_more from count i found false rest is = omega (arith, rest is)
 
 -- a number that is found in a range is in it

@@ -32,8 +32,7 @@ module _ {A X : Type 0} (f : A → X) where
 all_sound : All IsSwitchRow load_net.switches
 all_sound = all_by switch_row IsSwitchRow
     (λ i. is_name (switch_row i).name && (nat_lt (2 ^ i) (2 ^ 64) && nat_le (room_of i) 8192))
-    (λ i e.
-    let sizes = (and_parts (is_name (switch_row i).name) _ e).1 in
+    (λ i e. let sizes = (and_parts (is_name (switch_row i).name) _ e).1 in
     record {
       name = (and_parts (is_name (switch_row i).name) _ e).0;
       ports = ltb-true _ _ (and_parts (nat_lt (2 ^ i) (2 ^ 64)) _ sizes).0;
@@ -43,28 +42,25 @@ all_sound = all_by switch_row IsSwitchRow
 
 other_ports : (i j port : ℕ) → i ≢ j → IsTrue (has_port port (switch_row i))
     → IsFalse (has_port port (switch_row j))
-other_ports i j port apart has = ne_eqb _ _ (λ e. one_of (port == i) refl e)
-  where
-    one_of : (b : Bool) → (port == i) ≡ b → bit_at (2 ^ j) port ≡ 1 → ⊥
-    one_of true is e =
-        let same : port ≡ i = eqb-true port i is in
-        let none : bit_at (2 ^ j) port ≡ 0 = bit_at-pow_other j port (λ k. apart (sym same ∙ k)) in
-        absurd (omega (arith, e, none))
-    one_of false is e =
-        let none : bit_at (2 ^ i) port ≡ 0 =
-        bit_at-pow_other i port (λ k. true≢false (sym (eq-eqb port i k) ∙ is)) in
-        let some : bit_at (2 ^ i) port ≡ 1 = eqb-true _ _ has in
-        absurd (omega (arith, some, none))
+other_ports i j port apart has = ne_eqb _ _ (λ e. one_of (port == i) refl e) where
+  one_of : (b : Bool) → (port == i) ≡ b → bit_at (2 ^ j) port ≡ 1 → ⊥
+  one_of true is e =
+      let same : port ≡ i = eqb-true port i is in
+      let none : bit_at (2 ^ j) port ≡ 0 = bit_at-pow_other j port (λ k. apart (sym same ∙ k)) in
+      absurd (omega (arith, e, none))
+  one_of false is e =
+      let none : bit_at (2 ^ i) port ≡ 0 =
+      bit_at-pow_other i port (λ k. true≢false (sym (eq-eqb port i k) ∙ is)) in
+      let some : bit_at (2 ^ i) port ≡ 1 = eqb-true _ _ has in absurd (omega (arith, some, none))
 
 other_names : (i j : ℕ) → i ≢ j → IsFalse (bytes_eq (switch_row i).name (switch_row j).name)
-other_names i j apart = go (bytes_eq (switch_row i).name (switch_row j).name) refl
-  where
-    go : (b : Bool) → bytes_eq (switch_row i).name (switch_row j).name ≡ b → IsFalse b
-    go false e = refl
-    go true e =
-        let same = (bytes_eq-Decides (switch_row i).name (switch_row j).name).0 e in
-        let digit : 48 + i ≡ 48 + j = ap (λ name. slice_index name 1) same in
-        absurd (apart (omega (arith, digit)))
+other_names i j apart = go (bytes_eq (switch_row i).name (switch_row j).name) refl where
+  go : (b : Bool) → bytes_eq (switch_row i).name (switch_row j).name ≡ b → IsFalse b
+  go false e = refl
+  go true e =
+      let same = (bytes_eq-Decides (switch_row i).name (switch_row j).name).0 e in
+      let digit : 48 + i ≡ 48 + j = ap (λ name. slice_index name 1) same in
+      absurd (apart (omega (arith, digit)))
 
 all_apart : AllPairs AreApart load_net.switches
 all_apart = pairs_by switch_row AreApart (λ i j. not (i == j))
@@ -92,8 +88,7 @@ other_links = pairs_by (λ link. link) AreOther (λ a b. not (joins b.one b.two 
 pub load_net_sound : IsNet load_net
 load_net_sound =
     let size : length load_net.switches ≡ 8 = refl in
-    let links : length load_links ≡ 10 = refl in
-    record {
+    let links : length load_links ≡ 10 = refl in record {
       some_switch = omega (arith, size);
       few_switches = omega (arith, size);
       switches = all_sound;
@@ -123,9 +118,8 @@ in_range test from (suc count) k e low high =
         later (omega (arith, low, apart)) (omega (arith, high))
 
 pub port_owned : (port : ℕ) → port < 8 → IsTrue (is_some (owner_of load_net.switches port))
-port_owned port below =
-    in_range (λ k. is_some (owner_of load_net.switches k)) 0 8 port refl (omega arith)
-    (omega (arith, below))
+port_owned port below = in_range (λ k. is_some (owner_of load_net.switches k)) 0 8 port refl
+    (omega arith) (omega (arith, below))
 
 -- one more switch
 pub switches_more : (i : ℕ) → map switch_row (range_with_len 0 (i + 1))

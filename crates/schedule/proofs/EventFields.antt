@@ -58,17 +58,15 @@ unfolding field_at
 one_behind (keyword ∷ a ∷ []) two = refl
 one_behind _ two = absurd (omega arith)
 
-two_behind : (fields : List (List ℕ)) → length fields ≡ 3 → drop 1 fields ≡ field_or_empty fields 1
-    ∷ field_or_empty
-    fields 2 ∷ []
+two_behind : (fields : List (List ℕ))
+    → length fields ≡ 3 → drop 1 fields ≡ field_or_empty fields 1 ∷ field_or_empty fields 2 ∷ []
 unfolding field_at
 two_behind (keyword ∷ a ∷ b ∷ []) three = refl
 two_behind _ three = absurd (omega arith)
 
-pub six_behind : (fields : List (List ℕ)) → length fields ≡ 7
-    → drop 1 fields ≡ field_or_empty fields 1 ∷ field_or_empty fields 2 ∷ field_or_empty fields 3
-    ∷ field_or_empty fields 4 ∷ field_or_empty
-    fields 5 ∷ field_or_empty fields 6 ∷ []
+pub six_behind : (fields : List (List ℕ)) → length fields ≡ 7 → drop 1 fields
+    ≡ field_or_empty fields 1 ∷ field_or_empty fields 2 ∷ field_or_empty fields 3
+    ∷ field_or_empty fields 4 ∷ field_or_empty fields 5 ∷ field_or_empty fields 6 ∷ []
 unfolding field_at
 six_behind (keyword ∷ a ∷ b ∷ c ∷ d ∷ e ∷ f ∷ []) seven = refl
 six_behind _ seven = absurd (omega arith)
@@ -86,9 +84,8 @@ event_of-two net files fields k is two = event_of-known net files fields k is
     ∙ ap (event_with net files k) (one_behind fields two)
 
 pub event_of-three : (net : Net) (files : ℕ) (fields : List (List ℕ)) (k : Kind)
-    → kind_of (field_or_empty fields 0) ≡ Some k → length fields ≡ 3
-    → event_of net files fields ≡ event_with net files k
-    (field_or_empty fields 1 ∷ field_or_empty fields 2 ∷ [])
+    → kind_of (field_or_empty fields 0) ≡ Some k → length fields ≡ 3 → event_of net files fields
+    ≡ event_with net files k (field_or_empty fields 1 ∷ field_or_empty fields 2 ∷ [])
 event_of-three net files fields k is three = event_of-known net files fields k is
     ∙ ap (event_with net files k) (two_behind fields three)
 
@@ -107,9 +104,8 @@ other_width net files kind.Packet (a ∷ b ∷ c ∷ d ∷ e ∷ f ∷ g ∷ mor
 other_width _ _ _ _ none one two six = refl
 
 pub event_of-other : (net : Net) (files : ℕ) (fields : List (List ℕ)) (k : Kind)
-    → kind_of (field_or_empty fields 0) ≡ Some k
-    → length fields ≢ 1 → length fields ≢ 2 → length fields ≢ 3 → length fields ≢ 7
-    → event_of net files fields ≡ Err why.Width
+    → kind_of (field_or_empty fields 0) ≡ Some k → length fields ≢ 1 → length fields ≢ 2
+    → length fields ≢ 3 → length fields ≢ 7 → event_of net files fields ≡ Err why.Width
 unfolding field_at
 event_of-other net files [] k is one two three seven = cc (no_keyword, is)
 event_of-other net files (keyword ∷ fields) k is one two three seven =

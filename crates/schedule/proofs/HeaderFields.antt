@@ -6,14 +6,12 @@ use Rattle.five_tuple.specs.declared.header.Fields.{Fields}
 
 checked : (number : Bool) (most value n : ℕ) → cond (number && nat_le value most) (Some value) None
     ≡ Some n → n ≤ most
-checked true most value n is = tested (nat_le value most) refl is
-  where
-    tested : (b : Bool) → nat_le value most ≡ b → cond b (Some value) None ≡ Some n → n ≤ most
-    tested true small is =
-        let same : value ≡ n = cc is in
-        let bound : value ≤ most = grind (arith, nat_tests) in
-        omega (arith, same, bound)
-    tested false small is = cc is
+checked true most value n is = tested (nat_le value most) refl is where
+  tested : (b : Bool) → nat_le value most ≡ b → cond b (Some value) None ≡ Some n → n ≤ most
+  tested true small is =
+      let same : value ≡ n = cc is in
+      let bound : value ≤ most = grind (arith, nat_tests) in omega (arith, same, bound)
+  tested false small is = cc is
 checked false most value n is = cc is
 
 pub number_bound : (most : ℕ) (text : List ℕ) (n : ℕ) → number_up_to most text ≡ Some n → n ≤ most
@@ -44,8 +42,7 @@ address_bound text = parts_bound (parts_round 46 text)
 named : (is_name : Bool) (number : ℕ) (otherwise : Option ℕ) → number ≤ 255 → IsBelow 255 otherwise
     → IsBelow 255 (cond is_name (Some number) otherwise)
 named true number otherwise small below n is =
-    let same : number ≡ n = cc is in
-    omega (arith, same, small)
+    let same : number ≡ n = cc is in omega (arith, same, small)
 named false number otherwise small below n is = below n is
 
 pub proto_bound : (text : List ℕ) → IsBelow 255 (proto_number_of text)
@@ -66,8 +63,7 @@ fields_bound (Some s) (Some d) (Some p) (Some q) (Some r) hs hd hp hq hr fields 
     let dst : d ≡ fields.dst = cc is in
     let sport : p ≡ fields.sport = cc is in
     let dport : q ≡ fields.dport = cc is in
-    let proto : r ≡ fields.proto = cc is in
-    record {
+    let proto : r ≡ fields.proto = cc is in record {
       src = omega (arith, hs s refl, src);
       dst = omega (arith, hd d refl, dst);
       sport = omega (arith, hp p refl, sport);
@@ -78,8 +74,7 @@ fields_bound _ _ _ _ _ hs hd hp hq hr fields is = cc is
 
 pub header_bound : (src dst sport dport proto : List ℕ) (fields : Fields)
     → packet_fields_of src dst sport dport proto ≡ Some fields → IsHeader (header_of fields)
-header_bound src dst sport dport proto =
-    fields_bound (address_of src) (address_of dst) (number_up_to 65535 sport)
-    (number_up_to 65535 dport) (proto_number_of proto)
+header_bound src dst sport dport proto = fields_bound (address_of src) (address_of dst)
+    (number_up_to 65535 sport) (number_up_to 65535 dport) (proto_number_of proto)
     (address_bound src) (address_bound dst) (number_bound 65535 sport) (number_bound 65535 dport)
     (proto_bound proto)

@@ -13,6 +13,5 @@ kind_back _ = refl
 
 pub keyword_back : (keyword : List ℕ) (k : Kind) → kind_of keyword ≡ Some k → keyword ≡ keyword_of k
 unfolding kind_of
-keyword_back keyword k is = sym
-    ((bytes_eq-Decides (keyword_of k) keyword).0
+keyword_back keyword k is = sym ((bytes_eq-Decides (keyword_of k) keyword).0
     (found_passes (λ (other : Kind). bytes_eq (keyword_of other) keyword) KINDS k is))

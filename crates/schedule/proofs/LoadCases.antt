@@ -29,51 +29,45 @@ later_priority : (k x priority : ℕ) → k < priority
     → has_priority (rows_drawn k x).0 priority ≡ false
 later_priority zero x priority above = refl
 later_priority (suc k) x priority above =
-    list_any-append (λ (row : Row). row.priority == priority) (rows_drawn k x).0 _
-    ∙ rw (
+    list_any-append (λ (row : Row). row.priority == priority) (rows_drawn k x).0 _ ∙ rw (
       later_priority k x priority (omega (arith, above)),
       ne_eqb (k + 1) priority (λ e. omega (arith, above, e)),
     ) refl
 
 -- no row has the priority of an earlier one
-pub rows_distinct : (k x place : ℕ) (d : Row) → place < k
-    → has_priority (take place (rows_drawn k x).0)
-    (slice_index_or (rows_drawn k x).0 place d).priority ≡ false
+pub rows_distinct : (k x place : ℕ) (d : Row) → place < k → has_priority (take place
+    (rows_drawn k x).0) (slice_index_or (rows_drawn k x).0 place d).priority ≡ false
 rows_distinct zero x place d inside = absurd (omega (arith, inside))
-rows_distinct (suc k) x place d inside = go (nat_lt place k) refl (rows_distinct k x place d)
-  where
-    go : (b : Bool) → nat_lt place k ≡ b
-        → (place < k → has_priority (take place (rows_drawn k x).0)
-        (slice_index_or (rows_drawn k x).0 place d).priority ≡ false)
-        → has_priority (take place ((rows_drawn k x).0 ++ row_at (k + 1) (rows_drawn k x).1 ∷ []))
-        (slice_index_or ((rows_drawn k x).0 ++ row_at (k + 1) (rows_drawn k x).1 ∷ []) place
-        d).priority ≡ false
-    go true e earlier =
-        let draw_below : place < length (rows_drawn k x).0 =
-        omega (arith, ltb-true place k e, rows_count k x) in
-        rw (
-          take-append-le place (rows_drawn k x).0 (row_at (k + 1) (rows_drawn k x).1 ∷ [])
-              (omega (arith, draw_below)),
-          get_or-append (rows_drawn k x).0 (row_at (k + 1) (rows_drawn k x).1 ∷ []) d place
-              draw_below,
-        )
-        (earlier (ltb-true place k e))
-    go false e earlier =
-        let same : place ≡ length (rows_drawn k x).0 =
-        omega (arith, ltb-false place k e, inside, rows_count k x) in
-        rw (
-          same,
-          take-append-le (length (rows_drawn k x).0) (rows_drawn k x).0
-              (row_at (k + 1) (rows_drawn k x).1 ∷ []) (omega arith),
-          take_all (length (rows_drawn k x).0) (rows_drawn k x).0 (omega arith),
-          get_or-append_seam (rows_drawn k x).0 (row_at (k + 1) (rows_drawn k x).1) [] d,
-        )
-        (later_priority k x (k + 1) (omega arith))
+rows_distinct (suc k) x place d inside = go (nat_lt place k) refl (rows_distinct k x place d) where
+  go : (b : Bool) → nat_lt place k ≡ b → (place < k → has_priority (take place (rows_drawn k x).0)
+      (slice_index_or (rows_drawn k x).0 place d).priority ≡ false) → has_priority (take place
+      ((rows_drawn k x).0 ++ row_at (k + 1) (rows_drawn k x).1 ∷ [])) (slice_index_or
+      ((rows_drawn k x).0 ++ row_at (k + 1) (rows_drawn k x).1 ∷ []) place d).priority ≡ false
+  go true e earlier =
+      let draw_below : place < length (rows_drawn k x).0 =
+      omega (arith, ltb-true place k e, rows_count k x) in
+      rw (
+        take-append-le place (rows_drawn k x).0 (row_at (k + 1) (rows_drawn k x).1 ∷ [])
+            (omega (arith, draw_below)),
+        get_or-append (rows_drawn k x).0 (row_at (k + 1) (rows_drawn k x).1 ∷ []) d place
+            draw_below,
+      )
+      (earlier (ltb-true place k e))
+  go false e earlier =
+      let same : place ≡ length (rows_drawn k x).0 =
+      omega (arith, ltb-false place k e, inside, rows_count k x) in
+      rw (
+        same,
+        take-append-le (length (rows_drawn k x).0) (rows_drawn k x).0
+            (row_at (k + 1) (rows_drawn k x).1 ∷ []) (omega arith),
+        take_all (length (rows_drawn k x).0) (rows_drawn k x).0 (omega arith),
+        get_or-append_seam (rows_drawn k x).0 (row_at (k + 1) (rows_drawn k x).1) [] d,
+      )
+      (later_priority k x (k + 1) (omega arith))
 
 pub no_repeat : (k x place : ℕ) → IsFirstRepeat (rows_drawn k x).0 place → ⊥
-no_repeat k x place repeat =
-    true≢false (sym (repeat.repeats (row_at 1 x)) ∙ rows_distinct k x place (row_at 1 x)
-    (omega (arith, repeat.there, rows_count k x)))
+no_repeat k x place repeat = true≢false (sym (repeat.repeats (row_at 1 x))
+    ∙ rows_distinct k x place (row_at 1 x) (omega (arith, repeat.there, rows_count k x)))
 
 -- ---- events
 
@@ -87,20 +81,18 @@ header_sound x = record {
   sport = omega (arith, below_limit 30000 (state_after 7 x) (omega arith));
   dport = omega (arith, below_limit 1024 (state_after 8 x) (omega arith));
   proto = omega arith;
-}
-  where
-    address_fits : (x : ℕ) → address_at x < 2 ^ 32
-    address_fits x = omega (
-      arith,
-      below_limit 4 (state_after 1 x) (omega arith),
-      below_limit 256 (state_after 2 x) (omega arith),
-      below_limit 256 (state_after 3 x) (omega arith),
-    )
+} where
+  address_fits : (x : ℕ) → address_at x < 2 ^ 32
+  address_fits x = omega (
+    arith,
+    below_limit 4 (state_after 1 x) (omega arith),
+    below_limit 256 (state_after 2 x) (omega arith),
+    below_limit 256 (state_after 3 x) (omega arith),
+  )
 
 group_may : (x : ℕ) → All (IsEvent load_net 2) (group_at x)
-group_may x =
-    All-cons (IsEvent load_net 2) (One (packet_drawn x)) (Drain ∷ Flush ∷ [])
-    (below_limit 8 (next_drawn x) (omega arith), header_sound (next_drawn x))
+group_may x = All-cons (IsEvent load_net 2) (One (packet_drawn x))
+    (Drain ∷ Flush ∷ []) (below_limit 8 (next_drawn x) (omega arith), header_sound (next_drawn x))
     (All-cons (IsEvent load_net 2) Drain (Flush ∷ []) tt
     (All-cons (IsEvent load_net 2) Flush [] tt (All-nil (IsEvent load_net 2))))
 
@@ -110,25 +102,22 @@ groups_may (suc k) x = All-append (IsEvent load_net 2) (groups_from k x).0
     (group_at (groups_from k x).1) (groups_may k x) (group_may (groups_from k x).1)
 
 changes_may : All (IsEvent load_net 2) change_events
-changes_may =
-    All-cons (IsEvent load_net 2) (One (step.Update 2))
+changes_may = All-cons (IsEvent load_net 2) (One (step.Update 2))
     (Flush ∷ One (step.LinkDown 0 1) ∷ Flush ∷ []) (omega arith, omega arith)
     (All-cons (IsEvent load_net 2) Flush (One (step.LinkDown 0 1) ∷ Flush ∷ []) tt
     (All-cons (IsEvent load_net 2) (One (step.LinkDown 0 1)) (Flush ∷ []) refl
     (All-cons (IsEvent load_net 2) Flush [] tt (All-nil (IsEvent load_net 2)))))
 
 action_names : (x : ℕ) → NamesPort load_net (action_at x)
-action_names x = go (drop_draw x == 0)
-  where
-    go : (b : Bool) → NamesPort load_net (cond b Drop (Out (draw_below 8 (state_after 2 x))))
-    go true = tt
-    go false = port_owned (draw_below 8 (state_after 2 x))
-        (below_limit 8 (state_after 2 x) (omega arith))
+action_names x = go (drop_draw x == 0) where
+  go : (b : Bool) → NamesPort load_net (cond b Drop (Out (draw_below 8 (state_after 2 x))))
+  go true = tt
+  go false = port_owned (draw_below 8 (state_after 2 x))
+      (below_limit 8 (state_after 2 x) (omega arith))
 
 ports_named : (k x : ℕ) → All (λ (row : Row). NamesPort load_net row.action) (rows_drawn k x).0
 ports_named zero x = All-nil (λ (row : Row). NamesPort load_net row.action)
-ports_named (suc k) x =
-    All-append (λ (row : Row). NamesPort load_net row.action) (rows_drawn k x).0
+ports_named (suc k) x = All-append (λ (row : Row). NamesPort load_net row.action) (rows_drawn k x).0
     (row_at (k + 1) (rows_drawn k x).1 ∷ []) (ports_named k x)
     (All-cons (λ (row : Row). NamesPort load_net row.action) (row_at (k + 1) (rows_drawn k x).1) []
     (action_names (state_after 4 (rows_drawn k x).1))
@@ -143,8 +132,7 @@ case_playable n few =
     let Named : List Row → Type 0 = All (λ row. NamesPort load_net row.action) in
     let start = (rows_drawn n (rows_drawn n n).1).1 in
     let early = groups_from (2 * n) start in
-    let late = groups_from (2 * n) early.1 in
-    record {
+    let late = groups_from (2 * n) early.1 in record {
       net = load_net_sound;
       ports = All-cons Named (rows_drawn n n).0 ((rows_drawn n (rows_drawn n n).1).0 ∷ [])
           (ports_named n n)

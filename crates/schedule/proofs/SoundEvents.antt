@@ -52,18 +52,16 @@ file_sound files text file is =
       omega (
         arith,
         same,
-        number_bound files text n
-            (some_of_ok_or (number_up_to files text) why.File n reads),
+        number_bound files text n (some_of_ok_or (number_up_to files text) why.File n reads),
       ),
     )
 
 link_sound : (net : Net) (one two : List ℕ) (link : LinkRow) → link_in net one two ≡ Ok link
     → HasLink net link.one link.two
 link_sound net one two link is =
-    let (s, _, rest) = with_value_ok (switch_in net one)
-    (λ s. with_value (switch_in net two)
-    (λ x. require (are_linked net.links s x) why.NoLink (Ok (record { one = s; two = x }))))
-    link is in
+    let (s, _, rest) = with_value_ok (switch_in net one) (λ s. with_value (switch_in net two)
+    (λ x. require (are_linked net.links s x) why.NoLink (Ok (record { one = s; two = x })))) link
+    is in
     let (x, _, last) = with_value_ok (switch_in net two)
     (λ x. require (are_linked net.links s x) why.NoLink (Ok (record { one = s; two = x }))) link
     rest in
@@ -83,8 +81,7 @@ header_sound src dst sport dport proto header is =
         → ((fields : Fields) → read ≡ Some fields → IsHeader (header_of fields)) → (header : Header)
         → ok_or (option_map header_of read) why.Address ≡ Ok header → IsHeader header
     packed (Some fields) sound header is =
-        let same : header_of fields ≡ header = cc is in
-        subst IsHeader same (sound fields refl)
+        let same : header_of fields ≡ header = cc is in subst IsHeader same (sound fields refl)
     packed None sound header is = cc is
 
 -- ---- rows
@@ -98,8 +95,7 @@ module _ (net : Net) (files : ℕ) where
 
   gives : (event : Event) → IsEvent net files event → Sound (Ok event)
   gives event sound other is =
-      let same : event ≡ other = cc is in
-      subst (IsEvent net files) same sound
+      let same : event ≡ other = cc is in subst (IsEvent net files) same sound
 
   follows : {X : Type 0} (read : Result X ScheduleRefusal) (next : X → Result Event ScheduleRefusal)
       → ((x : X) → read ≡ Ok x → Sound (next x)) → Sound (with_value read next)
@@ -126,23 +122,19 @@ module _ (net : Net) (files : ℕ) where
 
   with_sound : (k : Kind) (fields : List (List ℕ)) → Sound (event_with net files k fields)
   with_sound kind.Packet (switch ∷ src ∷ dst ∷ sport ∷ dport ∷ proto ∷ []) =
-      follows (switch_in net switch)
-      (λ s. with_value (header_read src dst sport dport proto)
-      (λ header. Ok (One (step.Packet s header)))) (λ s is.
-      follows (header_read src dst sport dport proto)
-      (λ header. Ok (One (step.Packet s header))) (λ header has.
-      gives (One (step.Packet s header))
+      follows (switch_in net switch) (λ s. with_value (header_read src dst sport dport proto)
+      (λ header. Ok (One (step.Packet s header))))
+      (λ s is. follows (header_read src dst sport dport proto)
+      (λ header. Ok (One (step.Packet s header))) (λ header has. gives (One (step.Packet s header))
       (switch_sound net switch s is, header_sound src dst sport dport proto header has)))
   with_sound kind.Hop (packet ∷ []) = one_number packet (λ n. step.Hop n) (λ n h. h)
   with_sound kind.Lose (packet ∷ []) = one_number packet (λ n. step.Lose n) (λ n h. h)
   with_sound kind.Deliver (message ∷ []) = one_number message (λ n. step.Deliver n) (λ n h. h)
   with_sound kind.Forget (message ∷ []) = one_number message (λ n. step.Forget n) (λ n h. h)
-  with_sound kind.Expire (switch ∷ place ∷ []) =
-      follows (switch_in net switch)
-      (λ s. with_value (number_read place) (λ n. Ok (One (step.Expire s n)))) (λ s is.
-      one_number place (λ n. step.Expire s n) (λ n h. (switch_sound net switch s is, h)))
-  with_sound kind.Update (file ∷ []) = follows (file_in files file)
-      (λ n. Ok (One (step.Update n)))
+  with_sound kind.Expire (switch ∷ place ∷ []) = follows (switch_in net switch)
+      (λ s. with_value (number_read place) (λ n. Ok (One (step.Expire s n))))
+      (λ s is. one_number place (λ n. step.Expire s n) (λ n h. (switch_sound net switch s is, h)))
+  with_sound kind.Update (file ∷ []) = follows (file_in files file) (λ n. Ok (One (step.Update n)))
       (λ n is. gives (One (step.Update n)) (file_sound files file n is))
   with_sound kind.LinkDown (one ∷ two ∷ []) =
       one_link one two (λ link. step.LinkDown link.one link.two) (λ link h. h)
@@ -158,9 +150,8 @@ module _ (net : Net) (files : ℕ) where
 
   row_sound : (fields : List (List ℕ)) → Sound (event_of net files fields)
   row_sound [] = λ event is. cc is
-  row_sound (keyword ∷ fields) =
-      follows (ok_or (kind_of keyword) why.Kind) (λ k. event_with net files k fields)
-      (λ k is. with_sound k fields)
+  row_sound (keyword ∷ fields) = follows (ok_or (kind_of keyword) why.Kind)
+      (λ k. event_with net files k fields) (λ k is. with_sound k fields)
 
   -- ---- all rows
 
@@ -195,8 +186,7 @@ module _ (net : Net) (files : ℕ) where
       (refusals_from net files (first + 1) records) none in
       let within = passed (nat_lt 100000 first) (result_err (event_of net files fields)) fine in
       let below : first ≤ 100000 = grind (arith, nat_tests) in
-      let more = few_rows (first + 1) records rest (omega arith) in
-      omega (arith, more)
+      let more = few_rows (first + 1) records rest (omega arith) in omega (arith, more)
     where
       no_more : {X : Type 0} (one : Option X) (more : List X) → cons_option one more ≡ []
           → (one ≡ None) × (more ≡ [])
@@ -233,9 +223,8 @@ module _ (net : Net) (files : ℕ) where
   pub text_sound : (records : List (List (List ℕ))) (events : List Event)
       → events_under_heading net files records ≡ Ok events → AreSoundEvents net files events
   text_sound [] events is = cc is
-  text_sound (first ∷ records) events is = under (is_heading schedule_heading first) is
-    where
-      under : (b : Bool) → cond b (events_of net files records) no_schedule_heading ≡ Ok events
-          → AreSoundEvents net files events
-      under true is = all_sound records events is
-      under false is = cc is
+  text_sound (first ∷ records) events is = under (is_heading schedule_heading first) is where
+    under : (b : Bool) → cond b (events_of net files records) no_schedule_heading ≡ Ok events
+        → AreSoundEvents net files events
+    under true is = all_sound records events is
+    under false is = cc is

@@ -51,8 +51,7 @@ link_row one two = record { one = one; two = two }
 -- a ring, and n0-n4 and n2-n6 across it
 abbrev pub load_links : List LinkRow
 load_links = link_row 0 1 ∷ link_row 1 2 ∷ link_row 2 3 ∷ link_row 3 4 ∷ link_row 4 5 ∷ link_row 5 6
-    ∷ link_row 6 7 ∷ link_row 0 7
-    ∷ link_row 0 4 ∷ link_row 2 6 ∷ []
+    ∷ link_row 6 7 ∷ link_row 0 7 ∷ link_row 0 4 ∷ link_row 2 6 ∷ []
 
 abbrev pub load_net : Net
 load_net = record {
@@ -88,8 +87,7 @@ row_at priority x = record {
   sport = record { low = 0; high = 65535 };
   dport = record {
     low = draw_below 1024 (state_after 4 x);
-    high = draw_below 1024
-        (state_after 4 x);
+    high = draw_below 1024 (state_after 4 x);
   };
   proto = Is 6;
   action = action_at (state_after 4 x);

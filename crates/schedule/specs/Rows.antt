@@ -43,8 +43,7 @@ link_in net one two =
     require (are_linked net.links one two) why.NoLink (Ok (record { one = one; two = two }))))
 
 -- two addresses, two ports and a protocol, none of them `any`
-abbrev pub header_read : List ℕ → List ℕ → List ℕ → List ℕ → List ℕ
-    → Result Header ScheduleRefusal
+abbrev pub header_read : List ℕ → List ℕ → List ℕ → List ℕ → List ℕ → Result Header ScheduleRefusal
 header_read src dst sport dport proto =
     ok_or (option_map header_of (packet_fields_of src dst sport dport proto)) why.Address
 
@@ -53,9 +52,8 @@ header_read src dst sport dport proto =
 -- the event of a kind and of the fields after it
 abbrev pub event_with : Net → ℕ → Kind → List (List ℕ) → Result Event ScheduleRefusal
 event_with net files kind.Packet (switch ∷ src ∷ dst ∷ sport ∷ dport ∷ proto ∷ []) =
-    with_value (switch_in net switch) (λ switch.
-    with_value (header_read src dst sport dport proto) (λ header.
-    Ok (One (step.Packet switch header))))
+    with_value (switch_in net switch) (λ switch. with_value (header_read src dst sport dport proto)
+    (λ header. Ok (One (step.Packet switch header))))
 event_with net files kind.Hop (packet ∷ []) =
     with_value (number_read packet) (λ packet. Ok (One (step.Hop packet)))
 event_with net files kind.Lose (packet ∷ []) =

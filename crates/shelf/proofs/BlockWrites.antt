@@ -14,9 +14,8 @@ all_written text before now later waiting is more =
     ∙ ap (with_gained before) (take-append-drop is.written text)
 
 -- a piece waits alone
-pub waits_alone : (text piece : List ℕ) (before now : Option (List ℕ)) → now
-    ≡ with_gained before text
-    → IsGathered (text ++ piece) before now piece
+pub waits_alone : (text piece : List ℕ) (before now : Option (List ℕ))
+    → now ≡ with_gained before text → IsGathered (text ++ piece) before now piece
 waits_alone text piece before now written = record {
   written = length text;
   within = omega (arith, length-append text piece);

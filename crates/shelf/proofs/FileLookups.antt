@@ -6,6 +6,4 @@ pub file_named_kept : (files : List (String Global × Vec ℕ Global)) (name : L
     → file_named (files_of files) name
     ≡ option_map (λ file. file.1.items) (find (λ file. bytes_eq (string_bytes file.0) name) files)
 file_named_kept [] name = refl
-file_named_kept (file ∷ files) name =
-    let rest = file_named_kept files name in
-    grind (arith, rest)
+file_named_kept (file ∷ files) name = let rest = file_named_kept files name in grind (arith, rest)

@@ -36,8 +36,7 @@ file_named files name = option_map (λ file. file.1) (find (λ file. bytes_eq fi
 
 -- the file of this name has this content, of at most this many bytes
 abbrev pub HasFile : Files → List ℕ → ℕ → List ℕ → Type 0
-HasFile files name limit content =
-    (file_named files name ≡ Some content) × (length content ≤ limit)
+HasFile files name limit content = (file_named files name ≡ Some content) × (length content ≤ limit)
 
 -- there is no file of this name
 abbrev pub LacksFile : Files → List ℕ → Type 0

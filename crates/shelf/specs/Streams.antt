@@ -24,8 +24,7 @@ pub record ReaderState : Type 0 where
 -- the content grew by all that a reader had left, if that is known, or by this many first bytes of
 -- it; a read that failed or ran out of memory says nothing about it
 abbrev pub HasFront : {E : Type 0} → Option (List ℕ) → ℕ → (before now : List ℕ) → Result (⊤) E → Type 0
-HasFront known most before now (Ok done) =
-    IfSome known (λ left. now ≡ before ++ take most left)
+HasFront known most before now (Ok done) = IfSome known (λ left. now ≡ before ++ take most left)
 HasFront known most before now (Err error) = ⊤
 
 -- the count of faults after an error: each is one, unless its kind is out of memory

@@ -29,8 +29,7 @@ rule_fits rule rank name action = fits
 
 pub count_fits : (title : List ℕ) (n : ℕ) → length title ≤ 100 → n < 2 ^ 64
     → length (with_line_feed (title ++ decimal n)) ≤ 2048
-count_fits title n short small =
-    let before : IsWithin 100 title = record { size = short } in
+count_fits title n short small = let before : IsWithin 100 title = record { size = short } in
     fits (joined_within before (count n small)) (omega arith)
 
 region_within : (n : ℕ) (region : WordValue) → n < 2 ^ 64 → IsWithin 86 (region_text n region)
@@ -49,8 +48,7 @@ pub part_fits : (part : Partition) → part.number < 2 ^ 64 → length part.rule
 part_fits part n rules = fits (part_within part n rules) (omega arith)
 
 module _ (laws : NameLaws) (net : Net) (sound : IsNet net) where
-  targets_within : (targets : List ℕ) → length targets ≤ 4
-      → IsWithin 76 (targets_text net targets)
+  targets_within : (targets : List ℕ) → length targets ≤ 4 → IsWithin 76 (targets_text net targets)
   targets_within targets few =
       widened (joined_within (all_of (codes " targets")) (names_within laws net sound targets)) 76
       (omega (arith, few))

@@ -7,9 +7,8 @@ use Rattle.show_text.specs.Text.{row_line}
 
 -- of the first rows, one more
 pub rows_more : (net : Net) (rows : List PartRow) (i : ℕ) (row : PartRow) → i < length rows
-    → row ≡ get_or rows i row
-    → flat_map (row_line net) (enumerate_from 0 (take (i + 1) rows)) ≡ flat_map (row_line net)
-    (enumerate_from 0 (take i rows)) ++ row_line net (i, row)
+    → row ≡ get_or rows i row → flat_map (row_line net) (enumerate_from 0 (take (i + 1) rows))
+    ≡ flat_map (row_line net) (enumerate_from 0 (take i rows)) ++ row_line net (i, row)
 rows_more net rows i row within read =
     let front = take i rows in
     let count : 0 + length front ≡ i = grind (arith, length-take i rows) in

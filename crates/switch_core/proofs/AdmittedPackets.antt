@@ -38,14 +38,13 @@ module _ (s after : SwitchValue) (site : Site) (number : ℕ) (header : Header)
       (sym (entry_by s site (incoming_packet s number header) true serving))
 
   -- and what is answered then
-  pub answered : (result : Entered) (ingress : ℕ) (down : List ℕ) → ingress ≡ s.number →
-      down ≡ no_links →
-      ((answer : Answer) →
-      answer_of after site (packet_with number header ingress down) forwarding ≡ Answered answer →
-      result ≡ entered_with answer) →
-      Some (answer_of after site (incoming_packet s number header) forwarding)
-      ≡ option_map Answered (admitted s site (incoming_packet s number header)) →
-      result ≡ enter_answer s site (incoming_packet s number header)
+  pub answered : (result : Entered) (ingress : ℕ) (down : List ℕ)
+      → ingress ≡ s.number → down ≡ no_links
+      → ((answer : Answer) → answer_of after site (packet_with number header ingress down)
+      forwarding ≡ Answered answer → result ≡ entered_with answer)
+      → Some (answer_of after site (incoming_packet s number header) forwarding)
+      ≡ option_map Answered (admitted s site (incoming_packet s number header))
+      → result ≡ enter_answer s site (incoming_packet s number header)
   answered result ingress down here none is =
       by_answer (admitted s site (incoming_packet s number header))
     where
@@ -55,8 +54,7 @@ module _ (s after : SwitchValue) (site : Site) (number : ℕ) (header : Header)
       by_answer : (answer : Option Answer) →
           Some (what s.number no_links) ≡ option_map Answered answer → result ≡ entry_of answer
       by_answer None so = absurd cc
-      by_answer (Some answer) so =
-          let own : what s.number no_links ≡ Answered answer = cc in
+      by_answer (Some answer) so = let own : what s.number no_links ≡ Answered answer = cc in
           is answer (ap (λ i. what i down) here ∙ ap (what s.number) none ∙ own)
 
 -- of a packet that enters there is a lookup

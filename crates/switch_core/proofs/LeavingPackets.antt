@@ -37,8 +37,7 @@ exits : (s : SwitchValue) (near : ℕ) (packet : Packet) (port owner : ℕ) (P :
     (owner ≡ s.number → P (Out port)) → ((tunnel : TunnelValue) → P (Exit tunnel)) →
     ((cause : Cause) → P (Stuck cause)) → P (leave_by s near packet port (Some owner))
 unfolding leave_by
-exits s near packet port owner P here on stuck =
-    by_test (owner == s.number) refl
+exits s near packet port owner P here on stuck = by_test (owner == s.number) refl
     (set_out s near packet (ExitLeg port) (owner ∷ []))
   where
     by_test : (test : Bool) → (owner == s.number) ≡ test → (way : Result TunnelValue Cause) →
@@ -53,9 +52,8 @@ not_dropped : (s : SwitchValue) (near : ℕ) (packet : Packet) (port : ℕ) (own
     leave_by s near packet port owner ≡ Dropped → ⊥
 unfolding leave_by
 not_dropped s near packet port None is = cc
-not_dropped s near packet port (Some owner) is =
-    exits s near packet port owner (λ answer. answer ≡ Dropped → ⊥)
-    (λ here is. cc) (λ tunnel is. cc) (λ cause is. cc) is
+not_dropped s near packet port (Some owner) is = exits s near packet port owner
+    (λ answer. answer ≡ Dropped → ⊥) (λ here is. cc) (λ tunnel is. cc) (λ cause is. cc) is
 
 pub next_dropped : (s : SwitchValue) (site : Site) (packet : Packet) (action : Action) →
     (next_of s site packet action ≡ Dropped) ↔ (action ≡ Drop)
@@ -66,41 +64,33 @@ next_dropped s site packet (OutBy port) = (
   λ is. cc,
 )
 
-out_by_owner : (s : SwitchValue) (near : ℕ) (packet : Packet) (by port : ℕ)
-    (owner : Option ℕ) → leave_by s near packet by owner ≡ Out port →
-    (OutBy by ≡ OutBy port) × (owner ≡ Some s.number)
+out_by_owner : (s : SwitchValue) (near : ℕ) (packet : Packet) (by port : ℕ) (owner : Option ℕ)
+    → leave_by s near packet by owner ≡ Out port → (OutBy by ≡ OutBy port) × (owner ≡ Some s.number)
 unfolding leave_by
 out_by_owner s near packet by port None is = cc
-out_by_owner s near packet by port (Some owner) is =
-    exits s near packet by owner
+out_by_owner s near packet by port (Some owner) is = exits s near packet by owner
     (λ answer. answer ≡ Out port → (OutBy by ≡ OutBy port) × (Some owner ≡ Some s.number))
     (λ here is. (let same : by ≡ port = cc in ap OutBy same, ap Some here))
     (λ tunnel is. absurd (cc)) (λ cause is. absurd (cc)) is
 
-pub next_out : (s : SwitchValue) (site : Site) (packet : Packet) (action : Action)
-    (port : ℕ) →
-    (next_of s site packet action ≡ Out port)
-    ↔ ((action ≡ OutBy port) × (port_owner site.ports port ≡ Some s.number))
+pub next_out : (s : SwitchValue) (site : Site) (packet : Packet) (action : Action) (port : ℕ)
+    → (next_of s site packet action ≡ Out port) ↔
+    ((action ≡ OutBy port) × (port_owner site.ports port ≡ Some s.number))
 unfolding next_of
 next_out s site packet Drop port = (λ is. absurd (cc), λ both. absurd (cc (both.0)))
 next_out s site packet (OutBy by) port = (
-  λ is.
-      let out = out_by_owner s site.near packet by port (port_owner site.ports by) is in
-      let same : by ≡ port = cc (out.0) in
-      (out.0, ap (port_owner site.ports) (sym same) ∙ out.1),
-  λ both.
-      let same : by ≡ port = cc (both.0) in
+  λ is. let out = out_by_owner s site.near packet by port (port_owner site.ports by) is in
+      let same : by ≡ port = cc (out.0) in (out.0, ap (port_owner site.ports) (sym same) ∙ out.1),
+  λ both. let same : by ≡ port = cc (both.0) in
       ap (λ (p : ℕ). next_of s site packet (OutBy p)) same
       ∙ ap (leave_by s site.near packet port) both.1
       ∙ leaves_here s site.near packet port s.number refl,
 )
 
-pub next_exit : (s : SwitchValue) (site : Site) (packet : Packet) (action : Action)
-    (port owner : ℕ) → action ≡ OutBy port →
-    port_owner site.ports port ≡ Some owner → owner ≢ s.number →
-    MatchOption (route_known s site.near packet (owner ∷ []))
-    (next_of s site packet action ≡ Stuck NoRoute)
-    (λ route. next_of s site packet action
+pub next_exit : (s : SwitchValue) (site : Site) (packet : Packet) (action : Action) (port owner : ℕ)
+    → action ≡ OutBy port → port_owner site.ports port ≡ Some owner
+    → owner ≢ s.number → MatchOption (route_known s site.near packet (owner ∷ []))
+    (next_of s site packet action ≡ Stuck NoRoute) (λ route. next_of s site packet action
     ≡ Exit (setting_out packet (ExitLeg port) (owner ∷ []) route))
 unfolding next_of cause_of
 next_exit s site packet action port owner by has other =

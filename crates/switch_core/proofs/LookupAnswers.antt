@@ -27,18 +27,16 @@ version_held s version tables is =
 
 pub sound_held : (s : SwitchValue) (version : ℕ) (tables : Tables) → IsSwitch s →
     held_tables s version ≡ Some tables → AreSoundTables tables
-sound_held s version tables switch is =
-    All-contains AreSoundTables s.tables tables switch.sound
+sound_held s version tables switch is = All-contains AreSoundTables s.tables tables switch.sound
     (find-there (λ (t : Tables). t.version == version) s.tables tables is).0
 
 pub stamp_held : (s : SwitchValue) → IsTrue (holds_version s s.stamp) →
     held_tables s s.stamp ≡ Some (stamp_tables s)
-stamp_held s holds = by_tables (held_tables s s.stamp) holds
-  where
-    by_tables : (tables : Option Tables) → is_some tables ≡ true →
-        tables ≡ Some (unwrap_or tables no_tables)
-    by_tables (Some tables) is = refl
-    by_tables None is = absurd (cc)
+stamp_held s holds = by_tables (held_tables s s.stamp) holds where
+  by_tables : (tables : Option Tables) → is_some tables ≡ true →
+      tables ≡ Some (unwrap_or tables no_tables)
+  by_tables (Some tables) is = refl
+  by_tables None is = absurd (cc)
 
 pub stamp_sound : (s : SwitchValue) → IsSwitch s → IsTrue (holds_version s s.stamp) →
     AreSoundTables (stamp_tables s)
@@ -61,9 +59,8 @@ IsHitIn s site packet version tables number place answer =
     (by : IsDecidedIn s site packet version tables number answer) × (by.own.place ≡ place)
 
 hit_of : (s : SwitchValue) (site : Site) (packet : Packet) (version : ℕ) (tables : Tables)
-    (number place : ℕ) (part : Partition) → own_part tables number ≡ Some part →
-    IsFirstHit packet.header part place →
-    IsHitIn s site packet version tables number place
+    (number place : ℕ) (part : Partition) → own_part tables number ≡ Some part
+    → IsFirstHit packet.header part place → IsHitIn s site packet version tables number place
     (decided_at s site packet version part place)
 unfolding decided_at rule_for_cache
 hit_of s site packet version tables number place part is hit =
@@ -89,18 +86,16 @@ hit_of s site packet version tables number place part is hit =
     )
 
 pub hit_in : (s : SwitchValue) (site : Site) (packet : Packet) (version : ℕ) (tables : Tables)
-    (number place : ℕ) →
-    IsSomeAnd (own_part tables number) (λ part. IsFirstHit packet.header part place) →
-    IsHitIn s site packet version tables number place
-    (decided_at s site packet version (part_numbered tables number) place)
-hit_in s site packet version tables number place = by_part (own_part tables number) refl
-  where
-    by_part : (part : Option Partition) → own_part tables number ≡ part →
-        IsSomeAnd part (λ part. IsFirstHit packet.header part place) →
-        IsHitIn s site packet version tables number place
-        (decided_at s site packet version (unwrap_or part no_part) place)
-    by_part (Some part) is hit = hit_of s site packet version tables number place part is hit
-    by_part None is hit = absurd hit
+    (number place : ℕ) → IsSomeAnd (own_part tables number)
+    (λ part. IsFirstHit packet.header part place) → IsHitIn s site packet version tables number
+    place (decided_at s site packet version (part_numbered tables number) place)
+hit_in s site packet version tables number place = by_part (own_part tables number) refl where
+  by_part : (part : Option Partition) → own_part tables number ≡ part →
+      IsSomeAnd part (λ part. IsFirstHit packet.header part place) →
+      IsHitIn s site packet version tables number place
+      (decided_at s site packet version (unwrap_or part no_part) place)
+  by_part (Some part) is hit = hit_of s site packet version tables number place part is hit
+  by_part None is hit = absurd hit
 
 -- ---- a packet sets out
 
@@ -109,23 +104,19 @@ pub sets_out : (s : SwitchValue) (near : ℕ) (packet : Packet) (leg : Leg) (tar
     (set_out s near packet leg targets ≡ Err (cause_of s near packet.down leg targets))
     (λ route. set_out s near packet leg targets ≡ Ok (setting_out packet leg targets route))
 unfolding set_out
-sets_out s near packet leg targets = by_route (route_known s near packet targets)
-  where
-    by_route : (route : Option (List ℕ)) →
-        MatchOption route
-        (ok_or (option_map (setting_out packet leg targets) route)
-        (cause_of s near packet.down leg targets)
-        ≡ Err (cause_of s near packet.down leg targets))
-        (λ way. ok_or (option_map (setting_out packet leg targets) route)
-        (cause_of s near packet.down leg targets) ≡ Ok (setting_out packet leg targets way))
-    by_route None = refl
-    by_route (Some way) = refl
+sets_out s near packet leg targets = by_route (route_known s near packet targets) where
+  by_route : (route : Option (List ℕ))
+      → MatchOption route (ok_or (option_map (setting_out packet leg targets) route)
+      (cause_of s near packet.down leg targets) ≡ Err (cause_of s near packet.down leg targets))
+      (λ way. ok_or (option_map (setting_out packet leg targets) route)
+      (cause_of s near packet.down leg targets) ≡ Ok (setting_out packet leg targets way))
+  by_route None = refl
+  by_route (Some way) = refl
 
 -- ---- a lookup
 
-looked_up_by : (s : SwitchValue) (site : Site) (packet : Packet) (found : Found) →
-    lookup_by_stamp s packet.header ≡ found →
-    looked_up s site packet ≡ answer_by s site packet (stamp_tables s) found
+looked_up_by : (s : SwitchValue) (site : Site) (packet : Packet) (found : Found) → lookup_by_stamp s
+    packet.header ≡ found → looked_up s site packet ≡ answer_by s site packet (stamp_tables s) found
 unfolding looked_up
 looked_up_by s site packet found is = ap (answer_by s site packet (stamp_tables s)) is
 
@@ -147,9 +138,8 @@ lookup_authority s site packet partition place ready found =
     let hit = hit_in s site packet tables.version tables partition place (rw found at is_found) in
     subst (IsHitIn s site packet s.stamp tables partition place)
     (sym (looked_up_by s site packet (Authority partition place) found))
-    (subst (λ (v : ℕ). IsHitIn s site packet v tables partition place
-    (answer_by s site packet tables (Authority partition place)))
-    (stamp_version s ready.stamped) hit)
+    (subst (λ (v : ℕ). IsHitIn s site packet v tables partition place (answer_by s site packet
+    tables (Authority partition place))) (stamp_version s ready.stamped) hit)
 
 lookup_redirect : (s : SwitchValue) (site : Site) (packet : Packet) (partition : ℕ)
     (targets : List ℕ) → IsReady s packet.header →
@@ -184,27 +174,22 @@ lookup_is s site packet ready = record {
 pub lookup_uncached : (s : SwitchValue) (site : Site) (packet : Packet) →
     packet.ingress ≡ s.number → IsUncached (Some (looked_up s site packet))
 unfolding looked_up answer_by decided_at rule_for_cache
-lookup_uncached s site packet here = by_found (lookup_by_stamp s packet.header)
-  where
-    by_way : (leg : Leg) (way : Result TunnelValue Cause) →
-        IsUncached (Some (seek_by leg way))
-    by_way leg (Ok tunnel) = tt
-    by_way leg (Err cause) = tt
+lookup_uncached s site packet here = by_found (lookup_by_stamp s packet.header) where
+  by_way : (leg : Leg) (way : Result TunnelValue Cause) → IsUncached (Some (seek_by leg way))
+  by_way leg (Ok tunnel) = tt
+  by_way leg (Err cause) = tt
 
-    by_found : (found : Found) →
-        IsUncached (Some (answer_by s site packet (stamp_tables s) found))
-    by_found (Cached cached) = refl
-    by_found (Authority partition place) = rw (eq-eqb packet.ingress s.number here) refl
-    by_found (Redirect partition targets) =
-        by_way (SeekLeg (stamp_tables s).version partition)
-        (set_out s site.near packet (SeekLeg (stamp_tables s).version partition) targets)
+  by_found : (found : Found) → IsUncached (Some (answer_by s site packet (stamp_tables s) found))
+  by_found (Cached cached) = refl
+  by_found (Authority partition place) = rw (eq-eqb packet.ingress s.number here) refl
+  by_found (Redirect partition targets) = by_way (SeekLeg (stamp_tables s).version partition)
+      (set_out s site.near packet (SeekLeg (stamp_tables s).version partition) targets)
 
 pub entry_uncached : (s : SwitchValue) (site : Site) (number : ℕ) (header : Header) →
     IsUncached (admitted s site (incoming_packet s number header))
 unfolding admitted
-entry_uncached s site number header = by_test (serves s)
-  where
-    by_test : (test : Bool) → IsUncached (cond test
-        (Some (looked_up s site (incoming_packet s number header))) None)
-    by_test true = lookup_uncached s site (incoming_packet s number header) refl
-    by_test false = tt
+entry_uncached s site number header = by_test (serves s) where
+  by_test : (test : Bool) → IsUncached (cond test
+      (Some (looked_up s site (incoming_packet s number header))) None)
+  by_test true = lookup_uncached s site (incoming_packet s number header) refl
+  by_test false = tt

@@ -15,20 +15,17 @@ unfoldable pub told : ℕ → Body → ℕ → List Message
 told near body n = map (for_switch body) (filter (has near) (range_with_len 0 n))
 
 -- one more switch
-told_one : (near : ℕ) (body : Body) (n : ℕ) →
-    told near body (n + 1)
-    ≡ told near body n ++ map (for_switch body) (cond (has near n) (n ∷ []) [])
+told_one : (near : ℕ) (body : Body) (n : ℕ) → told near body (n + 1) ≡ told near body n
+    ++ map (for_switch body) (cond (has near n) (n ∷ []) [])
 unfolding told
-told_one near body n =
-    ap (map (for_switch body)) (filter_more (has near) n)
+told_one near body n = ap (map (for_switch body)) (filter_more (has near) n)
     ∙ map-append (for_switch body) (filter (has near) (range_with_len 0 n))
     (cond (has near n) (n ∷ []) [])
 
 pub adverts_near : (near : ℕ) (body : Body) (n : ℕ) → has near n ≡ true →
     told near body (n + 1) ≡ told near body n ++ record { to = Switch n; body = body } ∷ []
-adverts_near near body n is =
-    told_one near body n ∙ ap (λ (b : Bool). told near body n
-    ++ map (for_switch body) (cond b (n ∷ []) [])) is
+adverts_near near body n is = told_one near body n
+    ∙ ap (λ (b : Bool). told near body n ++ map (for_switch body) (cond b (n ∷ []) [])) is
 
 pub told_far : (near : ℕ) (body : Body) (n : ℕ) → has near n ≡ false →
     told near body (n + 1) ≡ told near body n
@@ -37,14 +34,10 @@ told_far near body n is =
     ++ map (for_switch body) (cond b (n ∷ []) [])) is ∙ append-nil (told near body n)
 
 -- none is told where no neighbour is left
-told_same : (near : ℕ) (body : Body) (n k : ℕ)
-    → ((j : ℕ) → n ≤ j → j < n + k → has near j ≡ false)
+told_same : (near : ℕ) (body : Body) (n k : ℕ) → ((j : ℕ) → n ≤ j → j < n + k → has near j ≡ false)
     → told near body (n + k) ≡ told near body n
-told_same near body n zero none =
-    let same : n + 0 ≡ n = omega arith in
-    ap (told near body) same
-told_same near body n (suc k) none =
-    let next : n + suc k ≡ n + k + 1 = omega arith in
+told_same near body n zero none = let same : n + 0 ≡ n = omega arith in ap (told near body) same
+told_same near body n (suc k) none = let next : n + suc k ≡ n + k + 1 = omega arith in
     ap (told near body) next
     ∙ told_far near body (n + k) (none (n + k) (omega arith) (omega arith))
     ∙ told_same near body n k (λ j from below. none j from (omega arith))

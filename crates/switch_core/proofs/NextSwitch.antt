@@ -22,40 +22,36 @@ module _ (near : ℕ) where
   pub ends : (o : Option ℕ) → onward_to near o ≡ AtEnd →
       (o ≡ None) × (link_found_down near o ≡ None)
   ends None is = (refl, refl)
-  ends (Some next) is = by_test (has near next) is
-    where
-      by_test : (b : Bool) → (if b then Next next else LinkDown next) ≡ AtEnd →
-          (Some next ≡ None) × ((if b then None else Some next) ≡ None)
-      by_test true is = absurd cc
-      by_test false is = absurd cc
+  ends (Some next) is = by_test (has near next) is where
+    by_test : (b : Bool) → (if b then Next next else LinkDown next) ≡ AtEnd →
+        (Some next ≡ None) × ((if b then None else Some next) ≡ None)
+    by_test true is = absurd cc
+    by_test false is = absurd cc
 
   pub goes : (o : Option ℕ) (other : ℕ) → onward_to near o ≡ Next other →
       (o ≡ Some other) × (link_found_down near o ≡ None)
   goes None other is = absurd cc
-  goes (Some next) other is = by_test (has near next) is
-    where
-      by_test : (b : Bool) → (if b then Next next else LinkDown next) ≡ Next other →
-          (Some next ≡ Some other) × ((if b then None else Some next) ≡ None)
-      by_test true is = let same : next ≡ other = cc in (ap Some same, refl)
-      by_test false is = absurd cc
+  goes (Some next) other is = by_test (has near next) is where
+    by_test : (b : Bool) → (if b then Next next else LinkDown next) ≡ Next other →
+        (Some next ≡ Some other) × ((if b then None else Some next) ≡ None)
+    by_test true is = let same : next ≡ other = cc in (ap Some same, refl)
+    by_test false is = absurd cc
 
   pub is_down : (o : Option ℕ) (other : ℕ) → onward_to near o ≡ LinkDown other →
       (o ≡ Some other) × (link_found_down near o ≡ Some other)
   is_down None other is = absurd cc
-  is_down (Some next) other is = by_test (has near next) is
-    where
-      by_test : (b : Bool) → (if b then Next next else LinkDown next) ≡ LinkDown other →
-          (Some next ≡ Some other) × ((if b then None else Some next) ≡ Some other)
-      by_test true is = absurd cc
-      by_test false is = let same : next ≡ other = cc in (ap Some same, ap Some same)
+  is_down (Some next) other is = by_test (has near next) is where
+    by_test : (b : Bool) → (if b then Next next else LinkDown next) ≡ LinkDown other →
+        (Some next ≡ Some other) × ((if b then None else Some next) ≡ Some other)
+    by_test true is = absurd cc
+    by_test false is = let same : next ≡ other = cc in (ap Some same, ap Some same)
 
 -- one more call changes no route
 pub hop_down : (s : SwitchValue) (near : ℕ) (t : TunnelValue) (other : ℕ) →
     link_found_down near (next t) ≡ Some other →
     rerouted_here (call_counted s) near (marked_down t other) ≡ hop_answer s near t
 unfolding hop_answer rerouted_here cause_of are_isolated
-hop_down s near t other found =
-    by_route (route_from_here (marked_down t other) s.database near)
+hop_down s near t other found = by_route (route_from_here (marked_down t other) s.database near)
     ∙ sym (ap (hopped_to s near t) found)
   where
     by_route : (route : Option (List ℕ)) → moved_along (call_counted s) near (marked_down t other) route

@@ -15,25 +15,23 @@ use Rattle.switch_core.specs.declared.tunnel_calls.HopEnd.TheVariants.{Arrive, M
 
 pub down_is : (near : ℕ) (t : TunnelValue) (other : ℕ) →
     (link_found_down near (next t) ≡ Some other) ↔ ((next t ≡ Some other) × IsFalse (has near other))
-down_is near t other = by_next (next t)
-  where
-    by_test : (after : ℕ) (test : Bool) → has near after ≡ test →
-        (cond test None (Some after) ≡ Some other)
-        ↔ ((Some after ≡ Some other) × IsFalse (has near other))
-    by_test after true is = (
-      λ found. absurd (cc),
-      λ both. absurd (let same : after ≡ other = cc (both.0) in
-          let no_test : false ≡ true = sym both.1 ∙ ap (has near) (sym same) ∙ is in cc),
-    )
-    by_test after false is = (
-      λ found. (found, (let same : after ≡ other = cc in ap (has near) (sym same) ∙ is)),
-      λ both. both.0,
-    )
+down_is near t other = by_next (next t) where
+  by_test : (after : ℕ) (test : Bool) → has near after ≡ test → (cond test None (Some after)
+      ≡ Some other) ↔ ((Some after ≡ Some other) × IsFalse (has near other))
+  by_test after true is = (
+    λ found. absurd (cc),
+    λ both. absurd (let same : after ≡ other = cc (both.0) in
+        let no_test : false ≡ true = sym both.1 ∙ ap (has near) (sym same) ∙ is in cc),
+  )
+  by_test after false is = (
+    λ found. (found, (let same : after ≡ other = cc in ap (has near) (sym same) ∙ is)),
+    λ both. both.0,
+  )
 
-    by_next : (after : Option ℕ) → (link_found_down near after ≡ Some other)
-        ↔ ((after ≡ Some other) × IsFalse (has near other))
-    by_next None = (λ found. absurd (cc), λ both. absurd (cc (both.0)))
-    by_next (Some after) = by_test after (has near after) refl
+  by_next : (after : Option ℕ) → (link_found_down near after ≡ Some other)
+      ↔ ((after ≡ Some other) × IsFalse (has near other))
+  by_next None = (λ found. absurd (cc), λ both. absurd (cc (both.0)))
+  by_next (Some after) = by_test after (has near after) refl
 
 -- ---- the next link
 
@@ -54,10 +52,9 @@ hop_moves s near t other is usable =
     ∙ ap (move_answer t) is
 
 -- along the way around a link
-pub hop_around : (s : SwitchValue) (near : ℕ) (t : TunnelValue) (other : ℕ)
-    (way : Option (List ℕ)) → link_found_down near (next t) ≡ Some other →
-    route_around s near t other ≡ way →
-    hop_answer s near t ≡ moved_along s near (marked_down t other) way
+pub hop_around : (s : SwitchValue) (near : ℕ) (t : TunnelValue) (other : ℕ) (way : Option (List ℕ))
+    → link_found_down near (next t) ≡ Some other → route_around s near t other ≡ way
+    → hop_answer s near t ≡ moved_along s near (marked_down t other) way
 unfolding hop_answer rerouted_here
 hop_around s near t other way found is =
     ap (hopped_to s near t) found ∙ ap (moved_along s near (marked_down t other)) is
@@ -72,11 +69,10 @@ hop_stuck s near t other found none = hop_around s near t other None found none
 
 -- it goes along the way around the link, by the second switch of the way
 abbrev pub IsTurned : SwitchValue → ℕ → TunnelValue → ℕ → List ℕ → Option ℕ → Type 0
-IsTurned s near t other way second = MatchOption second
-    (hop_answer s near t ≡ record {
-      end = Arrive;
-      tunnel = record t { route = way; place = 0; down = down_with t other };
-    })
+IsTurned s near t other way second = MatchOption second (hop_answer s near t ≡ record {
+  end = Arrive;
+  tunnel = record t { route = way; place = 0; down = down_with t other };
+})
     (λ second. hop_answer s near t ≡ record {
       end = Move second;
       tunnel = record t { route = way; place = 1; down = down_with t other };
@@ -107,17 +103,14 @@ each_hop : (s : SwitchValue) (near : ℕ) (t : TunnelValue) (P : Moved → Type 
     ((other : ℕ) (cause : Cause) → P (record { end = Stuck cause; tunnel = marked_down t other })) →
     P (hop_answer s near t)
 unfolding hop_answer rerouted_here
-each_hop s near t P moves stuck = by_found (link_found_down near (next t))
-  where
-    by_way : (other : ℕ) (way : Option (List ℕ)) →
-        P (moved_along s near (marked_down t other) way)
-    by_way other None = stuck other _
-    by_way other (Some way) = moves (on_route (marked_down t other) way) (same_but t way 0 _)
+each_hop s near t P moves stuck = by_found (link_found_down near (next t)) where
+  by_way : (other : ℕ) (way : Option (List ℕ)) → P (moved_along s near (marked_down t other) way)
+  by_way other None = stuck other _
+  by_way other (Some way) = moves (on_route (marked_down t other) way) (same_but t way 0 _)
 
-    by_found : (found : Option ℕ) → P (hopped_to s near t found)
-    by_found None = moves t (same_but t t.route t.place t.down)
-    by_found (Some other) =
-        by_way other (route_from_here (marked_down t other) s.database near)
+  by_found : (found : Option ℕ) → P (hopped_to s near t found)
+  by_found None = moves t (same_but t t.route t.place t.down)
+  by_found (Some other) = by_way other (route_from_here (marked_down t other) s.database near)
 
 pub hop_stands : (s : SwitchValue) (near : ℕ) (t : TunnelValue) (other : ℕ) →
     (hop_answer s near t).end ≡ Move other → here (hop_answer s near t).tunnel ≡ other
@@ -128,8 +121,7 @@ hop_stands s near t other is =
     by_next : (on : TunnelValue) (after : Option ℕ) → next on ≡ after →
         (move_answer on after).end ≡ Move other → here (move_answer on after).tunnel ≡ other
     by_next on None is end = absurd (cc)
-    by_next on (Some after) is end =
-        let same : after ≡ other = cc in
+    by_next on (Some after) is end = let same : after ≡ other = cc in
         get_or_from_slice_get on.route (on.place + 1) after 0 is ∙ same
 
 pub hop_ends : (s : SwitchValue) (near : ℕ) (t : TunnelValue) →
@@ -145,8 +137,7 @@ hop_ends s near t is =
 
 pub hop_same : (s : SwitchValue) (near : ℕ) (t : TunnelValue) →
     IsSamePacket t (hop_answer s near t).tunnel
-hop_same s near t =
-    each_hop s near t (λ m. IsSamePacket t m.tunnel)
+hop_same s near t = each_hop s near t (λ m. IsSamePacket t m.tunnel)
     (λ on same. by_next on (next on) same) (λ other cause. same_but t t.route t.place _)
   where
     by_next : (on : TunnelValue) (after : Option ℕ) → IsSamePacket t on →
@@ -187,8 +178,7 @@ path_of links from (target ∷ targets) way route = elim route [
 seen : (adverts : List (Option Advert)) (at near other : ℕ) →
     has (slice_index (named_links adverts at near) at) other ≡ true → IsTrue (has near other)
 unfolding named_links
-seen adverts at near other is =
-    let rows = map neighbours_named adverts in
+seen adverts at near other is = let rows = map neighbours_named adverts in
     elim (cases_lt at (length rows)) [
       | inl below ↦ ap (λ (row : ℕ). has row other)
           (sym (get_or-set_same rows at near 0 below)) ∙ is
@@ -208,8 +198,7 @@ second_of_four false b c d is = absurd (cc)
 way_leads : (adverts : List (Option Advert)) (from near : ℕ) (down targets way : List ℕ) →
     route_of adverts from targets near down ≡ Some way →
     (target : ℕ) × IsPath (known_links adverts from near down) from target way
-way_leads adverts from near down targets way is =
-    let links = known_links adverts from near down in
+way_leads adverts from near down targets way is = let links = known_links adverts from near down in
     path_of links from targets way (subst (λ (r : Option (List ℕ)). IsRoute links from targets r)
     is (known_route_is_route adverts from targets near down))
 
@@ -228,41 +217,39 @@ way_is_usable adverts from near down targets way second is next =
 pub hop_usable : (s : SwitchValue) (near : ℕ) (t : TunnelValue) (other : ℕ) →
     (hop_answer s near t).end ≡ Move other → IsTrue (has near other)
 unfolding hop_answer rerouted_here
-hop_usable s near t other = by_found (link_found_down near (next t)) refl
-  where
-    no_switch : Option ℕ
-    no_switch = None
+hop_usable s near t other = by_found (link_found_down near (next t)) refl where
+  no_switch : Option ℕ
+  no_switch = None
 
-    by_usable : (after : ℕ) → (test : Bool) → has near after ≡ test →
-        cond test None (Some after) ≡ no_switch → after ≡ other → IsTrue (has near other)
-    by_usable after true usable none same = ap (has near) (sym same) ∙ usable
-    by_usable after false usable none same = absurd (cc)
+  by_usable : (after : ℕ) → (test : Bool) → has near after ≡ test →
+      cond test None (Some after) ≡ no_switch → after ≡ other → IsTrue (has near other)
+  by_usable after true usable none same = ap (has near) (sym same) ∙ usable
+  by_usable after false usable none same = absurd (cc)
 
-    by_next : (after : Option ℕ) → link_found_down near after ≡ no_switch →
-        (move_answer t after).end ≡ Move other → IsTrue (has near other)
-    by_next None none end = absurd (cc)
-    by_next (Some after) none end =
-        by_usable after (has near after) refl none (let same : after ≡ other = cc in same)
+  by_next : (after : Option ℕ) → link_found_down near after ≡ no_switch →
+      (move_answer t after).end ≡ Move other → IsTrue (has near other)
+  by_next None none end = absurd (cc)
+  by_next (Some after) none end =
+      by_usable after (has near after) refl none (let same : after ≡ other = cc in same)
 
-    by_second : (on : TunnelValue) (second : Option ℕ) →
-        ((other : ℕ) → second ≡ Some other → IsTrue (has near other)) →
-        (move_answer on second).end ≡ Move other → IsTrue (has near other)
-    by_second on None usable end = absurd (cc)
-    by_second on (Some second) usable end =
-        let same : second ≡ other = cc in usable other (ap Some same)
+  by_second : (on : TunnelValue) (second : Option ℕ) →
+      ((other : ℕ) → second ≡ Some other → IsTrue (has near other)) →
+      (move_answer on second).end ≡ Move other → IsTrue (has near other)
+  by_second on None usable end = absurd (cc)
+  by_second on (Some second) usable end =
+      let same : second ≡ other = cc in usable other (ap Some same)
 
-    by_way : (from : ℕ) (way : Option (List ℕ)) → route_around s near t from ≡ way →
-        (moved_along s near (marked_down t from) way).end ≡ Move other → IsTrue (has near other)
-    by_way from None is end = absurd (cc)
-    by_way from (Some way) is end =
-        by_second (on_route (marked_down t from) way) (slice_get way 1) (λ second next.
-        way_is_usable s.database (here t) near (down_with t from) t.targets way second is next)
-        end
+  by_way : (from : ℕ) (way : Option (List ℕ)) → route_around s near t from ≡ way →
+      (moved_along s near (marked_down t from) way).end ≡ Move other → IsTrue (has near other)
+  by_way from None is end = absurd (cc)
+  by_way from (Some way) is end = by_second (on_route (marked_down t from) way) (slice_get way 1)
+      (λ second next. way_is_usable s.database (here t) near (down_with t from) t.targets way
+      second is next) end
 
-    by_found : (found : Option ℕ) → link_found_down near (next t) ≡ found →
-        (hopped_to s near t found).end ≡ Move other → IsTrue (has near other)
-    by_found None none end = by_next (next t) none end
-    by_found (Some from) found end = by_way from (route_around s near t from) refl end
+  by_found : (found : Option ℕ) → link_found_down near (next t) ≡ found →
+      (hopped_to s near t found).end ≡ Move other → IsTrue (has near other)
+  by_found None none end = by_next (next t) none end
+  by_found (Some from) found end = by_way from (route_around s near t from) refl end
 
 -- ---- where it arrives
 
@@ -278,27 +265,26 @@ pub hop_stays : (s : SwitchValue) (near : ℕ) (t : TunnelValue) → StandsAt s 
     (hop_answer s near t).end ≡ Arrive →
     StandsAt s (hop_answer s near t).tunnel.route (hop_answer s near t).tunnel.place
 unfolding hop_answer rerouted_here
-hop_stays s near t stands = by_found (link_found_down near (next t))
-  where
-    by_next : (on : TunnelValue) → StandsAt s on.route on.place → (after : Option ℕ) →
-        (move_answer on after).end ≡ Arrive →
-        StandsAt s (move_answer on after).tunnel.route (move_answer on after).tunnel.place
-    by_next on is None end = is
-    by_next on is (Some other) end = absurd (cc)
+hop_stays s near t stands = by_found (link_found_down near (next t)) where
+  by_next : (on : TunnelValue) → StandsAt s on.route on.place → (after : Option ℕ) →
+      (move_answer on after).end ≡ Arrive →
+      StandsAt s (move_answer on after).tunnel.route (move_answer on after).tunnel.place
+  by_next on is None end = is
+  by_next on is (Some other) end = absurd (cc)
 
-    by_way : (from : ℕ) (way : Option (List ℕ)) → route_around s near t from ≡ way →
-        (moved_along s near (marked_down t from) way).end ≡ Arrive →
-        StandsAt s (moved_along s near (marked_down t from) way).tunnel.route
-        (moved_along s near (marked_down t from) way).tunnel.place
-    by_way from None is end = absurd (cc)
-    by_way from (Some way) is end =
-        let leads = way_leads s.database (here t) near (down_with t from) t.targets way is in
-        let begins : slice_get way 0 ≡ Some s.number =
-        path_begins (known_links s.database (here t) near (down_with t from)) (here t) leads.0 way
-        leads.1 ∙ ap Some (get_or_from_slice_get t.route t.place s.number 0 stands) in
-        by_next (on_route (marked_down t from) way) begins (slice_get way 1) end
+  by_way : (from : ℕ) (way : Option (List ℕ)) → route_around s near t from ≡ way →
+      (moved_along s near (marked_down t from) way).end ≡ Arrive →
+      StandsAt s (moved_along s near (marked_down t from) way).tunnel.route
+      (moved_along s near (marked_down t from) way).tunnel.place
+  by_way from None is end = absurd (cc)
+  by_way from (Some way) is end =
+      let leads = way_leads s.database (here t) near (down_with t from) t.targets way is in
+      let begins : slice_get way 0 ≡ Some s.number =
+      path_begins (known_links s.database (here t) near (down_with t from)) (here t) leads.0 way
+      leads.1 ∙ ap Some (get_or_from_slice_get t.route t.place s.number 0 stands) in
+      by_next (on_route (marked_down t from) way) begins (slice_get way 1) end
 
-    by_found : (found : Option ℕ) → (hopped_to s near t found).end ≡ Arrive →
-        StandsAt s (hopped_to s near t found).tunnel.route (hopped_to s near t found).tunnel.place
-    by_found None end = by_next t stands (next t) end
-    by_found (Some from) end = by_way from (route_around s near t from) refl end
+  by_found : (found : Option ℕ) → (hopped_to s near t found).end ≡ Arrive →
+      StandsAt s (hopped_to s near t found).tunnel.route (hopped_to s near t found).tunnel.place
+  by_found None end = by_next t stands (next t) end
+  by_found (Some from) end = by_way from (route_around s near t from) refl end

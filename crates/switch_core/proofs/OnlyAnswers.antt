@@ -50,14 +50,12 @@ same_decided : (s : SwitchValue) (site : Site) (packet : Packet) (version partit
 same_decided s site packet version partition tables answer other one two =
     let part : one.own.part ≡ two.own.part =
     same_part tables packet.header one.own two.own (one.numbered ∙ sym two.numbered) in
-    let places : Some one.own.place ≡ Some two.own.place =
-    sym one.own.hit.first
+    let places : Some one.own.place ≡ Some two.own.place = sym one.own.hit.first
     ∙ ap (λ (part : Partition). position (is_held (number_of packet.header)) part.rules) part
     ∙ two.own.hit.first in
     let place : one.own.place ≡ two.own.place = cc in
-    let rules : Some one.own.rule ≡ Some two.own.rule =
-    sym one.own.first ∙ ap (λ (part : Partition). first_rule part.rules packet.header) part
-    ∙ two.own.first in
+    let rules : Some one.own.rule ≡ Some two.own.rule = sym one.own.first
+    ∙ ap (λ (part : Partition). first_rule part.rules packet.header) part ∙ two.own.first in
     let rule : one.own.rule ≡ two.own.rule = cc in
     let by = λ (part : Partition) (place : ℕ) (rule : Rule).
     Decided (by_rule s.number version part.number rule)
@@ -79,8 +77,7 @@ same_answer s site packet answer other one two = by_found (lookup_by_stamp s pac
     by_found (Authority partition place) is =
         same_decided s site packet s.stamp partition (stamp_tables s) answer other
         (one.authority partition place is).0 (two.authority partition place is).0
-    by_found (Redirect partition targets) is =
-        let leg = SeekLeg s.stamp partition in
+    by_found (Redirect partition targets) is = let leg = SeekLeg s.stamp partition in
         MatchOption-same (route_known s site.near packet targets) answer other
         (Stuck (cause_of s site.near packet.down leg targets) leg)
         (λ (route : List ℕ). Seek (setting_out packet leg targets route))
@@ -96,103 +93,94 @@ one_answer s site packet answer ready law =
 pub one_entry : (s : SwitchValue) (site : Site) (packet : Packet) (answer : Entered) →
     (IsTrue (serves s) → IsReady s packet.header) → IsEntry s site packet answer →
     answer ≡ enter_answer s site packet
-one_entry s site packet answer ready law = by_test (serves s) refl
-  where
-    by_test : (test : Bool) → serves s ≡ test → answer ≡ enter_answer s site packet
-    by_test false shut = law.closed.1 shut ∙ sym ((entry_is s site packet).closed.1 shut)
-    by_test true serving =
-        let one = law.answered (ready serving) in
-        let two = (entry_is s site packet).answered (ready serving) in
-        one.1 ∙ ap entered_with (same_answer s site packet one.0 two.0 one.2 two.2)
-        ∙ sym two.1
+one_entry s site packet answer ready law = by_test (serves s) refl where
+  by_test : (test : Bool) → serves s ≡ test → answer ≡ enter_answer s site packet
+  by_test false shut = law.closed.1 shut ∙ sym ((entry_is s site packet).closed.1 shut)
+  by_test true serving =
+      let one = law.answered (ready serving) in
+      let two = (entry_is s site packet).answered (ready serving) in
+      one.1 ∙ ap entered_with (same_answer s site packet one.0 two.0 one.2 two.2)
+      ∙ sym two.1
 
 -- ---- of a packet that arrives
 
 pub one_arrival : (s : SwitchValue) (site : Site) (t : TunnelValue) (answer : Arrived) →
     IsArriving s t → IsArrival s site t answer → answer ≡ arrive_answer s site t
-one_arrival s site t answer arriving law = by_leg t.leg refl
-  where
-    by_tables : (version partition : ℕ) → t.leg ≡ SeekLeg version partition →
-        (held : Option Tables) → held_tables s version ≡ held → answer ≡ arrive_answer s site t
-    by_tables version partition leg (Some tables) held =
-        let one = law.decided version partition tables arriving leg held in
-        let two = arrive_held s site t version partition tables arriving leg held in
-        one.1 ∙ ap arrived_with (same_decided s site (packet_of t) version partition tables
-        one.0 two.0 one.2 two.2) ∙ sym two.1
-    by_tables version partition leg None held =
-        let gone = ap (λ (o : Option Tables). is_some o) held in
-        let one = law.anew version partition arriving leg gone in
-        let two = arrive_anew s site t version partition arriving leg gone in
-        one.1 ∙ ap arrived_with (same_answer s site (packet_of t) one.0 two.0 one.2 two.2)
-        ∙ sym two.1
+one_arrival s site t answer arriving law = by_leg t.leg refl where
+  by_tables : (version partition : ℕ) → t.leg ≡ SeekLeg version partition →
+      (held : Option Tables) → held_tables s version ≡ held → answer ≡ arrive_answer s site t
+  by_tables version partition leg (Some tables) held =
+      let one = law.decided version partition tables arriving leg held in
+      let two = arrive_held s site t version partition tables arriving leg held in
+      one.1 ∙ ap arrived_with (same_decided s site (packet_of t) version partition tables
+      one.0 two.0 one.2 two.2) ∙ sym two.1
+  by_tables version partition leg None held =
+      let gone = ap (λ (o : Option Tables). is_some o) held in
+      let one = law.anew version partition arriving leg gone in
+      let two = arrive_anew s site t version partition arriving leg gone in
+      one.1 ∙ ap arrived_with (same_answer s site (packet_of t) one.0 two.0 one.2 two.2)
+      ∙ sym two.1
 
-    by_leg : (leg : Leg) → t.leg ≡ leg → answer ≡ arrive_answer s site t
-    by_leg (ExitLeg port) leg = law.out port leg ∙ sym (arrive_out s site t port leg)
-    by_leg (SeekLeg version partition) leg =
-        by_tables version partition leg (held_tables s version) refl
+  by_leg : (leg : Leg) → t.leg ≡ leg → answer ≡ arrive_answer s site t
+  by_leg (ExitLeg port) leg = law.out port leg ∙ sym (arrive_out s site t port leg)
+  by_leg (SeekLeg version partition) leg =
+      by_tables version partition leg (held_tables s version) refl
 
 -- ---- of a packet that was decided
 
 pub one_way_on : (s : SwitchValue) (site : Site) (packet : Packet) (action : Action)
     (way : Next) → IsNextOf s site packet action way → way ≡ next_of s site packet action
-one_way_on s site packet action way law = by_action action refl
-  where
-    by_owner : (port : ℕ) → action ≡ OutBy port → (owner : Option ℕ) →
-        port_owner site.ports port ≡ owner → way ≡ next_of s site packet action
-    by_owner port by None none =
-        law.no_owner port by none ∙ sym (next_no_owner s site packet action port by none)
-    by_owner port by (Some owner) has = by_test (owner == s.number) refl
-      where
-        by_test : (test : Bool) → (owner == s.number) ≡ test →
-            way ≡ next_of s site packet action
-        by_test true is =
-            let here : port_owner site.ports port ≡ Some s.number =
-            has ∙ ap Some (eqb-true owner s.number is) in
-            (law.out port).1 (by, here)
-            ∙ sym ((next_out s site packet action port).1 (by, here))
-        by_test false is =
-            let other : owner ≢ s.number = λ same. (let test = eq-eqb owner s.number same in
-            cc) in
-            MatchOption-same (route_known s site.near packet (owner ∷ [])) way
-            (next_of s site packet action) (goes.Stuck NoRoute)
-            (λ (route : List ℕ). goes.Exit
-            (setting_out packet (ExitLeg port) (owner ∷ []) route))
-            (law.exit port owner by has other)
-            (next_exit s site packet action port owner by has other)
+one_way_on s site packet action way law = by_action action refl where
+  by_owner : (port : ℕ) → action ≡ OutBy port → (owner : Option ℕ) →
+      port_owner site.ports port ≡ owner → way ≡ next_of s site packet action
+  by_owner port by None none =
+      law.no_owner port by none ∙ sym (next_no_owner s site packet action port by none)
+  by_owner port by (Some owner) has = by_test (owner == s.number) refl where
+    by_test : (test : Bool) → (owner == s.number) ≡ test → way ≡ next_of s site packet action
+    by_test true is =
+        let here : port_owner site.ports port ≡ Some s.number =
+        has ∙ ap Some (eqb-true owner s.number is) in
+        (law.out port).1 (by, here)
+        ∙ sym ((next_out s site packet action port).1 (by, here))
+    by_test false is =
+        let other : owner ≢ s.number = λ same. (let test = eq-eqb owner s.number same in
+        cc) in
+        MatchOption-same (route_known s site.near packet (owner ∷ [])) way
+        (next_of s site packet action) (goes.Stuck NoRoute)
+        (λ (route : List ℕ). goes.Exit (setting_out packet (ExitLeg port) (owner ∷ []) route))
+        (law.exit port owner by has other)
+        (next_exit s site packet action port owner by has other)
 
-    by_action : (a : Action) → action ≡ a → way ≡ next_of s site packet action
-    by_action Drop by = law.dropped.1 by ∙ sym ((next_dropped s site packet action).1 by)
-    by_action (OutBy port) by = by_owner port by (port_owner site.ports port) refl
+  by_action : (a : Action) → action ≡ a → way ≡ next_of s site packet action
+  by_action Drop by = law.dropped.1 by ∙ sym ((next_dropped s site packet action).1 by)
+  by_action (OutBy port) by = by_owner port by (port_owner site.ports port) refl
 
 -- ---- of a packet on its way
 
 pub one_hop : (s : SwitchValue) (near : ℕ) (t : TunnelValue) (after : Moved) →
     IsHop s near t after → after ≡ hop_answer s near t
-one_hop s near t after law = by_next (next t) refl
-  where
-    by_way : (other : ℕ) → link_found_down near (next t) ≡ Some other → (way : Option (List ℕ)) →
-        route_around s near t other ≡ way → after ≡ hop_answer s near t
-    by_way other found None is =
-        law.stuck other found is ∙ sym (hop_stuck s near t other found is)
-    by_way other found (Some way) is =
-        MatchOption-same (slice_get way 1) after (hop_answer s near t)
-        (record {
-          end = hop.Arrive;
-          tunnel = record t { route = way; place = 0; down = down_with t other };
-        })
-        (λ (second : ℕ). record {
-          end = hop.Move second;
-          tunnel = record t { route = way; place = 1; down = down_with t other };
-        })
-        (law.turns other way found is) (hop_turns s near t other way found is)
+one_hop s near t after law = by_next (next t) refl where
+  by_way : (other : ℕ) → link_found_down near (next t) ≡ Some other → (way : Option (List ℕ)) →
+      route_around s near t other ≡ way → after ≡ hop_answer s near t
+  by_way other found None is = law.stuck other found is ∙ sym (hop_stuck s near t other found is)
+  by_way other found (Some way) is = MatchOption-same (slice_get way 1) after
+      (hop_answer s near t) (record {
+        end = hop.Arrive;
+        tunnel = record t { route = way; place = 0; down = down_with t other };
+      })
+      (λ (second : ℕ). record {
+        end = hop.Move second;
+        tunnel = record t { route = way; place = 1; down = down_with t other };
+      })
+      (law.turns other way found is) (hop_turns s near t other way found is)
 
-    by_test : (other : ℕ) → next t ≡ Some other → (test : Bool) → has near other ≡ test →
-        after ≡ hop_answer s near t
-    by_test other onward true usable =
-        law.moves other onward usable ∙ sym (hop_moves s near t other onward usable)
-    by_test other onward false down =
-        by_way other ((down_is near t other).1 (onward, down)) (route_around s near t other) refl
+  by_test : (other : ℕ) → next t ≡ Some other → (test : Bool) → has near other ≡ test →
+      after ≡ hop_answer s near t
+  by_test other onward true usable =
+      law.moves other onward usable ∙ sym (hop_moves s near t other onward usable)
+  by_test other onward false down =
+      by_way other ((down_is near t other).1 (onward, down)) (route_around s near t other) refl
 
-    by_next : (after_it : Option ℕ) → next t ≡ after_it → after ≡ hop_answer s near t
-    by_next None none = law.arrives none ∙ sym (hop_arrives s near t none)
-    by_next (Some other) onward = by_test other onward (has near other) refl
+  by_next : (after_it : Option ℕ) → next t ≡ after_it → after ≡ hop_answer s near t
+  by_next None none = law.arrives none ∙ sym (hop_arrives s near t none)
+  by_next (Some other) onward = by_test other onward (has near other) refl

@@ -23,9 +23,8 @@ below_then number more below is = grind (arith, nat_tests)
 -- none of its own is held where none is held at all
 pub own_none : (number boot seq : ℕ) → HasOwnUpTo no_adverts number boot seq
 own_none number boot seq advert is = elim (cases_lt number 64) [
-  | inl below ↦ (let none : held_advert no_adverts number
-      ≡ None = get_or-replicate 64 number None None
-      below in cc)
+  | inl below ↦ (let none : held_advert no_adverts number ≡ None =
+      get_or-replicate 64 number None None below in cc)
   | inr past ↦ (let none : held_advert no_adverts number ≡ None =
       get_or_past no_adverts number None past in cc)
 ]
@@ -68,9 +67,7 @@ own_others adverts advert number boot seq other own held_one is =
 pub news_is_of_another : (s : SwitchValue) (advert : Advert) → is_news_here s advert ≡ true →
     s.number ≢ advert.origin
 unfolding is_news_here
-news_is_of_another s advert news same =
-    by_number s.number advert.origin _ news same
-  where
-    by_number : (number origin : ℕ) (more : Bool) →
-        (not (origin == number) && more) ≡ true → number ≢ origin
-    by_number number origin more news same = grind (arith, nat_tests)
+news_is_of_another s advert news same = by_number s.number advert.origin _ news same where
+  by_number : (number origin : ℕ) (more : Bool) →
+      (not (origin == number) && more) ≡ true → number ≢ origin
+  by_number number origin more news same = grind (arith, nat_tests)

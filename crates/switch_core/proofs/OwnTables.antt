@@ -59,16 +59,15 @@ first_hit header part held some = record {
   region = held;
   first = by_case (position (is_held (number_of header)) part.rules)
       (find-position (is_held (number_of header)) part.rules);
-}
-  where
-    by_case : (place : Option ℕ) →
-        option_and_then (slice_get part.rules) place ≡ first_rule part.rules header →
-        place ≡ Some (unwrap_or place 0)
-    by_case (Some place) leads = refl
-    by_case None leads =
-        let nothing : Option Rule = None in
-        let none : IsSome nothing = subst (λ (r : Option Rule). IsSome r) (sym leads) some in
-        absurd (cc)
+} where
+  by_case : (place : Option ℕ) →
+      option_and_then (slice_get part.rules) place ≡ first_rule part.rules header →
+      place ≡ Some (unwrap_or place 0)
+  by_case (Some place) leads = refl
+  by_case None leads =
+      let nothing : Option Rule = None in
+      let none : IsSome nothing = subst (λ (r : Option Rule). IsSome r) (sym leads) some in
+      absurd (cc)
 
 -- a partition of one's own has a first hit for each header of its region
 pub own_hit : (tables : Tables) (number : ℕ) (part : Partition) (header : Header) →
@@ -86,9 +85,8 @@ pub lookup_is_found : (entries : List CacheEntry) (tables : Tables) (header : He
 lookup_is_found entries tables header sound is =
     by_entry (first_entry tables.version (number_of header) entries)
   where
-    by_part : (part : Option Partition) → find (is_in header) tables.auth ≡ part →
-        IsFound tables header
-        (option_map_or (authority_of header) part (redirect_of header tables.parts))
+    by_part : (part : Option Partition) → find (is_in header) tables.auth ≡ part → IsFound tables
+        header (option_map_or (authority_of header) part (redirect_of header tables.parts))
     by_part None none = tt
     by_part (Some part) found =
         let there = find-there (is_in header) tables.auth part found in

@@ -19,8 +19,7 @@ use Rattle.switch_core.proofs.OwnTables.{own_hit}
 pub entry_by : (s : SwitchValue) (site : Site) (packet : Packet) (test : Bool) →
     serves s ≡ test → admitted s site packet ≡ cond test (Some (looked_up s site packet)) None
 unfolding admitted
-entry_by s site packet test is =
-    ap (λ (b : Bool). cond b (Some (looked_up s site packet)) None) is
+entry_by s site packet test is = ap (λ (b : Bool). cond b (Some (looked_up s site packet)) None) is
 
 -- a switch that answers isn't closed
 not_closed : (answer : Answer) → entered_with answer ≡ entry.Closed → ⊥
@@ -38,13 +37,11 @@ entry_is s site packet = record {
     ap entry_of (entry_by s site packet true ready.serving),
     lookup_is s site packet ready,
   );
-}
-  where
-    by_test : (test : Bool) →
-        (entry_of (cond test (Some (looked_up s site packet)) None) ≡ entry.Closed)
-        ↔ IsFalse test
-    by_test true = (λ is. absurd (not_closed (looked_up s site packet) is), λ is. cc)
-    by_test false = (λ is. refl, λ is. refl)
+} where
+  by_test : (test : Bool)
+      → (entry_of (cond test (Some (looked_up s site packet)) None) ≡ entry.Closed) ↔ IsFalse test
+  by_test true = (λ is. absurd (not_closed (looked_up s site packet) is), λ is. cc)
+  by_test false = (λ is. refl, λ is. refl)
 
 -- ---- a packet is at the end of its route
 
@@ -55,16 +52,13 @@ arrive_out s site t port leg = ap (λ leg. arrival_of (arrived_on s site (packet
 
 -- by the tables of the leg's version, if they are held
 arrived_by : (s : SwitchValue) (site : Site) (t : TunnelValue) (version partition : ℕ)
-    (held : Option Tables) → t.leg ≡ Seek version partition → held_tables s version ≡ held →
-    received s site t ≡ Answered
-    (option_map_or (decided_in s site (packet_of t) partition) held
+    (held : Option Tables) → t.leg ≡ Seek version partition → held_tables s version ≡ held
+    → received s site t ≡ Answered (option_map_or (decided_in s site (packet_of t) partition) held
     (looked_up s site (packet_of t)))
 unfolding received
-arrived_by s site t version partition held leg is =
-    ap (arrived_on s site (packet_of t)) leg
-    ∙ ap (λ (o : Option Tables). Answered
-    (option_map_or (decided_in s site (packet_of t) partition) o
-    (looked_up s site (packet_of t)))) is
+arrived_by s site t version partition held leg is = ap (arrived_on s site (packet_of t)) leg
+    ∙ ap (λ (o : Option Tables). Answered (option_map_or (decided_in s site (packet_of t) partition)
+    o (looked_up s site (packet_of t)))) is
 
 -- the first hit of the leg's partition
 hit_on : (s : SwitchValue) (t : TunnelValue) (version partition : ℕ) (tables : Tables) →
@@ -83,8 +77,7 @@ hit_on s t version partition tables arriving leg held =
         IsSomeAnd part (λ own. IsFirstHit t.header own
         (place_of_first t.header (unwrap_or part no_part)))
     by_part (Some part) is inside = own_hit tables partition part t.header
-        (sound_held s version tables arriving.ready.switch held) arriving.ready.is_header is
-        inside
+        (sound_held s version tables arriving.ready.switch held) arriving.ready.is_header is inside
     by_part None is inside = absurd inside
 
 pub arrive_held : (s : SwitchValue) (site : Site) (t : TunnelValue) (version partition : ℕ)

@@ -30,8 +30,7 @@ use Rattle.switch_core.proofs.PacketArrivals.{arrive_anew, arrive_held, arrive_o
 cache_hit : (s : SwitchValue) (header : Header) (entry : CacheEntry) → IsReady s header →
     lookup_by_stamp s header ≡ Cached entry →
     first_entry s.stamp (number_of header) s.cache.entries ≡ Some entry
-cache_hit s header entry ready is =
-    let tables = stamp_tables s in
+cache_hit s header entry ready is = let tables = stamp_tables s in
     ap (λ (v : ℕ). first_entry v (number_of header) s.cache.entries)
     (sym (stamp_version s ready.stamped))
     ∙ by_entry_of (first_entry tables.version (number_of header) s.cache.entries) is
@@ -46,8 +45,7 @@ cache_hit s header entry ready is =
         option_map_or Cached found (table_lookup (stamp_tables s) header) ≡ Cached entry →
         found ≡ Some entry
     by_entry_of (Some other) is = (let same : other ≡ entry = cc in ap Some same)
-    by_entry_of None is =
-        absurd (by_part (find (is_in header) (stamp_tables s).auth) is)
+    by_entry_of None is = absurd (by_part (find (is_in header) (stamp_tables s).auth) is)
 
 -- where an answer decides, its decision comes from where it should
 abbrev IsSourced : SwitchValue → Site → Packet → Answer → Type 0
@@ -95,32 +93,28 @@ by_own s site packet version partition tables answer held by =
       λ both. refl,
     )
 
-    is_carried : (body : Body) (test : Bool) → cond test None (Some rule) ≡ Some body →
-        body ≡ rule
+    is_carried : (body : Body) (test : Bool) → cond test None (Some rule) ≡ Some body → body ≡ rule
     is_carried body true is = absurd (cc)
     is_carried body false is = cc
 
 by_lookup : (s : SwitchValue) (site : Site) (packet : Packet) (answer : Answer) →
     IsReady s packet.header → IsRightAnswer s site packet answer → IsSourced s site packet answer
-by_lookup s site packet answer ready law = by_found (lookup_by_stamp s packet.header) refl
-  where
-    by_way : (leg : Leg) (targets : List ℕ) (route : Option (List ℕ)) →
-        MatchOption route (answer ≡ Stuck (cause_of s site.near packet.down leg targets) leg)
-        (λ route. answer ≡ Seek (setting_out packet leg targets route)) →
-        IsSourced s site packet answer
-    by_way leg targets None is = subst (IsSourced s site packet) (sym is) tt
-    by_way leg targets (Some route) is = subst (IsSourced s site packet) (sym is) tt
+by_lookup s site packet answer ready law = by_found (lookup_by_stamp s packet.header) refl where
+  by_way : (leg : Leg) (targets : List ℕ) (route : Option (List ℕ)) →
+      MatchOption route (answer ≡ Stuck (cause_of s site.near packet.down leg targets) leg)
+      (λ route. answer ≡ Seek (setting_out packet leg targets route)) →
+      IsSourced s site packet answer
+  by_way leg targets None is = subst (IsSourced s site packet) (sym is) tt
+  by_way leg targets (Some route) is = subst (IsSourced s site packet) (sym is) tt
 
-    by_found : (found : Found) → lookup_by_stamp s packet.header ≡ found →
-        IsSourced s site packet answer
-    by_found (Cached cached) is = subst (IsSourced s site packet) (sym (law.cached cached is))
-        (by_cache s site packet cached (cache_hit s packet.header cached ready is))
-    by_found (Authority partition place) is =
-        by_own s site packet s.stamp partition (stamp_tables s) answer
-        (stamp_held s ready.stamped) (law.authority partition place is).0
-    by_found (Redirect partition targets) is =
-        by_way (SeekLeg s.stamp partition) targets (route_known s site.near packet targets)
-        (law.redirect partition targets is)
+  by_found : (found : Found) → lookup_by_stamp s packet.header ≡ found →
+      IsSourced s site packet answer
+  by_found (Cached cached) is = subst (IsSourced s site packet) (sym (law.cached cached is))
+      (by_cache s site packet cached (cache_hit s packet.header cached ready is))
+  by_found (Authority partition place) is = by_own s site packet s.stamp partition
+      (stamp_tables s) answer (stamp_held s ready.stamped) (law.authority partition place is).0
+  by_found (Redirect partition targets) is = by_way (SeekLeg s.stamp partition) targets
+      (route_known s site.near packet targets) (law.redirect partition targets is)
 
 -- the answer of which a call tells a decision
 told_entry : (answer : Answer) (decision : Decision) (way : Next) →
@@ -133,9 +127,8 @@ told_entry (Decided own cache goes) decision way is =
 told_entry (Seek tunnel) decision way is = absurd cc
 told_entry (Stuck cause leg) decision way is = absurd cc
 
-told_arrival : (answer : Answer) (decision : Decision) (cache : Option Body) (way : Next) →
-    arrived_with answer ≡ arrival.Decided decision cache way →
-    answer ≡ Decided decision cache way
+told_arrival : (answer : Answer) (decision : Decision) (cache : Option Body) (way : Next)
+    → arrived_with answer ≡ arrival.Decided decision cache way → answer ≡ Decided decision cache way
 told_arrival (Decided own rule goes) decision cache way is =
     let same_own : own ≡ decision = cc in
     let same_rule : rule ≡ cache = cc in
@@ -146,9 +139,8 @@ told_arrival (Seek tunnel) decision cache way is = absurd cc
 told_arrival (Stuck cause leg) decision cache way is = absurd cc
 
 pub decided_on_entry : (s : SwitchValue) (site : Site) (packet : Packet) (decision : Decision)
-    (way : Next) → IsReady s packet.header →
-    enter_answer s site packet ≡ entry.Decided decision way →
-    (cache : Option Body) × (admitted s site packet ≡ Some (Decided decision cache way))
+    (way : Next) → IsReady s packet.header → enter_answer s site packet ≡ entry.Decided decision way
+    → (cache : Option Body) × (admitted s site packet ≡ Some (Decided decision cache way))
     × IsDecision s site packet decision cache way
 decided_on_entry s site packet decision way ready is =
     let looked = entry_by s site packet true ready.serving in
@@ -163,35 +155,32 @@ pub decided_on_arrival : (s : SwitchValue) (site : Site) (t : TunnelValue) (deci
     (cache : Option Body) (way : Next) → IsArriving s t →
     arrive_answer s site t ≡ arrival.Decided decision cache way →
     IsDecision s site (packet_of t) decision cache way
-decided_on_arrival s site t decision cache way arriving is = by_leg t.leg refl
-  where
-    packet : Packet
-    packet = packet_of t
+decided_on_arrival s site t decision cache way arriving is = by_leg t.leg refl where
+  packet : Packet
+  packet = packet_of t
 
-    by_answer : (answer : Answer) → arrive_answer s site t ≡ arrived_with answer →
-        IsSourced s site packet answer → IsDecision s site packet decision cache way
-    by_answer answer came sourced =
-        subst (IsSourced s site packet)
-        (told_arrival answer decision cache way (sym came ∙ is)) sourced
+  by_answer : (answer : Answer) → arrive_answer s site t ≡ arrived_with answer →
+      IsSourced s site packet answer → IsDecision s site packet decision cache way
+  by_answer answer came sourced = subst (IsSourced s site packet)
+      (told_arrival answer decision cache way (sym came ∙ is)) sourced
 
-    by_tables : (version partition : ℕ) (held : Option Tables) →
-        t.leg ≡ SeekLeg version partition → held_tables s version ≡ held →
-        IsDecision s site packet decision cache way
-    by_tables version partition (Some tables) leg held =
-        let by = arrive_held s site t version partition tables arriving leg held in
-        by_answer by.0 by.1 (by_own s site packet version partition tables by.0 held by.2)
-    by_tables version partition None leg held =
-        let by = arrive_anew s site t version partition arriving leg
-        (ap (λ (o : Option Tables). is_some o) held) in
-        by_answer by.0 by.1 (by_lookup s site packet by.0 arriving.ready by.2)
+  by_tables : (version partition : ℕ) (held : Option Tables) → t.leg ≡ SeekLeg version partition
+      → held_tables s version ≡ held → IsDecision s site packet decision cache way
+  by_tables version partition (Some tables) leg held =
+      let by = arrive_held s site t version partition tables arriving leg held in
+      by_answer by.0 by.1 (by_own s site packet version partition tables by.0 held by.2)
+  by_tables version partition None leg held =
+      let by = arrive_anew s site t version partition arriving leg
+      (ap (λ (o : Option Tables). is_some o) held) in
+      by_answer by.0 by.1 (by_lookup s site packet by.0 arriving.ready by.2)
 
-    by_leg : (leg : Leg) → t.leg ≡ leg → IsDecision s site packet decision cache way
-    by_leg (ExitLeg port) leg =
-        let out : arrival.Out port ≡ arrival.Decided decision cache way =
-        sym (arrive_out s site t port leg) ∙ is in
-        absurd (cc)
-    by_leg (SeekLeg version partition) leg =
-        by_tables version partition (held_tables s version) leg refl
+  by_leg : (leg : Leg) → t.leg ≡ leg → IsDecision s site packet decision cache way
+  by_leg (ExitLeg port) leg =
+      let out : arrival.Out port ≡ arrival.Decided decision cache way =
+      sym (arrive_out s site t port leg) ∙ is in
+      absurd (cc)
+  by_leg (SeekLeg version partition) leg =
+      by_tables version partition (held_tables s version) leg refl
 
 -- ---- tables of a plan
 
@@ -207,12 +196,11 @@ of_plan P kept (hosted ∷ plan) all =
         (All-head P (part_of hosted) (map part_of plan) all) rest
     by_test false rest = rest
 
-pub decides_as_policy : (s : SwitchValue) (header : Header) (decision : Decision)
-    (rows : List Row) (plan : List Hosted) →
-    AreSoundPartitions rows (map part_of plan) → IsHeader header →
-    held_tables s decision.version ≡ Some (tables_of plan decision.version s.number) →
-    IsByOwnRule s header decision →
-    scan rows header ≡ record { rule = decision.rule; action = decision.action }
+pub decides_as_policy : (s : SwitchValue) (header : Header) (decision : Decision) (rows : List Row)
+    (plan : List Hosted) → AreSoundPartitions rows (map part_of plan) → IsHeader header
+    → held_tables s decision.version ≡ Some (tables_of plan decision.version s.number)
+    → IsByOwnRule s header decision
+    → scan rows header ≡ record { rule = decision.rule; action = decision.action }
 decides_as_policy s header decision rows plan sound is planned by =
     let part = by.own.part in
     let kept = has_target s.number in

@@ -29,9 +29,8 @@ stuck_without_route s near packet leg targets =
     by_route f cause None = (λ _. refl, λ _. refl)
     by_route f cause (Some route) = (λ h. cc, λ h. cc)
 
-pub no_authority_left : (s : SwitchValue) (near : ℕ) (down : List ℕ) (leg : Leg)
-    (targets : List ℕ) → (cause_of s near down leg targets ≡ NoAuthority) ↔
-    (IsTrue (is_seek leg)
+pub no_authority_left : (s : SwitchValue) (near : ℕ) (down : List ℕ) (leg : Leg) (targets : List ℕ)
+    → (cause_of s near down leg targets ≡ NoAuthority) ↔ (IsTrue (is_seek leg)
     × All (λ target. IsTrue (is_isolated s.database s.number target near down)) targets)
 unfolding cause_of are_isolated
 no_authority_left s near down leg targets =
@@ -54,11 +53,9 @@ pub own_first : (near : List ℕ) (count number : ℕ) → number < 64 →
 own_first near count number below advert is =
     by_test (nat_lt number count) (sym (held-first near count number below) ∙ is)
   where
-    by_test : (test : Bool) →
-        cond test (Some (first_advert number (slice_index near number))) None ≡ Some advert →
-        is_newer advert (own_advert number 1 1 0) ≡ false
-    by_test true is =
-        let it : first_advert number (slice_index near number) ≡ advert = cc in
+    by_test : (test : Bool) → cond test (Some (first_advert number (slice_index near number))) None
+        ≡ Some advert → is_newer advert (own_advert number 1 1 0) ≡ false
+    by_test true is = let it : first_advert number (slice_index near number) ≡ advert = cc in
         subst (λ (a : Advert). is_newer a (own_advert number 1 1 0) ≡ false) it refl
     by_test false is = absurd (cc)
 
@@ -66,9 +63,8 @@ own_first near count number below advert is =
 
 -- what a message may change
 kept : (s : SwitchValue) (is_open : Bool) (stamp collected : ℕ) (tables : List Tables)
-    (cache : CacheValue) (database : List (Option Advert)) →
-    s.stamp ≤ stamp → s.collected ≤ collected →
-    IsHeard s (record s {
+    (cache : CacheValue) (database : List (Option Advert))
+    → s.stamp ≤ stamp → s.collected ≤ collected → IsHeard s (record s {
       is_open = is_open;
       stamp = stamp;
       collected = collected;
@@ -94,45 +90,37 @@ either s one other false left right = right
 raised_heard : (s : SwitchValue) (is_open : Bool) (version : ℕ) →
     IsHeard s (record (raised_to s version) { is_open = is_open })
 unfolding raised_to
-raised_heard s is_open version = by_test (nat_lt s.stamp version) refl
-  where
-    by_test : (test : Bool) → nat_lt s.stamp version ≡ test →
-        IsHeard s (record (cond test
-        (record s { stamp = version; cache = after_raise version s.cache }) s)
-        { is_open = is_open })
-    by_test true less = kept s is_open version s.collected s.tables (after_raise version s.cache)
-        s.database (grind (arith, nat_tests)) (omega arith)
-    by_test false more = kept s is_open s.stamp s.collected s.tables s.cache s.database
-        (omega arith) (omega arith)
+raised_heard s is_open version = by_test (nat_lt s.stamp version) refl where
+  by_test : (test : Bool) → nat_lt s.stamp version ≡ test → IsHeard s (record (cond test (record s
+      { stamp = version; cache = after_raise version s.cache }) s) { is_open = is_open })
+  by_test true less = kept s is_open version s.collected s.tables (after_raise version s.cache)
+      s.database (grind (arith, nat_tests)) (omega arith)
+  by_test false more = kept s is_open s.stamp s.collected s.tables s.cache s.database
+      (omega arith) (omega arith)
 
 stamped_heard : (s : SwitchValue) (version : ℕ) (touched : List WordValue) →
     IsHeard s (stamped_with s version touched)
 unfolding stamped_with
-stamped_heard s version touched = by_test (nat_lt s.stamp version) refl
-  where
-    by_test : (test : Bool) → nat_lt s.stamp version ≡ test →
-        IsHeard s (cond test
-        (record s { stamp = version; cache = after_carry version touched s.cache }) s)
-    by_test true less = kept s s.is_open version s.collected s.tables
-        (after_carry version touched s.cache) s.database (grind (arith, nat_tests)) (omega arith)
-    by_test false more = same s
+stamped_heard s version touched = by_test (nat_lt s.stamp version) refl where
+  by_test : (test : Bool) → nat_lt s.stamp version ≡ test → IsHeard s
+      (cond test (record s { stamp = version; cache = after_carry version touched s.cache }) s)
+  by_test true less = kept s s.is_open version s.collected s.tables
+      (after_carry version touched s.cache) s.database (grind (arith, nat_tests)) (omega arith)
+  by_test false more = same s
 
 heard_body : (s : SwitchValue) (number : ℕ) (body : Body) → IsHeard s (after_body s number body)
 unfolding with_installed collected_to with_heard
-heard_body s number (Install boot tables) = either s _ _ _ (same s)
-    (kept s s.is_open s.stamp s.collected (s.tables ++ tables ∷ []) s.cache s.database
-    (omega arith) (omega arith))
+heard_body s number (Install boot tables) = either s _ _ _ (same s) (kept s s.is_open s.stamp
+    s.collected (s.tables ++ tables ∷ []) s.cache s.database (omega arith) (omega arith))
 heard_body s number (OpenAt boot version) = raised_heard s true version
-heard_body s number (Stamp boot version touched) =
-    stamped_heard s version touched
+heard_body s number (Stamp boot version touched) = stamped_heard s version touched
 heard_body s number (Collect boot version) = kept s s.is_open s.stamp (max s.collected version)
     (filter (λ (tables : Tables). nat_lt (max s.collected version) tables.version) s.tables)
     s.cache s.database (omega arith) (omega arith)
 heard_body s number (CacheRule version word rule action) =
     kept s s.is_open s.stamp s.collected s.tables _ s.database (omega arith) (omega arith)
-heard_body s number (Advertise advert) = either s _ _ _
-    (kept s s.is_open s.stamp s.collected s.tables s.cache (after_hearing s.database advert)
-    (omega arith) (omega arith)) (same s)
+heard_body s number (Advertise advert) = either s _ _ _ (kept s s.is_open s.stamp s.collected
+    s.tables s.cache (after_hearing s.database advert) (omega arith) (omega arith)) (same s)
 heard_body s number _ = same s
 
 pub heard_keeps : (s : SwitchValue) (number : ℕ) (body : Body) → IsHeard s (with_message s number body)

@@ -237,8 +237,7 @@ pub record IsDecision (s : SwitchValue) (site : Site) (packet : Packet)
   pub onward : way ≡ next_of s site packet decision.action
   -- a rule is sent to a cache exactly if an authority rule decided, and the packet entered
   -- elsewhere ..
-  pub sent : IsSome cache
-      ↔ (IsTrue (is_by_authority decision.how) × (packet.ingress ≢ s.number))
+  pub sent : IsSome cache ↔ (IsTrue (is_by_authority decision.how) × (packet.ingress ≢ s.number))
   -- .. and it is the rule that decided
   pub carried : (body : Body) → cache ≡ Some body →
       (by : IsByOwnRule s packet.header decision)

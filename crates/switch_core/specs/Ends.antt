@@ -51,10 +51,8 @@ cause_of s near down leg targets =
 -- the packet at the beginning of its route to the leg's targets; stuck exactly if there is none
 unfoldable pub set_out : SwitchValue → ℕ → Packet → Leg → List ℕ → Result TunnelValue Cause
 set_out s near packet leg targets =
-    ok_or
-    (option_map
-    (λ route. tunnel_begun packet.number packet.header packet.ingress leg targets route packet.down)
-    (route_of s.database s.number targets near packet.down))
+    ok_or (option_map (λ route. tunnel_begun packet.number packet.header packet.ingress leg targets
+    route packet.down) (route_of s.database s.number targets near packet.down))
     (cause_of s near packet.down leg targets)
 
 -- ---- the exit rule
@@ -74,5 +72,4 @@ leave_by s near packet port (Some owner) = if owner == s.number
 -- where a packet moves that this action decides
 unfoldable pub next_of : SwitchValue → Site → Packet → Action → Next
 next_of s site packet Drop = Dropped
-next_of s site packet (OutBy port) =
-    leave_by s site.near packet port (port_owner site.ports port)
+next_of s site packet (OutBy port) = leave_by s site.near packet port (port_owner site.ports port)

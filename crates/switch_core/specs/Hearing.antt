@@ -39,15 +39,13 @@ with_installed s tables =
 -- its stamp is at least this version; if it rises, the cache is raised to it
 unfoldable pub raised_to : SwitchValue → ℕ → SwitchValue
 raised_to s version = if nat_lt s.stamp version
-    then record s { stamp = version; cache = after_raise version s.cache }
-    else s
+    then record s { stamp = version; cache = after_raise version s.cache } else s
 
 -- its stamp is at least this version; if it rises, the cached rules are carried to it, except
 -- those that the change touches
 unfoldable pub stamped_with : SwitchValue → ℕ → List WordValue → SwitchValue
 stamped_with s version touched = if nat_lt s.stamp version
-    then record s { stamp = version; cache = after_carry version touched s.cache }
-    else s
+    then record s { stamp = version; cache = after_carry version touched s.cache } else s
 
 abbrev pub opened_with : SwitchValue → ℕ → SwitchValue
 opened_with s version = record (raised_to s version) { is_open = true }
@@ -69,8 +67,7 @@ is_news_here s advert = not (advert.origin == s.number) && is_news s.database ad
 
 unfoldable pub with_heard : SwitchValue → Advert → SwitchValue
 with_heard s advert = if is_news_here s advert
-    then record s { database = after_hearing s.database advert }
-    else s
+    then record s { database = after_hearing s.database advert } else s
 
 -- the switch after it obeyed the message of this number
 abbrev pub after_body : SwitchValue → ℕ → Body → SwitchValue
@@ -112,8 +109,7 @@ replies s near body = if obeys s body then replies_to s near body else []
 -- ---- whether it opens
 
 abbrev pub opened_by : SwitchValue → Body → Option ℕ
-opened_by s (OpenAt boot version) =
-    if s.is_open then None else Some (max s.stamp version)
+opened_by s (OpenAt boot version) = if s.is_open then None else Some (max s.stamp version)
 opened_by s _ = None
 
 -- the stamp of a switch that was closed, and opens

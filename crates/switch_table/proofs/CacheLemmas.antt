@@ -13,13 +13,11 @@ cache_cleared cache is = record { distinct = none_distinct; few = omega arith }
 
 pub cache_raised : (stamp : ℕ) (cache : CacheValue) → IsCache cache
     → IsCache (after_raise stamp cache)
-cache_raised stamp cache is =
-    let kept = λ (entry : CacheEntry). leb stamp entry.version in
-    record {
-      distinct = AllPairs-filter (λ a b. same_key a b ≡ false) kept cache.entries is.distinct;
-      few = omega
-          (arith, length-filter kept cache.entries, count_by-le-length kept cache.entries, is.few);
-    }
+cache_raised stamp cache is = let kept = λ (entry : CacheEntry). leb stamp entry.version in record {
+  distinct = AllPairs-filter (λ a b. same_key a b ≡ false) kept cache.entries is.distinct;
+  few = omega
+      (arith, length-filter kept cache.entries, count_by-le-length kept cache.entries, is.few);
+}
 
 remove_past : (entries : List CacheEntry) (place : ℕ) → length entries ≤ place →
     remove entries place ≡ entries

@@ -55,16 +55,14 @@ in_list test entries entry (k, within, is) passes =
 
 none_in : (test : CacheEntry → Bool) (entries : List CacheEntry) (entry : CacheEntry)
     → Contains entries entry → list_any test entries ≡ false → test entry ≡ false
-none_in test entries entry there none =
-    false_from_ne_true (test entry) (λ passes.
-    let found = in_list test entries entry there passes in absurd (cc (none, found)))
+none_in test entries entry there none = false_from_ne_true (test entry)
+    (λ passes. let found = in_list test entries entry there passes in absurd (cc (none, found)))
 
 -- ---- no two entries of one key
 
 -- two entries of the cache, of different keys
 abbrev IsPair : List CacheEntry → CacheEntry → CacheEntry → Type 0
-IsPair entries a b =
-    Contains entries a × (Contains entries b × (same_key a b ≡ false))
+IsPair entries a b = Contains entries a × (Contains entries b × (same_key a b ≡ false))
 
 pairs_within : (entries : List CacheEntry) → HaveDistinctKeys entries
     → AllPairs (IsPair entries) entries
@@ -74,10 +72,7 @@ pairs_within entries distinct = λ i j d less within. (
     omega (arith, less, within),
     get_or_default entries i (get_or entries i d) d (omega (arith, less, within)),
   ),
-  (
-    (j, within, get_or_default entries j (get_or entries j d) d within),
-    distinct i j d less within,
-  ),
+  ((j, within, get_or_default entries j (get_or entries j d) d within), distinct i j d less within),
 )
 
 -- entries of the version before that have one word under the version are of one key
@@ -91,9 +86,8 @@ both_over version a b before_a before_b apart =
     absurd (cc (apart, one)))
 
 pair_carried : (version : ℕ) (touched : List WordValue) (entries : List CacheEntry)
-    (a b : CacheEntry) → IsPair entries a b
-    → IfSome (carried_entry version touched entries a) (λ y.
-    IfSome (carried_entry version touched entries b) (λ z. same_key y z ≡ false))
+    (a b : CacheEntry) → IsPair entries a b → IfSome (carried_entry version touched entries a)
+    (λ y. IfSome (carried_entry version touched entries b) (λ z. same_key y z ≡ false))
 pair_carried version touched entries a b (in_a, (in_b, apart)) =
     by_case (leb version a.version) (is_carried version touched entries a)
     (leb version b.version) (is_carried version touched entries b) refl refl
@@ -104,10 +98,9 @@ pair_carried version touched entries a b (in_a, (in_b, apart)) =
     left : Bool → Bool → CacheEntry → Option CacheEntry
     left stays goes entry = cond stays (Some entry) (cond goes (Some (over entry)) None)
 
-    by_case : (stays_a goes_a stays_b goes_b : Bool)
-        → is_carried version touched entries a ≡ goes_a
-        → is_carried version touched entries b ≡ goes_b
-        → IfSome (left stays_a goes_a a) (λ y. IfSome (left stays_b goes_b b) (λ z. same_key y z ≡ false))
+    by_case : (stays_a goes_a stays_b goes_b : Bool) → is_carried version touched entries a ≡ goes_a
+        → is_carried version touched entries b ≡ goes_b → IfSome (left stays_a goes_a a)
+        (λ y. IfSome (left stays_b goes_b b) (λ z. same_key y z ≡ false))
     by_case true _ true _ _ _ = apart
     by_case true _ false true _ is = apart-sym (over b) a
         (none_in (same_key (over b)) entries a in_a (gone_over version touched entries b is).alone)
@@ -123,10 +116,9 @@ pair_carried version touched entries a b (in_a, (in_b, apart)) =
 pub carried_distinct : (version : ℕ) (touched : List WordValue) (entries : List CacheEntry)
     → HaveDistinctKeys entries
     → HaveDistinctKeys (filter_map (carried_entry version touched entries) entries)
-carried_distinct version touched entries distinct =
-    AllPairs-filter_map (IsPair entries) (λ a b. same_key a b ≡ false)
-    (carried_entry version touched entries) (pair_carried version touched entries) entries
-    (pairs_within entries distinct)
+carried_distinct version touched entries distinct = AllPairs-filter_map (IsPair entries)
+    (λ a b. same_key a b ≡ false) (carried_entry version touched entries)
+    (pair_carried version touched entries) entries (pairs_within entries distinct)
 
 -- there are no more of them
 pub left_few : (version capacity : ℕ) (touched : List WordValue) (entries : List CacheEntry)
@@ -216,8 +208,7 @@ only_carried version touched cache =
         → leb version entry.version ≡ stays → is_carried version touched entries entry ≡ goes
         → IfSome (cond stays (Some entry) (cond goes (Some (under version entry)) None)) Is
     by_case entry true _ there le _ = inl (leb-true version entry.version le, there)
-    by_case entry false true there _ is =
-        let goes = gone_over version touched entries entry is in
+    by_case entry false true there _ is = let goes = gone_over version touched entries entry is in
         inr (record {
           old = entry;
           there = there;
@@ -236,18 +227,16 @@ only_carried version touched cache =
 
 none_over : (version : ℕ) (entries : List CacheEntry) (entry : CacheEntry)
     → is_carried version all_touched entries entry ≡ false
-none_over version entries entry =
-    false_from_ne_true (is_carried version all_touched entries entry) (λ is.
-    let met = (gone_over version all_touched entries entry is).apart in
+none_over version entries entry = false_from_ne_true (is_carried version all_touched entries entry)
+    (λ is. let met = (gone_over version all_touched entries entry is).apart in
     absurd (cc (met, meets_all entry.word)))
 
 all_left : (version : ℕ) (entries rest : List CacheEntry)
     → filter_map (carried_entry version all_touched entries) rest
     ≡ filter (λ (entry : CacheEntry). leb version entry.version) rest
 all_left version entries [] = refl
-all_left version entries (entry ∷ rest) =
-    ap (λ b. cons_option (cond (leb version entry.version) (Some entry)
-    (cond b (Some (under version entry)) None)) left) (none_over version entries entry)
+all_left version entries (entry ∷ rest) = ap (λ b. cons_option (cond (leb version entry.version)
+    (Some entry) (cond b (Some (under version entry)) None)) left) (none_over version entries entry)
     ∙ by_case (leb version entry.version) (all_left version entries rest)
   where
     left : List CacheEntry
@@ -263,8 +252,7 @@ all_left version entries (entry ∷ rest) =
 
 pub all_carried : (version : ℕ) (cache : CacheValue)
     → after_carry version all_touched cache ≡ after_raise version cache
-all_carried version cache =
-    ap (λ es. record { entries = es; capacity = cache.capacity })
+all_carried version cache = ap (λ es. record { entries = es; capacity = cache.capacity })
     (all_left version cache.entries cache.entries)
 
 -- ---- what is left, entry by entry
@@ -272,10 +260,8 @@ all_carried version cache =
 -- an entry of which nothing is left ..
 pub left_out : (f : CacheEntry → Option CacheEntry) (before : List CacheEntry) (entry : CacheEntry)
     → f entry ≡ None → filter_map f before ≡ filter_map f (before ++ entry ∷ [])
-left_out f before entry none =
-    sym (filter_map-append f before (entry ∷ [])
-    ∙ ap (λ o. filter_map f before ++ cons_option o []) none
-    ∙ append-nil (filter_map f before))
+left_out f before entry none = sym (filter_map-append f before (entry ∷ [])
+    ∙ ap (λ o. filter_map f before ++ cons_option o []) none ∙ append-nil (filter_map f before))
 
 -- .. or something, which a cache of what is left of those before it accepts
 pub left_in : (f : CacheEntry → Option CacheEntry) (before : List CacheEntry)

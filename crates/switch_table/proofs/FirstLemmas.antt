@@ -21,10 +21,9 @@ key_is shift version header masks entry mask has = by_case (eqb mask.mask entry.
     numbers : eqb (version + shift) (entry.version + shift) ≡ eqb entry.version version
     numbers = grind (arith, nat_tests)
 
-    by_case : (b : Bool) → eqb mask.mask entry.word.mask ≡ b →
-        (eqb (version + shift) (entry.version + shift)
-        && (eqb (bit_and header mask.mask) entry.word.value && b))
-        ≡ ((eqb entry.version version
+    by_case : (b : Bool) → eqb mask.mask entry.word.mask ≡ b
+        → (eqb (version + shift) (entry.version + shift)
+        && (eqb (bit_and header mask.mask) entry.word.value && b)) ≡ ((eqb entry.version version
         && eqb (bit_and header entry.word.mask) (bit_and entry.word.value entry.word.mask)) && b)
     by_case true is =
         let masks_are : mask.mask ≡ entry.word.mask = eqb-true mask.mask entry.word.mask is in
@@ -33,8 +32,7 @@ key_is shift version header masks entry mask has = by_case (eqb mask.mask entry.
         (λ i. numbers i && (eqb (bit_and header (masks_are i)) (value i) && true))
         ∙ sym (and_joined (eqb entry.version version)
         (eqb (bit_and header entry.word.mask) (bit_and entry.word.value entry.word.mask)) true)
-    by_case false is =
-        ap (λ b. eqb (version + shift) (entry.version + shift) && b)
+    by_case false is = ap (λ b. eqb (version + shift) (entry.version + shift) && b)
         (and-false (eqb (bit_and header mask.mask) entry.word.value))
         ∙ and-false (eqb (version + shift) (entry.version + shift)) ∙ sym (and-false _)
 

@@ -17,8 +17,7 @@ set_in flags block = count_set (take 64 (drop (64 * block) flags))
 -- so many places, and so many behind them
 pub count_both : (m n : ℕ) (flags : List Bool) →
     count_set (take (m + n) flags) ≡ count_set (take m flags) + count_set (take n (drop m flags))
-count_both m n flags =
-    let whole = take (m + n) flags in
+count_both m n flags = let whole = take (m + n) flags in
     sym (sum_by-take-drop one_if whole m)
     ∙ ap (λ xs. count_set xs + count_set (drop m whole)) (take-take m (m + n) flags (omega arith))
     ∙ ap (λ xs. count_set (take m flags) + count_set xs) (drop-take m n flags)
@@ -27,8 +26,7 @@ count_both m n flags =
 sum_before : (counts : List ℕ) (flags : List Bool) → AreBlocks counts flags →
     (k : ℕ) → k ≤ length counts → sum (take k counts) ≡ count_set (take (64 * k) flags)
 sum_before counts flags are zero within =
-    let none : 0 ≡ 64 * 0 = omega arith in
-    ap (λ n. count_set (take n flags)) none
+    let none : 0 ≡ 64 * 0 = omega arith in ap (λ n. count_set (take n flags)) none
 sum_before counts flags are (suc k) within =
     let next : suc k ≡ k + 1 = omega arith in
     let more : 64 * k + 64 ≡ 64 * suc k = omega arith in
@@ -39,27 +37,23 @@ sum_before counts flags are (suc k) within =
 
 sum_whole : (counts : List ℕ) (flags : List Bool) → AreBlocks counts flags →
     sum counts ≡ count_set flags
-sum_whole counts flags are =
-    ap sum (sym (take_all (length counts) counts (omega arith)))
+sum_whole counts flags are = ap sum (sym (take_all (length counts) counts (omega arith)))
     ∙ sum_before counts flags are (length counts) (omega arith)
     ∙ ap count_set (take_all (64 * length counts) flags are.room)
 
 -- ---- one block changes
 
 -- no other block does
-changed : (block count : ℕ) (counts : List ℕ) (flags news : List Bool) →
-    AreBlocks counts flags → block < length counts → length news ≤ 64 * length counts →
-    count ≡ set_in news block →
-    ((k : ℕ) → (k ≡ block → ⊥) → set_in news k ≡ set_in flags k) →
-    AreBlocks (set counts block count) news
+changed : (block count : ℕ) (counts : List ℕ) (flags news : List Bool) → AreBlocks counts flags
+    → block < length counts → length news ≤ 64 * length counts → count ≡ set_in news block
+    → ((k : ℕ) → (k ≡ block → ⊥) → set_in news k ≡ set_in flags k)
+    → AreBlocks (set counts block count) news
 changed block count counts flags news are within room here elsewhere = record {
   room = subst (λ n. length news ≤ 64 * n) (sym (length-set counts block count)) room;
   each = λ k less. elim (cases_eq k block) [
-    | inl same ↦
-        ap (λ n. get_or (set counts block count) n 0) same
+    | inl same ↦ ap (λ n. get_or (set counts block count) n 0) same
         ∙ get_or-set_same counts block count 0 within ∙ here ∙ ap (set_in news) (sym same)
-    | inr other ↦
-        get_or-set_other counts block k count 0 other
+    | inr other ↦ get_or-set_other counts block k count 0 other
         ∙ are.each k (omega (arith, length-set counts block count)) ∙ sym (elsewhere k other)
   ];
 }
@@ -70,20 +64,16 @@ block_ends k block less =
     let more : k + 1 ≤ block = omega arith in omega (arith, mul-le-mul_left 64 more)
 
 -- another block has the same flags then
-other_pushed : (block k : ℕ) (flags : List Bool) → 64 * block ≤ length flags →
-    length flags < 64 * block + 64 → (k ≡ block → ⊥) →
-    set_in (flags ++ true ∷ []) k ≡ set_in flags k
-other_pushed block k flags from before other =
-    let all = flags ++ true ∷ [] in
+other_pushed : (block k : ℕ) (flags : List Bool) → 64 * block ≤ length flags → length flags
+    < 64 * block + 64 → (k ≡ block → ⊥) → set_in (flags ++ true ∷ []) k ≡ set_in flags k
+other_pushed block k flags from before other = let all = flags ++ true ∷ [] in
     elim (cases_lt k block) [
-      | inl less ↦
-          let ends = block_ends k block less in
+      | inl less ↦ let ends = block_ends k block less in
           ap (λ xs. count_set (take 64 xs))
           (drop-append-le (64 * k) flags (true ∷ []) (omega (arith, ends)))
           ∙ ap count_set (take-append-le 64 (drop (64 * k) flags) (true ∷ [])
           (omega (arith, ends, length-drop (64 * k) flags)))
-      | inr more ↦
-          let ends = block_ends block k (omega arith) in
+      | inr more ↦ let ends = block_ends block k (omega arith) in
           ap (λ xs. count_set (take 64 xs)) (drop_all (64 * k) all
           (omega (arith, ends, length-append flags (true ∷ [])))
           ∙ sym (drop_all (64 * k) flags (omega (arith, ends))))
@@ -102,9 +92,8 @@ pushed block counts flags are within from before =
     let rest_count : get_or counts block 0 ≡ count_set rest =
     are.each block within ∙ ap count_set (take_all 64 rest (omega (arith, len))) in
     let here : get_or counts block 0 + 1 ≡ set_in all block =
-    ap (λ n. n + 1) rest_count ∙ sym (sum_by_push one_if rest true)
-    ∙ ap count_set (sym (take_all 64 (rest ++ true ∷ [])
-    (omega (arith, len, length-append rest (true ∷ []))))
+    ap (λ n. n + 1) rest_count ∙ sym (sum_by_push one_if rest true) ∙ ap count_set
+    (sym (take_all 64 (rest ++ true ∷ []) (omega (arith, len, length-append rest (true ∷ []))))
     ∙ ap (take 64) (sym (drop-append-le (64 * block) flags (true ∷ []) from))) in (
       omega (arith, rest_count, len, count_by-le-length (λ (flag : Bool). flag) rest),
       changed block (get_or counts block 0 + 1) counts flags all are within
@@ -117,19 +106,15 @@ pushed block counts flags are within from before =
 -- another block has the same flags then
 other_died : (block at k : ℕ) (flags : List Bool) → at < 64 → (k ≡ block → ⊥) →
     set_in (set flags (64 * block + at) false) k ≡ set_in flags k
-other_died block at k flags inside other =
-    let place = 64 * block + at in
+other_died block at k flags inside other = let place = 64 * block + at in
     elim (cases_lt k block) [
-      | inl less ↦
-          let ends = block_ends k block less in
+      | inl less ↦ let ends = block_ends k block less in
           let behind = place - 64 * k in
           let stands : place ≡ 64 * k + behind = omega (arith, ends) in
           ap (λ n. count_set (take 64 (drop (64 * k) (set flags n false)))) stands
           ∙ ap (λ xs. count_set (take 64 xs)) (drop-set-add (64 * k) flags behind false)
-          ∙ ap count_set (take-set-le 64 (drop (64 * k) flags) behind false
-          (omega (arith, ends)))
-      | inr more ↦
-          let ends = block_ends block k (omega arith) in
+          ∙ ap count_set (take-set-le 64 (drop (64 * k) flags) behind false (omega (arith, ends)))
+      | inr more ↦ let ends = block_ends block k (omega arith) in
           ap (λ xs. count_set (take 64 xs))
           (drop-set-lt (64 * k) flags place false (omega (arith, ends)))
     ]
@@ -144,19 +129,16 @@ count_died flags place within live =
 -- a place is in a block that is counted
 inside_counts : (block at : ℕ) (counts : List ℕ) (flags : List Bool) →
     AreBlocks counts flags → 64 * block + at < length flags → block < length counts
-inside_counts block at counts flags are there =
-    elim (cases_lt block (length counts)) [
-      | inl less ↦ less
-      | inr past ↦ absurd (omega (arith, are.room, mul-le-mul_left 64 past))
-    ]
+inside_counts block at counts flags are there = elim (cases_lt block (length counts)) [
+  | inl less ↦ less
+  | inr past ↦ absurd (omega (arith, are.room, mul-le-mul_left 64 past))
+]
 
 -- the live place dies that stands there in this block
 pub died : (block at : ℕ) (counts : List ℕ) (flags : List Bool) → AreBlocks counts flags
-    → at < 64 → 64 * block + at < length flags →
-    get_or flags (64 * block + at) false ≡ true →
-    (0 < get_or counts block 0) × (get_or counts block 0 ≤ 64)
-    × AreBlocks (set counts block (get_or counts block 0 - 1))
-    (set flags (64 * block + at) false)
+    → at < 64 → 64 * block + at < length flags → get_or flags (64 * block + at) false ≡ true
+    → (0 < get_or counts block 0) × (get_or counts block 0 ≤ 64)
+    × AreBlocks (set counts block (get_or counts block 0 - 1)) (set flags (64 * block + at) false)
 died block at counts flags are inside there live =
     let place = 64 * block + at in
     let news = set flags place false in
@@ -176,8 +158,7 @@ died block at counts flags are inside there live =
       omega (arith, was, mine_len, count_by-le-length (λ (flag : Bool). flag) mine),
       changed block (get_or counts block 0 - 1) counts flags news are within
           (subst (λ n. n ≤ 64 * length counts) (sym (length-set flags place false)) are.room)
-          (omega (arith, less, was, now))
-          (λ k other. other_died block at k flags inside other),
+          (omega (arith, less, was, now)) (λ k other. other_died block at k flags inside other),
     )
 
 -- ---- other changes
@@ -185,23 +166,19 @@ died block at counts flags are inside there live =
 -- a block of nothing comes behind
 pub grown : (counts : List ℕ) (flags : List Bool) → AreBlocks counts flags →
     AreBlocks (counts ++ 0 ∷ []) flags
-grown counts flags are =
-    let len = length-append counts (0 ∷ []) in
-    record {
-      room =
-          let longer : length counts ≤ length (counts ++ 0 ∷ []) = omega (arith, len) in
-          omega (arith, are.room, mul-le-mul_left 64 longer);
-      each = λ k less. elim (cases_lt k (length counts)) [
-        | inl old ↦ get_or_append_left counts (0 ∷ []) 0 k old ∙ are.each k old
-        | inr new ↦
-            let last : k ≡ length counts = omega (arith, len) in
-            ap (λ n. get_or (counts ++ 0 ∷ []) n 0) last
-            ∙ get_or_push counts 0 0 (length counts) refl
-            ∙ ap count_set (sym (take_all 64 [] (omega arith)))
-            ∙ ap (λ xs. count_set (take 64 xs)) (sym (drop_all (64 * k) flags
-            (subst (λ n. length flags ≤ 64 * n) (sym last) are.room)))
-      ];
-    }
+grown counts flags are = let len = length-append counts (0 ∷ []) in record {
+  room = let longer : length counts ≤ length (counts ++ 0 ∷ []) = omega (arith, len) in
+      omega (arith, are.room, mul-le-mul_left 64 longer);
+  each = λ k less. elim (cases_lt k (length counts)) [
+    | inl old ↦ get_or_append_left counts (0 ∷ []) 0 k old ∙ are.each k old
+    | inr new ↦ let last : k ≡ length counts = omega (arith, len) in
+        ap (λ n. get_or (counts ++ 0 ∷ []) n 0) last
+        ∙ get_or_push counts 0 0 (length counts) refl
+        ∙ ap count_set (sym (take_all 64 [] (omega arith)))
+        ∙ ap (λ xs. count_set (take 64 xs)) (sym (drop_all (64 * k) flags
+        (subst (λ n. length flags ≤ 64 * n) (sym last) are.room)))
+  ];
+}
 
 -- so many places, all of them live
 pub filled : (places : ℕ) (counts : List ℕ) → places ≤ 64 * length counts →
@@ -209,8 +186,7 @@ pub filled : (places : ℕ) (counts : List ℕ) → places ≤ 64 * length count
     AreBlocks counts (replicate places true)
 filled places counts room are = record {
   room = subst (λ n. n ≤ 64 * length counts) (sym (length-replicate places true)) room;
-  each = λ k less.
-      let left = places - 64 * k in
+  each = λ k less. let left = places - 64 * k in
       let flags = replicate left true in
       let short : min left 64 ≤ left = omega arith in
       let turned : min left 64 ≡ min 64 (length flags) =
@@ -239,10 +215,7 @@ block_holds counts flags before block left are some within sums found =
         sum_whole counts flags are,
         ap sum (take_all block counts past),
       ))
-    ] in (
-      omega (arith, prefix),
-      omega (arith, found inside, are.each block inside),
-    )
+    ] in (omega (arith, prefix), omega (arith, found inside, are.each block inside))
 
 -- ---- counts that wrap
 
@@ -302,6 +275,5 @@ all_added flags all is short =
 pub all_taken : (flags : List Bool) (all place : ℕ) → all ≡ count_set flags → all < 2 ^ 64 →
     place < length flags → get_or flags place false ≡ true →
     (all + 18446744073709551615) % 18446744073709551616 ≡ count_set (set flags place false)
-all_taken flags all place is fits there live =
-    let less = count_died flags place there live in
+all_taken flags all place is fits there live = let less = count_died flags place there live in
     wrapped_less 18446744073709551616 all (omega (arith, less)) (omega arith) ∙ omega (arith, less)

@@ -44,19 +44,15 @@ pairs_over shift version touched pairs =
 -- the entry is of the version before, as its number says
 before_is : (shift version number : ℕ) → 0 < shift → shift ≤ number
     → eqb number (version + (shift - 1)) ≡ eqb (number - shift + 1) version
-before_is shift version number some fits =
-    by_case (eqb (number - shift + 1) version) refl
-  where
-    by_case : (same : Bool) → eqb (number - shift + 1) version ≡ same
-        → eqb number (version + (shift - 1)) ≡ same
-    by_case true is =
-        eq-eqb number (version + (shift - 1))
-        (omega (arith, eqb-true (number - shift + 1) version is, some, fits))
-    by_case false is =
-        false_from_ne_true (eqb number (version + (shift - 1))) (λ same.
-        let equal : number - shift + 1 ≡ version =
-        omega (arith, eqb-true number (version + (shift - 1)) same, some, fits) in
-        let there = eq-eqb (number - shift + 1) version equal in absurd (cc (is, there)))
+before_is shift version number some fits = by_case (eqb (number - shift + 1) version) refl where
+  by_case : (same : Bool) → eqb (number - shift + 1) version ≡ same
+      → eqb number (version + (shift - 1)) ≡ same
+  by_case true is = eq-eqb number (version + (shift - 1))
+      (omega (arith, eqb-true (number - shift + 1) version is, some, fits))
+  by_case false is = false_from_ne_true (eqb number (version + (shift - 1)))
+      (λ same. let equal : number - shift + 1 ≡ version =
+      omega (arith, eqb-true number (version + (shift - 1)) same, some, fits) in
+      let there = eq-eqb (number - shift + 1) version equal in absurd (cc (is, there)))
 
 -- an entry that goes over keeps its pair
 entry_stays : (shift version : ℕ) (touched : List WordValue) (pair : Pair) → 0 < shift
@@ -106,8 +102,7 @@ carried_pairs shift version touched entries (pair ∷ pairs) some are all below 
     by_case (is_carried_key (version + (shift - 1)) touched pair.0) refl
     (filter_map (carried_entry version touched entries) old)
     (carried_pairs shift version touched entries pairs some
-    (All-tail (HasVersion shift) pair pairs are) all
-    (All-tail (IsBelow version) entry old below))
+    (All-tail (HasVersion shift) pair pairs are) all (All-tail (IsBelow version) entry old below))
     ∙ ap (λ o. cons_option o (filter_map (carried_entry version touched entries) old)) left
   where
     kept : List Pair
@@ -143,12 +138,10 @@ versions_over shift version touched pairs some small =
 pub masked_carried : (masks : Option (List WordValue)) (version : ℕ) (touched : List WordValue)
     (entries : List CacheEntry) → AreMasked masks entries
     → AreMasked masks (filter_map (carried_entry version touched entries) entries)
-masked_carried masks version touched entries masked =
-    All-filter_map IsMasked (carried_entry version touched entries) entries
-    (All-weaker IsMasked
-    (λ entry. IfSome (carried_entry version touched entries entry) IsMasked)
-    (λ entry is. by_case entry (leb version entry.version)
-    (is_carried version touched entries entry) is) entries masked)
+masked_carried masks version touched entries masked = All-filter_map IsMasked
+    (carried_entry version touched entries) entries (All-weaker IsMasked
+    (λ entry. IfSome (carried_entry version touched entries entry) IsMasked) (λ entry is. by_case
+    entry (leb version entry.version) (is_carried version touched entries entry) is) entries masked)
   where
     IsMasked : CacheEntry → Type 0
     IsMasked entry = HasMaskOf masks entry.word
@@ -163,12 +156,11 @@ masked_carried masks version touched entries masked =
 pub up_to_carried : (version newest next : ℕ) (touched : List WordValue)
     (entries : List CacheEntry) → AreUpTo newest entries → newest ≤ next → version ≤ next
     → AreUpTo next (filter_map (carried_entry version touched entries) entries)
-up_to_carried version newest next touched entries up_to old new =
-    All-filter_map IsUpTo (carried_entry version touched entries) entries
-    (All-weaker (λ (entry : CacheEntry). entry.version ≤ newest)
-    (λ entry. IfSome (carried_entry version touched entries entry) IsUpTo)
-    (λ entry le. by_case entry (leb version entry.version)
-    (is_carried version touched entries entry) le) entries up_to)
+up_to_carried version newest next touched entries up_to old new = All-filter_map IsUpTo
+    (carried_entry version touched entries) entries
+    (All-weaker (λ (entry : CacheEntry). entry.version ≤ newest) (λ entry. IfSome
+    (carried_entry version touched entries entry) IsUpTo) (λ entry le. by_case entry
+    (leb version entry.version) (is_carried version touched entries entry) le) entries up_to)
   where
     IsUpTo : CacheEntry → Type 0
     IsUpTo entry = entry.version ≤ next

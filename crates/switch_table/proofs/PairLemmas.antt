@@ -23,35 +23,29 @@ same_key_parts a b is =
 pub same_key_from : (a b : CacheEntry) → a.version ≡ b.version → a.word ≡ b.word
     → same_key a b ≡ true
 unfolding same_key
-same_key_from a b versions words =
-    and_from (eqb a.version b.version) (word_eq a.word b.word) (eq-eqb a.version b.version versions)
-    (and_from (eqb a.word.value b.word.value) (eqb a.word.mask b.word.mask)
-    (eq-eqb a.word.value b.word.value (ap (λ w. w.value) words))
+same_key_from a b versions words = and_from (eqb a.version b.version) (word_eq a.word b.word)
+    (eq-eqb a.version b.version versions) (and_from (eqb a.word.value b.word.value)
+    (eqb a.word.mask b.word.mask) (eq-eqb a.word.value b.word.value (ap (λ w. w.value) words))
     (eq-eqb a.word.mask b.word.mask (ap (λ w. w.mask) words)))
 
 pub eqb-shift : (a b shift : ℕ) → eqb a b ≡ eqb (a + shift) (b + shift)
-eqb-shift a b shift = by_case (eqb a b) refl
-  where
-    by_case : (same : Bool) → eqb a b ≡ same → same ≡ eqb (a + shift) (b + shift)
-    by_case true is =
-        sym (eq-eqb (a + shift) (b + shift) (ap (λ n. n + shift) (eqb-true a b is)))
-    by_case false is =
-        sym (false_from_ne_true (eqb (a + shift) (b + shift)) (λ same.
-        let equal : a ≡ b = omega (arith, eqb-true (a + shift) (b + shift) same) in
-        false≢true (sym is ∙ eq-eqb a b equal)))
+eqb-shift a b shift = by_case (eqb a b) refl where
+  by_case : (same : Bool) → eqb a b ≡ same → same ≡ eqb (a + shift) (b + shift)
+  by_case true is = sym (eq-eqb (a + shift) (b + shift) (ap (λ n. n + shift) (eqb-true a b is)))
+  by_case false is = sym (false_from_ne_true (eqb (a + shift) (b + shift))
+      (λ same. let equal : a ≡ b = omega (arith, eqb-true (a + shift) (b + shift) same) in
+      false≢true (sym is ∙ eq-eqb a b equal)))
 
 -- two entries of different keys, in either order
 pub apart-sym : (a b : CacheEntry) → same_key a b ≡ false → same_key b a ≡ false
-apart-sym a b apart =
-    false_from_ne_true (same_key b a) (λ same.
-    let parts = same_key_parts b a same in
+apart-sym a b apart = false_from_ne_true (same_key b a)
+    (λ same. let parts = same_key_parts b a same in
     false≢true (sym apart ∙ same_key_from a b (sym parts.0) (sym parts.1)))
 
 pub none_at : (test : CacheEntry → Bool) (entries : List CacheEntry) (k : ℕ) (d : CacheEntry)
     → list_any test entries ≡ false → k < length entries → test (get_or entries k d) ≡ false
-none_at test entries k d none within =
-    false_from_ne_true _ (λ passes.
-    false≢true (sym none ∙ list_any-from_Any test entries (
+none_at test entries k d none within = false_from_ne_true _
+    (λ passes. false≢true (sym none ∙ list_any-from_Any test entries (
       k,
       get_or entries k d,
       within,
@@ -70,9 +64,8 @@ rest_distinct (x ∷ xs) pairs = λ i j d less within. pairs (suc i) (suc j) d (
 
 pub push_distinct : (entries : List CacheEntry) (entry : CacheEntry) → HaveDistinctKeys entries →
     list_any (same_key entry) entries ≡ false → HaveDistinctKeys (entries ++ entry ∷ [])
-push_distinct entries entry distinct absent =
-    all_pairs_push (λ a b. same_key a b ≡ false) entries entry distinct
-    (λ k d within. apart-sym entry (get_or entries k d)
+push_distinct entries entry distinct absent = all_pairs_push (λ a b. same_key a b ≡ false) entries
+    entry distinct (λ k d within. apart-sym entry (get_or entries k d)
     (none_at (same_key entry) entries k d absent within))
 
 -- ---- entries of pairs
@@ -101,8 +94,7 @@ same_key-is shift a b =
 -- an entry's key is that of the pair
 same_key_of : (shift : ℕ) (entry : CacheEntry) (pair : Pair) → HasVersion shift pair
     → equal_keys (key_of shift entry) pair.0 ≡ same_key entry (kept_entry shift pair)
-same_key_of shift entry pair is =
-    sym (same_key-is shift entry (kept_entry shift pair)
+same_key_of shift entry pair is = sym (same_key-is shift entry (kept_entry shift pair)
     ∙ ap (equal_keys (key_of shift entry)) (key_of_entry shift pair is))
 
 pub has_key_of_entry : (shift : ℕ) (entry : CacheEntry) (pairs : List Pair)
@@ -171,18 +163,15 @@ entries_filtered shift test kept same (pair ∷ pairs) are =
 
 leb-shift : (shift version number : ℕ) → shift ≤ number
     → leb (version + shift) number ≡ leb version (number - shift)
-leb-shift shift version number fits = by_case (leb version (number - shift)) refl
-  where
-    by_case : (less : Bool) → leb version (number - shift) ≡ less
-        → leb (version + shift) number ≡ less
-    by_case true is =
-        le-leb (version + shift) number
-        (omega (arith, leb-true version (number - shift) is, fits))
-    by_case false is =
-        false_from_ne_true (leb (version + shift) number) (λ le.
-        let less : version ≤ number - shift =
-        omega (arith, leb-true (version + shift) number le, fits) in
-        false≢true (sym is ∙ le-leb version (number - shift) less))
+leb-shift shift version number fits = by_case (leb version (number - shift)) refl where
+  by_case : (less : Bool) → leb version (number - shift) ≡ less
+      → leb (version + shift) number ≡ less
+  by_case true is = le-leb (version + shift) number
+      (omega (arith, leb-true version (number - shift) is, fits))
+  by_case false is = false_from_ne_true (leb (version + shift) number)
+      (λ le. let less : version ≤ number - shift =
+      omega (arith, leb-true (version + shift) number le, fits) in
+      false≢true (sym is ∙ le-leb version (number - shift) less))
 
 pub entries_from : (shift version : ℕ) (pairs : List Pair) → HaveVersions shift pairs
     → kept_entries shift (filter (λ (pair : Pair). leb (version + shift) pair.0.number) pairs)
@@ -199,8 +188,7 @@ none_before [] entry rest distinct = refl
 none_before (x ∷ before) entry rest distinct =
     let len = length-append (x ∷ before) (entry ∷ rest) in
     let at = get_or-append_seam (x ∷ before) entry rest entry in
-    let apart : same_key x entry ≡ false =
-    subst (λ e. same_key x e ≡ false) at
+    let apart : same_key x entry ≡ false = subst (λ e. same_key x e ≡ false) at
     (distinct 0 (length (x ∷ before)) entry (omega arith) (omega (arith, len))) in
     let rest_apart = none_before before entry rest (rest_distinct (x ∷ before ++ entry ∷ rest)
     distinct) in
@@ -234,16 +222,13 @@ holds_pushed masks after shift newest later capacity pairs new entry is made new
     let IsMasked = λ (e : CacheEntry). HasMaskOf after e.word in
     holds_of after shift later (capacity + 1) new (entries ++ entry ∷ []) is.fits
     (omega (arith, is.falls, newer))
-    (subst (HaveVersions shift) (sym made)
-    (All-push (HasVersion shift) pairs (pair_of shift entry) is.versions
-    (omega arith, omega (arith, up_to, small))))
+    (subst (HaveVersions shift) (sym made) (All-push (HasVersion shift) pairs (pair_of shift entry)
+    is.versions (omega arith, omega (arith, up_to, small))))
     (entries_pushed shift entry pairs new made)
-    (All-push IsUpTo entries entry
-    (All-weaker (λ (e : CacheEntry). e.version ≤ newest) IsUpTo
+    (All-push IsUpTo entries entry (All-weaker (λ (e : CacheEntry). e.version ≤ newest) IsUpTo
     (λ e le. omega (arith, le, newer)) entries is.up_to) up_to)
-    (All-push IsMasked entries entry
-    (All-weaker (λ (e : CacheEntry). HasMaskOf masks e.word) IsMasked (λ e. kept e.word)
-    entries is.masked) added)
+    (All-push IsMasked entries entry (All-weaker (λ (e : CacheEntry). HasMaskOf masks e.word)
+    IsMasked (λ e. kept e.word) entries is.masked) added)
     (omega (arith, length-append entries (entry ∷ []), is.few))
 
 pub few_removed : (entries : List CacheEntry) (place : ℕ)

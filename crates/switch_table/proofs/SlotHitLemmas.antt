@@ -58,10 +58,9 @@ dead_place key (x ∷ xs) slot distinct there dead =
     both : ℕ
     both = position_or_len (has_live key) xs
 
-    by_case : (a : Bool) → equal_keys key x.0 ≡ a →
-        slice_get (x ∷ xs) (cond (not a) (1 + n) 0) ≡ Some slot →
-        (slice_get xs n ≡ Some slot → slot.1.is_live ≡ false → both ≡ length xs) →
-        cond (not (a && is_live x)) (1 + both) 0 ≡ length (x ∷ xs)
+    by_case : (a : Bool) → equal_keys key x.0 ≡ a → slice_get (x ∷ xs) (cond (not a) (1 + n) 0)
+        ≡ Some slot → (slice_get xs n ≡ Some slot → slot.1.is_live ≡ false → both ≡ length xs)
+        → cond (not (a && is_live x)) (1 + both) 0 ≡ length (x ∷ xs)
     by_case true same here rest =
         let gone : is_live x ≡ false = ap is_live (same_Some x slot here) ∙ dead in
         let none = none_behind key xs (subst (λ k.
@@ -114,18 +113,15 @@ hit_more number header i masks mask slots within is =
     shared false b c = refl
 
     key_more : (key : CacheKey) → is_hit number header (take (i + 1) masks) key
-        ≡ (is_hit number header (take i masks) key
-        || equal_keys (key_under number header mask) key)
+        ≡ (is_hit number header (take i masks) key || equal_keys (key_under number header mask) key)
     key_more key =
         list_any_more (λ m. equal_keys (key_under number header m) key) masks i mask within
         ∙ ap (λ m. is_hit number header (take i masks) key
         || equal_keys (key_under number header m) key) (sym is)
 
-    more : (slot : SlotPair) → hit_live number header (take (i + 1) masks) slot
-        ≡ (hit_live number header (take i masks) slot
-        || has_live (key_under number header mask) slot)
-    more slot =
-        ap (λ b. b && is_live slot) (key_more slot.0)
+    more : (slot : SlotPair) → hit_live number header (take (i + 1) masks) slot ≡ (hit_live number
+        header (take i masks) slot || has_live (key_under number header mask) slot)
+    more slot = ap (λ b. b && is_live slot) (key_more slot.0)
         ∙ shared (is_hit number header (take i masks) slot.0)
         (equal_keys (key_under number header mask) slot.0) (is_live slot)
 
@@ -136,30 +132,28 @@ first_live : (test : CacheKey → Bool) (slots : List SlotPair) →
     option_map pair_at (find (λ slot. test slot.0 && is_live slot) slots)
     ≡ find (λ pair. test pair.0) (live_pairs slots)
 first_live test [] = refl
-first_live test (x ∷ xs) = by_case (test x.0) (is_live x) refl (first_live test xs)
-  where
-    first : Option SlotPair
-    first = find (λ slot. test slot.0 && is_live slot) xs
+first_live test (x ∷ xs) = by_case (test x.0) (is_live x) refl (first_live test xs) where
+  first : Option SlotPair
+  first = find (λ slot. test slot.0 && is_live slot) xs
 
-    passes : Pair → Bool
-    passes pair = test pair.0
+  passes : Pair → Bool
+  passes pair = test pair.0
 
-    rest : Option Pair
-    rest = find (λ pair. test pair.0) (live_pairs xs)
+  rest : Option Pair
+  rest = find (λ pair. test pair.0) (live_pairs xs)
 
-    by_case : (a b : Bool) → test x.0 ≡ a → option_map pair_at first ≡ rest →
-        option_map pair_at (cond (a && b) (Some x) first)
-        ≡ find (λ pair. test pair.0) (cons_option (cond b (Some (pair_at x)) None) (live_pairs xs))
-    by_case true true is same = sym (ap (λ b. cond b (Some (pair_at x)) rest) is)
-    by_case true false is same = same
-    by_case false true is same = same ∙ sym (ap (λ b. cond b (Some (pair_at x)) rest) is)
-    by_case false false is same = same
+  by_case : (a b : Bool) → test x.0 ≡ a → option_map pair_at first ≡ rest →
+      option_map pair_at (cond (a && b) (Some x) first)
+      ≡ find (λ pair. test pair.0) (cons_option (cond b (Some (pair_at x)) None) (live_pairs xs))
+  by_case true true is same = sym (ap (λ b. cond b (Some (pair_at x)) rest) is)
+  by_case true false is same = same
+  by_case false true is same = same ∙ sym (ap (λ b. cond b (Some (pair_at x)) rest) is)
+  by_case false false is same = same
 
 -- what stands at the first place is the first one
 pub hit_at : (test : CacheKey → Bool) (slots : List SlotPair) (place : ℕ) →
     place ≡ position_or_len (λ slot. test slot.0 && is_live slot) slots →
     option_map pair_at (slice_get slots place) ≡ find (λ pair. test pair.0) (live_pairs slots)
-hit_at test slots place is =
-    ap (λ n. option_map pair_at (slice_get slots n)) is
+hit_at test slots place is = ap (λ n. option_map pair_at (slice_get slots n)) is
     ∙ ap (option_map pair_at) (sym (find_at (λ slot. test slot.0 && is_live slot) slots))
     ∙ first_live test slots

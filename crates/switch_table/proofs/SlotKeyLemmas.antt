@@ -9,11 +9,9 @@ named_at : (n : ℕ) (slots : List SlotPair) (at : ℕ) (slot : SlotPair) → Ar
     slice_get slots at ≡ Some slot → IsNamed (n + at) slot
 unfolding AreNamed
 named_at n [] at slot named there = absurd (none-some slot there)
-named_at n (x ∷ xs) zero slot named there =
-    let same : n ≡ n + 0 = omega arith in
+named_at n (x ∷ xs) zero slot named there = let same : n ≡ n + 0 = omega arith in
     subst (λ p. IsNamed p slot) same (subst (IsNamed n) (same_Some x slot there) named.0)
-named_at n (x ∷ xs) (suc at) slot named there =
-    let same : suc n + at ≡ n + suc at = omega arith in
+named_at n (x ∷ xs) (suc at) slot named there = let same : suc n + at ≡ n + suc at = omega arith in
     subst (λ p. IsNamed p slot) same (named_at (suc n) xs at slot named.1 there)
 
 pub named_set : (n : ℕ) (slots : List SlotPair) (at : ℕ) (slot : SlotPair) → AreNamed n slots →
@@ -21,10 +19,8 @@ pub named_set : (n : ℕ) (slots : List SlotPair) (at : ℕ) (slot : SlotPair) �
 unfolding AreNamed
 named_set n [] at slot named is = tt
 named_set n (x ∷ xs) zero slot named is =
-    let same : n + 0 ≡ n = omega arith in
-    (subst (λ p. IsNamed p slot) same is, named.1)
-named_set n (x ∷ xs) (suc at) slot named is =
-    let same : n + suc at ≡ suc n + at = omega arith in
+    let same : n + 0 ≡ n = omega arith in (subst (λ p. IsNamed p slot) same is, named.1)
+named_set n (x ∷ xs) (suc at) slot named is = let same : n + suc at ≡ suc n + at = omega arith in
     (named.0, named_set (suc n) xs at slot named.1 (subst (λ p. IsNamed p slot) same is))
 
 -- a slot that dies keeps its key
@@ -41,8 +37,7 @@ pub named_pushed : (n : ℕ) (slots : List SlotPair) (slot : SlotPair) → AreNa
     slot.0.number < 2 ^ 33 → AreNamed n (slots ++ slot ∷ [])
 unfolding AreNamed
 named_pushed n [] slot named small = (inl small, tt)
-named_pushed n (x ∷ xs) slot named small =
-    (named.0, named_pushed (suc n) xs slot named.1 small)
+named_pushed n (x ∷ xs) slot named small = (named.0, named_pushed (suc n) xs slot named.1 small)
 
 -- where none but live ones are kept, these may have other places
 pub named_kept : (keep : SlotPair → Bool) →
@@ -68,17 +63,14 @@ pub named_absent : (key : CacheKey) (place n : ℕ) (slots : List SlotPair) →
 unfolding AreNamed equal_keys
 named_absent key place n [] is fits named old = refl
 named_absent key place n (x ∷ xs) is fits named old =
-    ap (λ b. cond b (Some x.1) (lookup (equal_keys key) xs)) apart
-    ∙ named_absent key place (suc n) xs is fits named.1
-    (λ at slot there here. old (suc at) slot there (omega (arith, here)))
+    ap (λ b. cond b (Some x.1) (lookup (equal_keys key) xs)) apart ∙ named_absent key place (suc n)
+    xs is fits named.1 (λ at slot there here. old (suc at) slot there (omega (arith, here)))
   where
     other : key.number ≢ x.0.number
     other same = elim named.0 [
       | inl small ↦ absurd (omega (arith, same, small, is, fits))
-      | inr own ↦
-          let here : n + 0 ≡ place = omega (arith, same, own.0, is) in
-          let small = old 0 x refl here in
-          absurd (omega (arith, same, small, is, fits))
+      | inr own ↦ let here : n + 0 ≡ place = omega (arith, same, own.0, is) in
+          let small = old 0 x refl here in absurd (omega (arith, same, small, is, fits))
     ]
 
     apart : equal_keys key x.0 ≡ false

@@ -14,17 +14,15 @@ use Rattle.switch_table.proofs.SlotKeyLemmas.{named_pushed}
 
 pub equal_keys_itself : (key : CacheKey) → equal_keys key key ≡ true
 unfolding equal_keys
-equal_keys_itself key =
-    and_from (eqb key.number key.number) (word_eq key.word key.word) (eq-eqb _ _ refl)
-    (and_from (eqb key.word.value key.word.value) (eqb key.word.mask key.word.mask)
-    (eq-eqb _ _ refl) (eq-eqb _ _ refl))
+equal_keys_itself key = and_from (eqb key.number key.number) (word_eq key.word key.word)
+    (eq-eqb _ _ refl) (and_from (eqb key.word.value key.word.value)
+    (eqb key.word.mask key.word.mask) (eq-eqb _ _ refl) (eq-eqb _ _ refl))
 
 words_same : (a b : WordValue) → word_eq a b ≡ true → a ≡ b
 words_same a b is =
     let parts = and_parts (eqb a.value b.value) (eqb a.mask b.mask) is in
     let values = eqb-true a.value b.value parts.0 in
-    let masks = eqb-true a.mask b.mask parts.1 in
-    λ i. record { value = values i; mask = masks i }
+    let masks = eqb-true a.mask b.mask parts.1 in λ i. record { value = values i; mask = masks i }
 
 pub equal_keys_same : (a b : CacheKey) → equal_keys a b ≡ true → a ≡ b
 unfolding equal_keys
@@ -41,20 +39,17 @@ abbrev with_slot : Bool → SlotPair → List Pair → List Pair
 with_slot live slot pairs = cons_option (cond live (Some (slot.0, slot.1.learnt)) None) pairs
 
 pub count_live : (slots : List SlotPair) → count_set (flags_of slots) ≡ length (live_pairs slots)
-count_live slots = sym (length-filter (λ flag. flag) (flags_of slots)) ∙ set_flags slots
-  where
-    set_flags : (some : List SlotPair) →
-        length (filter (λ flag. flag) (flags_of some)) ≡ length (live_pairs some)
-    set_flags [] = refl
-    set_flags (slot ∷ some) = by_case slot.1.is_live (set_flags some)
-      where
-        by_case : (live : Bool) →
-            length (filter (λ flag. flag) (flags_of some)) ≡ length (live_pairs some) →
-            length (cond live (live ∷ filter (λ flag. flag) (flags_of some))
-            (filter (λ flag. flag) (flags_of some)))
-            ≡ length (with_slot live slot (live_pairs some))
-        by_case true rest = omega (arith, rest)
-        by_case false rest = rest
+count_live slots = sym (length-filter (λ flag. flag) (flags_of slots)) ∙ set_flags slots where
+  set_flags : (some : List SlotPair) →
+      length (filter (λ flag. flag) (flags_of some)) ≡ length (live_pairs some)
+  set_flags [] = refl
+  set_flags (slot ∷ some) = by_case slot.1.is_live (set_flags some) where
+    by_case : (live : Bool) → length (filter (λ flag. flag) (flags_of some))
+        ≡ length (live_pairs some) → length (cond live
+        (live ∷ filter (λ flag. flag) (flags_of some)) (filter (λ flag. flag) (flags_of some)))
+        ≡ length (with_slot live slot (live_pairs some))
+    by_case true rest = omega (arith, rest)
+    by_case false rest = rest
 
 pub live_fit : (slots : List SlotPair) → length (live_pairs slots) ≤ length slots
 live_fit slots = omega (
@@ -70,12 +65,11 @@ AreApart key keys = AllByRecursion (λ other. equal_keys key other ≡ false) ke
 apart_live : (key : CacheKey) (slots : List SlotPair) → AreApart key (keys_of slots) →
     AreApart key (keys_of (live_pairs slots))
 apart_live key [] apart = apart
-apart_live key (slot ∷ slots) apart = by_case slot.1.is_live (apart_live key slots apart.1)
-  where
-    by_case : (live : Bool) → AreApart key (keys_of (live_pairs slots)) →
-        AreApart key (keys_of (with_slot live slot (live_pairs slots)))
-    by_case true rest = (apart.0, rest)
-    by_case false rest = rest
+apart_live key (slot ∷ slots) apart = by_case slot.1.is_live (apart_live key slots apart.1) where
+  by_case : (live : Bool) → AreApart key (keys_of (live_pairs slots)) →
+      AreApart key (keys_of (with_slot live slot (live_pairs slots)))
+  by_case true rest = (apart.0, rest)
+  by_case false rest = rest
 
 pub distinct_live : (slots : List SlotPair) → IsDistinct equal_keys (keys_of slots) →
     HaveOwnKeys (live_pairs slots)
@@ -101,8 +95,7 @@ absent_live key (slot ∷ slots) none =
         (lookup (equal_keys key) slots ≡ None → has_key key (live_pairs slots) ≡ false) →
         has_key key (with_slot live slot (live_pairs slots)) ≡ false
     by_case true live is gone rest = absurd (none-some slot.1 (sym gone))
-    by_case false true is gone rest =
-        ap (λ b. b || has_key key (live_pairs slots)) is ∙ rest gone
+    by_case false true is gone rest = ap (λ b. b || has_key key (live_pairs slots)) is ∙ rest gone
     by_case false false is gone rest = rest gone
 
 apart_absent : (key : CacheKey) (slots : List SlotPair) → AreApart key (keys_of slots) →
@@ -117,25 +110,21 @@ pub found_live : (key : CacheKey) (slots : List SlotPair) (found : Slot) →
     has_key key (live_pairs slots) ≡ found.is_live
 unfolding IsDistinct
 found_live key [] found distinct is = absurd (none-some found is)
-found_live key (slot ∷ slots) found distinct is =
-    by_case (equal_keys key slot.0) slot.1.is_live refl refl is
-    (found_live key slots found distinct.1)
+found_live key (slot ∷ slots) found distinct is = by_case (equal_keys key slot.0) slot.1.is_live
+    refl refl is (found_live key slots found distinct.1)
   where
     here_is : equal_keys key slot.0 ≡ true → lookup (equal_keys key) slots ≡ None
     here_is same = apart_absent key slots
         (subst (λ k. AreApart k (keys_of slots)) (sym (equal_keys_same key slot.0 same)) distinct.0)
 
-    by_case : (here live : Bool) → equal_keys key slot.0 ≡ here → slot.1.is_live ≡ live →
-        cond here (Some slot.1) (lookup (equal_keys key) slots) ≡ Some found →
-        (lookup (equal_keys key) slots ≡ Some found
-        → has_key key (live_pairs slots) ≡ found.is_live) →
-        has_key key (with_slot live slot (live_pairs slots)) ≡ found.is_live
-    by_case true true same lives here rest =
-        ap (λ b. b || has_key key (live_pairs slots)) same
+    by_case : (here live : Bool) → equal_keys key slot.0 ≡ here → slot.1.is_live ≡ live
+        → cond here (Some slot.1) (lookup (equal_keys key) slots) ≡ Some found
+        → (lookup (equal_keys key) slots ≡ Some found → has_key key (live_pairs slots)
+        ≡ found.is_live) → has_key key (with_slot live slot (live_pairs slots)) ≡ found.is_live
+    by_case true true same lives here rest = ap (λ b. b || has_key key (live_pairs slots)) same
         ∙ sym lives ∙ ap (λ (s : Slot). s.is_live) (same_Some slot.1 found here)
-    by_case true false same lives here rest =
-        absent_live key slots (here_is same)
-        ∙ sym lives ∙ ap (λ (s : Slot). s.is_live) (same_Some slot.1 found here)
+    by_case true false same lives here rest = absent_live key slots (here_is same) ∙ sym lives
+        ∙ ap (λ (s : Slot). s.is_live) (same_Some slot.1 found here)
     by_case false true apart lives later rest =
         ap (λ b. b || has_key key (live_pairs slots)) apart ∙ rest later
     by_case false false apart lives later rest = rest later
@@ -157,10 +146,9 @@ first_found key (slot ∷ slots) within =
     later : ℕ
     later = position_or_len (equal_keys key) (keys_of slots)
 
-    by_case : (here : Bool) → equal_keys key slot.0 ≡ here →
-        cond (not here) (1 + later) 0 < length (slot ∷ slots) →
-        (later < length slots → IsFound key later slots) →
-        IsFound key (cond (not here) (1 + later) 0) (slot ∷ slots)
+    by_case : (here : Bool) → equal_keys key slot.0 ≡ here → cond (not here) (1 + later) 0
+        < length (slot ∷ slots) → (later < length slots → IsFound key later slots)
+        → IsFound key (cond (not here) (1 + later) 0) (slot ∷ slots)
     by_case true is less rest = record {
       pair = slot;
       at = refl;
@@ -178,8 +166,7 @@ first_found key (slot ∷ slots) within =
 
 pub found_at : (key : CacheKey) (place : ℕ) (slots : List SlotPair) →
     position (equal_keys key) (keys_of slots) ≡ Some place → IsFound key place slots
-found_at key place slots is =
-    let found = Found-position (equal_keys key) slots place is in
+found_at key place slots is = let found = Found-position (equal_keys key) slots place is in
     subst (λ n. IsFound key n slots) found.or_len
     (first_found key slots (omega (arith, found.or_len, found.within)))
 
@@ -198,15 +185,13 @@ pub rekeyed_pairs : (slots : List SlotPair) (place : ℕ) (pair : SlotPair) (key
     live_pairs (set slots place (key, pair.1)) ≡ live_pairs slots
 rekeyed_pairs [] place pair key at dead = refl
 rekeyed_pairs (slot ∷ slots) zero pair key at dead =
-    ap (λ b. with_slot b (key, pair.1) (live_pairs slots)) dead
-    ∙ sym (ap (λ b. with_slot b slot (live_pairs slots))
-    (ap is_live (same_Some slot pair at) ∙ dead))
+    ap (λ b. with_slot b (key, pair.1) (live_pairs slots)) dead ∙ sym
+    (ap (λ b. with_slot b slot (live_pairs slots)) (ap is_live (same_Some slot pair at) ∙ dead))
 rekeyed_pairs (slot ∷ slots) (suc place) pair key at dead =
     ap (cons_option (live_pair slot)) (rekeyed_pairs slots place pair key at dead)
 
-pub rekeyed_flags : (slots : List SlotPair) (place : ℕ) (pair : SlotPair) (key : CacheKey) →
-    slice_get slots place ≡ Some pair →
-    flags_of (set slots place (key, pair.1)) ≡ flags_of slots
+pub rekeyed_flags : (slots : List SlotPair) (place : ℕ) (pair : SlotPair) (key : CacheKey)
+    → slice_get slots place ≡ Some pair → flags_of (set slots place (key, pair.1)) ≡ flags_of slots
 rekeyed_flags [] place pair key at = refl
 rekeyed_flags (slot ∷ slots) zero pair key at =
     ap (λ b. b ∷ flags_of slots) (sym (ap is_live (same_Some slot pair at)))
@@ -223,27 +208,24 @@ pub record IsRekeyed (place : ℕ) (key : CacheKey) (taken : Option SlotPair)
   pub new_is : new ≡ set slots place (key, pair.1)
 
 pub rekeyed : (place : ℕ) (key : CacheKey) (slot : Slot) (taken : Option SlotPair)
-    (slots more new : List SlotPair) → slice_get (flags_of slots) place ≡ Some false →
-    slice_get (values_of slots) place ≡ Some slot → more ≡ slots ++ (key, slot) ∷ [] →
-    taken ≡ slice_get more place →
-    IfSome taken (λ pair. new ≡ swap_remove more place pair) →
-    IsRekeyed place key taken slots new
+    (slots more new : List SlotPair) → slice_get (flags_of slots) place ≡ Some false
+    → slice_get (values_of slots) place ≡ Some slot
+    → more ≡ slots ++ (key, slot) ∷ [] → taken ≡ slice_get more place
+    → IfSome taken (λ pair. new ≡ swap_remove more place pair) → IsRekeyed place key taken slots new
 rekeyed place key slot taken slots more new dead slot_is more_is taken_is new_is =
     by_case (slice_get slots place) refl
   where
     by_case : (here : Option SlotPair) → slice_get slots place ≡ here →
         IsRekeyed place key taken slots new
-    by_case None at =
-        absurd (none-some false (sym (slice_get-map is_live slots place
-        ∙ ap (option_map is_live) at) ∙ dead))
+    by_case None at = absurd (none-some false
+        (sym (slice_get-map is_live slots place ∙ ap (option_map is_live) at) ∙ dead))
     by_case (Some pair) at =
         let within = slice_get_within slots place pair at in
         let last = (key, slot) ∷ [] in
         let is : taken ≡ Some pair = taken_is ∙ ap (λ some. slice_get some place) more_is
         ∙ slice_get-get_or (slots ++ last) place pair
-        (omega (arith, within, length-append slots last))
-        ∙ ap Some (get_or_append_left slots last pair place within
-        ∙ get_or_from_slice_get slots place pair pair at) in
+        (omega (arith, within, length-append slots last)) ∙ ap Some (get_or_append_left slots last
+        pair place within ∙ get_or_from_slice_get slots place pair pair at) in
         let same : slot ≡ pair.1 =
         same_Some slot pair.1 (sym slot_is ∙ slice_get-map (λ (p : SlotPair). p.1) slots place
         ∙ ap (option_map (λ (p : SlotPair). p.1)) at) in record {
@@ -264,18 +246,16 @@ pub same_flags : (live : LiveCounts) (first : ℕ) (old new : List SlotPair) →
     AreSlots live first new
 same_flags live first old new same named are =
     let front : flags_of (take first new) ≡ flags_of (take first old) =
-    sym (take-map is_live first new) ∙ ap (take first) same ∙ take-map is_live first old in
-    record {
+    sym (take-map is_live first new) ∙ ap (take first) same ∙ take-map is_live first old in record {
       within = omega
           (arith, are.within, ap length same, length-map old is_live, length-map new is_live);
-      dead = λ k d less.
-          let fits : k < length (take first old) = omega (
-            arith,
-            less,
-            ap length front,
-            length-map (take first old) is_live,
-            length-map (take first new) is_live,
-          ) in
+      dead = λ k d less. let fits : k < length (take first old) = omega (
+        arith,
+        less,
+        ap length front,
+        length-map (take first old) is_live,
+        length-map (take first new) is_live,
+      ) in
           sym (get_or-map is_live (take first new) k d false less)
           ∙ ap (λ flags. get_or flags k false) front
           ∙ get_or-map is_live (take first old) k d false fits ∙ are.dead k d fits;
@@ -297,28 +277,25 @@ with_counts live more first slots are counts = record {
 
 pub swept_pairs : (slots : List SlotPair) → live_pairs (filter is_live slots) ≡ live_pairs slots
 swept_pairs [] = refl
-swept_pairs (slot ∷ slots) = by_case slot.1.is_live refl (swept_pairs slots)
-  where
-    by_case : (live : Bool) → slot.1.is_live ≡ live →
-        live_pairs (filter is_live slots) ≡ live_pairs slots →
-        live_pairs (cond live (slot ∷ filter is_live slots) (filter is_live slots))
-        ≡ with_slot live slot (live_pairs slots)
-    by_case true is rest =
-        ap (λ b. with_slot b slot (live_pairs (filter is_live slots))) is
-        ∙ ap (λ pairs. (slot.0, slot.1.learnt) ∷ pairs) rest
-    by_case false is rest = rest
+swept_pairs (slot ∷ slots) = by_case slot.1.is_live refl (swept_pairs slots) where
+  by_case : (live : Bool) → slot.1.is_live ≡ live →
+      live_pairs (filter is_live slots) ≡ live_pairs slots →
+      live_pairs (cond live (slot ∷ filter is_live slots) (filter is_live slots))
+      ≡ with_slot live slot (live_pairs slots)
+  by_case true is rest = ap (λ b. with_slot b slot (live_pairs (filter is_live slots))) is
+      ∙ ap (λ pairs. (slot.0, slot.1.learnt) ∷ pairs) rest
+  by_case false is rest = rest
 
 pub swept_flags : (slots : List SlotPair) →
     flags_of (filter is_live slots) ≡ replicate (length (filter is_live slots)) true
 swept_flags [] = refl
-swept_flags (slot ∷ slots) = by_case slot.1.is_live refl (swept_flags slots)
-  where
-    by_case : (live : Bool) → slot.1.is_live ≡ live →
-        flags_of (filter is_live slots) ≡ replicate (length (filter is_live slots)) true →
-        flags_of (cond live (slot ∷ filter is_live slots) (filter is_live slots))
-        ≡ replicate (length (cond live (slot ∷ filter is_live slots) (filter is_live slots))) true
-    by_case true is rest = λ i. is i ∷ rest i
-    by_case false is rest = rest
+swept_flags (slot ∷ slots) = by_case slot.1.is_live refl (swept_flags slots) where
+  by_case : (live : Bool) → slot.1.is_live ≡ live →
+      flags_of (filter is_live slots) ≡ replicate (length (filter is_live slots)) true →
+      flags_of (cond live (slot ∷ filter is_live slots) (filter is_live slots))
+      ≡ replicate (length (cond live (slot ∷ filter is_live slots) (filter is_live slots))) true
+  by_case true is rest = λ i. is i ∷ rest i
+  by_case false is rest = rest
 
 pub swept_slots : (live : LiveCounts) (slots : List SlotPair) → AreCounts live (flags_of slots) →
     AreNamed 0 slots → AreSlots live 0 slots
@@ -339,8 +316,7 @@ room_of live slots places are within =
 pub pushed_pairs : (slots : List SlotPair) (key : CacheKey) (learnt : Learnt) →
     live_pairs (slots ++ (key, record { learnt = learnt; is_live = true }) ∷ [])
     ≡ live_pairs slots ++ (key, learnt) ∷ []
-pushed_pairs slots key learnt =
-    filter_map-append live_pair slots
+pushed_pairs slots key learnt = filter_map-append live_pair slots
     ((key, record { learnt = learnt; is_live = true }) ∷ [])
 
 pub pushed_slots : (live more : LiveCounts) (first : ℕ) (slots : List SlotPair) (key : CacheKey)
@@ -348,8 +324,7 @@ pub pushed_slots : (live more : LiveCounts) (first : ℕ) (slots : List SlotPair
     AreCounts more (flags_of slots ++ true ∷ []) → key.number < 2 ^ 33 →
     AreSlots more first (slots ++ (key, record { learnt = learnt; is_live = true }) ∷ [])
 pushed_slots live more first slots key learnt are counts small =
-    let slot : SlotPair = (key, record { learnt = learnt; is_live = true }) in
-    record {
+    let slot : SlotPair = (key, record { learnt = learnt; is_live = true }) in record {
       within = omega (arith, are.within, length_push slots slot);
       dead = subst (All (λ s. IsFalse (is_live s)))
           (sym (take-append-le first slots (slot ∷ []) are.within)) are.dead;

@@ -24,10 +24,9 @@ flags_values [] = refl
 flags_values (slot ∷ slots) = ap (λ flags. is_live slot ∷ flags) (flags_values slots)
 
 -- a live slot that is met once so many live ones are past
-pub nth_here : (slots : List Slot) (before left place : ℕ) (d : Slot) → place < length slots →
-    (get_or slots place d).is_live ≡ true →
-    count_set (map flag_of (take place slots)) + left ≡ before → left ≡ 0 →
-    IsNthSet before place (map flag_of slots)
+pub nth_here : (slots : List Slot) (before left place : ℕ) (d : Slot) → place < length slots
+    → (get_or slots place d).is_live ≡ true → count_set (map flag_of (take place slots)) + left
+    ≡ before → left ≡ 0 → IsNthSet before place (map flag_of slots)
 nth_here slots before left place d within live counted none = record {
   is_set = slice_get-map flag_of slots place
       ∙ ap (option_map flag_of) (slice_get-get_or slots place d within) ∙ ap Some live;
@@ -90,8 +89,7 @@ pub starts_first : (live : LiveCounts) (first before : ℕ) (slots : List SlotPa
     IsStart first 0 before (flags_of slots)
 starts_first live first before slots are some none =
     let flags = flags_of slots in
-    let past = none_before first slots are.dead in
-    record {
+    let past = none_before first slots are.dead in record {
       past = omega (arith, past, none);
       some = omega (arith, past, some, none, sum_by-take-drop (λ (flag : Bool). cond flag 1 0) flags first);
     }
@@ -116,13 +114,11 @@ pair_of_live : (slot : SlotPair) → slot.1.is_live ≡ true →
     live_pair slot ≡ Some (slot.0, slot.1.learnt)
 pair_of_live slot live = ap (λ b. cond b (Some (slot.0, slot.1.learnt)) None) live
 
-live_at : (slots : List SlotPair) (at : ℕ) (slot : SlotPair) → slice_get slots at ≡ Some slot →
-    slot.1.is_live ≡ true →
-    slice_get (live_pairs slots) (count_set (take at (flags_of slots)))
+live_at : (slots : List SlotPair) (at : ℕ) (slot : SlotPair) → slice_get slots at ≡ Some slot
+    → slot.1.is_live ≡ true → slice_get (live_pairs slots) (count_set (take at (flags_of slots)))
     ≡ Some (slot.0, slot.1.learnt)
 live_at [] at slot there live = absurd (none-some slot there)
-live_at (x ∷ xs) zero slot there live =
-    ap (λ o. slice_get (cons_option o (live_pairs xs)) 0)
+live_at (x ∷ xs) zero slot there live = ap (λ o. slice_get (cons_option o (live_pairs xs)) 0)
     (ap live_pair (same_Some x slot there) ∙ pair_of_live slot live)
 live_at (x ∷ xs) (suc at) slot there live =
     ap (slice_get (live_pairs (x ∷ xs))) (count_cons (is_live x) (take at (flags_of xs)))
@@ -141,19 +137,15 @@ live_at (x ∷ xs) (suc at) slot there live =
         slice_get (cons_option (cond b (Some first) None) (live_pairs xs)) (cond b 1 0 + n)
         ≡ Some pair
     by_case true is =
-        let next : 1 + n ≡ suc n = omega arith in
-        ap (slice_get (first ∷ live_pairs xs)) next ∙ is
+        let next : 1 + n ≡ suc n = omega arith in ap (slice_get (first ∷ live_pairs xs)) next ∙ is
     by_case false is =
-        let same : 0 + n ≡ n = omega arith in
-        ap (slice_get (live_pairs xs)) same ∙ is
+        let same : 0 + n ≡ n = omega arith in ap (slice_get (live_pairs xs)) same ∙ is
 
 live_killed : (slots : List SlotPair) (at : ℕ) (slot : SlotPair) → slice_get slots at ≡ Some slot
-    → slot.1.is_live ≡ true →
-    live_pairs (set slots at (killed slot))
+    → slot.1.is_live ≡ true → live_pairs (set slots at (killed slot))
     ≡ remove (live_pairs slots) (count_set (take at (flags_of slots)))
 live_killed [] at slot there live = absurd (none-some slot there)
-live_killed (x ∷ xs) zero slot there live =
-    sym (ap (λ o. remove (cons_option o (live_pairs xs)) 0)
+live_killed (x ∷ xs) zero slot there live = sym (ap (λ o. remove (cons_option o (live_pairs xs)) 0)
     (ap live_pair (same_Some x slot there) ∙ pair_of_live slot live))
 live_killed (x ∷ xs) (suc at) slot there live =
     by_case (is_live x) (live_killed xs at slot there live)
@@ -171,12 +163,9 @@ live_killed (x ∷ xs) (suc at) slot there live =
     by_case : (b : Bool) → left ≡ remove (live_pairs xs) n →
         cons_option (cond b (Some first) None) left
         ≡ remove (cons_option (cond b (Some first) None) (live_pairs xs)) (cond b 1 0 + n)
-    by_case true is =
-        let next : suc n ≡ 1 + n = omega arith in
+    by_case true is = let next : suc n ≡ 1 + n = omega arith in
         ap (λ ps. first ∷ ps) is ∙ ap (remove (first ∷ live_pairs xs)) next
-    by_case false is =
-        let same : n ≡ 0 + n = omega arith in
-        is ∙ ap (remove (live_pairs xs)) same
+    by_case false is = let same : n ≡ 0 + n = omega arith in is ∙ ap (remove (live_pairs xs)) same
 
 flags_killed : (slots : List SlotPair) (at : ℕ) (slot : SlotPair) →
     flags_of (set slots at (killed slot)) ≡ set (flags_of slots) at false
@@ -190,9 +179,8 @@ dead_killed zero slots at slot dead = All-nil IsDead
 dead_killed (suc first) [] at slot dead = All-nil IsDead
 dead_killed (suc first) (x ∷ xs) zero slot dead =
     All-cons IsDead (killed slot) (take first xs) refl (All-tail IsDead x (take first xs) dead)
-dead_killed (suc first) (x ∷ xs) (suc at) slot dead =
-    All-cons IsDead x (take first (set xs at (killed slot)))
-    (All-head IsDead x (take first xs) dead)
+dead_killed (suc first) (x ∷ xs) (suc at) slot dead = All-cons IsDead x
+    (take first (set xs at (killed slot))) (All-head IsDead x (take first xs) dead)
     (dead_killed first xs at slot (All-tail IsDead x (take first xs) dead))
 
 -- ---- what is kept
@@ -208,41 +196,38 @@ module _ (test : CacheKey → Bool) where
   pub kept_pairs : (slots : List SlotPair) →
       live_pairs (filter is_kept slots) ≡ filter (λ pair. test pair.0) (live_pairs slots)
   kept_pairs [] = refl
-  kept_pairs (x ∷ xs) = by_case (is_live x) (test x.0) refl refl (kept_pairs xs)
-    where
-      kept : List SlotPair
-      kept = filter is_kept xs
+  kept_pairs (x ∷ xs) = by_case (is_live x) (test x.0) refl refl (kept_pairs xs) where
+    kept : List SlotPair
+    kept = filter is_kept xs
 
-      first : Pair
-      first = (x.0, x.1.learnt)
+    first : Pair
+    first = (x.0, x.1.learnt)
 
-      rest : List Pair
-      rest = filter passes (live_pairs xs)
+    rest : List Pair
+    rest = filter passes (live_pairs xs)
 
-      by_case : (a b : Bool) → is_live x ≡ a → test x.0 ≡ b → live_pairs kept ≡ rest →
-          live_pairs (cond (a && b) (x ∷ kept) kept)
-          ≡ filter passes (cons_option (cond a (Some first) None) (live_pairs xs))
-      by_case true true live there same =
-          ap (λ o. cons_option o (live_pairs kept)) (pair_of_live x live)
-          ∙ ap (λ ps. first ∷ ps) same ∙ sym (ap (λ b. cond b (first ∷ rest) rest) there)
-      by_case true false live gone same =
-          same ∙ sym (ap (λ b. cond b (first ∷ rest) rest) gone)
-      by_case false b dead _ same = same
+    by_case : (a b : Bool) → is_live x ≡ a → test x.0 ≡ b → live_pairs kept ≡ rest →
+        live_pairs (cond (a && b) (x ∷ kept) kept)
+        ≡ filter passes (cons_option (cond a (Some first) None) (live_pairs xs))
+    by_case true true live there same =
+        ap (λ o. cons_option o (live_pairs kept)) (pair_of_live x live)
+        ∙ ap (λ ps. first ∷ ps) same ∙ sym (ap (λ b. cond b (first ∷ rest) rest) there)
+    by_case true false live gone same = same ∙ sym (ap (λ b. cond b (first ∷ rest) rest) gone)
+    by_case false b dead _ same = same
 
   kept_flags : (slots : List SlotPair) →
       flags_of (filter is_kept slots) ≡ replicate (length (filter is_kept slots)) true
   kept_flags [] = refl
-  kept_flags (x ∷ xs) = by_case (is_live x) (test x.0) refl (kept_flags xs)
-    where
-      kept : List SlotPair
-      kept = filter is_kept xs
+  kept_flags (x ∷ xs) = by_case (is_live x) (test x.0) refl (kept_flags xs) where
+    kept : List SlotPair
+    kept = filter is_kept xs
 
-      by_case : (a b : Bool) → is_live x ≡ a → flags_of kept ≡ replicate (length kept) true →
-          flags_of (cond (a && b) (x ∷ kept) kept)
-          ≡ replicate (length (cond (a && b) (x ∷ kept) kept)) true
-      by_case true true live same = λ i. live i ∷ same i
-      by_case true false live same = same
-      by_case false b live same = same
+    by_case : (a b : Bool) → is_live x ≡ a → flags_of kept ≡ replicate (length kept) true →
+        flags_of (cond (a && b) (x ∷ kept) kept)
+        ≡ replicate (length (cond (a && b) (x ∷ kept) kept)) true
+    by_case true true live same = λ i. live i ∷ same i
+    by_case true false live same = same
+    by_case false b live same = same
 
   -- all of these are live
   pub kept_slots : (live : LiveCounts) (slots new : List SlotPair) (count : ℕ) →
@@ -251,8 +236,7 @@ module _ (test : CacheKey → Bool) where
   kept_slots live slots new count made long counted named =
       let flags : replicate count true ≡ flags_of new =
       ap (λ n. replicate n true) (long ∙ ap length made)
-      ∙ sym (kept_flags slots) ∙ ap flags_of (sym made) in
-      record {
+      ∙ sym (kept_flags slots) ∙ ap flags_of (sym made) in record {
         within = omega arith;
         dead = All-nil IsDead;
         counted = subst (AreCounts live) flags counted;
@@ -286,12 +270,10 @@ set_at_killed (x ∷ xs) (suc at) slot value is there =
     ap (λ rest. x ∷ rest) (set_at_killed xs at slot value is there)
 
 -- the slot there is live
-live_there : (slots : List SlotPair) (before at : ℕ) (slot : SlotPair) →
-    IsNthSet before at (flags_of slots) → slice_get slots at ≡ Some slot →
-    slot.1.is_live ≡ true
-live_there slots before at slot nth there =
-    same_Some (is_live slot) true (sym (ap (option_map is_live) there)
-    ∙ sym (slice_get-map is_live slots at) ∙ nth.is_set)
+live_there : (slots : List SlotPair) (before at : ℕ) (slot : SlotPair)
+    → IsNthSet before at (flags_of slots) → slice_get slots at ≡ Some slot → slot.1.is_live ≡ true
+live_there slots before at slot nth there = same_Some (is_live slot) true
+    (sym (ap (option_map is_live) there) ∙ sym (slice_get-map is_live slots at) ∙ nth.is_set)
 
 nth_slot : (slots : List SlotPair) (before at : ℕ) → IsNthSet before at (flags_of slots) →
     (slot : SlotPair) × (slice_get slots at ≡ Some slot)
@@ -307,8 +289,7 @@ nth_slot slots before at nth =
 pub nth_pair : (slots : List SlotPair) (before at : ℕ) → IsNthSet before at (flags_of slots) →
     option_map (λ (slot : SlotPair). (slot.0, slot.1.learnt)) (slice_get slots at)
     ≡ slice_get (live_pairs slots) before
-nth_pair slots before at nth =
-    let (slot, there) = nth_slot slots before at nth in
+nth_pair slots before at nth = let (slot, there) = nth_slot slots before at nth in
     ap (option_map (λ (s : SlotPair). (s.0, s.1.learnt))) there
     ∙ sym (live_at slots at slot there (live_there slots before at slot nth there))
     ∙ ap (slice_get (live_pairs slots)) nth.earlier
@@ -320,8 +301,7 @@ IsKilled at slots new =
 
 pub nth_killed : (slots new : List SlotPair) (before at : ℕ) → IsNthSet before at (flags_of slots)
     → IsKilled at slots new → live_pairs new ≡ remove (live_pairs slots) before
-nth_killed slots new before at nth made =
-    let (slot, there) = nth_slot slots before at nth in
+nth_killed slots new before at nth made = let (slot, there) = nth_slot slots before at nth in
     ap live_pairs (made slot there)
     ∙ live_killed slots at slot there (live_there slots before at slot nth there)
     ∙ ap (remove (live_pairs slots)) nth.earlier
@@ -336,21 +316,18 @@ slots_killed old live first next before at slots new are nth kills takes begins 
     let (slot, there) = nth_slot slots before at nth in killed_at slot there (kills slot there)
   where
     dead : ((before ≡ 0) × (next ≡ at)) ⊎ (next ≡ first) → All IsDead (take next slots)
-    dead (inl is) =
-        subst (λ n. All IsDead (take n slots)) (sym is.1)
+    dead (inl is) = subst (λ n. All IsDead (take n slots)) (sym is.1)
         (dead_before at slots (nth.earlier ∙ is.0))
     dead (inr is) = subst (λ n. All IsDead (take n slots)) (sym is) are.dead
 
-    within : ((before ≡ 0) × (next ≡ at)) ⊎ (next ≡ first) → at < length slots →
-        next ≤ length slots
+    within : ((before ≡ 0) × (next ≡ at)) ⊎ (next ≡ first) → at < length slots → next ≤ length slots
     within (inl is) inside = omega (arith, inside, is.1)
     within (inr is) inside = omega (arith, is, are.within)
 
     killed_at : (slot : SlotPair) → slice_get slots at ≡ Some slot →
         new ≡ set slots at (killed slot) → AreSlots live next new
     killed_at slot there made = record {
-      within =
-          let fits = within begins (slice_get_within slots at slot there) in
+      within = let fits = within begins (slice_get_within slots at slot there) in
           omega (arith, ap length made, length-set slots at (killed slot), fits);
       dead = subst (λ ss. All IsDead (take next ss)) (sym made)
           (dead_killed next slots at slot (dead begins));

@@ -84,12 +84,10 @@ lookup_at : (rows : List Row) (plan : List Hosted) (version switch : ℕ) (heade
 lookup_at rows plan version switch header hosted sound is at =
     let one : count_by (λ p. is_in header (part_of p)) plan ≡ 1 =
     sym (count_by-map (is_in header) part_of plan) ∙ sound.one header is in
-    let own : find (is_in header) (map part_of (filter (has_target switch) plan)) ≡ option_map
-    part_of (cond (has_target switch hosted) (Some hosted) None) = find-map (is_in header)
-    part_of (filter (has_target switch) plan)
-    ∙ ap (option_map part_of)
-    (find-filter (λ p. is_in header (part_of p)) (has_target switch) plan hosted one at.found)
-    in
+    let own : find (is_in header) (map part_of (filter (has_target switch) plan))
+    ≡ option_map part_of (cond (has_target switch hosted) (Some hosted) None) =
+    find-map (is_in header) part_of (filter (has_target switch) plan) ∙ ap (option_map part_of)
+    (find-filter (λ p. is_in header (part_of p)) (has_target switch) plan hosted one at.found) in
     ap (λ part. option_map_or (authority_of header) part (redirect_of header (map row_of plan))) own
     ∙ by_case (has_target switch hosted)
   where
@@ -115,17 +113,15 @@ tables_lead rows plan version switch header sound some is =
     let hosted = here.0 in
     let at = here.1 in
     let decides = place_leads rows plan header hosted sound.numbers at in
-    let there : (s : ℕ) → list_any (eqb s) hosted.1 ≡ true → FindsFirstMatch rows (map part_of plan) header
-    (table_lookup (tables_of plan version s) header) = λ s target.
-    subst (FindsFirstMatch rows (map part_of plan) header)
-    (sym (lookup_at rows plan version s header hosted sound is at
-    ∙ ap (λ b. cond b (authority_of header (part_of hosted))
-    (redirect_of header (map row_of plan))) target)) decides in
+    let there : (s : ℕ) → list_any (eqb s) hosted.1 ≡ true → FindsFirstMatch rows (map part_of plan)
+    header (table_lookup (tables_of plan version s) header) =
+    λ s target. subst (FindsFirstMatch rows (map part_of plan) header)
+    (sym (lookup_at rows plan version s header hosted sound is at ∙ ap (λ b. cond b (authority_of
+    header (part_of hosted)) (redirect_of header (map row_of plan))) target)) decides in
     subst (LeadsToFirstMatch rows plan version header)
     (sym (lookup_at rows plan version switch header hosted sound is at))
-    (by_case hosted (has_target switch hosted) decides
-    (subst (AllDecide rows plan version header) (sym (row_targets rows plan header hosted at))
-    (record {
+    (by_case hosted (has_target switch hosted) decides (subst (AllDecide rows plan version header)
+    (sym (row_targets rows plan header hosted at)) (record {
       some = has_some at.there;
       each = λ k d within. there (get_or hosted.1 k d) (among hosted.1 k d within);
     })))
@@ -166,9 +162,7 @@ redirect_there rows plan header hosted numbers at =
   where
     by_case : (place : Option ℕ) → position (λ p. is_in header (part_of p)) plan ≡ place →
         option_and_then (slice_get plan) place ≡ Some hosted → unwrap_or place 0 ≡ hosted.0.number
-    by_case None is leads =
-        let clash : None ≡ Some hosted = leads in
-        absurd (cc)
+    by_case None is leads = let clash : None ≡ Some hosted = leads in absurd (cc)
     by_case (Some k) is leads =
         let within : k < length plan =
         (position-Some (λ p. is_in header (part_of p)) plan k hosted is).0 in
@@ -198,17 +192,15 @@ own_all : (P : Partition → Type 0) (plan : List Hosted) (kept : Hosted → Boo
     → ((hosted : Hosted) → Contains plan hosted → P (part_of hosted))
     → All P (map part_of (filter kept plan))
 own_all P plan kept each = All-map P part_of (filter kept plan)
-    (All-filter kept (λ hosted. P (part_of hosted)) plan
-    (All-weaker (Contains plan) (λ hosted. P (part_of hosted)) each plan
-    (All-contains_itself plan)))
+    (All-filter kept (λ hosted. P (part_of hosted)) plan (All-weaker (Contains plan)
+    (λ hosted. P (part_of hosted)) each plan (All-contains_itself plan)))
 
 numbers_differ : (plan : List Hosted) → ArePartsNumbered (map part_of plan)
     → AllPairs (λ a b. a.0.number ≢ b.0.number) plan
 numbers_differ plan numbers = λ i j d less within same.
     let len : length (map part_of plan) ≡ length plan = length-map _ _ in
     let number = λ (k : ℕ) (there : k < length plan). ap (λ (p : Partition). p.number)
-    (sym (get_or-map part_of plan k d (part_of d) there))
-    ∙ numbers k (part_of d) (omega arith) in
+    (sym (get_or-map part_of plan k d (part_of d) there)) ∙ numbers k (part_of d) (omega arith) in
     omega (arith, number i (omega arith), number j within, same)
 
 -- where the last rule covers the region, some rule decides each header of it
@@ -238,9 +230,8 @@ tables_are_sound rows plan version switch sound covers few small = record {
   distinct = AllPairs-map (λ a b. a.number ≢ b.number) part_of (filter (has_target switch) plan)
       (AllPairs-filter (λ a b. a.0.number ≢ b.0.number) (has_target switch) plan
       (numbers_differ plan sound.numbers));
-  covers = own_all LastCovers plan (has_target switch) (λ hosted there.
-      All-contains LastCovers (map part_of plan) (part_of hosted) covers
-      (Contains-map part_of plan hosted there));
+  covers = own_all LastCovers plan (has_target switch) (λ hosted there. All-contains LastCovers
+      (map part_of plan) (part_of hosted) covers (Contains-map part_of plan hosted there));
   few_rows = (let len : length (map row_of plan) ≡ length plan = length-map _ _ in omega arith);
   few_rules = own_all (λ part. length part.rules < 2 ^ 32) plan (has_target switch)
       (λ hosted there. All-contains (λ p. length p.0.rules < 2 ^ 32) plan hosted small there);
@@ -262,15 +253,12 @@ row_there header rows one = by_case (position (row_has header) rows)
     by_case : (place : Option ℕ) → option_and_then (slice_get rows) place ≡ find (row_has header)
         rows → (row : PartRow) × (find (row_has header) rows ≡ Some row) → IsSome place
     by_case (Some place) leads some = refl
-    by_case None leads some =
-        let clash : None ≡ Some some.0 = leads ∙ some.1 in
-        absurd (cc)
+    by_case None leads some = let clash : None ≡ Some some.0 = leads ∙ some.1 in absurd (cc)
 
 pub row_at : (header : Header) (rows : List PartRow) (place : ℕ) (d : PartRow)
     → position (row_has header) rows ≡ Some place → IsRow header rows place
 row_at header rows place d is =
-    let within = (position-Some (row_has header) rows place d is).0 in
-    record {
+    let within = (position-Some (row_has header) rows place d is).0 in record {
       within = within;
       targets = λ e. ap (λ row. option_map_or (λ (r : PartRow). r.targets) row [])
           (sym (find-position (row_has header) rows) ∙ ap (option_and_then (slice_get rows)) is

@@ -15,8 +15,7 @@ abbrev pub key_of : ℕ → CacheEntry → CacheKey
 key_of shift entry = record { number = entry.version + shift; word = entry.word }
 
 abbrev pub learnt_of : CacheEntry → Learnt
-learnt_of entry =
-    record { rule = entry.rule; action = entry.action; message = entry.message }
+learnt_of entry = record { rule = entry.rule; action = entry.action; message = entry.message }
 
 abbrev pub pair_of : ℕ → CacheEntry → Pair
 pair_of shift entry = (key_of shift entry, learnt_of entry)

@@ -46,8 +46,7 @@ lookup_of entries tables header =
 -- the partition decides the header at its targets; every other switch sends it to them
 abbrev pub lookup_in : ℕ → Header → Hosted → Found
 lookup_in switch header hosted = if has_target switch hosted
-    then authority_of header (part_of hosted)
-    else Redirect hosted.0.number hosted.1
+    then authority_of header (part_of hosted) else Redirect hosted.0.number hosted.1
 
 -- what a plan says about the header at a switch, by the partition that holds it
 abbrev pub plan_lookup : List Hosted → ℕ → Header → Option Found
@@ -84,8 +83,7 @@ pub record TablesLaws : Type 0 where
   -- tables of a plan of sound partitions, whose last rules cover their regions, are sound ..
   pub sound : (rows : List Row) (plan : List Hosted) (version switch : ℕ)
       → AreSoundPartitions rows (map part_of plan) → All LastCovers (map part_of plan)
-      → length plan < 2 ^ 32
-      → All (λ hosted. length hosted.0.rules < 2 ^ 32) plan
+      → length plan < 2 ^ 32 → All (λ hosted. length hosted.0.rules < 2 ^ 32) plan
       → AreSoundTables (tables_of plan version switch)
   -- .. and lead each header to the policy's first match, at each switch and at each target
   pub leads : (rows : List Row) (plan : List Hosted) (version switch : ℕ) (header : Header)

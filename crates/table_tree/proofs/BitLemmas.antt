@@ -38,29 +38,23 @@ mask_fixes candidates index candidate mask bit is same =
     ap (λ m. bit_at m bit == 1) same ∙ ap (λ (s : Candidate). is_fixed_of s.region bit) is
 
 pub all_more : (candidates : List Candidate) (index : ℕ) (candidate : Candidate) (bits mask bit : ℕ)
-    → index < length candidates → candidate ≡ get_or candidates index candidate → mask
-    ≡ candidate.region.mask
-    → (bit_at bits bit == 1) ≡ all_fix (take index candidates) bit
+    → index < length candidates → candidate ≡ get_or candidates index candidate
+    → mask ≡ candidate.region.mask → (bit_at bits bit == 1) ≡ all_fix (take index candidates) bit
     → (bit_at (bit_and bits mask) bit == 1) ≡ all_fix (take (index + 1) candidates) bit
-all_more candidates index candidate bits mask bit within is same so_far =
-    and_bit bits mask bit ∙ ap (λ t. t && (bit_at mask bit == 1)) so_far
-    ∙ ap (λ t. all_fix (take index candidates) bit && t)
-    (mask_fixes candidates index candidate mask bit is same)
-    ∙ sym (list_all_more (λ (s : Candidate). is_fixed_of s.region bit) candidates index candidate
-    within)
+all_more candidates index candidate bits mask bit within is same so_far = and_bit bits mask bit
+    ∙ ap (λ t. t && (bit_at mask bit == 1)) so_far ∙ ap (λ t. all_fix (take index candidates) bit
+    && t) (mask_fixes candidates index candidate mask bit is same) ∙ sym
+    (list_all_more (λ (s : Candidate). is_fixed_of s.region bit) candidates index candidate within)
 
-pub some_more : (candidates : List Candidate) (index : ℕ) (candidate : Candidate)
-    (bits mask bit : ℕ)
-    → index < length candidates → candidate ≡ get_or candidates index candidate → mask
-    ≡ candidate.region.mask
-    → (bit_at bits bit == 1) ≡ some_fix (take index candidates) bit
+pub some_more : (candidates : List Candidate)
+    (index : ℕ) (candidate : Candidate) (bits mask bit : ℕ) → index < length candidates
+    → candidate ≡ get_or candidates index candidate
+    → mask ≡ candidate.region.mask → (bit_at bits bit == 1) ≡ some_fix (take index candidates) bit
     → (bit_at (bit_or bits mask) bit == 1) ≡ some_fix (take (index + 1) candidates) bit
-some_more candidates index candidate bits mask bit within is same so_far =
-    or_bit bits mask bit ∙ ap (λ t. t || (bit_at mask bit == 1)) so_far
-    ∙ ap (λ t. some_fix (take index candidates) bit || t)
-    (mask_fixes candidates index candidate mask bit is same)
-    ∙ sym (list_any_more (λ (s : Candidate). is_fixed_of s.region bit) candidates index candidate
-    within)
+some_more candidates index candidate bits mask bit within is same so_far = or_bit bits mask bit
+    ∙ ap (λ t. t || (bit_at mask bit == 1)) so_far ∙ ap (λ t. some_fix (take index candidates) bit
+    || t) (mask_fixes candidates index candidate mask bit is same) ∙ sym
+    (list_any_more (λ (s : Candidate). is_fixed_of s.region bit) candidates index candidate within)
 
 pub all_none : (bit : ℕ) → bit < 104 → (bit_at (2 ^ 104 - 1) bit == 1) ≡ true
 all_none bit within = ap (λ n. n == 1) (bit_at_ones 104 bit within)
@@ -71,8 +65,7 @@ some_none bit = ap (λ n. n == 1) (bit_at-zero bit)
 -- ---- the least bit
 
 pub lowest_of : (n : ℕ) → 0 < n → n < 2 ^ 128 → IsLowest n (trailing_zeros w128 n)
-lowest_of n some small =
-    let lowest = bit_at-trailing_zeros w128 n some small in
+lowest_of n some small = let lowest = bit_at-trailing_zeros w128 n some small in
     record { set = lowest.1; below = lowest.2 }
 
 -- a mask of the bits that pass, and one of the bits that are free
@@ -85,15 +78,13 @@ least_free region passes bits free bit tests frees low =
     (arith, low.set, bit_at_and bits free bit, bit_at-lt bits bit, bit_at-lt free bit) in
     let right : bit_at free bit ≡ 1 = omega
     (arith, low.set, bit_at_and bits free bit, bit_at-lt bits bit, bit_at-lt free bit) in
-    let is_free = (frees bit).0 right in
-    record {
+    let is_free = (frees bit).0 right in record {
       free = is_free;
       passing = sym (tests bit is_free.bound) ∙ ap (λ n. n == 1) left;
       least = λ other other_free passed. elim (cases_lt other bit) [
         | inr after ↦ after
-        | inl before ↦
-            let set : bit_at bits other ≡ 1 = eqb-true _ _ (tests other other_free.bound ∙ passed)
-            in
+        | inl before ↦ let set : bit_at bits other ≡ 1 =
+            eqb-true _ _ (tests other other_free.bound ∙ passed) in
             absurd (omega (
               arith,
               low.below other before,
@@ -106,12 +97,11 @@ pub none_free : (region : WordValue) (passes : ℕ → Bool) (bits free : ℕ)
     → ((k : ℕ) → k < 104 → (bit_at bits k == 1) ≡ passes k)
     → ((k : ℕ) → (bit_at free k ≡ 1) ↔ IsFreeBit region k) → bit_and bits free ≡ 0
     → NoneFree region passes
-none_free region passes bits free tests frees none = λ bit is_free.
-    elim (cases_Bool (passes bit)) [
-      | inr fails ↦ fails
-      | inl passing ↦
-          let set : bit_at bits bit ≡ 1 = eqb-true _ _ (tests bit is_free.bound ∙ passing) in
-          let zero_bit : bit_at (bit_and bits free) bit ≡ 0 = ap (λ n. bit_at n bit) none
-          ∙ bit_at-zero bit in
-          absurd (omega (arith, zero_bit, both_set bits free bit set ((frees bit).1 is_free)))
-    ]
+none_free region passes bits free tests frees none = λ bit is_free. elim (cases_Bool (passes bit)) [
+  | inr fails ↦ fails
+  | inl passing ↦
+      let set : bit_at bits bit ≡ 1 = eqb-true _ _ (tests bit is_free.bound ∙ passing) in
+      let zero_bit : bit_at (bit_and bits free) bit ≡ 0 = ap (λ n. bit_at n bit) none
+      ∙ bit_at-zero bit in
+      absurd (omega (arith, zero_bit, both_set bits free bit set ((frees bit).1 is_free)))
+]

@@ -47,8 +47,7 @@ end_is (first ∷ second ∷ rest) candidate place one is same = absurd (omega (
 
 -- a tree that is grown of regions that meet a region of the header space is theirs
 pub grown_tree : HoldsLaws → MeetLaws → (tree : LookupTree ℕ) (candidates : List Candidate)
-    (region : WordValue)
-    → AreNodeCandidates candidates region → IsGrownShape candidates region tree
+    (region : WordValue) → AreNodeCandidates candidates region → IsGrownShape candidates region tree
     → IsCandidateTreeOf candidates region tree
 grown_tree holds_laws meet_laws (Leaf place) candidates region node (inl end) = end
 grown_tree holds_laws meet_laws (Leaf place) candidates region node (inr stuck) =
@@ -67,9 +66,8 @@ grown_tree holds_laws meet_laws (Sides bit low high) candidates region node is =
 pub finder_tree : HeaderLaws → HoldsLaws → MeetLaws → (tables : Tables) (trees : Trees)
     → AreSoundTables tables → AreTreesOf tables.parts tables.auth trees
     → IsFinderTree tables.parts (candidate_shape_of trees.tree)
-finder_tree header_laws holds_laws meet_laws tables trees sound are =
-    grown_tree holds_laws meet_laws (candidate_shape_of trees.tree) (candidates_of tables.parts)
-    any_word
+finder_tree header_laws holds_laws meet_laws tables trees sound are = grown_tree holds_laws
+    meet_laws (candidate_shape_of trees.tree) (candidates_of tables.parts) any_word
     (root_node header_laws tables.parts sound.one are.words) are.tree
 
 -- ---- down the tree
@@ -86,17 +84,14 @@ leads (Sides bit low high) candidates region number candidate is held found =
     down (λ place. place ≡ candidate.place) region bit number low high
     (cut_is_free candidates region bit is.1).free held
     (λ inside. leads low (candidates_of_side candidates region bit false) (fix_of region bit false)
-    number candidate
-    is.2 inside (side_finds candidates region bit number false inside ∙ found))
+    number candidate is.2 inside (side_finds candidates region bit number false inside ∙ found))
     (λ inside. leads high (candidates_of_side candidates region bit true) (fix_of region bit true)
-    number candidate
-    is.3 inside (side_finds candidates region bit number true inside ∙ found))
+    number candidate is.3 inside (side_finds candidates region bit number true inside ∙ found))
 
 -- ---- the place in the rows
 
 -- the candidate that is found has the place of the row
-found_place : (number place : ℕ) (rows : List PartRow)
-    → option_map (λ (s : Candidate). s.place)
+found_place : (number place : ℕ) (rows : List PartRow) → option_map (λ (s : Candidate). s.place)
     (find (has_number number) (candidates_from place rows))
     ≡ position_from (λ (row : PartRow). holds row.region number) place rows
 found_place number place [] = refl
@@ -114,13 +109,11 @@ leads_to_row rows tree header is one =
     (found_from_count (has_number (number_of header)) (candidates_of rows)
     (omega (arith, candidates_count 0 (number_of header) rows, one)))
   where
-    by_case : (found : Option Candidate) → find (has_number (number_of header)) (candidates_of rows)
-        ≡ found
-        → IsSome found
+    by_case : (found : Option Candidate)
+        → find (has_number (number_of header)) (candidates_of rows) ≡ found → IsSome found
         → position (row_has header) rows ≡ Some (leaf_at (number_of header) tree)
     by_case None none some = absurd (both_ways false refl some)
-    by_case (Some candidate) found some =
-        position_from-zero (row_has header) rows
+    by_case (Some candidate) found some = position_from-zero (row_has header) rows
         ∙ sym (found_place (number_of header) 0 rows)
         ∙ ap (option_map (λ (s : Candidate). s.place)) found
         ∙ ap Some (sym (leads tree (candidates_of rows) any_word (number_of header) candidate is
@@ -131,8 +124,7 @@ leads_to_row rows tree header is one =
 -- the row that holds a header
 row_found : (header : Header) (rows : List PartRow) → count_by (row_has header) rows ≡ 1
     → (row : PartRow) × (find (row_has header) rows ≡ Some row)
-row_found header rows one =
-    by_case (find (row_has header) rows) refl
+row_found header rows one = by_case (find (row_has header) rows) refl
     (found_from_count (row_has header) rows (omega (arith, one)))
   where
     by_case : (found : Option PartRow) → find (row_has header) rows ≡ found → IsSome found
@@ -152,19 +144,16 @@ in_numbered rows header place part one is numbered =
     let row : PartRow = found.0 in
     let one_region : count_by holding regions ≡ 1 =
     count_by-map holding (λ (r : PartRow). r.region) rows ∙ one in
-    let at_row : slice_get rows place ≡ Some row =
-    sym (ap (option_and_then (slice_get rows)) is) ∙ find-position (row_has header) rows
-    ∙ found.1 in
+    let at_row : slice_get rows place ≡ Some row = sym (ap (option_and_then (slice_get rows)) is)
+    ∙ find-position (row_has header) rows ∙ found.1 in
     let at_place : slice_get regions place ≡ Some row.region =
     slice_get-map (λ (r : PartRow). r.region) rows place
     ∙ ap (option_map (λ (r : PartRow). r.region)) at_row in
-    let has_it : holding row.region ≡ true =
-    (find-there (row_has header) rows row found.1).1 in
+    let has_it : holding row.region ≡ true = (find-there (row_has header) rows row found.1).1 in
     same_from_decides {P = (part.number == place) ≡ true} _ _ (
       λ inside. eq-eqb _ _ (one_place holding regions part.number place part.region row.region
           one_region numbered inside at_place has_it),
-      λ same.
-          let there : Some part.region ≡ Some row.region =
+      λ same. let there : Some part.region ≡ Some row.region =
           sym numbered ∙ ap (slice_get regions) (eqb-true _ _ same) ∙ at_place in
           ap holding (same_Some part.region row.region there) ∙ has_it,
     )
@@ -174,13 +163,11 @@ in_numbered rows header place part one is numbered =
 pub own_numbered : (tables : Tables) (header : Header) (place : ℕ) → AreSoundTables tables
     → IsHeader header → position (row_has header) tables.parts ≡ Some place
     → find (is_in header) tables.auth ≡ find (λ part. part.number == place) tables.auth
-own_numbered tables header place sound is at =
-    find_agree (is_in header) (λ part. part.number == place) tables.auth
-    (All-weaker (λ (part : Partition).
-    slice_get (map (λ (row : PartRow). row.region) tables.parts) part.number ≡ Some part.region)
-    (λ (part : Partition). is_in header part ≡ (part.number == place))
-    (λ part numbered. in_numbered tables.parts header place part (sound.one header is) at numbered)
-    tables.auth sound.numbers)
+own_numbered tables header place sound is at = find_agree (is_in header)
+    (λ part. part.number == place) tables.auth (All-weaker (λ (part : Partition). slice_get
+    (map (λ (row : PartRow). row.region) tables.parts) part.number ≡ Some part.region)
+    (λ (part : Partition). is_in header part ≡ (part.number == place)) (λ part numbered. in_numbered
+    tables.parts header place part (sound.one header is) at numbered) tables.auth sound.numbers)
 
 -- ---- what the tables say
 
@@ -232,8 +219,7 @@ is_there tables value header own part tree auth trees same has read all part_is 
     part_is ∙ ap (λ (ps : List Partition). get_or ps own part) read in
     let is = tree_there tables.auth trees own tree part all there.0
     (trees_reach tables.auth trees own all there.0) tree_is here in
-    let region : tree.region ≡ part.region = ap (λ (t : RegionTree). t.region) is in
-    record {
+    let region : tree.region ≡ part.region = ap (λ (t : RegionTree). t.region) is in record {
       at = there.1 ∙ ap Some (sym here);
       shape = ap (λ (t : RegionTree). t.shape) is ∙ ap (rule_tree part.rules) (sym region);
       region = subst (λ r. IsTrue (holds r (number_of header))) (sym region)
@@ -266,8 +252,7 @@ own_has tables header place own sound is at there =
 
 -- the authority partition of the place decides
 pub own_decides : (tables : Tables) (header : Header) (place own : ℕ) (first : Option ℕ)
-    → AreSoundTables tables → IsHeader header
-    → position (row_has header) tables.parts ≡ Some place
+    → AreSoundTables tables → IsHeader header → position (row_has header) tables.parts ≡ Some place
     → position (λ part. part.number == place) tables.auth ≡ Some own
     → first ≡ option_and_then (first_in header) (slice_get tables.auth own)
     → Authority place (unwrap_or first 0) ≡ table_lookup tables header
@@ -291,23 +276,20 @@ small_place (Some place) small = small
 pub none_there : (parts : List Partition) (number : ℕ)
     → None ≡ position (λ part. part.number == number) parts
     → None ≡ find (λ part. part.number == number) parts
-none_there parts number none =
-    ap (option_and_then (slice_get parts)) none
+none_there parts number none = ap (option_and_then (slice_get parts)) none
     ∙ find-position (λ (p : Partition). p.number == number) parts
 
 pub one_read : (parts auth : List Partition) (number own : ℕ) → parts ≡ auth
     → Some own ≡ position (λ part. part.number == number) parts
     → slice_get auth own ≡ find (λ part. part.number == number) auth
-one_read parts auth number own same there =
-    subst (λ (ps : List Partition). slice_get ps own
+one_read parts auth number own same there = subst (λ (ps : List Partition). slice_get ps own
     ≡ find (λ (p : Partition). p.number == number) ps) same
     (ap (option_and_then (slice_get parts)) there
     ∙ find-position (λ (p : Partition). p.number == number) parts)
 
 -- where there is none, its targets do
 pub row_decides : (tables : Tables) (header : Header) (place : ℕ) (d : PartRow)
-    → AreSoundTables tables → IsHeader header
-    → position (row_has header) tables.parts ≡ Some place
+    → AreSoundTables tables → IsHeader header → position (row_has header) tables.parts ≡ Some place
     → None ≡ find (λ p. p.number == place) tables.auth
     → Redirect place (get_or tables.parts place d).targets ≡ table_lookup tables header
 row_decides tables header place d sound is at none =
@@ -321,10 +303,9 @@ row_decides tables header place d sound is at none =
 -- ---- as the lookup reads them
 
 pub place_is : (tables : Tables) (trees read : Trees) (header : Header) (number place : ℕ)
-    → AreSoundTables tables → IsFinderTree tables.parts (candidate_shape_of trees.tree) → read
-    ≡ trees
-    → IsHeader header → number ≡ number_of header → place
-    ≡ leaf_at number (candidate_shape_of read.tree)
+    → AreSoundTables tables → IsFinderTree tables.parts (candidate_shape_of trees.tree)
+    → read ≡ trees → IsHeader header → number ≡ number_of header
+    → place ≡ leaf_at number (candidate_shape_of read.tree)
     → position (row_has header) tables.parts ≡ Some place
 place_is tables trees read header number place sound is there header_is same at =
     leads_to_row tables.parts (candidate_shape_of trees.tree) header is (sound.one header header_is)

@@ -13,8 +13,7 @@ use Rattle.table_tree.specs.declared.bit_tree.BitTree.{BitTree, End, Cut'}
 in_half : (region : WordValue) (bit number : ℕ) (one : Bool) → IsFalse (is_fixed_of region bit)
     → IsTrue (holds region number) → bit_at number bit ≡ from_bool one
     → IsTrue (holds (fix_of region bit one) number)
-in_half region bit number one free held is =
-    fix_holds region bit one free number
+in_half region bit number one free held is = fix_holds region bit one free number
     ∙ ap (λ t. t && (bit_at number bit == from_bool one)) held
     ∙ eq-eqb (bit_at number bit) (from_bool one) is
 
@@ -27,10 +26,8 @@ pub down : {A : Type 0} (P : A → Type 0) (region : WordValue) (bit number : �
     → P (leaf_at number (Sides bit low high))
 down P region bit number low high free held lower upper =
     elim (cases_Bool (bit_at number bit == 1)) [
-      | inl set ↦
-          rw set (upper (in_half region bit number true free held (eqb-true _ _ set)))
-      | inr unset ↦
-          let zero_bit : bit_at number bit ≡ 0 =
+      | inl set ↦ rw set (upper (in_half region bit number true free held (eqb-true _ _ set)))
+      | inr unset ↦ let zero_bit : bit_at number bit ≡ 0 =
           grind (arith, nat_tests, unset, bit_at-lt number bit) in
           rw unset (lower (in_half region bit number false free held zero_bit))
     ]

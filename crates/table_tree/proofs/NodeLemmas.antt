@@ -31,13 +31,12 @@ pub candidates_count : (place number : ℕ) (rows : List PartRow)
     → count_by (has_number number) (candidates_from place rows)
     ≡ count_by (λ (row : PartRow). holds row.region number) rows
 candidates_count place number [] = refl
-candidates_count place number (row ∷ rows) =
-    omega (
-      arith,
-      count_by-cons (has_number number) (candidate_at place row) (candidates_from (place + 1) rows),
-      count_by-cons (λ (r : PartRow). holds r.region number) row rows,
-      candidates_count (place + 1) number rows,
-    )
+candidates_count place number (row ∷ rows) = omega (
+  arith,
+  count_by-cons (has_number number) (candidate_at place row) (candidates_from (place + 1) rows),
+  count_by-cons (λ (r : PartRow). holds r.region number) row rows,
+  candidates_count (place + 1) number rows,
+)
 
 pub any_meets : (candidates : List Candidate) → All
     (λ candidate. IsTrue (candidate_meets any_word candidate)) candidates
@@ -50,12 +49,11 @@ pub root_node : HeaderLaws → (rows : List PartRow)
     → ((header : Header) → IsHeader header → count_by (row_has header) rows ≡ 1)
     → AreRegions (candidates_of rows) → AreNodeCandidates (candidates_of rows) any_word
 root_node laws rows one words =
-    let count : (number : ℕ) → number < 2 ^ 104 → count_by (has_number number) (candidates_of rows)
-    ≡ 1 =
+    let count : (number : ℕ) → number < 2 ^ 104
+    → count_by (has_number number) (candidates_of rows) ≡ 1 =
     λ number small. candidates_count 0 number rows
     ∙ ap (λ n. count_by (λ (row : PartRow). holds row.region n) rows)
-    (sym (laws.numbered number small))
-    ∙ one (header_numbered number) (laws.header number small) in
+    (sym (laws.numbered number small)) ∙ one (header_numbered number) (laws.header number small) in
     record {
       whole = record { within = refl; bounded = omega arith };
       words = words;
@@ -86,22 +84,20 @@ side_finds candidates region bit number one held =
 pub half_node : (candidates : List Candidate) (region : WordValue) (bit : ℕ) (one : Bool)
     → AreNodeCandidates candidates region → IsFreeBit region bit
     → AreNodeCandidates (candidates_of_side candidates region bit one) (fix_of region bit one)
-half_node candidates region bit one node free =
-    let half = fix_of region bit one in
-    record {
-      whole = fix_word region bit one node.whole free.bound;
-      words = All-filter (candidate_meets half) (λ (candidate : Candidate). IsWord candidate.region)
-          candidates node.words;
-      meet = filter_passes (candidate_meets half) candidates;
-      one = λ number small. omega (
-        arith,
-        node.one number small,
-        count-filter-le (has_number number) (candidate_meets half) candidates,
-      );
-      held = λ number small inside. subst (λ found. IsSome found)
-          (sym (side_finds candidates region bit number one inside))
-          (node.held number small (half_holds region bit number one free.free inside));
-    }
+half_node candidates region bit one node free = let half = fix_of region bit one in record {
+  whole = fix_word region bit one node.whole free.bound;
+  words = All-filter (candidate_meets half) (λ (candidate : Candidate). IsWord candidate.region)
+      candidates node.words;
+  meet = filter_passes (candidate_meets half) candidates;
+  one = λ number small. omega (
+    arith,
+    node.one number small,
+    count-filter-le (has_number number) (candidate_meets half) candidates,
+  );
+  held = λ number small inside. subst (λ found. IsSome found)
+      (sym (side_finds candidates region bit number one inside))
+      (node.held number small (half_holds region bit number one free.free inside));
+}
 
 -- ---- several regions
 
@@ -110,43 +106,36 @@ pub unfixed_meet : MeetLaws → (region a b : WordValue) → IsWord a → meets 
     → meets b region ≡ true → ((bit : ℕ) → IsFreeBit region bit → is_fixed_of a bit ≡ false)
     → meets a b ≡ true
 unfolding is_fixed_of
-unfixed_meet laws region a b word meet_a meet_b unfixed = (laws.bitwise a b).1 agrees
-  where
-    agrees : (k : ℕ) → bit_at a.mask k ≡ 1 → bit_at b.mask k ≡ 1
-        → bit_at a.value k ≡ bit_at b.value k
-    agrees k in_a in_b = elim (cases_Bool (bit_at region.mask k == 1)) [
-      | inl fixed ↦
-          let in_region : bit_at region.mask k ≡ 1 = eqb-true _ _ fixed in
-          (laws.bitwise a region).0 meet_a k in_a in_region
-          ∙ sym ((laws.bitwise b region).0 meet_b k in_b in_region)
-      | inr free ↦ elim (cases_lt k 104) [
-        | inl below ↦ absurd (both_ways _
-            (unfixed k (record { bound = below; free = free })) (ap (λ n. n == 1) in_a))
-        | inr above ↦ absurd (omega (arith, in_a, bit_at_above a.mask 104 k word.bounded above))
-      ]
+unfixed_meet laws region a b word meet_a meet_b unfixed = (laws.bitwise a b).1 agrees where
+  agrees : (k : ℕ) → bit_at a.mask k ≡ 1 → bit_at b.mask k ≡ 1 → bit_at a.value k ≡ bit_at b.value k
+  agrees k in_a in_b = elim (cases_Bool (bit_at region.mask k == 1)) [
+    | inl fixed ↦ let in_region : bit_at region.mask k ≡ 1 = eqb-true _ _ fixed in
+        (laws.bitwise a region).0 meet_a k in_a in_region
+        ∙ sym ((laws.bitwise b region).0 meet_b k in_b in_region)
+    | inr free ↦ elim (cases_lt k 104) [
+      | inl below ↦ absurd (both_ways _
+          (unfixed k (record { bound = below; free = free })) (ap (λ n. n == 1) in_a))
+      | inr above ↦ absurd (omega (arith, in_a, bit_at_above a.mask 104 k word.bounded above))
     ]
+  ]
 
 -- and then a header is in both
 pub meeting_shares : HoldsLaws → (a b : WordValue) → IsWord a → IsWord b → meets a b ≡ true
     → (number : ℕ) × (number < 2 ^ 104) × IsTrue (holds a number) × IsTrue (holds b number)
-meeting_shares laws a b a_word b_word meet =
-    by_case (meet_of a b) refl
-  where
-    by_case : (m : Option WordValue) → meet_of a b ≡ m → (number : ℕ) × (number < 2 ^ 104)
-        × IsTrue (holds a number) × IsTrue (holds b number)
-    by_case None none = absurd (both_ways (meets a b)
-        (sym (meet_is_some a b) ∙ ap is_some none) meet)
-    by_case (Some m) is =
-        let both = and_parts _ _ (sym (meet_both a b m is m.value) ∙ laws.value m) in
-        (m.value, laws.bound m (meet_word a b m a_word b_word is), both.0, both.1)
+meeting_shares laws a b a_word b_word meet = by_case (meet_of a b) refl where
+  by_case : (m : Option WordValue) → meet_of a b ≡ m → (number : ℕ) × (number < 2 ^ 104)
+      × IsTrue (holds a number) × IsTrue (holds b number)
+  by_case None none = absurd (both_ways (meets a b) (sym (meet_is_some a b) ∙ ap is_some none) meet)
+  by_case (Some m) is =
+      let both = and_parts _ _ (sym (meet_both a b m is m.value) ∙ laws.value m) in
+      (m.value, laws.bound m (meet_word a b m a_word b_word is), both.0, both.1)
 
 -- so the regions of a node, where they are not one, fix a free bit
 pub never_stuck : HoldsLaws → MeetLaws → (candidates : List Candidate) (region : WordValue)
     → AreNodeCandidates candidates region → NoneFree region (some_fix candidates)
     → length candidates ≡ 1
-never_stuck holds_laws meet_laws [] region node none =
-    absurd (both_ways false refl (node.held region.value
-    (holds_laws.bound region node.whole) (holds_laws.value region)))
+never_stuck holds_laws meet_laws [] region node none = absurd (both_ways false refl
+    (node.held region.value (holds_laws.bound region node.whole) (holds_laws.value region)))
 never_stuck holds_laws meet_laws (a ∷ []) region node none = refl
 never_stuck holds_laws meet_laws (a ∷ b ∷ rest) region node none =
     let P : Candidate → Type 0 = λ s. IsWord s.region in
@@ -173,8 +162,7 @@ never_stuck holds_laws meet_laws (a ∷ b ∷ rest) region node none =
     first_unfixed false b e = refl
 
 some_candidate : (candidates : List Candidate) (number : ℕ)
-    → IsSome (find (has_number number) candidates)
-    → 0 < length candidates
+    → IsSome (find (has_number number) candidates) → 0 < length candidates
 some_candidate [] number found = absurd (both_ways false refl found)
 some_candidate (candidate ∷ candidates) number found = omega arith
 
@@ -189,9 +177,8 @@ several_candidates laws candidates region node not_one =
       | inr other ↦ omega (arith, some, other)
     ]
 
-pub cut_is_free : (candidates : List Candidate) (region : WordValue) (bit : ℕ)
-    → IsCutBit candidates region bit
-    → IsFreeBit region bit
+pub cut_is_free : (candidates : List Candidate) (region : WordValue) (bit : ℕ) → IsCutBit candidates
+    region bit → IsFreeBit region bit
 cut_is_free candidates region bit (inl least) = least.free
 cut_is_free candidates region bit (inr least) = least.1.free
 
@@ -203,11 +190,10 @@ half_smaller region half bit one free same =
 
 -- ---- the loops
 
-pub kept_more : (test : Candidate → Bool) (candidates kept : List Candidate) (index : ℕ)
-    (candidate : Candidate)
-    → index < length candidates → candidate ≡ get_or candidates index candidate → test candidate
-    ≡ true
-    → filter test candidates ≡ kept ++ filter test (drop index candidates)
+pub kept_more : (test : Candidate → Bool) (candidates kept : List Candidate)
+    (index : ℕ) (candidate : Candidate) → index < length candidates
+    → candidate ≡ get_or candidates index candidate
+    → test candidate ≡ true → filter test candidates ≡ kept ++ filter test (drop index candidates)
     → filter test candidates ≡ (kept ++ candidate ∷ []) ++ filter test (drop (index + 1) candidates)
 kept_more test candidates kept index candidate within is passes so_far =
     let rest = filter test (drop (index + 1) candidates) in
@@ -216,11 +202,10 @@ kept_more test candidates kept index candidate within is passes so_far =
     ∙ ap (λ t. cond t (candidate ∷ rest) rest) passes)
     ∙ sym (append_assoc kept (candidate ∷ []) rest)
 
-pub kept_same : (test : Candidate → Bool) (candidates kept : List Candidate) (index : ℕ)
-    (candidate : Candidate)
-    → index < length candidates → candidate ≡ get_or candidates index candidate → test candidate
-    ≡ false
-    → filter test candidates ≡ kept ++ filter test (drop index candidates)
+pub kept_same : (test : Candidate → Bool) (candidates kept : List Candidate)
+    (index : ℕ) (candidate : Candidate) → index < length candidates
+    → candidate ≡ get_or candidates index candidate
+    → test candidate ≡ false → filter test candidates ≡ kept ++ filter test (drop index candidates)
     → filter test candidates ≡ kept ++ filter test (drop (index + 1) candidates)
 kept_same test candidates kept index candidate within is fails so_far =
     let rest = filter test (drop (index + 1) candidates) in

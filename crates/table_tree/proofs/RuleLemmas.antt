@@ -58,11 +58,10 @@ none_left (suc cuts) rules region none = absurd (omega arith)
 pub few_stay : (cuts : ℕ) (rules : List Rule) (region : WordValue) → length rules ≤ 16
     → None ≡ paying_cut cuts rules region
 few_stay zero rules region few = refl
-few_stay (suc cuts) rules region few = by_cost (least_below 104 rules region)
-  where
-    by_cost : (least : Option Cost) → None ≡ if_pays (length rules) least
-    by_cost None = refl
-    by_cost (Some cost) = rw (le-ltb 16 (length rules) few) refl
+few_stay (suc cuts) rules region few = by_cost (least_below 104 rules region) where
+  by_cost : (least : Option Cost) → None ≡ if_pays (length rules) least
+  by_cost None = refl
+  by_cost (Some cost) = rw (le-ltb 16 (length rules) few) refl
 
 -- the cut that costs least is made where it pays
 weighed : (cuts : ℕ) (rules : List Rule) (region : WordValue) (cost : Cost) (pay : Bool) → 0 < cuts
@@ -91,19 +90,16 @@ spread_stays cuts rules region cost some many fewer both is =
 
 paying_free : (rules : List Rule) (region : WordValue) (count : ℕ) (cost : Cost)
     → if_pays count (least_below 104 rules region) ≡ Some cost → IsFreeBit region cost.bit
-paying_free rules region count cost is = by_least (least_below 104 rules region) refl is
-  where
-    by_least : (least : Option Cost) → least_below 104 rules region ≡ least
-        → if_pays count least ≡ Some cost → IsFreeBit region cost.bit
-    by_least None none pay = absurd (cc)
-    by_least (Some best) found pay = by_test (is_worth_cutting count best) pay
-      where
-        by_test : (b : Bool) → cond b (Some best) None ≡ Some cost → IsFreeBit region cost.bit
-        by_test true same =
-            let equal : best ≡ cost = cc in
-            subst (λ (c : Cost). IsFreeBit region c.bit) equal
-            (least_cuts rules region best found).cuts
-        by_test false none = absurd (cc)
+paying_free rules region count cost is = by_least (least_below 104 rules region) refl is where
+  by_least : (least : Option Cost) → least_below 104 rules region ≡ least
+      → if_pays count least ≡ Some cost → IsFreeBit region cost.bit
+  by_least None none pay = absurd (cc)
+  by_least (Some best) found pay = by_test (is_worth_cutting count best) pay where
+    by_test : (b : Bool) → cond b (Some best) None ≡ Some cost → IsFreeBit region cost.bit
+    by_test true same = let equal : best ≡ cost = cc in
+        subst (λ (c : Cost). IsFreeBit region c.bit) equal
+        (least_cuts rules region best found).cuts
+    by_test false none = absurd (cc)
 
 -- ---- narrowed rules, by their places
 
@@ -122,9 +118,8 @@ narrow_keeps P (rule ∷ rules) region each all =
       | inl meet ↦ elim (cases_Bool (covers_of rule.word region)) [
         | inl covers ↦ All-same P _ _ (narrow_covered region rule rules meet covers)
             (All-cons P (narrowed_rule region rule) [] (each rule meet here) (All-nil P))
-        | inr past ↦ All-same P _ _ (narrow_more region rule rules meet past)
-            (All-cons P (narrowed_rule region rule) (narrow rules region) (each rule meet here)
-            rest)
+        | inr past ↦ All-same P _ _ (narrow_more region rule rules meet past) (All-cons P
+            (narrowed_rule region rule) (narrow rules region) (each rule meet here) rest)
       ]
       | inr apart ↦ All-same P _ _ (narrow_apart region rule rules apart) rest
     ]
@@ -133,12 +128,9 @@ narrowed_agrees : (list : List Rule) (region : WordValue) (number : ℕ) (rule :
     → IsTrue (holds region number) → meets rule.word region ≡ true → Agrees list number rule
     → Agrees list number (narrowed_rule region rule)
 unfolding narrowed_rule
-narrowed_agrees list region number rule inside meet agrees =
-    agrees
-    ∙ sym (meet_both rule.word region (meeting_word rule.word region)
-    (met_joined rule.word region meet) number
-    ∙ ap (λ t. holds rule.word number && t) inside
-    ∙ and-true (holds rule.word number))
+narrowed_agrees list region number rule inside meet agrees = agrees ∙ sym (meet_both rule.word
+    region (meeting_word rule.word region) (met_joined rule.word region meet) number
+    ∙ ap (λ t. holds rule.word number && t) inside ∙ and-true (holds rule.word number))
 
 side_agrees : (list rules : List Rule) (region : WordValue) (number : ℕ)
     → IsTrue (holds region number) → All (Agrees list number) rules
@@ -169,8 +161,7 @@ Finds list rules number places =
 
 end_finds : (list rules : List Rule) (number : ℕ) → All (Agrees list number) rules
     → Finds list rules number (map rank_of rules)
-end_finds list rules number all =
-    find-map (is_held_at list number) rank_of rules
+end_finds list rules number all = find-map (is_held_at list number) rank_of rules
     ∙ ap (option_map rank_of)
     (find_agree (λ (rule : Rule). is_held_at list number rule.rank) (is_held number) rules all)
 
@@ -180,11 +171,9 @@ leads : (cuts : ℕ) (list rules : List Rule) (region : WordValue) (number : ℕ
     → Finds list rules number (leaf_at number (rule_tree_within cuts rules region))
 unfolding rule_tree_within
 leads zero list rules region number inside all = end_finds list rules number all
-leads (suc cuts) list rules region number inside all =
-    by_cut (paying_cut (suc cuts) rules region) refl
-    (λ bit one within.
-    leads cuts list (side_of rules region bit one) (fix_of region bit one) number within
-    (side_agrees list rules (fix_of region bit one) number within all)
+leads (suc cuts) list rules region number inside all = by_cut (paying_cut (suc cuts) rules region)
+    refl (λ bit one within. leads cuts list (side_of rules region bit one) (fix_of region bit one)
+    number within (side_agrees list rules (fix_of region bit one) number within all)
     ∙ first_kept rules (fix_of region bit one) number within)
   where
     by_cut : (cut : Option Cost) → paying_cut (suc cuts) rules region ≡ cut
@@ -194,8 +183,7 @@ leads (suc cuts) list rules region number inside all =
         → Finds list rules number (leaf_at number
         (tree_by_cut (rule_tree_within cuts) rules region cut))
     by_cut None none sides = end_finds list rules number all
-    by_cut (Some cost) is sides =
-        down (Finds list rules number) region cost.bit number
+    by_cut (Some cost) is sides = down (Finds list rules number) region cost.bit number
         (rule_tree_within cuts (side_of rules region cost.bit false) (fix_of region cost.bit false))
         (rule_tree_within cuts (side_of rules region cost.bit true) (fix_of region cost.bit true))
         (paying_free rules region (length rules) cost is).free inside (sides cost.bit false)
@@ -231,8 +219,7 @@ ranked_position number place (rule ∷ rules) = elim (cases_Bool (holds rule.wor
 ]
 
 -- the tree of a list leads each header of the region to the first of its rules that holds it
-pub tree_first : (list : List Rule) (region : WordValue) (number : ℕ)
-    → IsTrue (holds region number)
+pub tree_first : (list : List Rule) (region : WordValue) (number : ℕ) → IsTrue (holds region number)
     → find (is_held_at list number) (leaf_at number (rule_tree list region))
     ≡ position (is_held number) list
 unfolding rule_tree
@@ -255,8 +242,7 @@ pub first_is : (list : List Rule) (region : WordValue) (tree : BitTree (Vec ℕ 
     → places ≡ end.items
     → found ≡ find (is_held_at list number) places → found ≡ position (is_held h) list
 first_is list region tree number h end places found built inside same at read is =
-    is
-    ∙ ap (find (is_held_at list number)) (read ∙ ap (λ (v : Vec ℕ Global). v.items) at
+    is ∙ ap (find (is_held_at list number)) (read ∙ ap (λ (v : Vec ℕ Global). v.items) at
     ∙ seen_at (λ (v : Vec ℕ Global). v.items) number tree ∙ ap (leaf_at number) built)
     ∙ tree_first list region number (subst (λ n. IsTrue (holds region n)) (sym same) inside)
     ∙ ap (λ n. position (is_held n) list) same

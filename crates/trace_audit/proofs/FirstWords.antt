@@ -14,8 +14,7 @@ word_before word text plain room front blank =
     All-weaker (λ b. not (b == 32) ≡ true) (λ b. (b == 32) ≡ false) (λ b e. not-true (b == 32) e) word
     (AllPass-from_list_all (λ b. not (b == 32)) word plain) in
     let next : suc n ≡ n + 1 = omega arith in
-    let back : drop n text ≡ 32 ∷ rest =
-    drop-cons text n 0 room
+    let back : drop n text ≡ 32 ∷ rest = drop-cons text n 0 room
     ∙ ap (λ b. b ∷ drop (suc n) text) blank ∙ ap (λ k. 32 ∷ drop k text) next in
     let whole : text ≡ word ++ 32 ∷ rest =
     sym (take-append-drop n text) ∙ ap (λ x. x ++ drop n text) front ∙ ap (λ x. word ++ x) back in
@@ -24,14 +23,13 @@ word_before word text plain room front blank =
 -- a text that doesn't begin with the word and a blank
 pub not_begun : (word text : List ℕ) → ((rest : List ℕ) → text ≢ word ++ 32 ∷ rest)
     → begins_with word (words_of text) ≡ false
-not_begun word text lacks = by (words_of text) (join_with_byte-slice_split 32 text)
-  where
-    by : (words : List (List ℕ)) → join_with_byte 32 words ≡ text → begins_with word words ≡ false
-    by [] e = refl
-    by (first ∷ []) e = refl
-    by (first ∷ next ∷ more) e = false_from_ne_true _ (λ same.
-        let rest = join_with_byte 32 (next ∷ more) in
-        lacks rest (sym e ∙ ap (λ w. w ++ 32 ∷ rest) ((bytes_eq-Decides first word).0 same)))
+not_begun word text lacks = by (words_of text) (join_with_byte-slice_split 32 text) where
+  by : (words : List (List ℕ)) → join_with_byte 32 words ≡ text → begins_with word words ≡ false
+  by [] e = refl
+  by (first ∷ []) e = refl
+  by (first ∷ next ∷ more) e = false_from_ne_true _ (λ same.
+      let rest = join_with_byte 32 (next ∷ more) in
+      lacks rest (sym e ∙ ap (λ w. w ++ 32 ∷ rest) ((bytes_eq-Decides first word).0 same)))
 
 pub words_taken : (word rest : List ℕ) (old : List (List ℕ)) → old ≡ word ∷ words_of rest
     → IsWordTaken word old (words_of rest)
@@ -39,8 +37,7 @@ words_taken word rest old e =
     let w = first_part 32 rest in (w.0, w.1, e ∙ ap (λ ws. word ∷ ws) w.2, w.2)
 
 -- of a text that is left there are words
-pub more_left : (rest : Option (Bor (List ℕ))) → MatchBool (is_some rest)
-    ((word : List ℕ) × (others : List (List ℕ)) × (words_left rest ≡ word ∷ others))
-    (words_left rest ≡ [])
+pub more_left : (rest : Option (Bor (List ℕ))) → MatchBool (is_some rest) ((word : List ℕ)
+    × (others : List (List ℕ)) × (words_left rest ≡ word ∷ others)) (words_left rest ≡ [])
 more_left None = refl
 more_left (Some text) = first_part 32 text.now

@@ -26,8 +26,7 @@ both_blocks false b c d e h = absurd (false≢true h)
 
 sound_row : (rows : List Row) (k : ℕ) (row : Row) → IsPolicy rows → slice_get rows k ≡ Some row
     → IsSoundRow row
-sound_row rows k row policy there =
-    subst IsSoundRow (get_or_from_slice_get rows k row row there)
+sound_row rows k row policy there = subst IsSoundRow (get_or_from_slice_get rows k row row there)
     (policy.sound k row (slice_get_within rows k row there))
 
 pub has_shape : (shapes : List Shape) (rows : List Row) (k : ℕ) (row : Row) → AreShapesOf rows shapes
@@ -68,9 +67,8 @@ module _ (shapes : List Shape) (shape : Shape) where
       subst (λ n. n < length (shapes ++ shape ∷ [])) (sym (place_pushed (shape_of_row row)))
       (cond_both (place == length shapes)
       (length shapes + cond (is_shape (shape_of_row row) shape) 0 1) place
-      (λ n. n < length (shapes ++ shape ∷ []))
-      (λ yes. absurd (omega (arith, eqb-true place (length shapes) yes, has)))
-      (λ no. omega (arith, has, more)))
+      (λ n. n < length (shapes ++ shape ∷ [])) (λ yes. absurd
+      (omega (arith, eqb-true place (length shapes) yes, has))) (λ no. omega (arith, has, more)))
 
   there_pushed : position_or_len (is_shape shape) (shapes ++ shape ∷ [])
       < length (shapes ++ shape ∷ [])
@@ -102,10 +100,9 @@ shapes_none rows shapes none = record {
 }
 
 -- one more row, whose shape was noted
-pub shapes_more : (rows : List Row) (i : ℕ) (row : Row) (before after : List Shape)
-    → IsPolicy rows → i < length rows → slice_get rows i ≡ Some row
-    → Notes before (shape_of_row row) after → AreShapesOf (take i rows) before
-    → AreShapesOf (take (i + 1) rows) after
+pub shapes_more : (rows : List Row) (i : ℕ) (row : Row) (before after : List Shape) → IsPolicy rows
+    → i < length rows → slice_get rows i ≡ Some row → Notes before (shape_of_row row) after
+    → AreShapesOf (take i rows) before → AreShapesOf (take (i + 1) rows) after
 shapes_more rows i row before after policy within there notes are = record {
   sound = notes.sound (shape_sound row (sound_row rows i row policy there)) are.sound;
   there = subst (All (HasShape after)) (sym (take_more rows i row within))
@@ -166,8 +163,7 @@ module _ (shapes : List Shape) (rows : List Row) where
 
 -- an index of no row
 pub none_indexed : (rows : List Row) (index : Index) → AreShapesOf rows index.shapes.items
-    → index.last.items ≡ replicate 4096 None → index.earlier.items ≡ []
-    → IsIndexUpTo rows 0 index
+    → index.last.items ≡ replicate 4096 None → index.earlier.items ≡ [] → IsIndexUpTo rows 0 index
 none_indexed rows index shapes last earlier = record {
   shapes = shapes;
   slots = ap length last ∙ length-replicate {A = Option ℕ} 4096 None;
@@ -196,18 +192,15 @@ module _ (rows : List Row) (bound : ℕ) (row : Row) (at : Option ℕ) (old new 
       let there : slice_get (set old.last.items own_slot (Some bound)) slot ≡ Some next =
       ap (λ xs. slice_get xs slot) (sym last) ∙ there in
       elim (cases_eq slot own_slot) [
-        | inl same ↦
-            let now = get_set_same old.last.items own_slot (Some bound)
+        | inl same ↦ let now = get_set_same old.last.items own_slot (Some bound)
             (slice_get_within old.last.items own_slot at was) in
-            let place : Some bound ≡ next =
-            one_item (set old.last.items own_slot (Some bound)) own_slot slot
-            (Some bound) next now same there in
+            let place : Some bound ≡ next = one_item (set old.last.items own_slot (Some bound))
+            own_slot slot (Some bound) next now same there in
             subst (λ n. IsLastBefore own_shapes rows n (bound + 1) next) (sym same)
             (subst (IsLastBefore own_shapes rows own_slot (bound + 1)) place
             (last_here own_shapes rows bound row here))
-        | inr other ↦
-            let before = sym (get_set_other old.last.items own_slot slot (Some bound) other)
-            ∙ there in
+        | inr other ↦ let before =
+            sym (get_set_other old.last.items own_slot slot (Some bound) other) ∙ there in
             last_more own_shapes rows slot bound row next here (λ e. other (sym e))
             (is.last slot next before)
       ]
@@ -221,8 +214,7 @@ module _ (rows : List Row) (bound : ℕ) (row : Row) (at : Option ℕ) (old new 
       elim (cases_lt k bound) [
         | inl less ↦ is.earlier k next place there
             (sym (get_push_left old.earlier.items at k (omega (arith, is.places, less))) ∙ got)
-        | inr more ↦
-            let within = slice_get_within (old.earlier.items ++ at ∷ []) k place got in
+        | inr more ↦ let within = slice_get_within (old.earlier.items ++ at ∷ []) k place got in
             let long = length_push old.earlier.items at in
             let e : k ≡ bound = omega (arith, within, long, is.places, more) in
             let same = one_item rows bound k row next here e there in
@@ -264,9 +256,8 @@ module _ (row : Row) (fields : Fields) (hit : Hit) where
   above = option_map_or (λ p. ltb p row.priority) hit.rule true
 
   better_kept : (other : Row) → IsNoHigher hit other → IsNoHigher (better_of row fields hit) other
-  better_kept other reached =
-      cond_both (above && row_matches row fields) (hit_of (Some row)) hit (λ h. IsNoHigher h other)
-      (λ yes. less_or hit.rule row.priority other.priority
+  better_kept other reached = cond_both (above && row_matches row fields) (hit_of (Some row)) hit
+      (λ h. IsNoHigher h other) (λ yes. less_or hit.rule row.priority other.priority
       (and_parts above (row_matches row fields) yes).0 reached) (λ no. reached)
 
   better_reached : row_matches row fields ≡ true → IsNoHigher (better_of row fields hit) row
@@ -359,8 +350,7 @@ module _ {rows : List Row} {slot : ℕ} {fields : Fields} {first hit : Hit} {at 
             (w.matching m);
         kept = λ other reached. better_kept row fields hit other (w.kept other reached);
         reached = λ k other above got lies matches. elim (cases_eq k place) [
-          | inl at ↦
-              let one = one_item rows place k row other own_row at got in
+          | inl at ↦ let one = one_item rows place k row other own_row at got in
               subst (IsNoHigher (better_of row fields hit)) one
               (better_reached row fields hit
               (subst (λ (r : Row). row_matches r fields ≡ true) (sym one) matches))
@@ -410,8 +400,7 @@ sought_more shapes rows fields place shape src dst hit better policy there s d b
   matching = b.matching sought.matching;
   reached = λ k row got before matches. elim (cases_lt (shape_place shapes row) place) [
     | inl less ↦ b.kept row (sought.reached k row got less matches)
-    | inr more ↦
-        let at : shape_place shapes row ≡ place = omega (arith, before, more) in
+    | inr more ↦ let at : shape_place shapes row ≡ place = omega (arith, before, more) in
         let own = own_shape shapes row shape (ap (slice_get shapes) at ∙ there) in
         let slot : slot_of_row shapes row ≡ slot_of (length shapes) place src dst =
         slot_same shapes row fields shape src dst (sound_row rows k row policy got) matches own s d
@@ -420,14 +409,12 @@ sought_more shapes rows fields place shape src dst hit better policy there s d b
   ];
 }
 
-pub sought_all : (rows : List Row) (fields : Fields) (index : Index) (hit : Hit)
-    → IsIndexOf rows index
-    → IsSought index.shapes.items rows fields (length index.shapes.items) hit
+pub sought_all : (rows : List Row) (fields : Fields) (index : Index) (hit : Hit) → IsIndexOf rows
+    index → IsSought index.shapes.items rows fields (length index.shapes.items) hit
     → IsBest rows fields hit
 sought_all rows fields index hit is sought = record {
   matching = sought.matching;
-  reached = λ k d within matches.
-      let got = slice_get-get_or rows k d within in
+  reached = λ k d within matches. let got = slice_get-get_or rows k d within in
       sought.reached k (get_or rows k d) got
       (has_shape index.shapes.items rows k (get_or rows k d) is.shapes got) matches;
 }
@@ -437,31 +424,27 @@ sought_all rows fields index hit is sought = record {
 none_left : (p : Row → Bool) (rows : List Row) → All (λ row. p row ≡ true → ⊥) rows
     → All (λ row. p row ≡ true) rows → rows ≡ []
 none_left p [] none all = refl
-none_left p (row ∷ rows) none all =
-    absurd (All-head (λ row. p row ≡ true → ⊥) row rows none
+none_left p (row ∷ rows) none all = absurd (All-head (λ row. p row ≡ true → ⊥) row rows none
     (All-head (λ row. p row ≡ true) row rows all))
 
 -- an element that passes is kept
 kept_by : (p : Row → Bool) (rows : List Row) (k : ℕ) (row : Row) → slice_get rows k ≡ Some row
     → p row ≡ true → Contains (filter p rows) row
 kept_by p [] k row there passes = absurd cc
-kept_by p (first ∷ rows) zero row there passes =
-    let same = same_Some first row there in
+kept_by p (first ∷ rows) zero row there passes = let same = same_Some first row there in
     cond_both (p first) (first ∷ filter p rows) (filter p rows) (λ xs. Contains xs row)
     (λ yes. (0, omega arith, same))
     (λ no. absurd (both_ways (p row) (ap p (sym same) ∙ no) passes))
-kept_by p (first ∷ rows) (suc k) row there passes =
-    cond_both (p first) (first ∷ filter p rows) (filter p rows) (λ xs. Contains xs row)
-    (λ yes. Contains-append_right (first ∷ []) (filter p rows) row
-    (kept_by p rows k row there passes))
+kept_by p (first ∷ rows) (suc k) row there passes = cond_both (p first) (first ∷ filter p rows)
+    (filter p rows) (λ xs. Contains xs row) (λ yes. Contains-append_right
+    (first ∷ []) (filter p rows) row (kept_by p rows k row there passes))
     (λ no. kept_by p rows k row there passes)
 
 abbrev hit_with : Option ℕ → Action → Hit
 hit_with rule action = record { rule = rule; action = action }
 
-best_by : (rows : List Row) (header : Header) (rule : Option ℕ) (action : Action)
-    → IsBest rows (fields_of header) (hit_with rule action)
-    → IsFirstMatch rows header (hit_with rule action)
+best_by : (rows : List Row) (header : Header) (rule : Option ℕ) (action : Action) → IsBest rows
+    (fields_of header) (hit_with rule action) → IsFirstMatch rows header (hit_with rule action)
 best_by rows header None action best =
     let p : Row → Bool = λ row. row_matches row (fields_of header) in (
       none_left p (filter p rows) (All-filter p (λ row. p row ≡ true → ⊥) rows best.reached)
@@ -474,8 +457,7 @@ best_by rows header (Some priority) action best =
       row,
       record {
         member = kept_by p rows k row (slice_get-get_or rows k row within ∙ ap Some is) matches;
-        highest = λ i d inside.
-            let below : (get_or (filter p rows) i d).priority ≤ priority =
+        highest = λ i d inside. let below : (get_or (filter p rows) i d).priority ≤ priority =
             All-filter p (λ row. p row ≡ true → row.priority ≤ priority) rows best.reached i d
             inside (filter_passes p rows i d inside) in
             omega (arith, below, names);

@@ -26,8 +26,7 @@ entered_on : (ts : List Told) (t : Told) (i : ℕ) (header : Header) (mark : ℕ
 entered_on ts t i header mark other e = record {
   before = e.before;
   after = e.after ++ t ∷ [];
-  entry = ap (λ x. x ++ t ∷ []) e.entry
-      ∙ append_assoc e.before (told.Entered i ∷ e.after) (t ∷ []);
+  entry = ap (λ x. x ++ t ∷ []) e.entry ∙ append_assoc e.before (told.Entered i ∷ e.after) (t ∷ []);
   none_before = e.none_before;
   none_after = All-push (EntersOther i) e.after t e.none_after other;
   own_row = e.own_row;
@@ -161,19 +160,16 @@ submits_next files policies file version policy newest there =
 
 -- ---- a step that leaves the packets as they are, or puts one
 
-keeps_packets : (files : List PolicyFile) (ts : List Told) (t : Told)
-    (old new : ℕ → Option Packet) → new ≡ old → ((i : ℕ) → IsOfOther i t)
-    → ((i : ℕ) → IsPacketIf files ts i (old i))
+keeps_packets : (files : List PolicyFile) (ts : List Told) (t : Told) (old new : ℕ → Option Packet)
+    → new ≡ old → ((i : ℕ) → IsOfOther i t) → ((i : ℕ) → IsPacketIf files ts i (old i))
     → (i : ℕ) → IsPacketIf files (ts ++ t ∷ []) i (new i)
 keeps_packets files ts t old new e other known i =
     subst (λ (x : ℕ → Option Packet). IsPacketIf files (ts ++ t ∷ []) i (x i)) (sym e)
     (packet_on files ts t i (old i) (other i) (known i))
 
-puts_packet : (files : List PolicyFile) (ts : List Told) (t : Told)
-    (old new : ℕ → Option Packet) (i : ℕ) (p : Packet)
-    → new ≡ (λ j. cond (j == i) (Some p) (old j))
-    → ((j : ℕ) → (j ≡ i → ⊥) → IsOfOther j t)
-    → ((j : ℕ) → IsPacketIf files ts j (old j))
+puts_packet : (files : List PolicyFile) (ts : List Told) (t : Told) (old new : ℕ → Option Packet)
+    (i : ℕ) (p : Packet) → new ≡ (λ j. cond (j == i) (Some p) (old j))
+    → ((j : ℕ) → (j ≡ i → ⊥) → IsOfOther j t) → ((j : ℕ) → IsPacketIf files ts j (old j))
     → IsPacketIf files (ts ++ t ∷ []) i (Some p)
     → (j : ℕ) → IsPacketIf files (ts ++ t ∷ []) j (new j)
 puts_packet files ts t old new i p e other known here j =
@@ -252,25 +248,22 @@ module _ (files : List PolicyFile) (ts : List Told) (old new : TraceState) (know
 
     after_submitted : (file version : ℕ) → Follows files old (told.Submitted file version) new
         → IsKnown files (ts ++ told.Submitted file version ∷ []) new
-    after_submitted file version f =
-        let t = told.Submitted file version in
-        record {
-          policies = policies_on files ts t old.machine.policies new.machine.policies known.policies
-              (ap (λ (m : Machine). m.policies) f.0.after
-              ∙ submits_next files old.machine.policies file version f.0.policy f.0.newest f.0.there);
-          mark = subst (λ (m : Machine). IsMark (ts ++ t ∷ []) m.mark) (sym f.0.after)
-              (mark_on ts t old.machine.mark tt known.mark);
-          waits = still_waits t f.2 tt;
-          packets = keeps_packets files ts t old.machine.packets new.machine.packets
-              (ap (λ (m : Machine). m.packets) f.0.after) (λ i. (tt, tt)) known.packets;
-        }
+    after_submitted file version f = let t = told.Submitted file version in record {
+      policies = policies_on files ts t old.machine.policies new.machine.policies known.policies
+          (ap (λ (m : Machine). m.policies) f.0.after
+          ∙ submits_next files old.machine.policies file version f.0.policy f.0.newest f.0.there);
+      mark = subst (λ (m : Machine). IsMark (ts ++ t ∷ []) m.mark) (sym f.0.after)
+          (mark_on ts t old.machine.mark tt known.mark);
+      waits = still_waits t f.2 tt;
+      packets = keeps_packets files ts t old.machine.packets new.machine.packets
+          (ap (λ (m : Machine). m.packets) f.0.after) (λ i. (tt, tt)) known.packets;
+    }
 
     after_retired : (version : ℕ) → Follows files old (told.Retired version) new
         → IsKnown files (ts ++ told.Retired version ∷ []) new
     after_retired version f =
         let t = told.Retired version in
-        let rises : old.machine.mark < version = f.0.rises in
-        record {
+        let rises : old.machine.mark < version = f.0.rises in record {
           policies = policies_on files ts t old.machine.policies new.machine.policies known.policies
               (ap (λ (m : Machine). m.policies) f.0.after);
           mark = subst (λ (m : Machine). IsMark (ts ++ t ∷ []) m.mark) (sym f.0.after) (record {
@@ -374,9 +367,8 @@ follows_split files old new (t ∷ ts) more r =
 
 known_all : (files : List PolicyFile) (ts : List Told) (old : TraceState) (more : List Told) (new : TraceState)
     → FollowsAll files old more new → IsKnown files ts old → IsKnown files (ts ++ more) new
-known_all files ts old [] new r known =
-    subst (λ (xs : List Told). IsKnown files xs new) (sym (append-nil ts))
-    (subst (IsKnown files ts) (sym r) known)
+known_all files ts old [] new r known = subst (λ (xs : List Told). IsKnown files xs new)
+    (sym (append-nil ts)) (subst (IsKnown files ts) (sym r) known)
 known_all files ts old (t ∷ more) new r known =
     subst (λ (xs : List Told). IsKnown files xs new) (append_assoc ts (t ∷ []) more)
     (known_all files (ts ++ t ∷ []) r.0 more new r.2 (after_told files ts old r.0 known t r.1))
@@ -444,8 +436,7 @@ module _ (files : List PolicyFile) (before : List Told) (state : TraceState)
   decided_once end a e may last r =
       let d : HasDecision files before i a = decided_as files before i e.packet.decision a
       (known_at files before state.machine.packets i (Some e.packet) e.entered known.packets).1
-      may in
-      record {
+      may in record {
         decided = d;
         none_later = All-tail (DecidesOther i) (told.Ended i end) after
             (none_later files before state (told.Ended i end ∷ after) last i a known d r);

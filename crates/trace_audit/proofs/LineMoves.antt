@@ -15,17 +15,15 @@ with_packets a packets = record { policies = a.policies.items; mark = a.mark; pa
 pub policy_there : (slice items : List (List Row)) (place : ℕ) (rows : List Row) → slice ≡ items
     → ltb place (length slice) ≡ true → rows ≡ get_or slice place rows
     → slice_get items place ≡ Some rows
-policy_there slice items place rows e within there =
-    subst (λ xs. slice_get xs place ≡ Some rows) e
+policy_there slice items place rows e within there = subst (λ xs. slice_get xs place ≡ Some rows) e
     (slice_get_read slice (length slice) place rows refl (ltb-true _ _ within) there)
 
 -- a decision that isn't printed in the texts of the first match is none
-pub not_decided : (old new : Machine) (number version : ℕ) (rule action : List ℕ) (packet : Packet)
-    (rows : List Row) (hit g : Hit) → old.packets number ≡ Some packet
+pub not_decided : (old new : Machine) (number version : ℕ) (rule action : List ℕ)
+    (packet : Packet) (rows : List Row) (hit g : Hit) → old.packets number ≡ Some packet
     → submitted_policy old version ≡ Some rows
-    → ((h : Hit) → IsFirstMatch rows packet.header h → h ≡ hit)
-    → (IsPrinted rule action hit → ⊥) → IsPrinted rule action g
-    → Decides old number version g new → ⊥
+    → ((h : Hit) → IsFirstMatch rows packet.header h → h ≡ hit) → (IsPrinted rule action hit → ⊥)
+    → IsPrinted rule action g → Decides old number version g new → ⊥
 not_decided old new number version rule action packet rows hit g there submitted only bad printed d =
     let packets : d.packet ≡ packet = same_some d.packet packet _ d.entered there in
     let policies : d.policy ≡ rows = same_some d.policy rows _ d.submitted submitted in

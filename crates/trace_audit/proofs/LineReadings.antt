@@ -81,9 +81,8 @@ follows_sound files old (told.Row header) new own sound f =
     policies_stay old new (ap (λ s. s.machine.policies) f) sound
 follows_sound files old (told.Entered packet) new own sound f =
     policies_stay old new (ap (λ m. m.policies) f.2.after) sound
-follows_sound files old (told.Submitted file version) new own sound f =
-    subst (All IsPolicy) (sym (ap (λ m. m.policies) f.0.after))
-    (All-push IsPolicy old.machine.policies f.0.policy sound
+follows_sound files old (told.Submitted file version) new own sound f = subst (All IsPolicy)
+    (sym (ap (λ m. m.policies) f.0.after)) (All-push IsPolicy old.machine.policies f.0.policy sound
     (made_in files file (latest_policy old.machine.policies) f.0.policy own
     (newest_sound old.machine.policies sound) f.0.there))
 follows_sound files old (told.Retired version) new own sound f =
@@ -98,8 +97,7 @@ follows_sound files old told.Nothing new own sound f =
 -- ---- only one
 
 state_same : (a b : TraceState) → a.machine ≡ b.machine → a.pending ≡ b.pending → a ≡ b
-state_same a b m p =
-    ap (λ (x : Machine). record { machine = x; pending = a.pending }) m
+state_same a b m p = ap (λ (x : Machine). record { machine = x; pending = a.pending }) m
     ∙ ap (λ (x : Option Header). record { machine = b.machine; pending = x }) p
 
 entered : Machine → ℕ → Header → Machine
@@ -108,17 +106,14 @@ entered old number header = with_packet old number
 
 enters_one : (old : Machine) (number : ℕ) (h k : Header) (a b : Machine) → h ≡ k
     → Enters old number h a → Enters old number k b → a ≡ b
-enters_one old number h k a b e r s = r.after
-    ∙ ap (λ (x : Header). with_packet old number
-    (record { header = x; entry_mark = old.mark; decision = None; end = None })) e
-    ∙ sym s.after
+enters_one old number h k a b e r s = r.after ∙ ap (λ (x : Header). with_packet old number
+    (record { header = x; entry_mark = old.mark; decision = None; end = None })) e ∙ sym s.after
 
 submits_one : (old : Machine) (version : ℕ) (named : Option (List Row)) (a b : Machine)
     → Submits old version named a → Submits old version named b → a ≡ b
-submits_one old version named a b r s = r.after
-    ∙ ap (λ (x : List Row). record old { policies = old.policies ++ x ∷ [] })
-    (same_some r.policy s.policy named r.there s.there)
-    ∙ sym s.after
+submits_one old version named a b r s =
+    r.after ∙ ap (λ (x : List Row). record old { policies = old.policies ++ x ∷ [] })
+    (same_some r.policy s.policy named r.there s.there) ∙ sym s.after
 
 decides_one : (old : Machine) (number version : ℕ) (g h : Hit) (a b : Machine)
     → All IsPolicy old.policies → Decides old number version g a → Decides old number version h b
@@ -138,24 +133,20 @@ decides_one old number version g h a b sound r s =
 
 ends_one : (old : Machine) (number : ℕ) (end : End) (a b : Machine)
     → Ends old number end a → Ends old number end b → a ≡ b
-ends_one old number end a b r s = r.after
-    ∙ ap (λ (x : Packet). with_packet old number (record x { end = Some end }))
-    (same_some r.packet s.packet _ r.entered s.entered)
-    ∙ sym s.after
+ends_one old number end a b r s =
+    r.after ∙ ap (λ (x : Packet). with_packet old number (record x { end = Some end }))
+    (same_some r.packet s.packet _ r.entered s.entered) ∙ sym s.after
 
 follows_one : (files : List PolicyFile) (old : TraceState) (t : Told) (a b : TraceState) → ArePolicies old
     → Follows files old t a → Follows files old t b → a ≡ b
 follows_one files old (told.Row header) a b sound r s = r ∙ sym s
-follows_one files old (told.Entered packet) a b sound r s =
-    state_same a b
-    (enters_one old.machine packet r.0 s.0 a.machine b.machine (same_some r.0 s.0 _ r.1 s.1) r.2 s.2)
-    (r.3 ∙ sym s.3)
+follows_one files old (told.Entered packet) a b sound r s = state_same a b (enters_one old.machine
+    packet r.0 s.0 a.machine b.machine (same_some r.0 s.0 _ r.1 s.1) r.2 s.2) (r.3 ∙ sym s.3)
 follows_one files old (told.Submitted file version) a b sound r s =
     state_same a b (submits_one old.machine version _ a.machine b.machine r.0 s.0) (r.2 ∙ sym s.2)
 follows_one files old (told.Retired version) a b sound r s =
     state_same a b (r.0.after ∙ sym s.0.after) (r.1 ∙ sym s.1)
-follows_one files old (told.Decided packet version rule action) a b sound r s =
-    state_same a b
+follows_one files old (told.Decided packet version rule action) a b sound r s = state_same a b
     (decides_one old.machine packet version r.0 s.0 a.machine b.machine sound r.2 s.2)
     (r.3 ∙ sym s.3)
 follows_one files old (told.Ended packet end) a b sound r s =
@@ -164,8 +155,7 @@ follows_one files old told.Nothing a b sound r s = r ∙ sym s
 
 pub line_one : (files : List PolicyFile) (old : TraceState) (line : TraceLine) (a b : TraceState) → ArePolicies old
     → ReadsLine files old line a → ReadsLine files old line b → a ≡ b
-line_one files old (Whole text) a b sound r s =
-    follows_one files old r.0 a b sound r.2
+line_one files old (Whole text) a b sound r s = follows_one files old r.0 a b sound r.2
     (subst (λ t. Follows files old t b) (same_some s.0 r.0 _ s.1 r.1) s.2)
 line_one files old (Open text) a b sound r s = absurd r
 
@@ -175,13 +165,12 @@ line_sound files old (Whole text) new own sound r = follows_sound files old r.0 
 line_sound files old (Open text) new own sound r = absurd r
 
 pub first_sound : (files : List PolicyFile) → All IsPolicyFile files → ArePolicies (first_state files)
-first_sound files own = by (made_policy files 1 None) refl
-  where
-    by : (made : Option (List Row)) → made_policy files 1 None ≡ made
-        → All IsPolicy (option_to_list made)
-    by None e = All-nil IsPolicy
-    by (Some rows) e =
-        All-cons IsPolicy rows [] (made_in files 1 None rows own tt e) (All-nil IsPolicy)
+first_sound files own = by (made_policy files 1 None) refl where
+  by : (made : Option (List Row)) → made_policy files 1 None ≡ made
+      → All IsPolicy (option_to_list made)
+  by None e = All-nil IsPolicy
+  by (Some rows) e =
+      All-cons IsPolicy rows [] (made_in files 1 None rows own tt e) (All-nil IsPolicy)
 
 pub reads_one : (files : List PolicyFile) (old : TraceState) (lines : List TraceLine) (a b : TraceState)
     → All IsPolicyFile files → ArePolicies old → ReadsAll files old lines a → ReadsAll files old lines b

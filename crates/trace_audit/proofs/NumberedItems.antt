@@ -9,12 +9,10 @@ pub seen_put : {A B : Type 0} (seen : A → B) (old new : ℕ → Option A) (num
     → ◌≡◌ {A = ℕ → Option B} (λ n. option_map seen (new n))
     (λ n. if n == number then Some (seen item) else option_map seen (old n))
 seen_put seen old new number item here there = fun_ext (λ n. elim (cases_eq n number) [
-  | inl same ↦ ap (λ k. option_map seen (new k)) same ∙ ap (option_map seen) here
-      ∙ sym (cond-true (n == number) (Some (seen item)) (option_map seen (old n))
-      (eq-eqb n number same))
-  | inr other ↦ ap (option_map seen) (there n other)
-      ∙ sym (cond-false (n == number) (Some (seen item)) (option_map seen (old n))
-      (ne_eqb n number other))
+  | inl same ↦ ap (λ k. option_map seen (new k)) same ∙ ap (option_map seen) here ∙ sym
+      (cond-true (n == number) (Some (seen item)) (option_map seen (old n)) (eq-eqb n number same))
+  | inr other ↦ ap (option_map seen) (there n other) ∙ sym (cond-false (n == number)
+      (Some (seen item)) (option_map seen (old n)) (ne_eqb n number other))
 ])
 
 module _ {A : Type 0} (first : ℕ) (run : List A) (n : ℕ) where
@@ -22,8 +20,7 @@ module _ {A : Type 0} (first : ℕ) (run : List A) (n : ℕ) where
   run_at above = cond-true (leb first n) (slice_get run (n - first)) None (le-leb first n above)
 
   pub run_below : n < first → run_get first run n ≡ None
-  run_below below =
-      cond-false (leb first n) (slice_get run (n - first)) None (lt-leb first n below)
+  run_below below = cond-false (leb first n) (slice_get run (n - first)) None (lt-leb first n below)
 
   -- it isn't in the run
   pub run_past : length run ≤ n - first → run_get first run n ≡ None

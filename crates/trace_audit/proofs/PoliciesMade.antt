@@ -17,8 +17,7 @@ policy_of files file given newest made e is =
 -- a file that isn't there makes none
 pub no_policy : (files : List PolicyFile) (file : ℕ) (newest : Option (List Row))
     → None ≡ numbered_file files file → None ≡ made_policy files file newest
-no_policy files file newest e =
-    ap (λ (this : Option PolicyFile). result_ok (made_by this newest)) e
+no_policy files file newest e = ap (λ (this : Option PolicyFile). result_ok (made_by this newest)) e
 
 -- a change that was applied, and one that was refused
 pub some_made : {E : Type 0} (made : Result (List Row) E) (rows : List Row) → made ≡ Ok rows

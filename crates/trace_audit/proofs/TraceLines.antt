@@ -29,8 +29,7 @@ row_number_by digits b false parts part (next ∷ more) e = rw e refl
 pub row_number_rest : (byte : ℕ) (digits rest : List ℕ) → (rest ≡ [] → ⊥)
     → is_row_number (digits ∷ parts_round byte rest) ≡ false
 row_number_rest byte digits [] some = absurd (some refl)
-row_number_rest byte digits (b ∷ rest) some =
-    let w = first_part byte rest in
+row_number_rest byte digits (b ∷ rest) some = let w = first_part byte rest in
     row_number_by digits b (b == byte) (parts_round byte rest) w.0 w.1 w.2
 
 -- ---- lines
@@ -47,8 +46,7 @@ line_next text parts rest part more e f = rw (e, f) refl
 pub lines_next : (rest text next : List ℕ) → parts_round 10 rest ≡ text ∷ parts_round 10 next
     → lines_of rest ≡ Whole text ∷ lines_of next
 unfolding lines_of
-lines_next rest text next e =
-    let w = first_part 10 next in
+lines_next rest text next e = let w = first_part 10 next in
     line_next text (parts_round 10 rest) (parts_round 10 next) w.0 w.1 e w.2
 
 open_some : (rest : List ℕ) → (rest ≡ [] → ⊥) → open_line rest ≡ Open rest ∷ []

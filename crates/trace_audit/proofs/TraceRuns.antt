@@ -90,8 +90,7 @@ module _ (files : List PolicyFile) where
 good_run : (files : List PolicyFile) (lines : List TraceLine) → AreGood files lines → AreRun files lines
 good_run files lines good =
     let w = told_run files [] (first_state files) (all_told lines) good.0 (known_first files)
-    (reads_told files (first_state files) lines good.0 good.1) in
-    record {
+    (reads_told files (first_state files) lines good.0 good.1) in record {
       moves = w.0;
       told = w.1;
       run = λ setting same. (

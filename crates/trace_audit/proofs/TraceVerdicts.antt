@@ -18,8 +18,7 @@ pub verdict_exact : (files : List PolicyFile) (lines : List TraceLine) (verdict 
 verdict_exact files lines Yes v = (λ _. v, λ _. refl)
 verdict_exact files lines (No line) v = (
   λ e. absurd cc,
-  λ good. absurd (v.1.bad
-      (good_front files (take v.0 lines) (drop v.0 lines)
+  λ good. absurd (v.1.bad (good_front files (take v.0 lines) (drop v.0 lines)
       (subst (AreGood files) (sym (take-append-drop v.0 lines)) good))),
 )
 
@@ -48,8 +47,7 @@ first_bad files state done more line own read bad =
       some = omega arith;
       there = omega (arith, length-append done (line ∷ more));
       before = subst (AreGood files) (sym front) (state, read);
-      bad = λ good.
-          let g = subst (AreGood files) with_it good in
+      bad = λ good. let g = subst (AreGood files) with_it good in
           let w = reads_split files (first_state files) g.0 done (line ∷ []) g.1 in
           let same = reads_one files (first_state files) done w.0 state own (first_sound files own)
           w.1 read in
@@ -76,8 +74,7 @@ pub good_here : (files : List PolicyFile) (trace rest next : List ℕ) (line : �
     → ReadsLine files old this new → (number : ℕ) → number ≡ min (line + 1) 4294967295
     → IsSoFar files trace next number new
 good_here files trace rest next line old new this so_far e good number counted =
-    let had : line ≡ min (length so_far.done) 4294967295 = so_far.counted in
-    record {
+    let had : line ≡ min (length so_far.done) 4294967295 = so_far.counted in record {
       done = so_far.done ++ this ∷ [];
       lines = so_far.lines ∙ ap (λ xs. so_far.done ++ xs) e
           ∙ sym (append_assoc so_far.done (this ∷ []) (lines_of next));

@@ -113,8 +113,7 @@ pub record IsDecidedOnce (files : List PolicyFile) (before after : List Told) (p
 
 -- a packet that the lines say is dropped, or out by a port, was decided like that
 abbrev pub IsJustified : List PolicyFile → List Told → List Told → ℕ → End → Type 0
-IsJustified files before after packet Dropped =
-    IsDecidedOnce files before after packet action.Drop
+IsJustified files before after packet Dropped = IsDecidedOnce files before after packet action.Drop
 IsJustified files before after packet (LeftBy port) =
     IsDecidedOnce files before after packet (action.Out port)
 IsJustified files before after packet _ = ⊤

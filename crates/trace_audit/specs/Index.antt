@@ -46,8 +46,7 @@ mixed_of src dst = (src * 2654435769 % 2 ^ 32 + dst * 2246822519 % 2 ^ 32) % 2 ^
 -- the slot of blocks that begin with these addresses: each of this many shapes has an equal share
 -- of 4,096 slots, and the slot is in the share of the shape at this place
 abbrev pub slot_of : ℕ → ℕ → ℕ → ℕ → ℕ
-slot_of shapes place src dst =
-    place * (4096 / shapes) + mixed_of src dst * (4096 / shapes) / 2 ^ 32
+slot_of shapes place src dst = place * (4096 / shapes) + mixed_of src dst * (4096 / shapes) / 2 ^ 32
 
 abbrev pub slot_of_row : List Shape → Row → ℕ
 slot_of_row shapes row =

@@ -47,8 +47,7 @@ begins_with word _ = false
 -- the part of the text after the word and a blank, if it begins with them
 abbrev pub IsRestAfter : List ℕ → List ℕ → Option (Bor (List ℕ)) → Type 0
 IsRestAfter word text after = MatchOption after
-    (begins_with word (words_of text) ≡ false)
-    (λ rest. words_of text ≡ word ∷ words_of rest.now)
+    (begins_with word (words_of text) ≡ false) (λ rest. words_of text ≡ word ∷ words_of rest.now)
 
 -- the first word is this one and was taken, and more words follow
 abbrev pub IsWordTaken : List ℕ → List (List ℕ) → List (List ℕ) → Type 0

@@ -3,8 +3,7 @@ use Rattle.std.proofs.Common.{[], ◌++◌, ◌∷◌, ◌≡◌, None, refl, su
 use Rattle.travelling.specs.Travelling.{Flights, flight}
 
 -- an empty slot behind the others says nothing
-pub pushed_same : (slots : Flights) (i : ℕ)
-    → flight (slots ++ None ∷ []) i ≡ flight slots i
+pub pushed_same : (slots : Flights) (i : ℕ) → flight (slots ++ None ∷ []) i ≡ flight slots i
 pushed_same [] zero = refl
 pushed_same [] (suc i) = refl
 pushed_same (slot ∷ slots) zero = refl

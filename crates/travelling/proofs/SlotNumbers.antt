@@ -18,11 +18,9 @@ none_between test from (suc more) none =
     ∙ none_between test from more (λ i above below. none i above (omega (arith, below)))
 
 -- those that pass, first below a number and then from it on
-pub filter_on : (test : ℕ → Bool) (from more : ℕ)
-    → filter test (range_with_len 0 (from + more))
+pub filter_on : (test : ℕ → Bool) (from more : ℕ) → filter test (range_with_len 0 (from + more))
     ≡ filter test (range_with_len 0 from) ++ filter test (range_with_len from more)
-filter_on test from zero =
-    ap (λ k. filter test (range_with_len 0 k)) (omega arith)
+filter_on test from zero = ap (λ k. filter test (range_with_len 0 k)) (omega arith)
     ∙ sym (append-nil (filter test (range_with_len 0 from)))
 filter_on test from (suc more) =
     let next : ◌≡◌ {A = ℕ} (from + suc more) (from + more + 1) = omega arith in

@@ -37,25 +37,21 @@ room_on before after masks more n room few grown new i below = by_place (cases_l
     by_place (inr high) = omega (arith, few, below, high, new)
 
 -- a packet that travels has a slot
-pub within_some : (slots : Flights) (i : ℕ) → is_some (flight slots i) ≡ true
-    → i < length slots
-within_some slots i is = by_place (cases_lt i (length slots))
-  where
-    by_place : (i < length slots) ⊎ (length slots ≤ i) → i < length slots
-    by_place (inl below) = below
-    by_place (inr past) = absurd (
-        let no : is_some (flight slots i) ≡ false = ap is_some (get_or_past slots i None past) in
-        cc
-        )
+pub within_some : (slots : Flights) (i : ℕ) → is_some (flight slots i) ≡ true → i < length slots
+within_some slots i is = by_place (cases_lt i (length slots)) where
+  by_place : (i < length slots) ⊎ (length slots ≤ i) → i < length slots
+  by_place (inl below) = below
+  by_place (inr past) = absurd (
+      let no : is_some (flight slots i) ≡ false = ap is_some (get_or_past slots i None past) in
+      cc
+      )
 
 pub within_and : (P : Flight → Type 0) (slots : Flights) (i : ℕ)
     → IsSomeAnd (flight slots i) P → i < length slots
-within_and P slots i is = by_place (cases_lt i (length slots))
-  where
-    by_place : (i < length slots) ⊎ (length slots ≤ i) → i < length slots
-    by_place (inl below) = below
-    by_place (inr past) =
-        absurd (subst (λ o. IsSomeAnd o P) (get_or_past slots i None past) is)
+within_and P slots i is = by_place (cases_lt i (length slots)) where
+  by_place : (i < length slots) ⊎ (length slots ≤ i) → i < length slots
+  by_place (inl below) = below
+  by_place (inr past) = absurd (subst (λ o. IsSomeAnd o P) (get_or_past slots i None past) is)
 
 -- ---- one mark turns
 
@@ -74,11 +70,10 @@ place_apart : (a b s t : ℕ) → s < 64 → t < 64 → a * 64 + s ≡ b * 64 + 
 place_apart a b s t s_below t_below e = (omega (arith, e), omega (arith, e))
 
 cases_eq : (a b : ℕ) → (a ≡ b) ⊎ (a ≢ b)
-cases_eq a b = by_test (a == b) refl
-  where
-    by_test : (c : Bool) → (a == b) ≡ c → (a ≡ b) ⊎ (a ≢ b)
-    by_test true e = inl (eqb-true a b e)
-    by_test false e = inr (λ same. absurd (let yes : (a == b) ≡ true = eq-eqb a b same in cc))
+cases_eq a b = by_test (a == b) refl where
+  by_test : (c : Bool) → (a == b) ≡ c → (a ≡ b) ⊎ (a ≢ b)
+  by_test true e = inl (eqb-true a b e)
+  by_test false e = inr (λ same. absurd (let yes : (a == b) ≡ true = eq-eqb a b same in cc))
 
 module _ (masks : List ℕ) (n t : ℕ) (t_below : t < 64)
     (there : n / 64 * 64 + t < length masks) where
@@ -105,26 +100,23 @@ module _ (masks : List ℕ) (n t : ℕ) (t_below : t < 64)
       ∙ has-xor_same (get_or masks (i / 64 * 64 + s) 0) (i % 64)
 
   turns_none : (i s : ℕ) → s < 64 → (i ≡ n → t ≢ s) → Turns i s false
-  turns_none i s below other = by_place (cases_eq (i / 64 * 64 + s) p)
-    where
-      by_place : (i / 64 * 64 + s ≡ p) ⊎ (i / 64 * 64 + s ≢ p) → Turns i s false
-      by_place (inl e) =
-          let both = place_apart (i / 64) (n / 64) s t below t_below e in
-          ap (λ m. has m (i % 64)) (same_mask i s e)
-          ∙ has-xor_other (get_or masks (i / 64 * 64 + s) 0) (n % 64) (i % 64)
-          (λ low. other (parts_same i n both.0 low) (sym both.1))
-      by_place (inr apart) = ap (λ m. has m (i % 64)) (get_or-set_other masks p
-          (i / 64 * 64 + s) (bit_xor (get_or masks p 0) (2 ^ (n % 64))) 0 apart)
+  turns_none i s below other = by_place (cases_eq (i / 64 * 64 + s) p) where
+    by_place : (i / 64 * 64 + s ≡ p) ⊎ (i / 64 * 64 + s ≢ p) → Turns i s false
+    by_place (inl e) = let both = place_apart (i / 64) (n / 64) s t below t_below e in
+        ap (λ m. has m (i % 64)) (same_mask i s e)
+        ∙ has-xor_other (get_or masks (i / 64 * 64 + s) 0) (n % 64) (i % 64)
+        (λ low. other (parts_same i n both.0 low) (sym both.1))
+    by_place (inr apart) = ap (λ m. has m (i % 64)) (get_or-set_other masks p
+        (i / 64 * 64 + s) (bit_xor (get_or masks p 0) (2 ^ (n % 64))) 0 apart)
 
   pub turns : (i s : ℕ) → s < 64 → Turns i s (i == n && t == s)
-  turns i s below = by_tests (i == n) (t == s) refl refl
-    where
-      by_tests : (a b : Bool) → (i == n) ≡ a → (t == s) ≡ b → Turns i s (a && b)
-      by_tests true true same at = turns_one i s (eqb-true i n same) (eqb-true t s at)
-      by_tests true false same at =
-          turns_none i s below (λ _ e. absurd (let yes : (t == s) ≡ true = eq-eqb t s e in cc))
-      by_tests false b same at = turns_none i s below
-          (λ e. absurd (let yes : (i == n) ≡ true = eq-eqb i n e in cc))
+  turns i s below = by_tests (i == n) (t == s) refl refl where
+    by_tests : (a b : Bool) → (i == n) ≡ a → (t == s) ≡ b → Turns i s (a && b)
+    by_tests true true same at = turns_one i s (eqb-true i n same) (eqb-true t s at)
+    by_tests true false same at =
+        turns_none i s below (λ _ e. absurd (let yes : (t == s) ≡ true = eq-eqb t s e in cc))
+    by_tests false b same at = turns_none i s below
+        (λ e. absurd (let yes : (i == n) ≡ true = eq-eqb i n e in cc))
 
   abbrev old : ℕ
   old = get_or masks p 0
@@ -158,20 +150,19 @@ module _ (masks : List ℕ) (n t : ℕ) (t_below : t < 64)
       ∙ unchanged (not (beq (old == 0) (new == 0))) (has_marks masks block s)
 
   pub changes : (block s : ℕ) → s < 64 → Changes block s (block == n / 64 && t == s)
-  changes block s below = by_tests (block == n / 64) (t == s) refl refl
-    where
-      at : block ≡ n / 64 → t ≡ s → block * 64 + s ≡ p
-      at same here = ap (λ b. b * 64 + s) same ∙ ap (λ u. n / 64 * 64 + u) (sym here)
+  changes block s below = by_tests (block == n / 64) (t == s) refl refl where
+    at : block ≡ n / 64 → t ≡ s → block * 64 + s ≡ p
+    at same here = ap (λ b. b * 64 + s) same ∙ ap (λ u. n / 64 * 64 + u) (sym here)
 
-      by_tests : (a b : Bool) → (block == n / 64) ≡ a → (t == s) ≡ b → Changes block s (a && b)
-      by_tests true true same here =
-          changes_one block s (at (eqb-true block (n / 64) same) (eqb-true t s here))
-      by_tests true false same here = changes_none block s (λ e. absurd (
-          let is = sym (place_apart block (n / 64) s t below t_below e).1 in
-          let clash : (t == s) ≡ true = eq-eqb t s is in cc))
-      by_tests false b same here = changes_none block s (λ e. absurd (
-          let is = (place_apart block (n / 64) s t below t_below e).0 in
-          let clash : (block == n / 64) ≡ true = eq-eqb block (n / 64) is in cc))
+    by_tests : (a b : Bool) → (block == n / 64) ≡ a → (t == s) ≡ b → Changes block s (a && b)
+    by_tests true true same here =
+        changes_one block s (at (eqb-true block (n / 64) same) (eqb-true t s here))
+    by_tests true false same here = changes_none block s (λ e. absurd (
+        let is = sym (place_apart block (n / 64) s t below t_below e).1 in
+        let clash : (t == s) ≡ true = eq-eqb t s is in cc))
+    by_tests false b same here = changes_none block s (λ e. absurd (
+        let is = (place_apart block (n / 64) s t below t_below e).0 in
+        let clash : (block == n / 64) ≡ true = eq-eqb block (n / 64) is in cc))
 
 -- ---- the next mark
 
@@ -184,8 +175,7 @@ module _ (masks : List ℕ) (s next : ℕ) where
   rest = get_or masks (next / 64 * 64 + s) 0 / 2 ^ (next % 64)
 
   pub rest_below : get_or masks (next / 64 * 64 + s) 0 < 2 ^ 64 → rest < 2 ^ 64
-  rest_below fits =
-      let less = shr_le (get_or masks (next / 64 * 64 + s) 0) (next % 64) in
+  rest_below fits = let less = shr_le (get_or masks (next / 64 * 64 + s) 0) (next % 64) in
       omega (arith, fits, less)
 
   -- a packet of the same block
@@ -206,31 +196,27 @@ module _ (masks : List ℕ) (s next : ℕ) where
   pub none_past : length masks ≤ next / 64 * 64 + s → (i : ℕ) → next ≤ i
       → is_marked masks i s ≡ false
   none_past past i above =
-      ap (λ m. has m (i % 64))
-      (get_or_past masks (i / 64 * 64 + s) 0 (omega (arith, past, above)))
+      ap (λ m. has m (i % 64)) (get_or_past masks (i / 64 * 64 + s) 0 (omega (arith, past, above)))
       ∙ has-zero (i % 64)
 
   module _ (some : 0 < rest) (fits : get_or masks (next / 64 * 64 + s) 0 < 2 ^ 64)
       (rest_fits : rest < 2 ^ 64) where
     within : next % 64 + least_in rest < 64
-    within = by_place (cases_lt (next % 64 + least_in rest) 64)
-      where
-        by_place : (next % 64 + least_in rest < 64) ⊎ (64 ≤ next % 64 + least_in rest)
-            → next % 64 + least_in rest < 64
-        by_place (inl below) = below
-        by_place (inr past) = absurd (
-            let yes = sym (has-shr (get_or masks (next / 64 * 64 + s) 0) (next % 64) (least_in rest))
-            ∙ has_least rest some rest_fits in
-            let no = has_above (get_or masks (next / 64 * 64 + s) 0) (next % 64 + least_in rest) fits past in
-            cc)
+    within = by_place (cases_lt (next % 64 + least_in rest) 64) where
+      by_place : (next % 64 + least_in rest < 64) ⊎ (64 ≤ next % 64 + least_in rest)
+          → next % 64 + least_in rest < 64
+      by_place (inl below) = below
+      by_place (inr past) = absurd (
+          let yes = sym (has-shr (get_or masks (next / 64 * 64 + s) 0) (next % 64) (least_in rest))
+          ∙ has_least rest some rest_fits in
+          let no = has_above (get_or masks (next / 64 * 64 + s) 0) (next % 64 + least_in rest) fits past in
+          cc)
 
     pub least_marked : is_marked masks (next + least_in rest) s ≡ true
-    least_marked =
-        in_block (next + least_in rest) (omega arith) (omega (arith, within))
+    least_marked = in_block (next + least_in rest) (omega arith) (omega (arith, within))
         ∙ ap (has rest) (let e : next + least_in rest - next ≡ least_in rest = omega arith in e)
         ∙ has_least rest some rest_fits
 
     pub none_before : (i : ℕ) → next ≤ i → i < next + least_in rest → is_marked masks i s ≡ false
-    none_before i above below =
-        in_block i above (omega (arith, within, below))
+    none_before i above below = in_block i above (omega (arith, within, below))
         ∙ least_below rest some rest_fits (i - next) (omega (arith, above, below))

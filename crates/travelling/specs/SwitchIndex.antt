@@ -20,8 +20,7 @@ flipped_if turns was = if turns then not was else was
 
 -- no number from one up to another is marked at the switch
 abbrev pub IsNoneMarked : List ℕ → ℕ → ℕ → ℕ → Type 0
-IsNoneMarked masks switch from end =
-    (i : ℕ) → from ≤ i → i < end → is_marked masks i switch ≡ false
+IsNoneMarked masks switch from end = (i : ℕ) → from ≤ i → i < end → is_marked masks i switch ≡ false
 
 -- the least number at or above `from` that is marked at the switch
 abbrev pub IsLeastMarked : List ℕ → ℕ → ℕ → ℕ → Type 0

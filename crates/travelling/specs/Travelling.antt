@@ -135,8 +135,7 @@ AreMarked flights by_switch =
 
 -- packets are only at switches below 64
 abbrev pub StandBelow : Flights → Type 0
-StandBelow flights =
-    (i s : ℕ) → 64 ≤ s → stands_at s (flight flights i) ≡ false
+StandBelow flights = (i s : ℕ) → 64 ≤ s → stands_at s (flight flights i) ≡ false
 
 -- numbers have 32 bits, no packet below the first one travels, and packets are marked where they
 -- are

@@ -8,17 +8,16 @@ use Rattle.tunnel.specs.Tunnel.{TunnelValue}
 
 -- at the beginning of its route
 abbrev pub tunnel_begun : ℕ → Header → ℕ → Leg → List ℕ → List ℕ → List ℕ → TunnelValue
-tunnel_begun packet header ingress leg targets route down =
-    record {
-      packet = packet;
-      header = header;
-      ingress = ingress;
-      leg = leg;
-      targets = targets;
-      route = route;
-      place = 0;
-      down = down;
-    }
+tunnel_begun packet header ingress leg targets route down = record {
+  packet = packet;
+  header = header;
+  ingress = ingress;
+  leg = leg;
+  targets = targets;
+  route = route;
+  place = 0;
+  down = down;
+}
 
 -- the switch where it is
 abbrev pub here : TunnelValue → ℕ

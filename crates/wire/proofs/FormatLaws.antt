@@ -30,11 +30,10 @@ pub AreBytes-drop : (n : ℕ) (bytes : List ℕ) → AreBytes bytes → AreBytes
 AreBytes-drop n bytes h i = rw get_or-drop (h (n + i))
 
 pub AreBytes-take : (n : ℕ) (bytes : List ℕ) → AreBytes bytes → AreBytes (take n bytes)
-AreBytes-take n bytes h i =
-    elim (cases_lt i n) [
-      | inl lt ↦ rw (get_or-take n bytes i 0 lt) (h i)
-      | inr le ↦ rw (get_or_past (take n bytes) i 0 (omega (arith, length-take n bytes))) (omega arith)
-    ]
+AreBytes-take n bytes h i = elim (cases_lt i n) [
+  | inl lt ↦ rw (get_or-take n bytes i 0 lt) (h i)
+  | inr le ↦ rw (get_or_past (take n bytes) i 0 (omega (arith, length-take n bytes))) (omega arith)
+]
 
 -- ---- numbers
 
@@ -48,8 +47,7 @@ be_bytes_1 : (bytes : List ℕ) → length bytes ≡ 1 → AreBytes bytes → to
 be_bytes_1 [] len are = absurd (omega arith)
 be_bytes_1 (b ∷ []) len are =
     let byte : b < 256 = are 0 in
-    let same : b % 256 ≡ b = omega arith in
-    rw same refl
+    let same : b % 256 ≡ b = omega arith in rw same refl
 be_bytes_1 (b ∷ c ∷ bytes) len are = absurd (omega (arith, len))
 
 wide8 : IsWide w8 (2 ^ 8)
@@ -132,8 +130,7 @@ pub ◌⊠◌ : {A B : Type 0} {f : Format A} {g : Format B} → IsLawful f → 
         rest_are = second.rest_are;
       } in
       subst (λ (p : (A × B) × List ℕ). Takes (f ⊗ g) p.0 bytes p.1) (same_Some _ _ d.2) whole;
-  again = λ x rest fits.
-      let both = and_parts (f.fits x.0) (g.fits x.1) fits in
+  again = λ x rest fits. let both = and_parts (f.fits x.0) (g.fits x.1) fits in
       rw (append_assoc (f.spell x.0) (g.spell x.1) rest, lf.again x.0 (g.spell x.1 ++ rest) both.0, lg.again x.1 rest both.1) refl;
 }
 
@@ -166,8 +163,7 @@ such_that_lawful {A = A} {f = f} test lf = record {
         rest_are = t.rest_are;
       } in
       subst (λ (p : A × List ℕ). Takes (such_that test f) p.0 bytes p.1) g.1 whole;
-  again = λ x rest fits.
-      let both = and_parts (f.fits x) (test x) fits in
+  again = λ x rest fits. let both = and_parts (f.fits x) (test x) fits in
       rw (lf.again x rest both.0, both.1) refl;
 }
 
@@ -249,8 +245,7 @@ items_again : {A : Type 0} (f : Format A) → IsLawful f → (xs : List A) (rest
     → list_all f.fits xs ≡ true → read_items f (length xs) (flat_map f.spell xs ++ rest) ≡ Some (xs, rest)
 unfolding read_items
 items_again f lf [] rest fit = refl
-items_again f lf (x ∷ xs) rest fit =
-    let both = and_parts (f.fits x) (list_all f.fits xs) fit in
+items_again f lf (x ∷ xs) rest fit = let both = and_parts (f.fits x) (list_all f.fits xs) fit in
     rw (append_assoc (f.spell x) (flat_map f.spell xs) rest, lf.again x (flat_map f.spell xs ++ rest) both.0, items_again f lf xs rest both.1) refl
 
 pub list_lawful : {A : Type 0} {count : Format ℕ} {f : Format A} → IsLawful count → IsLawful f → IsLawful (list_of count f)
@@ -258,14 +253,12 @@ list_lawful {count = count} {f = f} lcount lf = record {
   takes = λ bytes xs rest are e.
       let b = then_some (count.read bytes) (λ n. read_items f n.0 n.1) (xs, rest) e in
       let n = lcount.takes bytes b.0.0 b.0.1 are b.1 in
-      let t = items_take f lf b.0.0 b.0.1 xs rest n.rest_are b.2 in
-      record {
+      let t = items_take f lf b.0.0 b.0.1 xs rest n.rest_are b.2 in record {
         fits = rw (t.count_is, n.fits, t.fit) refl;
         parts = n.parts ∙ ap (λ u. count.spell b.0.0 ++ u) t.parts ∙ sym (append_assoc (count.spell b.0.0) (flat_map f.spell xs) rest)
             ∙ ap (λ k. (count.spell k ++ flat_map f.spell xs) ++ rest) (sym t.count_is);
         rest_are = t.rest_are;
       };
-  again = λ xs rest fits.
-      let both = and_parts (count.fits (length xs)) (list_all f.fits xs) fits in
+  again = λ xs rest fits. let both = and_parts (count.fits (length xs)) (list_all f.fits xs) fits in
       rw (append_assoc (count.spell (length xs)) (flat_map f.spell xs) rest, lcount.again (length xs) (flat_map f.spell xs ++ rest) both.0, items_again f lf xs rest both.1) refl;
 }

@@ -18,20 +18,17 @@ joined parts = flat_map (λ part. part) parts
 slices_front : (count n : ℕ) (bytes : List ℕ) → joined (equal_chunks count n bytes)
     ≡ take (count * n) bytes
 slices_front zero n bytes = rw zero-mul refl
-slices_front (suc count) n bytes =
-    let size : suc count * n ≡ n + count * n = grind arith in
+slices_front (suc count) n bytes = let size : suc count * n ≡ n + count * n = grind arith in
     rw (size, take-add n (count * n) bytes, slices_front count n (drop n bytes)) refl
 
 pub cut_all : (head : ℕ) (bytes : List ℕ) → joined (chunks_behind_head head bytes) ≡ bytes
 cut_all head bytes =
     let rest = drop head bytes in
     let count = div_ceil (length bytes - head) most_of_chunk in
-    let enough : length rest ≤ count * most_of_chunk =
-    omega (
+    let enough : length rest ≤ count * most_of_chunk = omega (
       arith,
       length-drop head bytes,
-      (div_ceil_times (length bytes - head) most_of_chunk
-          (omega arith)).0,
+      (div_ceil_times (length bytes - head) most_of_chunk (omega arith)).0,
     ) in
     rw (slices_front count most_of_chunk rest, take_all (count * most_of_chunk) rest enough)
     (take-append-drop head bytes)
@@ -46,8 +43,7 @@ pub rising_few : (from count : ℕ) (fs : List (List ℕ)) → AreRising from co
 rising_few from count [] rising = omega arith
 rising_few from count (f ∷ fs) rising =
     let others = rising_few (place_in_frame f + 1) count fs rising.2 in
-    let below = rising.1.below in
-    omega (arith, rising.0)
+    let below = rising.1.below in omega (arith, rising.0)
 
 -- as many as the count are those of their chunks
 pub framed_again : (from count : ℕ) (fs : List (List ℕ)) → AreRising from count fs → length fs + from ≡ count
@@ -86,8 +82,7 @@ pub frames_by : (m : Message) (bytes : List ℕ) (fs : List (List ℕ)) → AreR
 frames_by m bytes fs rising spelled are_cut =
     let parts : map chunk_of fs ≡ chunks m = are_cut
     ∙ ap (λ bytes. chunks_behind_head (head_len m.body bytes) bytes) spelled.spelled in
-    let len : length fs ≡ length (map chunk_of fs) = sym (length-map fs chunk_of) in
-    record {
+    let len : length fs ≡ length (map chunk_of fs) = sym (length-map fs chunk_of) in record {
       fits = spelled.fits;
       frames_are = framed_again 0 (length fs) fs rising (omega arith)
           ∙ ap (λ k. frames_from 0 k (map chunk_of fs)) len ∙ ap frames_of parts;
@@ -95,9 +90,8 @@ frames_by m bytes fs rising spelled are_cut =
 
 -- frames of another cut are those of no message
 pub none_by : (m : Message) (bytes : List ℕ) (fs : List (List ℕ)) → bytes ≡ flat_map chunk_of fs
-    → IsSpelling m bytes
-    → (map chunk_of fs ≡ chunks_behind_head (head_len m.body bytes) bytes → ⊥) → (other : Message)
-    → AreFrames other fs → ⊥
+    → IsSpelling m bytes → (map chunk_of fs ≡ chunks_behind_head (head_len m.body bytes) bytes → ⊥)
+    → (other : Message) → AreFrames other fs → ⊥
 none_by m bytes fs joined spelled not_cut other are =
     let same : other ≡ m = one_message bytes other m (subst (IsSpelling other) (sym joined) (spelled_by other fs are)) spelled in
     let are_of : AreFrames m fs = subst (λ n. AreFrames n fs) same are in
@@ -105,9 +99,8 @@ none_by m bytes fs joined spelled not_cut other are =
     bytes) (sym spelled.spelled))
 
 -- frames whose chunks spell no message are those of none
-pub none_spelled : (fs : List (List ℕ)) (bytes : List ℕ) (error : Failure Malformed) → bytes
-    ≡ flat_map chunk_of fs
-    → IfRefused (λ _. (m : Message) → IsSpelling m bytes → ⊥) error
+pub none_spelled : (fs : List (List ℕ)) (bytes : List ℕ) (error : Failure Malformed)
+    → bytes ≡ flat_map chunk_of fs → IfRefused (λ _. (m : Message) → IsSpelling m bytes → ⊥) error
     → IfRefused (λ _. AreNone fs (length fs)) error
 none_spelled fs bytes error are =
     IfRefused-weaker (λ _. (m : Message) → IsSpelling m bytes → ⊥) (λ _. AreNone fs (length fs))

@@ -11,15 +11,13 @@ length_n4 n = refl
 pub length_frame : (place count : ℕ) (chunk : List ℕ) → length (frame place count chunk)
     ≡ 8 + length chunk
 unfolding frame
-length_frame place count chunk =
-    omega (
-      arith,
-      length-append (n4.spell place ++ n4.spell count) chunk,
-      length-append
-          (n4.spell place) (n4.spell count),
-      length_n4 place,
-      length_n4 count,
-    )
+length_frame place count chunk = omega (
+  arith,
+  length-append (n4.spell place ++ n4.spell count) chunk,
+  length-append (n4.spell place) (n4.spell count),
+  length_n4 place,
+  length_n4 count,
+)
 
 -- as the place, and what follows it
 regroup : (place count : ℕ) (chunk : List ℕ) → frame place count chunk ≡ n4.spell place
@@ -29,9 +27,8 @@ regroup place count chunk = append_assoc (n4.spell place) (n4.spell count) chunk
 
 behind : (place count : ℕ) (chunk : List ℕ) → drop 4 (frame place count chunk) ≡ n4.spell count
     ++ chunk
-behind place count chunk =
-    ap (drop 4) (regroup place count chunk) ∙ drop_at (n4.spell place) (n4.spell count ++ chunk) 4
-    (length_n4 place)
+behind place count chunk = ap (drop 4) (regroup place count chunk)
+    ∙ drop_at (n4.spell place) (n4.spell count ++ chunk) 4 (length_n4 place)
 
 n4_back : (n : ℕ) → n < 2 ^ 32 → from_be_bytes w32 (n4.spell n) ≡ n
 unfolding n4 spelled_number
@@ -42,17 +39,15 @@ pub place_of_frame : (place count : ℕ) (chunk : List ℕ) → place < 2 ^ 32
 unfolding place_in_frame
 place_of_frame place count chunk lt =
     ap (λ bytes. from_be_bytes w32 (take 4 bytes)) (regroup place count chunk)
-    ∙ ap (from_be_bytes w32) (take_at (n4.spell place) (n4.spell count ++ chunk) 4
-    (length_n4 place))
-    ∙ n4_back place lt
+    ∙ ap (from_be_bytes w32)
+    (take_at (n4.spell place) (n4.spell count ++ chunk) 4 (length_n4 place)) ∙ n4_back place lt
 
 pub count_of_frame : (place count : ℕ) (chunk : List ℕ) → count < 2 ^ 32
     → count_in_frame (frame place count chunk) ≡ count
 unfolding count_in_frame
 count_of_frame place count chunk lt =
     ap (λ bytes. from_be_bytes w32 (take 4 bytes)) (behind place count chunk)
-    ∙ ap (from_be_bytes w32) (take_at (n4.spell count) chunk 4 (length_n4 count))
-    ∙ n4_back count lt
+    ∙ ap (from_be_bytes w32) (take_at (n4.spell count) chunk 4 (length_n4 count)) ∙ n4_back count lt
 
 pub chunk_of_frame : (place count : ℕ) (chunk : List ℕ) → chunk_of (frame place count chunk) ≡ chunk
 unfolding frame

@@ -37,36 +37,31 @@ first_is g f gs place same e =
     same_Some g f (sym is ∙ e)
 
 other_than : (g : List ℕ) (gs : List (List ℕ)) (place : ℕ) → place ≤ place_in_frame g → held_at (g ∷ gs) place ≡ None → place < place_in_frame g
-other_than g gs place le none =
-    elim (cases_lt place (place_in_frame g)) [
-      | inl lt ↦ lt
-      | inr ge ↦
-          let same : place_in_frame g ≡ place = omega arith in
-          let is : held_at (g ∷ gs) place ≡ Some g = rw (same, same_place place) refl in
-          absurd (none_is_not g (sym none ∙ is))
-    ]
+other_than g gs place le none = elim (cases_lt place (place_in_frame g)) [
+  | inl lt ↦ lt
+  | inr ge ↦ let same : place_in_frame g ≡ place = omega arith in
+      let is : held_at (g ∷ gs) place ≡ Some g = rw (same, same_place place) refl in
+      absurd (none_is_not g (sym none ∙ is))
+]
 
 -- ---- frames behind a place
 
 -- no frame stands at a lower place
 pub none_below : (from count : ℕ) (fs : List (List ℕ)) (place : ℕ) → AreRising from count fs → place < from → held_at fs place ≡ None
 none_below from count [] place rising lt = refl
-none_below from count (f ∷ fs) place rising lt =
-    let le = rising.0 in
+none_below from count (f ∷ fs) place rising lt = let le = rising.0 in
     rw (later_place (place_in_frame f) place (omega arith)) (none_below (place_in_frame f + 1) count fs place rising.2 (omega arith))
 
 pub none_lower : (from count : ℕ) (fs : List (List ℕ)) (place : ℕ) → AreRising from count fs → place < from
     → filter (λ g. ltb (place_in_frame g) place) fs ≡ []
 none_lower from count [] place rising lt = refl
-none_lower from count (f ∷ fs) place rising lt =
-    let le = rising.0 in
+none_lower from count (f ∷ fs) place rising lt = let le = rising.0 in
     rw (not_below (place_in_frame f) place (omega arith)) (none_lower (place_in_frame f + 1) count fs place rising.2 (omega arith))
 
 pub all_higher : (from count : ℕ) (fs : List (List ℕ)) (place : ℕ) → AreRising from count fs → place < from
     → filter (λ g. ltb place (place_in_frame g)) fs ≡ fs
 all_higher from count [] place rising lt = refl
-all_higher from count (f ∷ fs) place rising lt =
-    let le = rising.0 in
+all_higher from count (f ∷ fs) place rising lt = let le = rising.0 in
     rw (lt-ltb place (place_in_frame f) (omega arith))
     (ap (λ gs. f ∷ gs) (all_higher (place_in_frame f + 1) count fs place rising.2 (omega arith)))
 
@@ -77,11 +72,10 @@ step_held f fs place lt = rw (other_place (place_in_frame f) place lt) refl
 
 enough : (from count : ℕ) (fs : List (List ℕ)) → AreRising from count fs
     → ((place : ℕ) → from ≤ place → place < count → IsSome (held_at fs place)) → count - from ≤ length fs
-enough from count [] rising held =
-    elim (cases_lt from count) [
-      | inl lt ↦ absurd (none_is_not_some (held_at [] from) refl (held from (omega arith) lt))
-      | inr le ↦ omega arith
-    ]
+enough from count [] rising held = elim (cases_lt from count) [
+  | inl lt ↦ absurd (none_is_not_some (held_at [] from) refl (held from (omega arith) lt))
+  | inr le ↦ omega arith
+]
 enough from count (f ∷ fs) rising held =
     let le = rising.0 in
     let below = rising.1.below in
@@ -89,8 +83,7 @@ enough from count (f ∷ fs) rising held =
       | inl lt ↦
           let none : held_at (f ∷ fs) from ≡ None = none_below (place_in_frame f) count (f ∷ fs) from (omega arith, rising.1, rising.2) lt in
           absurd (none_is_not_some (held_at (f ∷ fs) from) none (held from (omega arith) (omega arith)))
-      | inr ge ↦
-          let here : place_in_frame f ≡ from = omega arith in
+      | inr ge ↦ let here : place_in_frame f ≡ from = omega arith in
           let others = enough (place_in_frame f + 1) count fs rising.2
           (λ place le2 lt2. subst IsSome (step_held f fs place (omega arith)) (held place (omega arith) lt2)) in
           omega arith
@@ -105,11 +98,9 @@ all_there from count (f ∷ fs) rising all place le lt =
     let below = rising.1.below in
     let here : place_in_frame f ≡ from = omega arith in
     elim (cases_lt from place) [
-      | inl behind ↦
-          subst IsSome (sym (step_held f fs place (omega arith)))
+      | inl behind ↦ subst IsSome (sym (step_held f fs place (omega arith)))
           (all_there (place_in_frame f + 1) count fs rising.2 (omega arith) place (omega arith) lt)
-      | inr ge ↦
-          let at : place ≡ place_in_frame f = omega arith in
+      | inr ge ↦ let at : place ≡ place_in_frame f = omega arith in
           rw (at, same_place (place_in_frame f)) refl
     ]
 
@@ -119,36 +110,33 @@ all_held count fs rising all place lt = all_there 0 count fs rising (omega arith
 pub held_all : (count : ℕ) (fs : List (List ℕ)) → AreRising 0 count fs → AreAllHeld fs count → length fs ≡ count
 held_all count fs rising held =
     let few = rising_few 0 count fs rising in
-    let many = enough 0 count fs rising (λ place le lt. held place lt) in
-    omega arith
+    let many = enough 0 count fs rising (λ place le lt. held place lt) in omega arith
 
 -- ---- a frame that is held already
 
 pub held_above : (from count : ℕ) (fs : List (List ℕ)) (place : ℕ) (f : List ℕ) → AreRising from count fs
     → held_at fs place ≡ Some f → from ≤ place
-held_above from count fs place f rising at =
-    elim (cases_lt place from) [
-      | inl lt ↦ absurd (none_is_not f (sym (none_below from count fs place rising lt) ∙ at))
-      | inr le ↦ le
-    ]
+held_above from count fs place f rising at = elim (cases_lt place from) [
+  | inl lt ↦ absurd (none_is_not f (sym (none_below from count fs place rising lt) ∙ at))
+  | inr le ↦ le
+]
 
 pub held_stays : (from count : ℕ) (fs : List (List ℕ)) (f : List ℕ) → AreRising from count fs → held_at fs (place_in_frame f) ≡ Some f → with_frame fs f ≡ fs
 held_stays from count [] f rising e = absurd (none_is_not f e)
-held_stays from count (g ∷ gs) f rising e =
-    elim (cases_lt (place_in_frame g) (place_in_frame f)) [
-      | inl lt ↦
-          let rest = held_stays (place_in_frame g + 1) count gs f rising.2 (sym (step_held g gs (place_in_frame f) lt) ∙ e) in
-          rw (lt-ltb _ _ lt, not_below (place_in_frame f) (place_in_frame g) (omega arith)) (ap (λ hs. g ∷ hs) rest)
-      | inr ge ↦
-          let le = held_above (place_in_frame g) count (g ∷ gs) (place_in_frame f) f (omega arith, rising.1, rising.2) e in
-          let is : g ≡ f = first_is g f gs (place_in_frame f) (omega arith) e in
-          rw (
-            not_below (place_in_frame g) (place_in_frame f) ge,
-            not_below (place_in_frame f) (place_in_frame g) le,
-            none_lower (place_in_frame g + 1) count gs (place_in_frame f) rising.2 (omega arith),
-            all_higher (place_in_frame g + 1) count gs (place_in_frame f) rising.2 (omega arith),
-          ) (ap (λ h. h ∷ gs) (sym is))
-    ]
+held_stays from count (g ∷ gs) f rising e = elim (cases_lt (place_in_frame g) (place_in_frame f)) [
+  | inl lt ↦
+      let rest = held_stays (place_in_frame g + 1) count gs f rising.2 (sym (step_held g gs (place_in_frame f) lt) ∙ e) in
+      rw (lt-ltb _ _ lt, not_below (place_in_frame f) (place_in_frame g) (omega arith)) (ap (λ hs. g ∷ hs) rest)
+  | inr ge ↦
+      let le = held_above (place_in_frame g) count (g ∷ gs) (place_in_frame f) f (omega arith, rising.1, rising.2) e in
+      let is : g ≡ f = first_is g f gs (place_in_frame f) (omega arith) e in
+      rw (
+        not_below (place_in_frame g) (place_in_frame f) ge,
+        not_below (place_in_frame f) (place_in_frame g) le,
+        none_lower (place_in_frame g + 1) count gs (place_in_frame f) rising.2 (omega arith),
+        all_higher (place_in_frame g + 1) count gs (place_in_frame f) rising.2 (omega arith),
+      ) (ap (λ h. h ∷ gs) (sym is))
+]
 
 -- ---- a frame of a new place
 
@@ -197,11 +185,10 @@ new_rises from count (g ∷ gs) f rising le of none =
 
 pub index_within : (fs : List (List ℕ)) (place : ℕ) → index_of fs place ≤ length fs
 index_within [] place = omega arith
-index_within (g ∷ gs) place =
-    elim (cases_lt (place_in_frame g) place) [
-      | inl lt ↦ let rest = index_within gs place in rw (no_bound (place_in_frame g) place lt) (omega arith)
-      | inr ge ↦ rw (a_bound (place_in_frame g) place ge) (omega arith)
-    ]
+index_within (g ∷ gs) place = elim (cases_lt (place_in_frame g) place) [
+  | inl lt ↦ let rest = index_within gs place in rw (no_bound (place_in_frame g) place lt) (omega arith)
+  | inr ge ↦ rw (a_bound (place_in_frame g) place ge) (omega arith)
+]
 
 -- ---- the count of held frames
 
@@ -211,13 +198,12 @@ rising_together count (f ∷ fs) rising = subst (λ n. AreRising 0 n (f ∷ fs))
 
 pub held_count : (from count : ℕ) (fs : List (List ℕ)) (place : ℕ) (g : List ℕ) → AreRising from count fs → held_at fs place ≡ Some g → count_in_frame g ≡ count
 held_count from count [] place g rising e = absurd (none_is_not g e)
-held_count from count (f ∷ fs) place g rising e =
-    elim (cases_eq (place_in_frame f) place) [
-      | inl same ↦ subst (λ h. count_in_frame h ≡ count) (first_is f g fs place same e) rising.1.count_is
-      | inr other ↦
-          let next : held_at (f ∷ fs) place ≡ held_at fs place = rw (ne_eqb (place_in_frame f) place other) refl in
-          held_count (place_in_frame f + 1) count fs place g rising.2 (sym next ∙ e)
-    ]
+held_count from count (f ∷ fs) place g rising e = elim (cases_eq (place_in_frame f) place) [
+  | inl same ↦ subst (λ h. count_in_frame h ≡ count) (first_is f g fs place same e) rising.1.count_is
+  | inr other ↦
+      let next : held_at (f ∷ fs) place ≡ held_at fs place = rw (ne_eqb (place_in_frame f) place other) refl in
+      held_count (place_in_frame f + 1) count fs place g rising.2 (sym next ∙ e)
+]
 
 pub agree_first : (fs : List (List ℕ)) (g : List ℕ) (count : ℕ) (b : Bool) → AreTogether fs → slice_get fs 0 ≡ Some g → b ≡ eqb (count_in_frame g) count → Agree fs count b
 agree_first [] g count b together e is = absurd (none_is_not g e)
@@ -270,8 +256,7 @@ index_found fs place index e =
 pub index_past : (fs : List (List ℕ)) (place : ℕ) → None ≡ position (λ g. leb place (place_in_frame g)) fs → length fs ≡ index_of fs place
 index_past fs place e =
     let past = ltb-false (index_of fs place) (length fs) (false_from_ne_true _ (λ t. none_is_not (index_of fs place) (e ∙ cond-true (ltb (index_of fs place) (length fs)) (Some (index_of fs place)) None t))) in
-    let within = index_within fs place in
-    omega arith
+    let within = index_within fs place in omega arith
 
 -- ---- what taking in a frame answers
 
@@ -321,18 +306,15 @@ fed held f after (Ok (Some m)) together joins rising answer is unchanged = recor
   message = subst (AreFrames m) (sym is) answer.1;
   unchanged = tt;
 }
-fed held f after (Err error) together joins rising answer is unchanged =
-    fed_err held f after error together
-    (IfRefused-weaker (λ _. AreNone (with_frame held f) (count_in_frame f))
-    (λ _. IsRefusedFrame held f)
-    (λ _ none. no_message (all_held (count_in_frame f) (with_frame held f) rising none.0) none.1)
-    error answer) unchanged
+fed held f after (Err error) together joins rising answer is unchanged = fed_err held f after error
+    together (IfRefused-weaker (λ _. AreNone (with_frame held f) (count_in_frame f))
+    (λ _. IsRefusedFrame held f) (λ _ none. no_message
+    (all_held (count_in_frame f) (with_frame held f) rising none.0) none.1) error answer) unchanged
 
 pub fed_held : (held : List (List ℕ)) (f : List ℕ) (result : Result (Option Message) (Failure Malformed))
     → AreTogether held → IsFrameCheck held f Held → IsAssembled held (count_in_frame f) result
     → IsFed held f held result
-fed_held held f result together check answer =
-    fed held f held result together check.0
+fed_held held f result together check answer = fed held f held result together check.0
     (subst (AreRising 0 (count_in_frame f)) (sym check.1) check.0.rising)
     (subst (λ fs. IsAssembled fs (count_in_frame f) result) (sym check.1) answer)
     (on_ok result (sym check.1)) (on_err result refl)
@@ -341,8 +323,7 @@ pub fed_new : (held : List (List ℕ)) (f : List ℕ) (index : ℕ) (after : Lis
     → AreTogether held → IsFrameCheck held f (New index)
     → IsAssembled (insert held index f) (count_in_frame f) result
     → OnOk result (after ≡ insert held index f) → OnErr result (after ≡ held) → IsFed held f after result
-fed_new held f index after result together check answer is unchanged =
-    fed held f after result together check.0
-    (subst (AreRising 0 (count_in_frame f)) (sym check.2) check.3)
+fed_new held f index after result together check answer is unchanged = fed held f after result
+    together check.0 (subst (AreRising 0 (count_in_frame f)) (sym check.2) check.3)
     (subst (λ fs. IsAssembled fs (count_in_frame f) result) (sym check.2) answer)
     (subst (λ fs. OnOk result (after ≡ fs)) (sym check.2) is) unchanged

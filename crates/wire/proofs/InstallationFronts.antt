@@ -48,8 +48,6 @@ front_found (Err error) bytes rest are gives = tt
 pub no_front : (r : Result (Place × ℕ) (Failure Malformed)) (bytes rest : List ℕ) → Gives (λ f. f) (read_front bytes) r rest
     → IfErr r (IfRefused (λ _. (to : Place) (boot : ℕ) → IsFront to boot bytes → ⊥))
 no_front (Ok f) bytes rest gives = tt
-no_front (Err error) bytes rest gives =
-    IfRefused-weaker (λ _. read_front bytes ≡ None)
-    (λ _. (to : Place) (boot : ℕ) → IsFront to boot bytes → ⊥)
-    (λ _ none to boot is. none_is_not ((to, boot), []) (sym none ∙ front_again bytes to boot is))
-    error gives
+no_front (Err error) bytes rest gives = IfRefused-weaker (λ _. read_front bytes ≡ None)
+    (λ _. (to : Place) (boot : ℕ) → IsFront to boot bytes → ⊥) (λ _ none to boot is. none_is_not
+    ((to, boot), []) (sym none ∙ front_again bytes to boot is)) error gives

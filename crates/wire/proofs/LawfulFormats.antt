@@ -28,8 +28,7 @@ halves_back p fits =
     let both = and_parts (n8.fits p.0) (n8.fits p.1) fits in
     let low : p.1 < 2 ^ 64 = ltb-true _ _ both.1 in
     let quotient : (p.0 * 2 ^ 64 + p.1) / 2 ^ 64 ≡ p.0 = omega arith in
-    let rest : (p.0 * 2 ^ 64 + p.1) % 2 ^ 64 ≡ p.1 = omega arith in
-    rw (quotient, rest) refl
+    let rest : (p.0 * 2 ^ 64 + p.1) % 2 ^ 64 ≡ p.1 = omega arith in rw (quotient, rest) refl
 
 n16_lawful : IsLawful n16
 unfolding n16
@@ -85,8 +84,7 @@ partition_lawful = as_type_lawful _ _ (λ p fits. refl) (λ part fits. refl) (n4
 
 tables_lawful : IsLawful tables
 unfolding tables
-tables_lawful =
-    as_type_lawful _ _ (λ p fits. refl) (λ t fits. refl)
+tables_lawful = as_type_lawful _ _ (λ p fits. refl) (λ t fits. refl)
     (n4_lawful ⊠ list_lawful n4_lawful region_lawful ⊠ list_lawful n4_lawful partition_lawful)
 
 -- ---- the receiver
@@ -98,8 +96,7 @@ receiver_takes bytes to rest are e =
     let t = n1_lawful.takes bytes b.0.0 b.0.1 are b.1 in
     let d = then_some (receiver_of b.0.0) (λ r. Some (r, b.0.1)) (to, rest) b.2 in
     let P : Place → Type 0 = λ r. Takes receiver r bytes b.0.1 in
-    let taken : Takes receiver d.0 bytes b.0.1 =
-    elim (cond_cases (eqb b.0.0 255) _ _ _ d.1) [
+    let taken : Takes receiver d.0 bytes b.0.1 = elim (cond_cases (eqb b.0.0 255) _ _ _ d.1) [
       | inl h ↦ subst P (same_Some _ _ h.1) (record { fits = refl; parts = t.parts ∙ ap (λ k. n1.spell k ++ b.0.1) (eqb-true _ _ h.0); rest_are = t.rest_are })
       | inr h ↦ elim (cond_cases (ltb b.0.0 64) _ _ _ h.1) [
         | inl k ↦ subst P (same_Some _ _ k.1) (record { fits = rw (t.fits, k.0) refl; parts = t.parts; rest_are = t.rest_are })
@@ -181,38 +178,32 @@ at_kind : (k kind : ℕ) (b : Body) (bytes rest : List ℕ) → eqb k kind ≡ t
 at_kind k kind b bytes rest e t = subst (λ n. TakesFields n b bytes rest) (sym (eqb-true k kind e)) t
 
 fields_take : (k : ℕ) (bytes : List ℕ) (b : Body) (rest : List ℕ) → AreBytes bytes → read_fields k bytes ≡ Some (b, rest) → TakesFields k b bytes rest
-fields_take k bytes b rest are e =
-    elim (cond_cases (eqb k 1) _ _ _ e) [
-      | inl h ↦ at_kind k 1 b bytes rest h.0 (kind_takes (λ p. Install p.0 p.1) install_form 1 (λ x. refl) (λ x. refl) (λ x. refl) install_lawful bytes b rest are h.1)
-      | inr g1 ↦ elim (cond_cases (eqb k 2) _ _ _ g1.1) [
-        | inl h ↦ at_kind k 2 b bytes rest h.0
-            (kind_takes (λ p. OpenAt p.0 p.1) boot_and_version 2 (λ x. refl) (λ x. refl) (λ x. refl)
-            of_version_lawful bytes b rest are h.1)
-        | inr g2 ↦ elim (cond_cases (eqb k 3) _ _ _ g2.1) [
-          | inl h ↦ at_kind k 3 b bytes rest h.0
-              (kind_takes (λ p. Stamp p.0 p.1.0 p.1.1) stamp_form 3 (λ x. refl) (λ x. refl)
-              (λ x. refl) stamp_lawful bytes b rest are h.1)
-          | inr g3 ↦ elim (cond_cases (eqb k 4) _ _ _ g3.1) [
-            | inl h ↦ at_kind k 4 b bytes rest h.0
-                (kind_takes (λ p. Collect p.0 p.1) boot_and_version 4 (λ x. refl) (λ x. refl)
-                (λ x. refl) of_version_lawful bytes b rest are h.1)
-            | inr g4 ↦ elim (cond_cases (eqb k 5) _ _ _ g4.1) [
-              | inl h ↦ at_kind k 5 b bytes rest h.0 (kind_takes cache_rule_of cache_rule_form 5 (λ x. refl) (λ x. refl) (λ x. refl) cache_rule_lawful bytes b rest are h.1)
-              | inr g5 ↦ elim (cond_cases (eqb k 6) _ _ _ g5.1) [
-                | inl h ↦ at_kind k 6 b bytes rest h.0 (kind_takes Advertise advert 6 (λ x. refl) (λ x. refl) (λ x. refl) advert_lawful bytes b rest are h.1)
-                | inr g6 ↦ elim (cond_cases (eqb k 7) _ _ _ g6.1) [
-                  | inl h ↦ at_kind k 7 b bytes rest h.0 (kind_takes (λ p. Hello p.0 p.1) hello 7 (λ x. refl) (λ x. refl) (λ x. refl) hello_lawful bytes b rest are h.1)
-                  | inr g7 ↦ elim (cond_cases (eqb k 8) _ _ _ g7.1) [
-                    | inl h ↦ at_kind k 8 b bytes rest h.0
-                        (kind_takes (λ p. Installed p.0 p.1.0 p.1.1) acknowledgement 8 (λ x. refl)
-                        (λ x. refl) (λ x. refl) acknowledged_lawful bytes b rest are h.1)
-                    | inr g8 ↦ elim (cond_cases (eqb k 9) _ _ _ g8.1) [
-                      | inl h ↦ at_kind k 9 b bytes rest h.0
-                          (kind_takes (λ p. Stamped p.0 p.1.0 p.1.1) acknowledgement 9 (λ x. refl)
-                          (λ x. refl) (λ x. refl) acknowledged_lawful bytes b rest are h.1)
-                      | inr g9 ↦ let none = g9.1 in absurd cc
-                    ]
-                  ]
+fields_take k bytes b rest are e = elim (cond_cases (eqb k 1) _ _ _ e) [
+  | inl h ↦ at_kind k 1 b bytes rest h.0 (kind_takes (λ p. Install p.0 p.1) install_form 1 (λ x. refl) (λ x. refl) (λ x. refl) install_lawful bytes b rest are h.1)
+  | inr g1 ↦ elim (cond_cases (eqb k 2) _ _ _ g1.1) [
+    | inl h ↦ at_kind k 2 b bytes rest h.0 (kind_takes (λ p. OpenAt p.0 p.1) boot_and_version 2
+        (λ x. refl) (λ x. refl) (λ x. refl) of_version_lawful bytes b rest are h.1)
+    | inr g2 ↦ elim (cond_cases (eqb k 3) _ _ _ g2.1) [
+      | inl h ↦ at_kind k 3 b bytes rest h.0 (kind_takes (λ p. Stamp p.0 p.1.0 p.1.1) stamp_form
+          3 (λ x. refl) (λ x. refl) (λ x. refl) stamp_lawful bytes b rest are h.1)
+      | inr g3 ↦ elim (cond_cases (eqb k 4) _ _ _ g3.1) [
+        | inl h ↦ at_kind k 4 b bytes rest h.0 (kind_takes (λ p. Collect p.0 p.1) boot_and_version 4
+            (λ x. refl) (λ x. refl) (λ x. refl) of_version_lawful bytes b rest are h.1)
+        | inr g4 ↦ elim (cond_cases (eqb k 5) _ _ _ g4.1) [
+          | inl h ↦ at_kind k 5 b bytes rest h.0 (kind_takes cache_rule_of cache_rule_form 5 (λ x. refl) (λ x. refl) (λ x. refl) cache_rule_lawful bytes b rest are h.1)
+          | inr g5 ↦ elim (cond_cases (eqb k 6) _ _ _ g5.1) [
+            | inl h ↦ at_kind k 6 b bytes rest h.0 (kind_takes Advertise advert 6 (λ x. refl) (λ x. refl) (λ x. refl) advert_lawful bytes b rest are h.1)
+            | inr g6 ↦ elim (cond_cases (eqb k 7) _ _ _ g6.1) [
+              | inl h ↦ at_kind k 7 b bytes rest h.0 (kind_takes (λ p. Hello p.0 p.1) hello 7 (λ x. refl) (λ x. refl) (λ x. refl) hello_lawful bytes b rest are h.1)
+              | inr g7 ↦ elim (cond_cases (eqb k 8) _ _ _ g7.1) [
+                | inl h ↦ at_kind k 8 b bytes rest h.0
+                    (kind_takes (λ p. Installed p.0 p.1.0 p.1.1) acknowledgement 8 (λ x. refl)
+                    (λ x. refl) (λ x. refl) acknowledged_lawful bytes b rest are h.1)
+                | inr g8 ↦ elim (cond_cases (eqb k 9) _ _ _ g8.1) [
+                  | inl h ↦ at_kind k 9 b bytes rest h.0
+                      (kind_takes (λ p. Stamped p.0 p.1.0 p.1.1) acknowledgement 9 (λ x. refl)
+                      (λ x. refl) (λ x. refl) acknowledged_lawful bytes b rest are h.1)
+                  | inr g9 ↦ let none = g9.1 in absurd cc
                 ]
               ]
             ]
@@ -220,6 +211,8 @@ fields_take k bytes b rest are e =
         ]
       ]
     ]
+  ]
+]
 
 fields_again : (b : Body) (rest : List ℕ) → fields_fit b ≡ true → read_fields (kind_number b) (spelled_fields b ++ rest) ≡ Some (b, rest)
 fields_again (Install boot tables) rest fits = rw (install_lawful.again (boot, tables) rest fits) refl
@@ -250,19 +243,17 @@ body_lawful = record {
   takes = λ bytes b rest are e.
       let d = then_some (n1.read bytes) (λ k. read_fields k.0 k.1) (b, rest) e in
       let t = n1_lawful.takes bytes d.0.0 d.0.1 are d.1 in
-      let fields = fields_take d.0.0 d.0.1 b rest t.rest_are d.2 in
-      record {
+      let fields = fields_take d.0.0 d.0.1 b rest t.rest_are d.2 in record {
         fits = fields.fit;
         parts = t.parts ∙ ap (λ u. n1.spell d.0.0 ++ u) fields.parts
             ∙ ap (λ k. n1.spell k ++ (spelled_fields b ++ rest)) (sym fields.kind_is)
             ∙ sym (append_assoc (n1.spell (kind_number b)) (spelled_fields b) rest);
         rest_are = fields.rest_are;
       };
-  again = λ b rest fits.
-      rw (
-        append_assoc (n1.spell (kind_number b)) (spelled_fields b) rest,
-        n1_lawful.again (kind_number b) (spelled_fields b ++ rest) (kind_fits b),
-      ) (fields_again b rest fits);
+  again = λ b rest fits. rw (
+    append_assoc (n1.spell (kind_number b)) (spelled_fields b) rest,
+    n1_lawful.again (kind_number b) (spelled_fields b ++ rest) (kind_fits b),
+  ) (fields_again b rest fits);
 }
 
 pub message_lawful : IsLawful message

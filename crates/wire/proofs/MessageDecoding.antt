@@ -31,8 +31,7 @@ whole_again bytes m h =
 
 -- no two messages have one spelling
 pub one_message : (bytes : List ℕ) (a b : Message) → IsSpelling a bytes → IsSpelling b bytes → a ≡ b
-one_message bytes a b ha hb =
-    ap (λ (p : Message × List ℕ). p.0)
+one_message bytes a b ha hb = ap (λ (p : Message × List ℕ). p.0)
     (same_Some (a, []) (b, []) (sym (whole_again bytes a ha) ∙ whole_again bytes b hb))
 
 pub found : (r : Result Message (Failure Malformed)) (bytes rest : List ℕ) → AreBytes bytes

@@ -12,9 +12,8 @@ goes_on front count i n left total lt so_far =
     ∙ ap (λ j. front ++ equal_chunks j n left) (sym k) ∙ so_far
 
 pub frames_go_on : (front : List (List ℕ)) (parts : List (List ℕ)) (count i : ℕ) (chunk : List ℕ)
-    (total : List (List ℕ))
-    → i < length parts → chunk ≡ get_or parts i [] → front ++ frames_from i count (drop i parts)
-    ≡ total
+    (total : List (List ℕ)) → i < length parts → chunk ≡ get_or parts i []
+    → front ++ frames_from i count (drop i parts) ≡ total
     → (front ++ frame i count chunk ∷ []) ++ frames_from (i + 1) count (drop (i + 1) parts) ≡ total
 frames_go_on front parts count i chunk total lt is so_far =
     let next : drop i parts ≡ get_or parts i [] ∷ drop (i + 1) parts = rw add-one (drop-cons parts i [] lt) in
@@ -28,11 +27,9 @@ length-slices (suc count) n bytes = ap suc (length-slices count n (drop n bytes)
 
 pub few_chunks : (head : ℕ) (bytes : List ℕ) → length bytes < 2 ^ 40
     → length (chunks_behind_head head bytes) < 2 ^ 32
-few_chunks head bytes short =
-    let count = div_ceil (length bytes - head) most_of_chunk in
+few_chunks head bytes short = let count = div_ceil (length bytes - head) most_of_chunk in
     omega (
       arith,
       length-slices count most_of_chunk (drop head bytes),
-      div_ceil_times
-          (length bytes - head) most_of_chunk (omega arith),
+      div_ceil_times (length bytes - head) most_of_chunk (omega arith),
     )

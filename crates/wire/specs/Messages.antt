@@ -30,13 +30,12 @@ receiver_of n =
     if n == 255 then Some Controller else (if nat_lt n 64 then Some (Switch n) else None)
 
 unfoldable pub receiver : Format Place
-receiver =
-    record {
-      spell = spelled_receiver;
-      fits = receiver_fits;
-      read = λ bytes. then_read (form.n1.read bytes) (λ x.
-          then_read (receiver_of x.0) (λ to. Some (to, x.1)));
-    }
+receiver = record {
+  spell = spelled_receiver;
+  fits = receiver_fits;
+  read = λ bytes. then_read (form.n1.read bytes) (λ x.
+      then_read (receiver_of x.0) (λ to. Some (to, x.1)));
+}
 
 -- ---- the fields of each kind
 
@@ -121,12 +120,11 @@ read_fields kind bytes =
     else None))))))))
 
 unfoldable pub body : Format Body
-body =
-    record {
-      spell = λ b. form.n1.spell (kind_number b) ++ spelled_fields b;
-      fits = fields_fit;
-      read = λ bytes. then_read (form.n1.read bytes) (λ kind. read_fields kind.0 kind.1);
-    }
+body = record {
+  spell = λ b. form.n1.spell (kind_number b) ++ spelled_fields b;
+  fits = fields_fit;
+  read = λ bytes. then_read (form.n1.read bytes) (λ kind. read_fields kind.0 kind.1);
+}
 
 -- ---- what comes before the tables in the encoding of an installation
 
@@ -165,8 +163,7 @@ message =
 
 -- the message that all of the bytes encode
 abbrev pub whole_message : List ℕ → Option (Message × List ℕ)
-whole_message bytes =
-    then_read (message.read bytes) (λ m. if length m.1 == 0 then Some m else None)
+whole_message bytes = then_read (message.read bytes) (λ m. if length m.1 == 0 then Some m else None)
 
 -- the bytes are the encoding of the message: each number fits its bytes, each switch is below 64,
 -- each list is shorter than 2^32, and the receiver suits the body

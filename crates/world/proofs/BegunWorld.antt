@@ -15,11 +15,10 @@ use Rattle.switch_table.specs.Exports.{all_touched}
 
 -- where the files are these, on this network, and nothing was written, posted or sent
 -- on its way
-pub as_begun : (net : Net) (given : List PolicyFile) (files : FilesValue)
-    (journal : List Item) (travelling : Flights) (bag : List Post)
-    (switches : List SwitchValue) (controller : ControllerValue) (near : List ℕ)
-    → files.net ≡ net → files.files ≡ given → journal ≡ [] → travelling ≡ [] → bag ≡ []
-    → RefineJournal (setting_of net given) [] (record {
+pub as_begun : (net : Net) (given : List PolicyFile) (files : FilesValue) (journal : List Item)
+    (travelling : Flights) (bag : List Post) (switches : List SwitchValue)
+    (controller : ControllerValue) (near : List ℕ) → files.net ≡ net → files.files ≡ given
+    → journal ≡ [] → travelling ≡ [] → bag ≡ [] → RefineJournal (setting_of net given) [] (record {
       switches = switches;
       travelling = [];
       packets = 0;

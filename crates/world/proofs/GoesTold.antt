@@ -67,9 +67,8 @@ goes_told {r} {before} {row} {step} {old} {new} first tail begun number posts mo
     (subst (λ k. OnErr r (IsPart begun (tail (k + 1)) new.log.journal)) tells.number_is tells.part))
     (both_ok r (λ all refines. subst (λ bag. RefineJournal (setting_in old)
     (before ++ item.Row row step ∷ first ∷ items) (record (state_in new) { posts = bag })) (sym all)
-    (subst (λ (travelling : Flights). RefineJournal (setting_in old)
-    (before ++ item.Row row step ∷ first ∷ items)
-    (record (state_in new) { travelling = travelling; posts = posts ++ more }))
+    (subst (λ (travelling : Flights). RefineJournal (setting_in old) (before ++ item.Row row step
+    ∷ first ∷ items) (record (state_in new) { travelling = travelling; posts = posts ++ more }))
     (sym tells.travelling) refines)) tells.posted tells.refines)
 
 -- where the controller's acts are what it writes then
@@ -82,9 +81,8 @@ pub goes_acting : {T E : Type 0} {r : Result T E} {before : List Item} {row : �
     → OnOk r (new.log.journal ≡ begun ++ act_items (length old.log.bag + 1) given)
     → OnOk r (new.log.bag ≡ old.log.bag ++ act_posts given)
     → OnErr r (IsPart begun (act_items (length old.log.bag + 1) given) new.log.journal)
-    → RefineJournal (setting_in old)
-    (before ++ item.Row row step ∷ first ∷ act_items (length old.log.bag + 1) acts)
-    (record (state_in new) {
+    → RefineJournal (setting_in old) (before ++ item.Row row step
+    ∷ first ∷ act_items (length old.log.bag + 1) acts) (record (state_in new) {
       travelling = old.log.travelling;
       posts = old.log.bag ++ act_posts acts;
     }) → Goes r before row step old new

@@ -54,15 +54,13 @@ first_made (Change edits ∷ files) rows newest is = absurd cc
 -- ---- what became of them
 
 -- what was made of a file was made of the file at its place
-pub made_at_place : (net : Net) (files : List PolicyFile) (newest own : List Row) (place : ℕ)
-    (file : PolicyFile) (compiled : Compiled) → place < length files
-    → file ≡ get_or files place file → own ≡ newest
-    → IsMade net (made_from file own) compiled
+pub made_at_place : (net : Net) (files : List PolicyFile) (newest own : List Row)
+    (place : ℕ) (file : PolicyFile) (compiled : Compiled) → place < length files
+    → file ≡ get_or files place file → own ≡ newest → IsMade net (made_from file own) compiled
     → IsMade net (made_at files newest place) compiled
 made_at_place net files newest own place file compiled within at same made =
-    subst (λ (rows : List Row). IsMade net (made_from (file_or_none files place) rows)
-    compiled) same
-    (subst (λ (f : PolicyFile). IsMade net (made_from f own) compiled)
+    subst (λ (rows : List Row). IsMade net (made_from (file_or_none files place) rows) compiled)
+    same (subst (λ (f : PolicyFile). IsMade net (made_from f own) compiled)
     (get_or_read files place file within at (Change [])) made)
 
 -- it is kept of that file
@@ -75,8 +73,7 @@ kept_with net files newest kept place compiled are within made = record {
   sound = are.sound;
   many = length-set kept place (Some compiled) ∙ are.many;
   each = λ k other at. elim (cases_eq k place) [
-    | inl same ↦
-        let inside : place < length kept = omega (arith, are.many) in
+    | inl same ↦ let inside : place < length kept = omega (arith, are.many) in
         let here : get_or (set kept place (Some compiled)) place None ≡ Some other =
         subst (λ j. get_or (set kept place (Some compiled)) j None ≡ Some other) same at in
         let is : compiled ≡ other =
@@ -98,16 +95,14 @@ kept_first net files plan kept sound first made many same = record {
   sound = sound;
   many = many;
   each = each;
-}
-  where
-    each : (place : ℕ) (compiled : Compiled) → get_or kept place None ≡ Some compiled
-        → IsMade net (made_at files plan.policy place) compiled
-    each zero compiled at =
-        let is : Planned plan all_touched ≡ compiled = cc (same 0, at) in
-        subst (IsMade net (made_at files plan.policy 0)) is
-        (subst (λ making. IsMade net making (Planned plan all_touched))
-        (sym (first_made files plan.policy plan.policy first)) made)
-    each (suc place) compiled at = absurd (cc (same (suc place), at))
+} where
+  each : (place : ℕ) (compiled : Compiled) → get_or kept place None ≡ Some compiled
+      → IsMade net (made_at files plan.policy place) compiled
+  each zero compiled at = let is : Planned plan all_touched ≡ compiled = cc (same 0, at) in
+      subst (IsMade net (made_at files plan.policy 0)) is
+      (subst (λ making. IsMade net making (Planned plan all_touched))
+      (sym (first_made files plan.policy plan.policy first)) made)
+  each (suc place) compiled at = absurd (cc (same (suc place), at))
 
 -- ---- what became of changes is forgotten
 
@@ -126,8 +121,7 @@ none_forgotten files old = record {
   each = λ place compiled at. (at, λ below. absurd (omega (arith, below)));
 }
 
-pub whole_own : (file : PolicyFile) (rows : List Row) → file ≡ Whole rows
-    → IsSome (own_policy file)
+pub whole_own : (file : PolicyFile) (rows : List Row) → file ≡ Whole rows → IsSome (own_policy file)
 whole_own file rows is = rw is refl
 
 -- the next one has a policy of its own
@@ -141,8 +135,7 @@ whole_kept files many file old new within at own so_far = record {
     (so_far.each place compiled kept).0,
     λ below. elim (cases_lt place many) [
       | inl less ↦ (so_far.each place compiled kept).1 less
-      | inr more ↦
-          let same : many ≡ place = omega (arith, below, more) in
+      | inr more ↦ let same : many ≡ place = omega (arith, below, more) in
           subst (λ k. IsSome (own_policy (file_or_none files k))) same
           (subst (λ (f : PolicyFile). IsSome (own_policy f))
           (get_or_read files many file within at (Change [])) own)
@@ -157,12 +150,10 @@ pub change_forgotten : (files : List PolicyFile) (many : ℕ) (old new : List (O
 change_forgotten files many old new within so_far = record {
   same = length-set new many None ∙ so_far.same;
   each = λ place compiled kept. elim (cases_eq place many) [
-    | inl same ↦
-        let here : get_or (set new many None) many None ≡ Some compiled =
+    | inl same ↦ let here : get_or (set new many None) many None ≡ Some compiled =
         subst (λ k. get_or (set new many None) k None ≡ Some compiled) same kept in
         absurd (cc (get_or-set_same new many None None within, here))
-    | inr apart ↦
-        let was = so_far.each place compiled
+    | inr apart ↦ let was = so_far.each place compiled
         (sym (get_or-set_other new many place None None apart) ∙ kept) in (
           was.0,
           λ below. was.1 (omega (arith, below, apart)),

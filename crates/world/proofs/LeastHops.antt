@@ -19,8 +19,7 @@ onward test from None fails least = λ i behind. least i (omega (arith, behind))
 onward test from (Some i) fails least = (
   elim (cases_lt from i) [
     | inl below ↦ omega (arith, below)
-    | inr above ↦
-        let same : from ≡ i = omega (arith, above, least.0) in
+    | inr above ↦ let same : from ≡ i = omega (arith, above, least.0) in
         differ (test i) least.1 (subst (λ k. test k ≡ false) same fails)
   ],
   least.1,
@@ -33,8 +32,7 @@ first : (test : ℕ → Bool) (from : ℕ) (next : Option ℕ) → test from ≡
 first test from None holds least = differ (test from) holds (least from (omega arith))
 first test from (Some i) holds least = elim (cases_lt from i) [
   | inl below ↦ differ (test from) holds (least.2 from (omega arith) below)
-  | inr above ↦
-      let same : i ≡ from = omega (arith, above, least.0) in
+  | inr above ↦ let same : i ≡ from = omega (arith, above, least.0) in
       ap Some same
 ]
 
@@ -56,25 +54,22 @@ least_is_found test from (suc count) next over least =
 
 -- the least packet on its way from a number on is the least that travels
 least_from : (setting : Setting) (journal : List Item) (travelling : Flights)
-    → ((i : ℕ) → flight travelling i ≡ flight_in setting journal i)
-    → (from : ℕ) (next : Option ℕ) → IsNextFrom travelling from next
-    → IsLeastFrom (travels journal) from next
+    → ((i : ℕ) → flight travelling i ≡ flight_in setting journal i) → (from : ℕ) (next : Option ℕ)
+    → IsNextFrom travelling from next → IsLeastFrom (travels journal) from next
 unfolding flight_in
-least_from setting journal travelling tie from next least = by next least
-  where
-    none : (i : ℕ) → flight travelling i ≡ None → travels journal i ≡ false
-    none i is = false_from_ne_true (travels journal i)
-        (λ yes. none-some (flight_of setting journal i) (sym is ∙ tie i
-        ∙ cond-true (travels journal i) (Some (flight_of setting journal i)) None yes))
+least_from setting journal travelling tie from next least = by next least where
+  none : (i : ℕ) → flight travelling i ≡ None → travels journal i ≡ false
+  none i is = false_from_ne_true (travels journal i)
+      (λ yes. none-some (flight_of setting journal i) (sym is ∙ tie i
+      ∙ cond-true (travels journal i) (Some (flight_of setting journal i)) None yes))
 
-    by : (b : Option ℕ) → IsNextFrom travelling from b → IsLeastFrom (travels journal) from b
-    by None least = λ i behind. none i (least i behind)
-    by (Some i) least = (
-      least.0,
-      some_passes_of (travels journal i) (flight_of setting journal i)
-          (subst IsSome (tie i) least.1),
-      λ k behind below. none k (least.2 k behind below),
-    )
+  by : (b : Option ℕ) → IsNextFrom travelling from b → IsLeastFrom (travels journal) from b
+  by None least = λ i behind. none i (least i behind)
+  by (Some i) least = (
+    least.0,
+    some_passes_of (travels journal i) (flight_of setting journal i) (subst IsSome (tie i) least.1),
+    λ k behind below. none k (least.2 k behind below),
+  )
 
 -- from the first number on it is the least of all
 least_travels : (journal : List Item) (next : Option ℕ)
@@ -92,8 +87,6 @@ least_from_in world from next refines least =
 pub least_travels_in : (world : WorldValue) (next : Option ℕ) → RefinesJournal world
     → IsNextFrom world.travelling 1 next → next ≡ next_travelling world.journal
 unfolding what_is_known
-least_travels_in world next refines least =
-    least_travels world.journal next
-    (λ i new. ((reached_known (setting_at world) world.journal refines.sound
-    refines.reached).kept.unknown i new).travels)
-    (least_from_in world 1 next refines least)
+least_travels_in world next refines least = least_travels world.journal next (λ i new.
+    ((reached_known (setting_at world) world.journal refines.sound refines.reached).kept.unknown i
+    new).travels) (least_from_in world 1 next refines least)

@@ -11,12 +11,10 @@ use Rattle.world.specs.Exports.{IsLeastFrom, RefinesJournal, WorldValue}
 use Rattle.refinement.specs.Exports.{IsBagOf, post_in}
 
 -- a post waits as the journal says of its message
-post_waits : (sent : Option Message) (delivered forgotten : Bool) →
-    option_map_or statuses.waits (option_map (λ (post : bag.Post). post.1)
-    (option_map (λ message. (
+post_waits : (sent : Option Message) (delivered forgotten : Bool) → option_map_or statuses.waits
+    (option_map (λ (post : bag.Post). post.1) (option_map (λ message. (
       bag.posted_frames message,
-      record
-          { delivered = delivered; forgotten = forgotten },
+      record { delivered = delivered; forgotten = forgotten },
     ))
     sent)) false
     ≡ ((is_some sent && not forgotten) && not delivered)
@@ -29,8 +27,7 @@ post_waits (Some message) false false = refl
 waits_same : (journal : List Item) (posts : List bag.Post) → IsBagOf journal posts → (n : ℕ)
     → statuses.is_waiting (bag.statuses_of posts) n ≡ is_waiting journal n
 unfolding post_in is_deliverable
-waits_same journal posts of n =
-    ap (λ o. option_map_or statuses.waits o false)
+waits_same journal posts of n = ap (λ o. option_map_or statuses.waits o false)
     (numbered_map (λ (post : bag.Post). post.1) posts n
     ∙ ap (option_map (λ (post : bag.Post). post.1)) (of.each n))
     ∙ post_waits (message_of journal n) (was_delivered journal n) (is_forgotten journal n)
@@ -53,8 +50,7 @@ next_fails : (test : ℕ → Bool) (from i : ℕ) → test from ≡ false → fr
     → (from + 1 ≤ i → test i ≡ false) → test i ≡ false
 next_fails test from i fails above rest = elim (cases_lt from i) [
   | inl past ↦ rest (omega (arith, past))
-  | inr here ↦
-      let same : from ≡ i = omega (arith, here, above) in
+  | inr here ↦ let same : from ≡ i = omega (arith, here, above) in
       subst (λ k. test k ≡ false) same fails
 ]
 
@@ -71,8 +67,7 @@ by_test test from (Some i) false is least = (
   λ k above below. next_fails test from k is above (λ behind. least.2 k behind below),
 )
 
-found_is_least : (test : ℕ → Bool) (from count : ℕ)
-    → ((i : ℕ) → from + count ≤ i → test i ≡ false)
+found_is_least : (test : ℕ → Bool) (from count : ℕ) → ((i : ℕ) → from + count ≤ i → test i ≡ false)
     → IsLeastFrom test from (find test (range_with_len from count))
 found_is_least test from zero over = λ i above. over i (omega (arith, above))
 found_is_least test from (suc count) over =
@@ -80,23 +75,19 @@ found_is_least test from (suc count) over =
     (found_is_least test (from + 1) count (λ i behind. over i (omega (arith, behind))))
 
 -- no post behind the last waits
-none_behind : (all : List MessageState) (i : ℕ) → length all < i
-    → statuses.is_waiting all i ≡ false
+none_behind : (all : List MessageState) (i : ℕ) → length all < i → statuses.is_waiting all i ≡ false
 none_behind all zero behind = refl
-none_behind all (suc place) behind =
-    ap (λ o. option_map_or statuses.waits o false)
+none_behind all (suc place) behind = ap (λ o. option_map_or statuses.waits o false)
     (slice_get_past all place (omega (arith, behind)))
 
 least_from : (journal : List Item) (posts : List bag.Post) → IsBagOf journal posts → (from : ℕ)
     → IsLeastFrom (is_waiting journal) from (bag.next_waiting_post posts from)
-least_from journal posts of from =
-    let all : List MessageState = bag.statuses_of posts in
+least_from journal posts of from = let all : List MessageState = bag.statuses_of posts in
     subst (λ next. IsLeastFrom (is_waiting journal) from next)
     (sym (find_same (statuses.is_waiting all) (is_waiting journal) (waits_same journal posts of)
     (range_with_len from (length all + 1 - from))))
     (found_is_least (is_waiting journal) from (length all + 1 - from)
-    (λ i behind. sym (waits_same journal posts of i)
-    ∙ none_behind all i (omega (arith, behind))))
+    (λ i behind. sym (waits_same journal posts of i) ∙ none_behind all i (omega (arith, behind))))
 
 pub least_from_in : (world : WorldValue) → RefinesJournal world → (from : ℕ)
     → IsLeastFrom (is_waiting world.journal) from (bag.next_waiting_post world.bag from)

@@ -31,16 +31,14 @@ module _ {parts : Parts} {before : List Item} {row s : ℕ} {header : Header}
 
   pub packet_goes : {T E : Type 0} (r : Result T E) (log : Log) (switches : Vec SwitchValue Global)
       (changed : SwitchValue) → switches.items ≡ set parts.switches.items s changed
-      → changed ≡ call_counted own
-      → LogAfter r (entered_items (length parts.log.bag + 1) at what) (entered_posts at what)
-      (parts.packets + 1) (entered_flight what) parts.log log
+      → changed ≡ call_counted own → LogAfter r (entered_items (length parts.log.bag + 1) at what)
+      (entered_posts at what) (parts.packets + 1) (entered_flight what) parts.log log
       → Goes r before row (PacketStep s header) parts (record parts {
         log = log;
         switches = switches;
         packets = parts.packets + 1;
       })
-  packet_goes r log switches changed set_is changed_is entered =
-      let ready = begins.ready in
+  packet_goes r log switches changed set_is changed_is entered = let ready = begins.ready in
       goes_quiet begins (files_stay refl refl) _ (plane_stays refl refl refl)
       (come_piece ready.refines row s header parts.ports own ready.may ready.sound.owners its)
       (on_ok_weaker r (λ done. refl) entered.written) entered.written entered.part
@@ -66,31 +64,27 @@ module _ {parts : Parts} {before : List Item} {row i : ℕ}
     (begins : BeginsStep before row (Hop i) parts) where
   -- its switch can be asked
   can : (t : Flight) (switch : SwitchValue) → flight parts.log.travelling i ≡ Some t
-      → slice_get parts.switches.items (here t.tunnel) ≡ Some switch
-      → CanAsk (setting_in parts) before i t (here t.tunnel)
-      (slice_index parts.near (here t.tunnel)) switch parts.ports
-  can t switch its found =
-      can_ask begins.ready.refines i t (here t.tunnel) switch parts.ports begins.ready.sound.owners
-      its refl (own_of parts.switches.items (here t.tunnel) switch found)
+      → slice_get parts.switches.items (here t.tunnel) ≡ Some switch → CanAsk (setting_in parts)
+      before i t (here t.tunnel) (slice_index parts.near (here t.tunnel)) switch parts.ports
+  can t switch its found = can_ask begins.ready.refines i t (here t.tunnel) switch parts.ports
+      begins.ready.sound.owners its refl (own_of parts.switches.items (here t.tunnel) switch found)
 
   pub may_go_on : (t : Flight) (switch : SwitchValue) → flight parts.log.travelling i ≡ Some t
       → slice_get parts.switches.items (here t.tunnel) ≡ Some switch
       → MayGoOn i switch (slice_index parts.near (here t.tunnel)) t
-  may_go_on t switch its found =
-      let can = can t switch its found in
-      record {
-        known = ap (λ (u : Flight). u.tunnel.packet) can.standing.is;
-        here = can.stands;
-        serving = can.serving;
-        stamped = can.stamped;
-        authority = can.authority;
-        ingress = omega (
-          arith,
-          ap (λ (u : Flight). u.tunnel.ingress) can.standing.is,
-          can.standing.stands.at_first,
-          begins.ready.sound.sound.few_switches,
-        );
-      }
+  may_go_on t switch its found = let can = can t switch its found in record {
+    known = ap (λ (u : Flight). u.tunnel.packet) can.standing.is;
+    here = can.stands;
+    serving = can.serving;
+    stamped = can.stamped;
+    authority = can.authority;
+    ingress = omega (
+      arith,
+      ap (λ (u : Flight). u.tunnel.ingress) can.standing.is,
+      can.standing.stands.at_first,
+      begins.ready.sound.sound.few_switches,
+    );
+  }
 
   module _ {T E : Type 0} (r : Result T E) (log : Log) (switches : Vec SwitchValue Global)
       (after : List SwitchValue) (same : switches.items ≡ after) where
@@ -120,7 +114,6 @@ module _ {parts : Parts} {before : List Item} {row i : ℕ}
         (with_posts parts (record parts { log = log; switches = switches }) bag)) (sym posted)
         (rw (same ∙ there.only) (hop_refines ready.refines row i t s (slice_index parts.near s)
         there.switch parts.ports ready.may can log.travelling there.asked
-        (within_here ready.refines i t s its refl)
-        (switch_is ready.refines s there.switch known
+        (within_here ready.refines i t s its refl) (switch_is ready.refines s there.switch known
         (own_of parts.switches.items s there.switch there.own)) answered left)))
         there.hopped.counted log_is.posted log_is.travels)

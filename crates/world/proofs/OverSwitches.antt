@@ -14,8 +14,7 @@ switch_in {self} s begun own = switch_there begun.begins.ready.refines s own
 pub place_in : {step : Step} {self : Parts} (s : ℕ) → HasBegun step self
     → HasSwitch self.files.net s → s < vec_len self.switches
 place_in {self} s begun own =
-    let there = switch_in s begun own in
-    omega (arith, there, self.switches.ok.0)
+    let there = switch_in s begun own in omega (arith, there, self.switches.ok.0)
 
 -- and the controller knows it
 pub known_in : {step : Step} {self : Parts} (s : ℕ) → HasBegun step self
@@ -23,6 +22,5 @@ pub known_in : {step : Step} {self : Parts} (s : ℕ) → HasBegun step self
 known_in {self} s begun own = switch_known begun.begins.ready.refines s own
 
 -- each has a place in a mask
-pub few_in : {step : Step} {self : Parts} → HasBegun step self
-    → length self.switches.items ≤ 64
+pub few_in : {step : Step} {self : Parts} → HasBegun step self → length self.switches.items ≤ 64
 few_in {self} begun = few_switches begun.begins.ready.refines

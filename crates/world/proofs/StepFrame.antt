@@ -23,8 +23,7 @@ pub files_stay : {old new : Parts} → new.files ≡ old.files → new.ports ≡
 files_stay files ports = record { files = files; ports = ports }
 
 -- so the network stays, and the files
-pub net_stays : {old new : Parts} → new.files ≡ old.files → new.ports ≡ old.ports
-    → KeepNet old new
+pub net_stays : {old new : Parts} → new.files ≡ old.files → new.ports ≡ old.ports → KeepNet old new
 net_stays files ports = record {
   same_net = ap (λ (f : FilesValue). f.net) files;
   same_files = ap (λ (f : FilesValue). f.files) files;
@@ -92,9 +91,8 @@ piece_split setting before row step = refl
 -- the step writes these items behind its row
 module _ {T E : Type 0} {r : Result T E} {before : List Item} {row : ℕ} {step : Step}
     {old new : Parts} (begins : BeginsStep before row step old) (keeps : Follows old new) where
-  pub goes : (items : List Item)
-      → piece (setting_in old) before row step ≡ item.Row row step ∷ items
-      → OnOk r (new.packets ≡ old.packets + comes_in step)
+  pub goes : (items : List Item) → piece (setting_in old) before row step
+      ≡ item.Row row step ∷ items → OnOk r (new.packets ≡ old.packets + comes_in step)
       → OnOk r (new.log.journal ≡ old.log.journal ++ items)
       → OnErr r (IsPart old.log.journal items new.log.journal)
       → OnOk r (RefineJournal (setting_in old) (before ++ item.Row row step ∷ items) (state_in new))
@@ -192,10 +190,7 @@ module _ (row : ℕ) (step kind : Step) (old : Parts) (rowed : List Item)
     (is : rowed ≡ old.log.journal ++ item.Row row step ∷ []) (kind_is : step ≡ kind) where
   begins_kind : BeginsStep old.log.journal row kind (with_journal old rowed)
   begins_kind = subst (λ (k : Step). BeginsStep old.log.journal row k (with_journal old rowed))
-      kind_is (record {
-        ready = ready_behind old.log.journal step old rowed ready;
-        rowed = is;
-      })
+      kind_is (record { ready = ready_behind old.log.journal step old rowed ready; rowed = is })
 
   -- the method of its kind may take it
   pub begun : HasBegun kind (with_journal old rowed)

@@ -37,8 +37,7 @@ abbrev pub Making : Type 0
 Making = Result (List Row) Inapplicable × List WordValue
 
 abbrev pub made_from : PolicyFile → List Row → Making
-made_from file newest =
-    (made_by (Some file) (Some newest), touched_of (Some file) (Some newest))
+made_from file newest = (made_by (Some file) (Some newest), touched_of (Some file) (Some newest))
 
 -- what the file at a place makes of the newest policy
 abbrev pub made_at : List PolicyFile → List Row → ℕ → Making

@@ -36,8 +36,7 @@ state_in parts = record {
 
 -- the parts are as their journal says
 abbrev pub PartsRefineJournal : Parts → Type 0
-PartsRefineJournal parts =
-    RefineJournal (setting_in parts) parts.log.journal (state_in parts)
+PartsRefineJournal parts = RefineJournal (setting_in parts) parts.log.journal (state_in parts)
 
 -- ---- one step
 

@@ -45,8 +45,7 @@ state_at world = record {
 
 -- the world is as its journal says
 abbrev pub RefinesJournal : WorldValue → Type 0
-RefinesJournal world =
-    RefineJournal (setting_at world) world.journal (state_at world)
+RefinesJournal world = RefineJournal (setting_at world) world.journal (state_at world)
 
 -- nothing happened yet
 pub record IsBegun (setting : Setting) (world : WorldValue) : Type 0 where

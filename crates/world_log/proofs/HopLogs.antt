@@ -26,28 +26,23 @@ passed_by near answer route place t route_is place_is is =
 
 module _ (s : SwitchValue) (near : ℕ) (ports : Ports) (t : Flight) where
   abbrev pub items_by : ℕ → Option ℕ → Moved → List Item
-  items_by number found m =
-      turned_items t.tunnel.packet s.number found m.end m.tunnel.route
+  items_by number found m = turned_items t.tunnel.packet s.number found m.end m.tunnel.route
       ++ ended_items number (call_counted s) near ports (record t { tunnel = m.tunnel }) m.end
 
   abbrev pub posts_by : Moved → List Post
   posts_by m = ended_posts (call_counted s) near ports (record t { tunnel = m.tunnel }) m.end
 
   abbrev pub flight_by : Moved → Option Flight
-  flight_by m =
-      ended_flight (call_counted s) near ports (record t { tunnel = m.tunnel }) m.end
+  flight_by m = ended_flight (call_counted s) near ports (record t { tunnel = m.tunnel }) m.end
 
   pub hop_log : {T E : Type 0} (r : Result T E) (number packet : ℕ) (found : Option ℕ) (m : Moved)
       (old new : Log) → link_found_down near (next t.tunnel) ≡ found → hop_answer s near t.tunnel
-      ≡ m
-      → LogAfter r (items_by number found m) (posts_by m) packet (flight_by m) old new
+      ≡ m → LogAfter r (items_by number found m) (posts_by m) packet (flight_by m) old new
       → LogAfter r (hop_written number s near ports t) (hop_posts s near ports t) packet
       (hop_flight s near ports t) old new
-  hop_log r number packet found m old new found_is moved_is log =
-      subst (λ f. LogAfter r (items_by number f (hop_answer s near t.tunnel))
-      (posts_by (hop_answer s near t.tunnel)) packet (flight_by (hop_answer s near t.tunnel)) old
-      new)
-      (sym found_is)
+  hop_log r number packet found m old new found_is moved_is log = subst (λ f. LogAfter r
+      (items_by number f (hop_answer s near t.tunnel)) (posts_by (hop_answer s near t.tunnel))
+      packet (flight_by (hop_answer s near t.tunnel)) old new) (sym found_is)
       (subst (λ m. LogAfter r (items_by number found m) (posts_by m) packet (flight_by m) old new)
       (sym moved_is) log)
 
@@ -57,17 +52,14 @@ module _ (s : SwitchValue) (near : ℕ) (ports : Ports) (t : Flight) where
   unfolding hop_answer
   free_hop onward free is = ap (hopped_to s near t.tunnel) free ∙ ap (move_answer t.tunnel) is
 
-  pub passed_hop : {T E : Type 0} (r : Result T E) (packet : ℕ) (onward : Option ℕ)
-      (old new : Log) (after : SwitchValue) → link_found_down near (next t.tunnel) ≡ None
-      → next t.tunnel ≡ onward
-      → LogAfter r (items_by (length old.bag + 1) None (move_answer t.tunnel onward))
-      (posts_by (move_answer t.tunnel onward))
-      packet (flight_by (move_answer t.tunnel onward)) old new
+  pub passed_hop : {T E : Type 0} (r : Result T E) (packet : ℕ) (onward : Option ℕ) (old new : Log)
+      (after : SwitchValue) → link_found_down near (next t.tunnel) ≡ None → next t.tunnel ≡ onward
+      → LogAfter r (items_by (length old.bag + 1) None (move_answer t.tunnel onward)) (posts_by
+      (move_answer t.tunnel onward)) packet (flight_by (move_answer t.tunnel onward)) old new
       → after ≡ ended_switch (call_counted s) (move_answer t.tunnel onward).end
       → HasHopped r packet s near ports old after new t
   passed_hop r packet onward old new after free is log asked =
-      let to = free_hop onward free is in
-      record {
+      let to = free_hop onward free is in record {
         log = hop_log r (length old.bag + 1) packet None (move_answer t.tunnel onward) old new free
             to log;
         counted = on_ok_weaker r (λ _. asked
@@ -77,11 +69,10 @@ module _ (s : SwitchValue) (near : ℕ) (ports : Ports) (t : Flight) where
 -- it moved on over a usable link
 pub move_hop : {T E : Type 0} (r : Result T E) (s : SwitchValue) (near : ℕ) (ports : Ports)
     (t : Flight) (packet place other : ℕ) (there : Option Flight) (old new : Log)
-    (after : SwitchValue)
-    → Some t ≡ there → t.tunnel.packet ≡ packet → place ≡ t.tunnel.place + 1
-    → link_found_down near (next t.tunnel) ≡ None → next t.tunnel ≡ Some other
-    → LogAfter r (item.Hopped packet other ∷ []) [] packet (option_map (placed_at place) there)
-    old new → after ≡ call_counted s → HasHopped r packet s near ports old after new t
+    (after : SwitchValue) → Some t ≡ there → t.tunnel.packet ≡ packet → place ≡ t.tunnel.place + 1
+    → link_found_down near (next t.tunnel) ≡ None → next t.tunnel ≡ Some other → LogAfter r
+    (item.Hopped packet other ∷ []) [] packet (option_map (placed_at place) there) old new
+    → after ≡ call_counted s → HasHopped r packet s near ports old after new t
 move_hop r s near ports t packet place other there old new after its same place_is free is log =
     passed_hop s near ports t r packet (Some other) old new after free is
     (subst (λ k. LogAfter r (item.Hopped k other ∷ []) [] packet
@@ -94,11 +85,10 @@ move_hop r s near ports t packet place other there old new after its same place_
 -- ---- a link was found down
 
 -- a part of what a hop writes: that link alone
-pub found_part : (s : SwitchValue) (near : ℕ) (ports : Ports) (t : Flight)
-    (number packet here other : ℕ) (old new : List Item)
-    → link_found_down near (next t.tunnel) ≡ Some other → packet ≡ t.tunnel.packet
-    → here ≡ s.number → new ≡ old ++ item.FoundDown packet here other ∷ []
-    → IsPart old (hop_written number s near ports t) new
+pub found_part : (s : SwitchValue) (near : ℕ) (ports : Ports) (t : Flight) (number packet here
+    other : ℕ) (old new : List Item) → link_found_down near (next t.tunnel) ≡ Some other
+    → packet ≡ t.tunnel.packet → here ≡ s.number → new ≡ old ++ item.FoundDown packet here other
+    ∷ [] → IsPart old (hop_written number s near ports t) new
 found_part s near ports t number packet here other old new found packet_is here_is grown =
     subst (λ f. IsPart old (items_by s near ports t number f (hop_answer s near t.tunnel)) new)
     (sym found) (by_end (hop_answer s near t.tunnel).end (hop_answer s near t.tunnel).tunnel.route _)
@@ -115,9 +105,8 @@ found_part s near ports t number packet here other old new found packet_is here_
 
 -- a packet that goes on along this route took it first
 pub turned_along : (packet here other : ℕ) (t : TunnelValue) (onward : Option ℕ)
-    → turned_items packet here (Some other) (move_answer t onward).end
-    (move_answer t onward).tunnel.route
-    ≡ item.FoundDown packet here other ∷ item.Rerouted packet t.route ∷ []
+    → turned_items packet here (Some other) (move_answer t onward).end (move_answer t
+    onward).tunnel.route ≡ item.FoundDown packet here other ∷ item.Rerouted packet t.route ∷ []
 turned_along packet here other t None = refl
 turned_along packet here other t (Some next) = refl
 
@@ -132,14 +121,13 @@ placed P route place t route_is place_is holds =
 -- what was written of the packet that stands there, by its switch's answer, is what its arrival
 -- writes
 pub arrival_log : {T E : Type 0} (r : Result T E) (number : ℕ) (w : SwitchValue) (near : ℕ)
-    (ports : Ports) (t : Flight) (at : Standing) (version : ℕ) (rule : Option ℕ) (leg : Leg)
-    (packet : ℕ) (said : Arrival) (old new : Log)
-    → at ≡ standing_at w.number t → version ≡ t.version → rule ≡ t.rule → leg ≡ t.tunnel.leg
-    → at.packet ≡ packet → said ≡ arrived_on w (around near ports) (packet_standing at) leg
+    (ports : Ports) (t : Flight) (at : Standing) (version : ℕ) (rule : Option ℕ)
+    (leg : Leg) (packet : ℕ) (said : Arrival) (old new : Log) → at ≡ standing_at w.number t
+    → version ≡ t.version → rule ≡ t.rule → leg ≡ t.tunnel.leg → at.packet ≡ packet
+    → said ≡ arrived_on w (around near ports) (packet_standing at) leg
     → LogAfter r (arrived_items number at version rule said) (arrived_posts at said) at.packet
-    (arrived_flight version rule said) old new
-    → LogAfter r (arrival_items number w near ports t) (arrival_posts w near ports t) packet
-    (arrival w near ports t) old new
+    (arrived_flight version rule said) old new → LogAfter r (arrival_items number w near ports t)
+    (arrival_posts w near ports t) packet (arrival w near ports t) old new
 unfolding arrival_items arrival_posts arrival received
 arrival_log r number w near ports t at version rule leg packet said old new at_is version_is rule_is
     leg_is packet_is said_is log =
@@ -150,9 +138,7 @@ arrival_log r number w near ports t at version rule leg packet said old new at_i
     subst (λ leg. P packet now t.version t.rule (arrived_on w (around near ports)
     (packet_standing now) leg)) leg_is
     (subst (λ rule. P packet now t.version rule (arrived_on w (around near ports)
-    (packet_standing now) leg)) rule_is
-    (subst (λ version. P packet now version rule (arrived_on w (around near ports)
-    (packet_standing now) leg)) version_is
-    (subst (λ at. P packet at version rule (arrived_on w (around near ports) (packet_standing at)
-    leg)) at_is
-    (subst (P packet at version rule) said_is (subst (λ k. P k at version rule said) packet_is log)))))
+    (packet_standing now) leg)) rule_is (subst (λ version. P packet now version rule
+    (arrived_on w (around near ports) (packet_standing now) leg)) version_is (subst (λ at. P packet
+    at version rule (arrived_on w (around near ports) (packet_standing at) leg)) at_is (subst
+    (P packet at version rule) said_is (subst (λ k. P k at version rule said) packet_is log)))))

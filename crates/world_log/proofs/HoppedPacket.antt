@@ -25,14 +25,13 @@ along_same w near t (Some route) =
 pub hopped_same : (w : SwitchValue) (near : ℕ) (t : TunnelValue)
     → SamePacket t (hop_answer w near t).tunnel
 unfolding hop_answer rerouted_here
-hopped_same w near t = by_link (link_found_down near (next t))
-  where
-    by_link : (o : Option ℕ) → SamePacket t (hopped_to w near t o).tunnel
-    by_link None = moved_same t (next t)
-    by_link (Some other) =
-        let met : TunnelValue = marked_down t other in
-        let same = along_same w near met (route_from_here met w.database near) in
-        record { packet = same.packet; header = same.header; leg = same.leg; ingress = same.ingress }
+hopped_same w near t = by_link (link_found_down near (next t)) where
+  by_link : (o : Option ℕ) → SamePacket t (hopped_to w near t o).tunnel
+  by_link None = moved_same t (next t)
+  by_link (Some other) =
+      let met : TunnelValue = marked_down t other in
+      let same = along_same w near met (route_from_here met w.database near) in
+      record { packet = same.packet; header = same.header; leg = same.leg; ingress = same.ingress }
 
 -- one more call changes nothing at an authority switch
 pub authority_counted : (w : SwitchValue) (header : Header) (leg : Leg)

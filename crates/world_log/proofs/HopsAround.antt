@@ -24,8 +24,7 @@ module _ (at : Standing) (version : ℕ) (rule : Option ℕ) (leg : Leg) (target
   stands = get_or_from_slice_get t.tunnel.route t.tunnel.place before.number 0 met.here
 
   links_is : links ≡ down_with t.tunnel other
-  links_is = links_are
-      ∙ ap (λ (a : Standing). with_link a.down a.switch other) met.stands
+  links_is = links_are ∙ ap (λ (a : Standing). with_link a.down a.switch other) met.stands
       ∙ ap (λ n. with_link t.tunnel.down n other) (sym stands)
 
   pub around : (found : Option (List ℕ)) → route_of s.database s.number targets near links ≡ found
@@ -33,16 +32,14 @@ module _ (at : Standing) (version : ℕ) (rule : Option ℕ) (leg : Leg) (target
   around found is = hop_around before near t.tunnel other found met.found
       (ap (λ n. route_of before.database n t.tunnel.targets near (down_with t.tunnel other)) stands
       ∙ ap (λ these. route_of before.database before.number these near (down_with t.tunnel other))
-      (sym met.targets)
-      ∙ ap (route_of before.database before.number targets near) (sym links_is)
+      (sym met.targets) ∙ ap (route_of before.database before.number targets near) (sym links_is)
       ∙ subst (λ (w : SwitchValue). route_of w.database w.number targets near links ≡ found)
       met.asked is)
 
   pub why : (cause : Cause) → cause ≡ cause_of s near links leg targets
       → cause ≡ cause_of before near (down_with t.tunnel other) t.tunnel.leg t.tunnel.targets
   unfolding cause_of are_isolated
-  why cause is =
-      subst (λ w. cause ≡ cause_of w near links leg targets) met.asked is
+  why cause is = subst (λ w. cause ≡ cause_of w near links leg targets) met.asked is
       ∙ ap (λ down. cause_of before near down leg targets) links_is
       ∙ ap (λ l. cause_of before near (down_with t.tunnel other) l targets) met.leg
       ∙ ap (cause_of before near (down_with t.tunnel other) t.tunnel.leg) met.targets
@@ -53,14 +50,12 @@ module _ (at : Standing) (version : ℕ) (rule : Option ℕ) (leg : Leg) (target
 
   pub turned_is : (route : List ℕ)
       → travels_by (begun_at (marked_at at other) leg targets route) version rule ≡ turned route
-  turned_is route =
-      ap (λ (a : Standing). travels_by (begun_at (marked_at a other) leg targets route) version rule)
-      met.stands
+  turned_is route = ap (λ (a : Standing). travels_by
+      (begun_at (marked_at a other) leg targets route) version rule) met.stands
       ∙ ap (λ n. travels_by (begun_at (marked_at (standing_at n t) other) leg targets route) version
-      rule) (sym stands)
-      ∙ ap (λ l. travels_by (begun_at (marked_at (standing_at (here t.tunnel) t) other) l targets
-      route) version rule) met.leg
-      ∙ ap (λ these. travels_by (begun_at (marked_at (standing_at (here t.tunnel) t) other)
+      rule) (sym stands) ∙ ap (λ l. travels_by
+      (begun_at (marked_at (standing_at (here t.tunnel) t) other) l targets route) version rule)
+      met.leg ∙ ap (λ these. travels_by (begun_at (marked_at (standing_at (here t.tunnel) t) other)
       t.tunnel.leg these route) version rule) met.targets
       ∙ ap (λ n. travels_by (turned route).tunnel n rule) met.version
       ∙ ap (travels_by (turned route).tunnel t.version) met.rule
@@ -75,29 +70,24 @@ module _ (at : Standing) (version : ℕ) (rule : Option ℕ) (leg : Leg) (target
         ∙ ap (λ c. record { end = hop.Stuck c; tunnel = marked_down t.tunnel other })
         (sym (why cause why_is))
 
-    pub stuck_log : {T E : Type 0} (r : Result T E) (ports : Ports) (number : ℕ)
-        (old mid new : Log)
+    pub stuck_log : {T E : Type 0} (r : Result T E) (ports : Ports) (number : ℕ) (old mid new : Log)
         → mid.journal ≡ old.journal ++ item.FoundDown at.packet at.switch other ∷ []
         → mid.bag ≡ old.bag → mid.travelling ≡ old.travelling
         → LogAfter r (item.Stuck at.packet at.switch cause leg (marked_at at other).down ∷ []) []
-        at.packet None mid new
-        → LogAfter r (hop_written number before near ports t) (hop_posts before near ports t)
-        at.packet (hop_flight before near ports t) old new
-    stuck_log r ports number old mid new grown same_bag same log =
-        let packet = at.packet in
+        at.packet None mid new → LogAfter r (hop_written number before near ports t)
+        (hop_posts before near ports t) at.packet (hop_flight before near ports t) old new
+    stuck_log r ports number old mid new grown same_bag same log = let packet = at.packet in
         hop_log before near ports t r number packet (Some other)
         (record { end = hop.Stuck cause; tunnel = marked_down t.tunnel other }) old new met.found
         is_stuck
-        (subst (λ n. LogAfter r (item.FoundDown t.tunnel.packet before.number other
-        ∷ item.Stuck t.tunnel.packet before.number cause t.tunnel.leg
-        (with_link t.tunnel.down n other) ∷ []) [] packet None old new) (sym stands)
-        (subst (λ l. LogAfter r (item.FoundDown t.tunnel.packet before.number other
-        ∷ item.Stuck t.tunnel.packet before.number cause l
-        (with_link t.tunnel.down before.number other) ∷ []) [] packet None old new) met.leg
-        (subst (λ (a : Standing). LogAfter r (item.FoundDown a.packet a.switch other
+        (subst (λ n. LogAfter r (item.FoundDown t.tunnel.packet before.number other ∷ item.Stuck
+        t.tunnel.packet before.number cause t.tunnel.leg (with_link t.tunnel.down n other) ∷ []) []
+        packet None old new) (sym stands) (subst (λ l. LogAfter r
+        (item.FoundDown t.tunnel.packet before.number other ∷ item.Stuck t.tunnel.packet
+        before.number cause l (with_link t.tunnel.down before.number other) ∷ []) [] packet None old
+        new) met.leg (subst (λ (a : Standing). LogAfter r (item.FoundDown a.packet a.switch other
         ∷ item.Stuck a.packet a.switch cause leg (marked_at a other).down ∷ []) [] packet None old
-        new) met.stands
-        (log_behind r (item.FoundDown at.packet at.switch other ∷ [])
+        new) met.stands (log_behind r (item.FoundDown at.packet at.switch other ∷ [])
         (item.Stuck at.packet at.switch cause leg (marked_at at other).down ∷ []) [] [] packet None
         old mid new grown (same_bag ∙ sym (append-nil old.bag)) same log))))
 
@@ -114,14 +104,11 @@ module _ (at : Standing) (version : ℕ) (rule : Option ℕ) (leg : Leg) (target
       abbrev begun : Flight
       begun = travels_by (begun_at (marked_at at other) leg targets route) version rule
 
-      pub turned_log : {T E : Type 0} (r : Result T E) (ports : Ports) (number : ℕ)
-          (old mid new : Log)
-          → mid.journal ≡ old.journal ++ item.FoundDown at.packet at.switch other
-          ∷ item.Rerouted at.packet route ∷ []
-          → mid.bag ≡ old.bag → mid.travelling ≡ old.travelling
+      pub turned_log : {T E : Type 0} (r : Result T E) (ports : Ports) (number : ℕ) (old mid
+          new : Log) → mid.journal ≡ old.journal ++ item.FoundDown at.packet at.switch other
+          ∷ item.Rerouted at.packet route ∷ [] → mid.bag ≡ old.bag → mid.travelling ≡ old.travelling
           → LogAfter r (followed_items number s near ports begun)
-          (followed_posts s near ports begun) at.packet
-          (followed_flight s near ports begun) mid new
+          (followed_posts s near ports begun) at.packet (followed_flight s near ports begun) mid new
           → LogAfter r (hop_written number before near ports t) (hop_posts before near ports t)
           at.packet (hop_flight before near ports t) old new
       turned_log r ports number old mid new grown same_bag same log =
@@ -131,18 +118,15 @@ module _ (at : Standing) (version : ℕ) (rule : Option ℕ) (leg : Leg) (target
           (log_behind r _ (followed_items number (call_counted before) near ports (turned route)) []
           (followed_posts (call_counted before) near ports (turned route)) packet
           (followed_flight (call_counted before) near ports (turned route)) old mid new
-          (grown
-          ∙ ap (λ (a : Standing). old.journal ++ item.FoundDown a.packet a.switch other
+          (grown ∙ ap (λ (a : Standing). old.journal ++ item.FoundDown a.packet a.switch other
           ∷ item.Rerouted a.packet route ∷ []) met.stands
           ∙ ap (λ js. old.journal ++ js) (sym (turned_along t.tunnel.packet before.number other
           (turned route).tunnel (next (turned route).tunnel))))
-          (same_bag ∙ sym (append-nil old.bag)) same
-          (subst (λ w. LogAfter r (followed_items number w near ports (turned route))
-          (followed_posts w near ports (turned route)) packet
+          (same_bag ∙ sym (append-nil old.bag)) same (subst (λ w. LogAfter r (followed_items number
+          w near ports (turned route)) (followed_posts w near ports (turned route)) packet
           (followed_flight w near ports (turned route)) mid new) met.asked
-          (subst (λ f. LogAfter r (followed_items number s near ports f)
-          (followed_posts s near ports f) packet
-          (followed_flight s near ports f) mid new) (turned_is route) log)))
+          (subst (λ f. LogAfter r (followed_items number s near ports f) (followed_posts s near
+          ports f) packet (followed_flight s near ports f) mid new) (turned_is route) log)))
 
       -- where its route is that one switch it has arrived there
       pub last_here : next begun.tunnel ≡ None → StandsAt s begun.tunnel.route begun.tunnel.place
@@ -165,7 +149,6 @@ module _ (at : Standing) (version : ℕ) (rule : Option ℕ) (leg : Leg) (target
 
       pub turned_switch : (now : SwitchValue) → now ≡ ended_switch s (followed begun).end
           → now ≡ hopped_switch before near t
-      turned_switch now is =
-          is ∙ ap (λ f. ended_switch s (followed f).end) (turned_is route)
+      turned_switch now is = is ∙ ap (λ f. ended_switch s (followed f).end) (turned_is route)
           ∙ ap (λ w. ended_switch w (followed (turned route)).end) met.asked
           ∙ ap (λ (m : Moved). ended_switch (call_counted before) m.end) (sym goes)

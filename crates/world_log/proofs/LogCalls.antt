@@ -23,9 +23,8 @@ log_failed r items posts packet this old new failed part = record {
 pub log_unwritten : {T E : Type 0} {r : Result T E} {items : List Item} {posts : List Post}
     {packet : ℕ} {this : Option Flight} {old new : Log} → IsErr r → new.journal ≡ old.journal
     → LogAfter r items posts packet this old new
-log_unwritten {r} {items} {posts} {packet} {this} {old} {new} failed same =
-    log_failed r items posts packet this old new failed
-    (part_none old.journal items new.journal same)
+log_unwritten {r} {items} {posts} {packet} {this} {old} {new} failed same = log_failed r items posts
+    packet this old new failed (part_none old.journal items new.journal same)
 
 -- the first items were written, and the messages of the first part were posted
 pub log_behind : {T E : Type 0} (r : Result T E) (first items : List Item)

@@ -30,8 +30,7 @@ module _ (before : Flights) (switch from : ℕ) (journal now : List Item) (after
   lost_part =
       let more : ℕ = length before - from in
       let rest : List ℕ = filter test (range_with_len from more) in
-      let whole : ◌≡◌ {A = ℕ} (length before) (from + more) = omega (arith, lost.within) in
-      record {
+      let whole : ◌≡◌ {A = ℕ} (length before) (from + more) = omega (arith, lost.within) in record {
         written = map item.Lost (numbers_below before switch from);
         rest = map item.Lost rest;
         split = ap (λ k. map item.Lost (filter test (range_with_len 0 k))) whole
@@ -49,12 +48,11 @@ module _ (before : Flights) (switch from : ℕ) (journal now : List Item) (after
 
     -- it is one of the table
     pub lost_within : packet < length before
-    lost_within = by_place (cases_lt packet (length before))
-      where
-        by_place : (packet < length before) ⊎ (length before ≤ packet) → packet < length before
-        by_place (inl below) = below
-        by_place (inr past) =
-            absurd (let clash : true ≡ false = sym stood ∙ beyond before switch packet past in cc)
+    lost_within = by_place (cases_lt packet (length before)) where
+      by_place : (packet < length before) ⊎ (length before ≤ packet) → packet < length before
+      by_place (inl below) = below
+      by_place (inr past) =
+          absurd (let clash : true ≡ false = sym stood ∙ beyond before switch packet past in cc)
 
     below_next : numbers_below before switch (packet + 1)
         ≡ numbers_below before switch from ++ packet ∷ []
@@ -64,8 +62,7 @@ module _ (before : Flights) (switch from : ℕ) (journal now : List Item) (after
         filter_more test packet
         ∙ ap (λ b. filter test (range_with_len 0 packet) ++ cond b (packet ∷ []) []) stood
         ∙ ap (λ numbers. numbers ++ packet ∷ [])
-        (ap (λ k. filter test (range_with_len 0 k)) whole
-        ∙ none_between test from more
+        (ap (λ k. filter test (range_with_len 0 k)) whole ∙ none_between test from more
         (λ i above below. between i above (omega (arith, below, next.0))))
 
     -- it is lost too
@@ -76,37 +73,28 @@ module _ (before : Flights) (switch from : ℕ) (journal now : List Item) (after
       within = omega (arith, lost_within);
       written = pushed ∙ ap (λ js. js ++ item.Lost packet ∷ []) lost.written
           ∙ append_assoc journal (map item.Lost (numbers_below before switch from))
-          (item.Lost packet ∷ [])
-          ∙ ap (λ items. journal ++ items)
-          (sym (map-append item.Lost (numbers_below before switch from) (packet ∷ []))
-          ∙ ap (map item.Lost) (sym below_next));
+          (item.Lost packet ∷ []) ∙ ap (λ items. journal ++ items) (sym (map-append item.Lost
+          (numbers_below before switch from) (packet ∷ [])) ∙ ap (map item.Lost) (sym below_next));
       lost = λ i below. without i ∙ by_same i (i == packet) refl below;
-      later = λ i above. without i
-          ∙ ap (λ b. if b then None else flight after i)
+      later = λ i above. without i ∙ ap (λ b. if b then None else flight after i)
           (ne_eqb i packet (λ e. absurd (omega (arith, e, above))))
           ∙ lost.later i (omega (arith, above, next.0));
-    }
-      where
-        by_place : (i : ℕ) → (i < from) ⊎ (from ≤ i) → i < packet
-            → flight after i ≡ (if test i then None else flight before i)
-        by_place i (inl low) below = lost.lost i low
-        by_place i (inr high) below =
-            lost.later i high
-            ∙ sym (ap (λ b. if b then None else flight before i) (between i high below))
+    } where
+      by_place : (i : ℕ) → (i < from) ⊎ (from ≤ i) → i < packet
+          → flight after i ≡ (if test i then None else flight before i)
+      by_place i (inl low) below = lost.lost i low
+      by_place i (inr high) below = lost.later i high
+          ∙ sym (ap (λ b. if b then None else flight before i) (between i high below))
 
-        by_same : (i : ℕ) (b : Bool) → (i == packet) ≡ b → i < packet + 1
-            → (if b then None else flight after i)
-            ≡ (if test i then None else flight before i)
-        by_same i true e below =
-            sym (ap (λ c. if c then None else flight before i)
-            (ap test (eqb-true i packet e) ∙ stood))
-        by_same i false e below =
-            by_place i (cases_lt i from) (omega (arith, below, other))
-          where
-            other : i ≢ packet
-            other same = absurd (let differs : (packet == packet) ≡ false =
-                ap (λ k. k == packet) (sym same) ∙ e in let same_as : (packet == packet) ≡ true =
-                eq-eqb packet packet refl in cc)
+      by_same : (i : ℕ) (b : Bool) → (i == packet) ≡ b → i < packet + 1
+          → (if b then None else flight after i) ≡ (if test i then None else flight before i)
+      by_same i true e below = sym (ap (λ c. if c then None else flight before i)
+          (ap test (eqb-true i packet e) ∙ stood))
+      by_same i false e below = by_place i (cases_lt i from) (omega (arith, below, other)) where
+        other : i ≢ packet
+        other same = absurd (let differs : (packet == packet) ≡ false =
+            ap (λ k. k == packet) (sym same) ∙ e in let same_as : (packet == packet) ≡ true =
+            eq-eqb packet packet refl in cc)
 
   module _ (next : IsNextAt after switch from None) where
     none_more : (i : ℕ) → from ≤ i → test i ≡ false
@@ -124,11 +112,9 @@ module _ (before : Flights) (switch from : ℕ) (journal now : List Item) (after
         ∙ none_between test from more (λ i above below. none_more i above)))
 
     pub lost_all : WithoutAt before switch after
-    lost_all = λ i. by_place i (cases_lt i from)
-      where
-        by_place : (i : ℕ) → (i < from) ⊎ (from ≤ i)
-            → flight after i ≡ (if test i then None else flight before i)
-        by_place i (inl low) = lost.lost i low
-        by_place i (inr high) =
-            lost.later i high
-            ∙ sym (ap (λ b. if b then None else flight before i) (none_more i high))
+    lost_all = λ i. by_place i (cases_lt i from) where
+      by_place : (i : ℕ) → (i < from) ⊎ (from ≤ i)
+          → flight after i ≡ (if test i then None else flight before i)
+      by_place i (inl low) = lost.lost i low
+      by_place i (inr high) = lost.later i high
+          ∙ sym (ap (λ b. if b then None else flight before i) (none_more i high))

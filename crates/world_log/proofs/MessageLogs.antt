@@ -15,14 +15,12 @@ number_on number (act.Current version) = omega arith
 number_on number (act.Retired version) = omega arith
 number_on number (act.Post message) = refl
 
-pub acts_append : (number : ℕ) (first later : List Act)
-    → act_items number (first ++ later)
+pub acts_append : (number : ℕ) (first later : List Act) → act_items number (first ++ later)
     ≡ act_items number first ++ act_items (number + length (act_posts first)) later
 unfolding act_items act_posts
 acts_append number [] later = ap (λ n. act_items n later) (omega arith)
 acts_append number (one ∷ first) later =
-    ap (λ items. act_item number one ∷ items)
-    (acts_append (number_after number one) first later
+    ap (λ items. act_item number one ∷ items) (acts_append (number_after number one) first later
     ∙ ap (λ n. act_items (number_after number one) first ++ act_items n later)
     (omega (arith, number_on number one, length-append (act_post one) (act_posts first))))
 
@@ -30,12 +28,10 @@ pub posts_append : (first later : List Act)
     → act_posts (first ++ later) ≡ act_posts first ++ act_posts later
 unfolding act_posts
 posts_append [] later = refl
-posts_append (one ∷ first) later =
-    ap (λ posts. act_post one ++ posts) (posts_append first later)
+posts_append (one ∷ first) later = ap (λ posts. act_post one ++ posts) (posts_append first later)
     ∙ sym (append_assoc (act_post one) (act_posts first) (act_posts later))
 
-pub acts_one : (number : ℕ) (one : Act)
-    → act_items number (one ∷ []) ≡ act_item number one ∷ []
+pub acts_one : (number : ℕ) (one : Act) → act_items number (one ∷ []) ≡ act_item number one ∷ []
 unfolding act_items
 acts_one number one = refl
 
@@ -54,15 +50,13 @@ pub record HaveCome {A : Type 0} (all first rest : List A) (left : ℕ) : Type 0
 
 pub come_next : {A : Type 0} (all first rest later : List A) (one : A) (left : ℕ)
     → HaveCome all first rest left → rest ≡ one ∷ later → first ++ one ∷ later ≡ all
-come_next all first rest later one left come next =
-    ap (λ xs. first ++ xs) (sym next) ∙ come.parts
+come_next all first rest later one left come next = ap (λ xs. first ++ xs) (sym next) ∙ come.parts
 
 pub come_more : {A : Type 0} (all first rest later : List A) (one : A) (left after : ℕ)
     → HaveCome all first rest left → (rest ≡ one ∷ later) × (after + 1 ≡ left)
     → HaveCome all (first ++ one ∷ []) later after
 come_more all first rest later one left after come step = record {
-  parts = append_assoc first (one ∷ []) later
-      ∙ come_next all first rest later one left come step.0;
+  parts = append_assoc first (one ∷ []) later ∙ come_next all first rest later one left come step.0;
   many = omega (arith, length-append first (one ∷ []), come.many, step.1);
 }
 
@@ -98,8 +92,7 @@ module _ (journal now : List Item) (bag posts : List Post) (first : List Act)
             (act_item (length posts + 1) one ∷ []) so.written done
             ∙ ap (λ items. journal ++ (act_items (length bag + 1) first ++ items))
             (sym (acts_one (length posts + 1) one) ∙ ap (λ n. act_items n (one ∷ [])) number)
-            ∙ ap (λ items. journal ++ items)
-            (sym (acts_append (length bag + 1) first (one ∷ [])));
+            ∙ ap (λ items. journal ++ items) (sym (acts_append (length bag + 1) first (one ∷ [])));
         posted = both_written bag posts later (act_posts first) (act_post one) so.posted post
             ∙ ap (λ more. bag ++ (act_posts first ++ more)) (sym (posts_one one))
             ∙ ap (λ more. bag ++ more) (sym (posts_append first (one ∷ [])));
@@ -160,11 +153,10 @@ module _ {A : Type 0} (act : A → Act) (first : List A) where
 -- if the acts are spelled, the messages of the first ones are
 pub messages_spelled : (messages : List Message) (later : List Act)
     → All IsSpelled (map act.Post messages ++ later) → All HasShortSpelling messages
-messages_spelled messages later all = λ k d within.
-    subst IsSpelled (get_or_append_left (map act.Post messages) later (act.Post d) k
+messages_spelled messages later all = λ k d within. subst IsSpelled
+    (get_or_append_left (map act.Post messages) later (act.Post d) k
     (omega (arith, within, length-map messages act.Post))
-    ∙ get_or-map act.Post messages k d (act.Post d) within)
-    (all k (act.Post d) (omega (
+    ∙ get_or-map act.Post messages k d (act.Post d) within) (all k (act.Post d) (omega (
       arith,
       within,
       length-map messages act.Post,
@@ -175,8 +167,7 @@ messages_spelled messages later all = λ k d within.
 module _ (bag : List Post) (first later : List Act) (may : MayNote bag (first ++ later)) where
   counted : length (act_posts (first ++ later))
       ≡ length (act_posts first) + length (act_posts later)
-  counted = ap length (posts_append first later)
-      ∙ length-append (act_posts first) (act_posts later)
+  counted = ap length (posts_append first later) ∙ length-append (act_posts first) (act_posts later)
 
   pub may_first : MayNote bag first
   may_first = record {
@@ -238,8 +229,7 @@ module _ (journal now : List Item) (bag posts : List Post) (first later : List A
   -- memory runs out among the later ones
   pub later_part : (after : List Item) → IsPart now (act_items (length posts + 1) later) after
       → IsPart journal (act_items (length bag + 1) (first ++ later)) after
-  later_part after part =
-      subst (λ items. IsPart journal items after) (sym both_are)
+  later_part after part = subst (λ items. IsPart journal items after) (sym both_are)
       (part_of_rest journal now (act_items (length bag + 1) first)
       (act_items (length posts + 1) later) after so.written part)
 
@@ -247,7 +237,6 @@ module _ (journal now : List Item) (bag posts : List Post) (first later : List A
 pub first_part : (journal now : List Item) (number : ℕ) (first later : List Act)
     → IsPart journal (act_items number first) now
     → IsPart journal (act_items number (first ++ later)) now
-first_part journal now number first later part =
-    subst (λ items. IsPart journal items now) (sym (acts_append number first later))
-    (part_of_first journal (act_items number first)
+first_part journal now number first later part = subst (λ items. IsPart journal items now)
+    (sym (acts_append number first later)) (part_of_first journal (act_items number first)
     (act_items (number + length (act_posts first)) later) now part)

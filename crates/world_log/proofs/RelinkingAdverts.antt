@@ -25,22 +25,18 @@ held_one : (switch : SwitchValue) (other n : ℕ)
 unfolding held_below
 held_one switch other n =
     ap (λ origins. map (advert_to other) (filter_map (held_advert switch.database) origins))
-    (range_more 0 n n (omega arith))
-    ∙ ap (map (advert_to other))
+    (range_more 0 n n (omega arith)) ∙ ap (map (advert_to other))
     (filter_map-append (held_advert switch.database) (range_with_len 0 n) (n ∷ []))
     ∙ map-append (advert_to other) (filter_map (held_advert switch.database) (range_with_len 0 n))
     (filter_map (held_advert switch.database) (n ∷ []))
 
-pub held_step : (switch : SwitchValue) (other n : ℕ)
-    → held_below switch other (n + 1)
+pub held_step : (switch : SwitchValue) (other n : ℕ) → held_below switch other (n + 1)
     ≡ held_below switch other n ++ advert_if_held other (held_advert switch.database n)
-held_step switch other n =
-    held_one switch other n
+held_step switch other n = held_one switch other n
     ∙ ap (λ more. held_below switch other n ++ more) (by_one (held_advert switch.database n) refl)
   where
-    by_one : (o : Option Advert) → held_advert switch.database n ≡ o
-        → map (advert_to other) (filter_map (held_advert switch.database) (n ∷ []))
-        ≡ advert_if_held other o
+    by_one : (o : Option Advert) → held_advert switch.database n ≡ o → map (advert_to other)
+        (filter_map (held_advert switch.database) (n ∷ [])) ≡ advert_if_held other o
     by_one None e = rw e refl
     by_one (Some advert) e = rw e refl
 
@@ -61,12 +57,10 @@ pub near_none : (send_adverts : ℕ → List Message) (near : ℕ) → near_belo
 unfolding near_below
 near_none send_adverts near = refl
 
-pub near_step : (send_adverts : ℕ → List Message) (near n : ℕ)
-    → near_below send_adverts near (n + 1)
-    ≡ near_below send_adverts near n ++ (if has near n then send_adverts n else [])
+pub near_step : (send_adverts : ℕ → List Message) (near n : ℕ) → near_below send_adverts near
+    (n + 1) ≡ near_below send_adverts near n ++ (if has near n then send_adverts n else [])
 unfolding near_below
-near_step send_adverts near n =
-    ap (flat_map send_adverts) (filter_more (has near) n)
+near_step send_adverts near n = ap (flat_map send_adverts) (filter_more (has near) n)
     ∙ flat_map-append send_adverts (filter (has near) (range_with_len 0 n))
     (cond (has near n) (n ∷ []) [])
     ∙ ap (λ more. near_below send_adverts near n ++ more) (by_test (has near n))
@@ -85,8 +79,7 @@ told_below switch own had near n =
 
 -- and what it tells them again
 abbrev pub again_below : SwitchValue → ℕ → ℕ → List Message
-again_below switch near n =
-    near_below (λ other. map (advert_to other) (all_held switch)) near n
+again_below switch near n = near_below (λ other. map (advert_to other) (all_held switch)) near n
 
 pub again_all : (s count near : ℕ) (switch : SwitchValue) → switch.is_up ≡ true
     → to_controller (Hello s switch.boot) ∷ again_below switch near count
@@ -113,8 +106,7 @@ told_nothing switch count had near is = (rw is refl, rw is refl)
 
 -- what the switches below n tell
 unfoldable pub all_below : ℕ → List ℕ → List ℕ → List SwitchValue → ℕ → List Message
-all_below count had near all n =
-    flat_map (adverts_at count had near all) (range_with_len 0 n)
+all_below count had near all n = flat_map (adverts_at count had near all) (range_with_len 0 n)
 
 pub all_none : (count : ℕ) (had near : List ℕ) (all : List SwitchValue)
     → all_below count had near all 0 ≡ []
@@ -158,11 +150,9 @@ pub serve_one : (mask n : ℕ) (all : List SwitchValue) (switch : SwitchValue)
     → ServeBelow (bit_or mask (only_if (serves switch) n)) (n + 1) all
 serve_one mask n all switch there is so = record {
   below = λ k below. has-or mask (only_if (serves switch) n) k ∙ elim (cases_lt k n) [
-    | inl less ↦ ap (λ b. has mask k || b)
-        (has_only_other (serves switch) n k (λ same. absurd (omega (arith, less, same))))
-        ∙ or_false (has mask k) ∙ so.below k less
-    | inr more ↦
-        let same : k ≡ n = omega (arith, below, more) in
+    | inl less ↦ ap (λ b. has mask k || b) (has_only_other (serves switch) n k
+        (λ same. absurd (omega (arith, less, same)))) ∙ or_false (has mask k) ∙ so.below k less
+    | inr more ↦ let same : k ≡ n = omega (arith, below, more) in
         ap (λ j. has mask j || has (only_if (serves switch) n) j) same
         ∙ ap (λ b. b || has (only_if (serves switch) n) n) (so.past n (omega arith))
         ∙ has_only_same (serves switch) n ∙ ap serves is
@@ -172,11 +162,10 @@ serve_one mask n all switch there is so = record {
   past = λ k past. has-or mask (only_if (serves switch) n) k
       ∙ ap (λ b. b || has (only_if (serves switch) n) k) (so.past k (omega (arith, past)))
       ∙ has_only_other (serves switch) n k (λ same. absurd (omega (arith, past, same)));
-}
-  where
-    or_false : (b : Bool) → (b || false) ≡ b
-    or_false true = refl
-    or_false false = refl
+} where
+  or_false : (b : Bool) → (b || false) ≡ b
+  or_false true = refl
+  or_false false = refl
 
 -- a switch that isn't there serves not
 none_there : (all : List SwitchValue) (k : ℕ) → length all ≤ k → serves_at all k ≡ false
@@ -193,8 +182,7 @@ serve_all mask all n least most so k = elim (cases_lt k n) [
 
 -- the links that can be used, as bits
 pub usable_bits : (links serving s : ℕ) → links < 2 ^ 64
-    → has serving s ≡ true
-    → bit_and links serving ≡ near_where links (has serving s) (has serving)
+    → has serving s ≡ true → bit_and links serving ≡ near_where links (has serving s) (has serving)
 usable_bits links serving s fits is =
     mask_of_is (bit_and links serving) (λ k. has links k && has serving s && has serving k)
     (omega (arith, and_le_l links serving, fits))
@@ -209,9 +197,8 @@ usable_bits links serving s fits is =
 
 pub usable_none : (links serving s : ℕ) → has serving s ≡ false
     → 0 ≡ near_where links (has serving s) (has serving)
-usable_none links serving s is =
-    mask_of_is 0 (λ k. has links k && has serving s && has serving k) (omega arith)
-    (λ k below. has-zero k ∙ sym (ap (λ b. has links k && b && has serving k) is
+usable_none links serving s is = mask_of_is 0 (λ k. has links k && has serving s && has serving k)
+    (omega arith) (λ k below. has-zero k ∙ sym (ap (λ b. has links k && b && has serving k) is
     ∙ and_false (has links k) (has serving k)))
   where
     and_false : (a b : Bool) → (a && false && b) ≡ false
@@ -223,9 +210,8 @@ usable_none links serving s is =
 pub same_near : (links : ℕ) (own own2 : Bool) (test test2 : ℕ → Bool) → own ≡ own2
     → ((k : ℕ) → k < 64 → test k ≡ test2 k)
     → near_where links own test ≡ near_where links own2 test2
-same_near links own own2 test test2 same others =
-    mask_of_is (near_where links own test) (λ k. has links k && own2 && test2 k)
-    (mask_of_lt (λ k. has links k && own && test k))
+same_near links own own2 test test2 same others = mask_of_is (near_where links own test)
+    (λ k. has links k && own2 && test2 k) (mask_of_lt (λ k. has links k && own && test k))
     (λ k below. has_mask (λ j. has links j && own && test j) k below
     ∙ ap (λ b. has links k && b && test k) same
     ∙ ap (λ b. has links k && own2 && b) (others k below))

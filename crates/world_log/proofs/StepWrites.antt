@@ -32,8 +32,7 @@ part_of_rest old begun first rest new first_is part = record {
   written = first ++ part.written;
   rest = part.rest;
   split = ap (λ items. first ++ items) part.split ∙ sym (append_assoc first part.written part.rest);
-  grown = part.grown ∙ ap (λ js. js ++ part.written) first_is
-      ∙ append_assoc old first part.written;
+  grown = part.grown ∙ ap (λ js. js ++ part.written) first_is ∙ append_assoc old first part.written;
 }
 
 -- ---- the row, and then the rest

@@ -30,9 +30,8 @@ route_known s near packet leg targets links route same is =
     (subst (λ down. route_of s.database s.number targets near down ≡ Some route) same is))
 
 -- or why there is none
-pub none_known : (s : SwitchValue) (near : ℕ) (packet : Packet) (leg : Leg)
-    (targets links : List ℕ) (cause : Cause) → links ≡ packet.down
-    → route_of s.database s.number targets near links ≡ None
+pub none_known : (s : SwitchValue) (near : ℕ) (packet : Packet) (leg : Leg) (targets links : List ℕ)
+    (cause : Cause) → links ≡ packet.down → route_of s.database s.number targets near links ≡ None
     → cause ≡ cause_of s near links leg targets → Err cause ≡ set_out s near packet leg targets
 unfolding set_out
 none_known s near packet leg targets links cause same none is =
@@ -84,8 +83,7 @@ module _ {T E : Type 0} (r : Result T E) (at : Standing) (packet : ℕ) (old new
         (leave_by s site.near (packet_standing at) port owner)
         → Goes (record decision { action = OutBy port }) (way_by (OutBy port))
     unfolding next_of
-    by_owner owner is goes =
-        subst (λ o. Goes (record decision { action = OutBy port })
+    by_owner owner is goes = subst (λ o. Goes (record decision { action = OutBy port })
         (leave_by s site.near (packet_standing at) port o)) (sym is) goes
 
     pub unowned : decision.action ≡ OutBy port → port_owner site.ports port ≡ None
@@ -103,19 +101,15 @@ module _ {T E : Type 0} (r : Result T E) (at : Standing) (packet : ℕ) (old new
         → Goes (record decision { action = OutBy port }) (way_of owner here)
         → Goes decision (way_by decision.action)
     unfolding leave_by
-    owned owner here acts is at_home goes =
-        by_action (OutBy port) acts (by_owner (Some owner) is
-        (subst (λ b. Goes (record decision { action = OutBy port }) (way_of owner b))
-        (sym at_home) goes))
+    owned owner here acts is at_home goes = by_action (OutBy port) acts (by_owner (Some owner) is
+        (subst (λ b. Goes (record decision { action = OutBy port }) (way_of owner b)) (sym at_home)
+        goes))
 
 -- ---- a cache rule
 
 -- one to a switch below 64
 pub rule_spelled : (s version : ℕ) (word : WordValue) (rule : Option ℕ) (act : Action) → s < 64
-    → HasShortSpelling (record {
-      to = receiver.Switch s;
-      body = CacheRule version word rule act;
-    })
+    → HasShortSpelling (record { to = receiver.Switch s; body = CacheRule version word rule act })
 rule_spelled s version word rule act below = record {
   spelling = record { switch = below; suits = refl; fields = tt };
   short = alone_short _ refl;

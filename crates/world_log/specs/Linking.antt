@@ -90,8 +90,7 @@ relinked_as had near switch = if links_change had near switch then near_changed 
 abbrev pub adverts_on_change : ℕ → ℕ → ℕ → SwitchValue → List Message
 adverts_on_change count had near switch = if links_change had near switch
     then flat_map (λ other. adverts_over (near_changed switch near) (next_advert switch near)
-    (has had other) other) (filter (has near) (range_with_len 0 count))
-    else []
+    (has had other) other) (filter (has near) (range_with_len 0 count)) else []
 
 abbrev pub adverts_at : ℕ → List ℕ → List ℕ → List SwitchValue → ℕ → List Message
 adverts_at count had near switches s = elim (slice_get switches s) [

@@ -24,8 +24,7 @@ coming_in packet header switch = record {
 
 -- what the switch returns for the packet that enters
 abbrev pub entry : SwitchValue → ℕ → Ports → ℕ → Header → Option Answer
-entry s near ports packet header =
-    admitted s (around near ports) (incoming_packet s packet header)
+entry s near ports packet header = admitted s (around near ports) (incoming_packet s packet header)
 
 -- what its arrival writes if the next message has this number, what it posts, and where the packet
 -- is then

@@ -21,8 +21,7 @@ number_after number _ = number
 
 unfoldable pub act_items : ℕ → List Act → List Item
 act_items number [] = []
-act_items number (first ∷ acts) =
-    act_item number first ∷ act_items (number_after number first) acts
+act_items number (first ∷ acts) = act_item number first ∷ act_items (number_after number first) acts
 
 -- what one act posts
 abbrev pub act_post : Act → List Post
@@ -55,6 +54,5 @@ pub record HasNoted {T E : Type 0} (result : Result T E) (acts : List Act) (old 
     : Type 0 where
   pub written : OnOk result (new.journal ≡ old.journal ++ act_items (length old.bag + 1) acts)
   pub posted : OnOk result (new.bag ≡ old.bag ++ act_posts acts)
-  pub part : OnErr result
-      (IsPart old.journal (act_items (length old.bag + 1) acts) new.journal)
+  pub part : OnErr result (IsPart old.journal (act_items (length old.bag + 1) acts) new.journal)
   pub travelling : new.travelling ≡ old.travelling

@@ -104,8 +104,7 @@ abbrev pub answer_items : ℕ → Standing → Answer → List Item
 answer_items number at (answer.Decided decision cache onward) =
     decided_items at decision (sent_from number (message_list (cache_message at.ingress cache)))
     onward
-answer_items number at (answer.Seek tunnel) =
-    takes_route at.packet tunnel.leg tunnel.route ∷ []
+answer_items number at (answer.Seek tunnel) = takes_route at.packet tunnel.leg tunnel.route ∷ []
 answer_items number at (answer.Stuck cause leg) =
     item.Stuck at.packet at.switch cause leg at.down ∷ []
 
@@ -115,8 +114,7 @@ answer_posts at what = map new_post (message_list (answer_message at what))
 
 -- the packet then, if it had this version and this rule
 abbrev pub answer_flight : ℕ → Option ℕ → Answer → Option Flight
-answer_flight version rule (answer.Decided decision cache onward) =
-    decided_flight decision onward
+answer_flight version rule (answer.Decided decision cache onward) = decided_flight decision onward
 answer_flight version rule (answer.Seek tunnel) =
     Some (record { tunnel = tunnel; version = version; rule = rule })
 answer_flight version rule (answer.Stuck cause leg) = None

@@ -15,8 +15,7 @@ still : {moves : Type 0} {old : Machine} → moves → (old ≡ old) × moves
 still behind = (refl, behind)
 
 pub dropped_rightly_is_run : IsRun office dropped_rightly
-dropped_rightly_is_run =
-    is_run_by office dropped_rightly (still (by (enters _ denied refl)
+dropped_rightly_is_run = is_run_by office dropped_rightly (still (by (enters _ denied refl)
     (by (decides _ denied 0 1 office_policy by_200 refl (omega arith) refl first_of_denied)
     (by (ends _ (decided denied 0 by_200) Dropped refl refl refl) tt))))
 
@@ -26,24 +25,21 @@ left_rightly_is_run =
     (still (still (still (by (ends _ let_out (LeftBy 2) refl refl refl) tt)))))))
 
 pub updated_rightly_is_run : IsRun office updated_rightly
-updated_rightly_is_run =
-    is_run_by office updated_rightly (still
-    (by (record { policy = second_policy; there = refl; newest = refl; after = refl })
-    (by (record { rises = omega arith; below_newest = omega arith; after = refl }) (still
-    (by (enters _ allowed refl)
-    (by (decides _ allowed 1 2 second_policy (by_100 Drop) refl (omega arith) refl second_of_allowed)
+updated_rightly_is_run = is_run_by office updated_rightly
+    (still (by (record { policy = second_policy; there = refl; newest = refl; after = refl })
+    (by (record { rises = omega arith; below_newest = omega arith; after = refl })
+    (still (by (enters _ allowed refl) (by (decides _ allowed 1 2 second_policy (by_100 Drop) refl
+    (omega arith) refl second_of_allowed)
     (by (ends _ (decided allowed 1 (by_100 Drop)) Dropped refl refl refl) tt)))))))
 
 pub decided_rightly_is_run : IsRun office decided_rightly
-decided_rightly_is_run =
-    is_run_by office decided_rightly (still
-    (by (record { policy = second_policy; there = refl; newest = refl; after = refl }) (still
-    (by (enters _ allowed refl) (by (lets_out _ refl refl) tt)))))
+decided_rightly_is_run = is_run_by office decided_rightly
+    (still (by (record { policy = second_policy; there = refl; newest = refl; after = refl })
+    (still (by (enters _ allowed refl) (by (lets_out _ refl refl) tt)))))
 
 pub lost_rightly_is_run : IsRun office lost_rightly
-lost_rightly_is_run =
-    is_run_by office lost_rightly (still (by (enters _ allowed refl) (still
-    (by (ends _ (comer allowed 0) Lost refl refl tt) tt))))
+lost_rightly_is_run = is_run_by office lost_rightly (still (by (enters _ allowed refl)
+    (still (by (ends _ (comer allowed 0) Lost refl refl tt) tt))))
 
 pub stuck_rightly_is_run : IsRun office stuck_rightly
 stuck_rightly_is_run =
@@ -51,13 +47,11 @@ stuck_rightly_is_run =
     (by (lets_out _ refl refl) (by (ends _ let_out Stuck refl refl tt) tt))))))
 
 pub lost_by_nothing_is_run : IsRun office lost_by_nothing
-lost_by_nothing_is_run =
-    is_run_by office lost_by_nothing (still (by (enters _ allowed refl)
-    (by (ends _ (comer allowed 0) Lost refl refl tt) tt)))
+lost_by_nothing_is_run = is_run_by office lost_by_nothing
+    (still (by (enters _ allowed refl) (by (ends _ (comer allowed 0) Lost refl refl tt) tt)))
 
 pub stuck_beside_a_way_is_run : IsRun office stuck_beside_a_route
-stuck_beside_a_way_is_run =
-    is_run_by office stuck_beside_a_route (still (by (enters _ allowed refl)
+stuck_beside_a_way_is_run = is_run_by office stuck_beside_a_route (still (by (enters _ allowed refl)
     (by (lets_out _ refl refl) (by (ends _ let_out Stuck refl refl tt) tt))))
 
 pub entered_unasked_is_run : IsRun office entered_unasked

@@ -57,8 +57,7 @@ no_first_of_denied first =
     let above : 200 ≤ first.0.priority =
     All-head (λ (other : Row). other.priority ≤ first.0.priority)
     (row_for 200 server_room Drop) (row_for 100 everywhere (Out 2) ∷ []) first.1.highest in
-    let own : first.0.priority ≡ 100 = first.2 in
-    omega (arith, above, own)
+    let own : first.0.priority ≡ 100 = first.2 in omega (arith, above, own)
 
 -- the only row of the second policy drops
 pub no_second_of_allowed : IsFirstMatch second_policy allowed (by_100 (Out 2)) → ⊥
@@ -67,5 +66,4 @@ no_second_of_allowed first =
     All-contains (λ (row : Row). row.action ≡ Drop) second_policy first.0
     (All-from_recursion (λ (row : Row). row.action ≡ Drop) second_policy (refl, tt))
     first.1.member in
-    let both : Drop ≡ Out 2 = sym drops ∙ first.3 in
-    cc
+    let both : Drop ≡ Out 2 = sym drops ∙ first.3 in cc

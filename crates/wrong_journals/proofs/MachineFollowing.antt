@@ -19,8 +19,7 @@ changed_there : (old : Machine) (number : ℕ) (change : Packet → Packet) (pac
     → with_packet old number (change packet) ≡ changed old number change
 changed_there old number change packet there =
     subst (λ (known : Option Packet). with_packet old number (change packet)
-    ≡ elim known [ None ↦ old | Some own ↦ with_packet old number (change own) ])
-    (sym there) refl
+    ≡ elim known [ None ↦ old | Some own ↦ with_packet old number (change own) ]) (sym there) refl
 
 abbrev pub ended : End → Packet → Packet
 ended end packet = record packet { end = Some end }
@@ -32,17 +31,14 @@ behind_item setting old (item.Submitted file version) =
       policies = old.policies ++ option_to_list (result_ok (policy_by setting newest file));
     }
 behind_item setting old (item.Retired version) = record old { mark = version }
-behind_item setting old (item.Entered packet switch header) =
-    with_packet old packet
+behind_item setting old (item.Entered packet switch header) = with_packet old packet
     (record { header = header; entry_mark = old.mark; decision = None; end = None })
-behind_item setting old (item.Decided packet version rule action how) =
-    changed old packet
+behind_item setting old (item.Decided packet version rule action how) = changed old packet
     (λ own. record own { decision = Some (record { rule = rule; action = action }) })
 behind_item setting old (item.Dropped packet) = changed old packet (ended Dropped)
 behind_item setting old (item.Left packet port leaving) = changed old packet (ended (LeftBy port))
 behind_item setting old (item.Lost packet) = changed old packet (ended Lost)
-behind_item setting old (item.Stuck packet switch cause leg down) =
-    changed old packet (ended Stuck)
+behind_item setting old (item.Stuck packet switch cause leg down) = changed old packet (ended Stuck)
 behind_item setting old _ = old
 
 taken : (setting : Setting) (old : Machine) (item : Item) (new : Machine)
@@ -54,10 +50,8 @@ taken setting old (item.Submitted file version) new takes =
 taken setting old (item.Retired version) new takes = takes.after
 taken setting old (item.Entered packet switch header) new takes = takes.after
 taken setting old (item.Decided packet version rule action how) new takes =
-    takes.after
-    ∙ changed_there old packet
-    (λ own. record own { decision = Some (record { rule = rule; action = action }) })
-    takes.packet takes.entered
+    takes.after ∙ changed_there old packet (λ own. record own
+    { decision = Some (record { rule = rule; action = action }) }) takes.packet takes.entered
 taken setting old (item.Dropped packet) new takes =
     takes.after ∙ changed_there old packet (ended Dropped) takes.packet takes.entered
 taken setting old (item.Left packet port leaving) new takes =
@@ -70,8 +64,7 @@ taken setting old _ new takes = takes
 
 abbrev pub behind_items : Setting → Machine → List Item → Machine
 behind_items setting old [] = old
-behind_items setting old (item ∷ items) =
-    behind_items setting (behind_item setting old item) items
+behind_items setting old (item ∷ items) = behind_items setting (behind_item setting old item) items
 
 -- a move of the machine by this item
 abbrev pub Move : Setting → Machine → Item → Type 0
@@ -95,8 +88,7 @@ move_at setting before item after run =
 -- the machine may take these items in turn, each to the machine behind it
 abbrev pub MayTake : Setting → Machine → List Item → Type 0
 MayTake setting old [] = ⊤
-MayTake setting old (item ∷ items) =
-    Takes setting old item (behind_item setting old item)
+MayTake setting old (item ∷ items) = Takes setting old item (behind_item setting old item)
     × MayTake setting (behind_item setting old item) items
 
 pub runs_by : (setting : Setting) (old : Machine) (items : List Item) → MayTake setting old items

@@ -8,8 +8,7 @@ use Rattle.wrong_journals.proofs.FirstMatches.{by_100, first_of_allowed}
 
 -- a packet that entered under this mark
 abbrev pub comer : Header → ℕ → Packet
-comer header mark =
-    record { header = header; entry_mark = mark; decision = None; end = None }
+comer header mark = record { header = header; entry_mark = mark; decision = None; end = None }
 
 -- and was decided so
 abbrev pub decided : Header → ℕ → Hit → Packet
@@ -48,6 +47,5 @@ ends old packet end entered going may =
 pub lets_out : (old : Machine) → old.packets 1 ≡ Some (comer allowed 0)
     → submitted_policy old 1 ≡ Some office_policy
     → Decides old 1 1 (by_100 (Out 2)) (with_packet old 1 let_out)
-lets_out old entered submitted =
-    decides old allowed 0 1 office_policy (by_100 (Out 2)) entered (omega arith) submitted
-    first_of_allowed
+lets_out old entered submitted = decides old allowed 0 1 office_policy (by_100 (Out 2)) entered
+    (omega arith) submitted first_of_allowed

@@ -16,18 +16,17 @@ free behind = (tt, behind)
 -- the packet leaves at b
 pub left_rightly_has_causes : HaveCauses (HasCause office) [] left_rightly
 unfolding standing header_in decision_of
-left_rightly_has_causes =
-    free (free (free (free (free (free (
-      record {
-        switch = 1;
-        stands = refl;
-        has_port = refl;
-        number = refl;
-        header = refl;
-        decided = refl;
-      },
-      tt,
-    ))))))
+left_rightly_has_causes = free (free (free (free (free (free (
+  record {
+    switch = 1;
+    stands = refl;
+    has_port = refl;
+    number = refl;
+    header = refl;
+    decided = refl;
+  },
+  tt,
+))))))
 
 -- no link is left to the packet
 abbrev cut_off : List Item
@@ -36,28 +35,25 @@ cut_off = take 5 stuck_rightly
 no_way : (path : List ℕ) → Leads (is_open office cut_off 1 0) 0 path 1 → ⊥
 unfolding serves is_link_up
 no_way [] leads = let same : ◌≡◌ {A = ℕ} 0 1 = leads in cc
-no_way (next ∷ path) leads =
-    let first : IsTrue (is_open office cut_off 1 0 0 next) = leads.0 in
+no_way (next ∷ path) leads = let first : IsTrue (is_open office cut_off 1 0 0 next) = leads.0 in
     grind (arith, nat_tests, first)
 
 pub stuck_rightly_has_causes : HaveCauses (HasCause office) [] stuck_rightly
 unfolding standing serves present_step decision_of
-stuck_rightly_has_causes =
-    free (
-      inl refl,
-      free (free (free (
-        record {
-          stands = refl;
-          serving = refl;
-          targets = 1 ∷ [];
-          own_leg = (_, refl, refl, refl);
-          no_path = All-from_recursion
-              (λ (target : ℕ). (path : List ℕ) → ¬ Leads (is_open office cut_off 1 0) 0 path target)
-              (1 ∷ []) (no_way, tt);
-        },
-        tt,
-      ))),
-    )
+stuck_rightly_has_causes = free (
+  inl refl,
+  free (free (free (
+    record {
+      stands = refl;
+      serving = refl;
+      targets = 1 ∷ [];
+      own_leg = (_, refl, refl, refl);
+      no_path = All-from_recursion (λ (target : ℕ). (path : List ℕ)
+          → ¬ Leads (is_open office cut_off 1 0) 0 path target) (1 ∷ []) (no_way, tt);
+    },
+    tt,
+  ))),
+)
 
 -- ---- journals of which an item has none
 

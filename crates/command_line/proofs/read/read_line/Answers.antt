@@ -12,8 +12,7 @@ line_in-requires c =
     let k = c.args.kind in
     let all = map string_bytes c.args.args.now in
     let walked = line_walked k _ c.requires in
-    let found =
-    finds_line k _ all c.in_ok-command.ensures walked _ c.in-Ok.ensures.matches in
+    let found = finds_line k _ all c.in_ok-command.ensures walked _ c.in-Ok.ensures.matches in
     record {
       names = names_there (options_of k) (found_of c.in-Ok.matches) walked.line found;
       quiet = (
@@ -28,16 +27,14 @@ unreachable-requires c =
     let walked = line_walked c.args.kind _ c.requires in
     let memory =
     c.in-Err.ensures.passes (takes_line c.args.kind _ all c.in_ok-command.ensures walked) in
-    let is = rw (c.kind.ensures, memory) at c.eq.ensures in
-    true≢false (sym is ∙ c.if-eq.false)
+    let is = rw (c.kind.ensures, memory) at c.eq.ensures in true≢false (sym is ∙ c.if-eq.false)
 
 pub returns-in-Ok : goal.returns-in-Ok
 returns-in-Ok c =
     let k = c.args.kind in
     let all = map string_bytes c.args.args.now in
     let walked = line_walked k _ c.requires in
-    let found =
-    finds_line k _ all c.in_ok-command.ensures walked _ c.in-Ok.ensures.matches in
+    let found = finds_line k _ all c.in_ok-command.ensures walked _ c.in-Ok.ensures.matches in
     let e = c.line_in.ensures in
     let is = line_is (options_of k) (found_of c.in-Ok.matches) walked.line found in
     IfOk-weaker c.line_in.result _ _

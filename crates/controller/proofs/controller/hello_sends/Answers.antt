@@ -5,8 +5,7 @@ use Rattle.controller.proofs.controller.hello_sends.Goals as goal
 use Rattle.controller.proofs.controller.hello_sends.Goals.{then-settled+in_ok-install_all, else-settled}
 
 pub returns-clause-sends : goal.returns-clause-sends
-returns-clause-sends c = λ before is.
-    let asked = c.args.settled.now.taken in
+returns-clause-sends c = λ before is. let asked = c.args.settled.now.taken in
     let all = map (install_act c.args.s c.args.boot) c.settle.new.versions.items in
     let told = settling_acts
     (kept_touched c.settle.new.versions.items c.args.marks.now.current) before c.args.marks.now in
@@ -15,8 +14,7 @@ returns-clause-sends c = λ before is.
     c.from_items.ensures
     ∙ elim c.if-settled.branch [
       | then-settled+in_ok-install_all w ↦ added asked _ c.settle.new.acts.items told all
-          w.if-settled.true
-          (ap (λ v. v.items) w.acts-is ∙ w.in_ok-install_all.ensures
+          w.if-settled.true (ap (λ v. v.items) w.acts-is ∙ w.in_ok-install_all.ensures
           ∙ ap (λ plans. c.settle.new.acts.items ++ map (install_act c.args.s c.args.boot) plans)
           w.deref.ensures.value) base
       | else-settled w ↦ not_added asked _ c.settle.new.acts.items told all

@@ -19,8 +19,7 @@ loop-s-preserved c =
     let act = λ (s : ℕ). install_act s (boot_recorded c.args.marks.now s) c.args.version.now in
     elim c.if-is_there.branch [
       | then-is_there+in_ok-install+in_ok-push w ↦ picked_add act test s [] c.loop-s.acts.items _
-          c.loop-s.invariant (there ∙ w.if-is_there.true)
-          (ap (λ v. v.items) w.acts-is
+          c.loop-s.invariant (there ∙ w.if-is_there.true) (ap (λ v. v.items) w.acts-is
           ∙ cc (w.boot.ensures, w.in_ok-install.ensures, w.in_ok-push.ensures.items))
       | else-is_there w ↦ picked_skip act test s [] c.loop-s.acts.items _ c.loop-s.invariant
           (there ∙ w.if-is_there.false) (ap (λ v. v.items) w.acts-is)

@@ -48,15 +48,10 @@ new-requires-clause-sound c =
     let planned = planned_at _ _ _ _ _ _ _ ready c.in_ok-targets.ensures.value in
     let sound = plan_sound _ _ _ c.requires
     (c.plan_laws.ensures.holds _ _ _ c.in_ok-rules.ensures.policy c.requires planned) in
-    rw (
-      c.in_ok-policy.ensures.cases,
-      c.deref-5.ensures.value,
-      c.in_ok-parts.ensures.parts,
-    ) sound
+    rw (c.in_ok-policy.ensures.cases, c.deref-5.ensures.value, c.in_ok-parts.ensures.parts) sound
 
 pub returns-clause-plan : goal.returns-clause-plan
-returns-clause-plan c =
-    let ready = ready_to_host (goal.at.returns-clause-plan c).After-place in
+returns-clause-plan c = let ready = ready_to_host (goal.at.returns-clause-plan c).After-place in
     rw (
       c.in_ok-plan.ensures.hosted,
       c.deref-5.ensures.value,

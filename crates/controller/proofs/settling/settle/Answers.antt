@@ -14,16 +14,14 @@ abbrev touched : After-send_to_each → List WordValue
 touched c = kept_touched c.let_go.new.versions.items c.args.marks.now.current
 
 stamps_told : (c : After-send_to_each) (before : MarksValue)
-    → Settles before c.args.marks.now c.args.settled.now
-    → c.match-settled.acts.items ≡ c.args.acts.now.items
-    ++ stamp_acts (touched c) before c.args.marks.now
+    → Settles before c.args.marks.now c.args.settled.now → c.match-settled.acts.items
+    ≡ c.args.acts.now.items ++ stamp_acts (touched c) before c.args.marks.now
 stamps_told c before is =
     let after = c.args.marks.now in
     let old = c.args.acts.now.items in
     let stamp : List WordValue → ℕ → ℕ → Body = λ words boot version. Stamp boot version words in
     elim c.match-settled.branch [
-      | in-Some+in_ok-tell_current w ↦
-          let current : ℕ = w.in-Some.current in
+      | in-Some+in_ok-tell_current w ↦ let current : ℕ = w.in-Some.current in
           let words : List WordValue = kept_touched c.let_go.new.versions.items current in
           let risen : current ≡ after.current =
           sym (told_current before after current (sym is.tells.current ∙ w.in-Some.is)) in
@@ -31,16 +29,13 @@ stamps_told c before is =
           ∙ rising_told before.current after.current current _ _ _ Current (stamp words) after
           before.switches old _ _ is.tells.current is.tells.stamps
           (same_number before after _ is) w.in-Some.is refl
-          (w.in_ok-tell_current.ensures
-          ∙ ap (λ plans. old ++ Current current ∷ []
-          ++ posts_to after (λ boot. Stamp boot current (kept_touched plans current))
-          (switches_named c.args.settled.now.stamps (length after.switches)))
-          w.deref.ensures.value)
+          (w.in_ok-tell_current.ensures ∙ ap (λ plans. old ++ Current current
+          ∷ [] ++ posts_to after (λ boot. Stamp boot current (kept_touched plans current))
+          (switches_named c.args.settled.now.stamps (length after.switches))) w.deref.ensures.value)
           ∙ ap (λ version. old ++ rising_acts before.current after.current Current
           (stamp (kept_touched c.let_go.new.versions.items version)) after before.switches) risen
-      | in_default w ↦ ap (λ v. v.items) w.acts-is
-          ∙ rising_none before.current after.current _ Current (stamp (touched c)) after
-          before.switches _ is.tells.current w.in_default.is
+      | in_default w ↦ ap (λ v. v.items) w.acts-is ∙ rising_none before.current after.current _
+          Current (stamp (touched c)) after before.switches _ is.tells.current w.in_default.is
     ]
 
 pub returns-in_ok-send_to_each-2-clause-acts : goal.returns-in_ok-send_to_each-2-clause-acts

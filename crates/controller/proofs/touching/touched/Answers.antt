@@ -24,8 +24,7 @@ returns c =
     (filter_map (λ priority. find (λ (row : Row). row.priority == priority) rows) gone) in
     let first : ListsMore [] some (flat_map words_of_row removed) =
     subst (λ these. ListsMore these some (words_of rows (removals c.args.change.now)))
-    c.new-words.ensures.items
-    (subst (λ these. ListsMore c.new-words.result.items some
+    c.new-words.ensures.items (subst (λ these. ListsMore c.new-words.result.items some
     (words_of these (removals c.args.change.now))) c.rows.ensures.rows
     (subst (λ gone. ListsMore c.new-words.result.items some (words_of c.rows.result.now gone))
     c.removed.ensures c.in_ok-list_removed.ensures)) in

@@ -4,8 +4,7 @@ use Rattle.switch_table.specs.Exports.{tables_of}
 use Rattle.controller.proofs.version.make_each.Goals as goal
 
 pub loop-s-preserved : goal.loop-s-preserved
-loop-s-preserved c =
-    let first : 0 + c.loop-s.s ≡ c.loop-s.s = omega arith in
+loop-s-preserved c = let first : 0 + c.loop-s.s ≡ c.loop-s.s = omega arith in
     c.in_ok-push.ensures.items
     ∙ cc (
       c.loop-s.invariant,

@@ -5,5 +5,4 @@ use Rattle.controller.proofs.version.make_each.Given as goal
 
 -- the tables of the switches so far
 abbrev pub invariant-loop-s : goal.invariant-loop-s
-invariant-loop-s l =
-    l.made.items ≡ map (tables_of l.plan.hosted l.version) (range_with_len 0 l.s)
+invariant-loop-s l = l.made.items ≡ map (tables_of l.plan.hosted l.version) (range_with_len 0 l.s)

@@ -7,8 +7,7 @@ pub loop-bucket-preserved : goal.loop-bucket-preserved
 loop-bucket-preserved c =
     let buckets = c.loop-bucket.buckets.items in
     let next : Bucket = record { messages = c.new.result } in
-    let is : c.push.new.self.items ≡ buckets ++ next ∷ [] = c.in_ok-push.ensures.items in
-    record {
+    let is : c.push.new.self.items ≡ buckets ++ next ∷ [] = c.in_ok-push.ensures.items in record {
       count = ap (λ (buckets : List Bucket). length buckets) is ∙ length-append buckets (next ∷ [])
           ∙ ap (λ n. n + 1) c.loop-bucket.invariant.count;
       each = λ i d below. ap (λ (buckets : List Bucket). (get_or buckets i d).messages.items) is

@@ -6,8 +6,7 @@ use Rattle.journal_reports.proofs.MessageBuckets.{kept_more}
 use Rattle.journal_reports.proofs.bucket.keep.Goals as goal
 
 pub returns-clause-kept : goal.returns-clause-kept
-returns-clause-kept c = λ count other.
-    let buckets = c.args.buckets.now.items in
+returns-clause-kept c = λ count other. let buckets = c.args.buckets.now.items in
     let place = c.bucket_of-bucket.result in
     let old : Bucket = c.index_mut.result.now in
     let bucket : Bucket = record { messages = c.push.new.self } in

@@ -7,14 +7,12 @@ use Rattle.journal_reports.proofs.QuietJudge.{marks_at_end, marks_before, missed
 use Rattle.journal_reports.proofs.judge.quiet.Goals as goal
 
 pub returns-then-not-none_missed : goal.returns-then-not-none_missed
-returns-then-not-none_missed c = λ setting net.
-    let rows = c.in_ok-rows.rows.items in
+returns-then-not-none_missed c = λ setting net. let rows = c.in_ok-rows.rows.items in
     let count = ap (λ (of : Net). length of.switches) net
     ∙ sym (ap (λ (rows : List SwitchRow). length rows) c.items.ensures)
     ∙ sym c.in_ok-rows.ensures.count in
-    let some = sym (c.none_missed.ensures
-    ∙ ap (λ (rows : List Traffic). list_all (λ row. not (is_missed row.status)) rows)
-    c.deref.ensures.value)
+    let some = sym (c.none_missed.ensures ∙ ap (λ (rows : List Traffic). list_all
+    (λ row. not (is_missed row.status)) rows) c.deref.ensures.value)
     ∙ c.if-not-none_missed.true in (
       λ answer. absurd (true≢false (sym answer)),
       λ quiet. absurd (missed_answer setting c.args.journal.now rows
@@ -26,9 +24,8 @@ pub loop-place-init : goal.loop-place-init
 loop-place-init c =
     let items = c.items-items.result.now in
     let rows = c.in_ok-rows.rows.items in
-    let none = sym (c.none_missed.ensures
-    ∙ ap (λ (rows : List Traffic). list_all (λ row. not (is_missed row.status)) rows)
-    c.deref.ensures.value)
+    let none = sym (c.none_missed.ensures ∙ ap (λ (rows : List Traffic). list_all
+    (λ row. not (is_missed row.status)) rows) c.deref.ensures.value)
     ∙ c.if-not-none_missed.false in record {
       within = omega arith;
       marks = λ n. marks_at_end items (length items) n c.new-delivered.result.items (omega arith)
@@ -41,8 +38,7 @@ loop-place-init c =
     }
 
 pub returns-then-not-branch : goal.returns-then-not-branch
-returns-then-not-branch c = λ setting net.
-    let items = c.items-items.result.now in
+returns-then-not-branch c = λ setting net. let items = c.items-items.result.now in
     let from = c.loop-place.place in
     let place = from - 1 in
     let next = c.index-items-place.result in
@@ -77,16 +73,14 @@ loop-place-preserved c =
     let now = c.take_item.new.rows.items in
     let marks = c.deref-in-loop-place.result.now in
     let own : (n : ℕ) → has_mark c.mark_item.new.marks.items n
-    ≡ was_delivered (drop place items) n = λ n.
-    marks_before items place from n next c.loop-place.delivered.items
-    c.mark_item.new.marks.items (omega arith) (omega arith) c.index-items-place.is
-    (c.loop-place.invariant.marks n) (c.in_ok-mark_item.ensures n) in
+    ≡ was_delivered (drop place items) n = λ n. marks_before items place from n next
+    c.loop-place.delivered.items c.mark_item.new.marks.items (omega arith) (omega arith)
+    c.index-items-place.is (c.loop-place.invariant.marks n) (c.in_ok-mark_item.ensures n) in
     let right : (n : ℕ) → has_mark marks n ≡ was_delivered (drop place items) n = λ n.
     ap (λ (marks : List Bool). has_mark marks n) c.deref-in-loop-place.ensures.value ∙ own n in
     let read = read_next items place from next marks rows now c.in_ok-take_item.field-0 (omega arith)
     (omega arith) c.index-items-place.is right c.loop-place.invariant.rows
-    c.in_ok-take_item.ensures.concerned in
-    record {
+    c.in_ok-take_item.ensures.concerned in record {
       within = omega arith;
       marks = own;
       count = c.in_ok-take_item.ensures.count ∙ c.loop-place.invariant.count;

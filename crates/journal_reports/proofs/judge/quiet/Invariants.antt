@@ -13,8 +13,7 @@ invariant-loop-place l = record {
   received : (setting : Setting) → length setting.net.switches ≡ l.count
       → AreReceived setting l.items (drop l.place l.items);
   switches : (setting : Setting) → length setting.net.switches ≡ l.count
-      → All (λ s. IsTrue (is_up l.items s || not (is_waited_for l.items s)))
-      (switches_of setting);
+      → All (λ s. IsTrue (is_up l.items s || not (is_waited_for l.items s))) (switches_of setting);
 }
 
 abbrev pub decreases-loop-place : goal.decreases-loop-place

@@ -12,17 +12,13 @@ loop-switch-preserved c =
     let next : Traffic = record {
       status = c.of.result;
       is_in_boot = true;
-      buckets
-          = c.in_ok-buckets.buckets;
+      buckets = c.in_ok-buckets.buckets;
     } in
-    let is : c.push.new.self.items ≡ rows ++ next ∷ [] = c.in_ok-push.ensures.items in
-    record {
+    let is : c.push.new.self.items ≡ rows ++ next ∷ [] = c.in_ok-push.ensures.items in record {
       count = ap (λ (rows : List Traffic). length rows) is ∙ length-append rows (next ∷ [])
           ∙ ap (λ n. n + 1) c.loop-switch.invariant.count;
-      each = subst (AreTraffic c.args.items.now []) (sym is)
-          (traffic_at_end c.args.items.now rows next s c.loop-switch.invariant.count
-          c.loop-switch.invariant.each
+      each = subst (AreTraffic c.args.items.now []) (sym is) (traffic_at_end c.args.items.now rows
+          next s c.loop-switch.invariant.count c.loop-switch.invariant.each
           (c.of.ensures ∙ ap (λ (js : List Item). status_in js s) c.deref.ensures.value
-          ∙ c.in_ok-told.ensures s)
-          refl c.in_ok-buckets.ensures);
+          ∙ c.in_ok-told.ensures s) refl c.in_ok-buckets.ensures);
     }

@@ -17,16 +17,13 @@ loop-rest-preserved c =
     let next = bit_xor rest (2 ^ least_in rest) in
     let own : List ℕ = codes " " ++ name_of net (least_in rest) in
     let left : List ℕ = names_text net (filter (has next) switches) in
-    let fewer = fewer_left rest (2 ^ least_in rest) is.fits c.loop-rest-test.true refl in
-    record {
+    let fewer = fewer_left rest (2 ^ least_in rest) is.fits c.loop-rest-test.true refl in record {
       fits = omega (arith, ap (bit_xor rest) c.only_if-rest.ensures, fewer, is.fits);
       text = ap (λ m. line_with c.push_behind_blank.new.line
           (names_text net (filter (has (bit_xor rest m)) switches))) c.only_if-rest.ensures
-          ∙ ap (λ l. line_with l left) c.push_behind_blank.ensures
-          ∙ pushed_append line own left
+          ∙ ap (λ l. line_with l left) c.push_behind_blank.ensures ∙ pushed_append line own left
           ∙ ap (λ list. line_with line (names_text net list))
-          (sym (least_first rest is.fits c.loop-rest-test.true))
-          ∙ is.text;
+          (sym (least_first rest is.fits c.loop-rest-test.true)) ∙ is.text;
     }
 
 pub loop-rest-smaller : goal.loop-rest-smaller

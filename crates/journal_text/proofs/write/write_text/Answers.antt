@@ -9,12 +9,11 @@ pub returns-in_err-push-clause-after : goal.returns-in_err-push-clause-after
 returns-in_err-push-clause-after g c =
     let errs = c.in_err-push.ensures in
     let given = err_from_is_err_and c.from_residual.result c.from_residual.ensures.1 in
-    rw (given.1, given.2) (gathers_no_more c.args.net.now c.loop-item.item-index g.K.Sink.takes_memory
-    (g.K.Sink.state c.args.sink.now) (g.K.Sink.state c.loop-item.sink)
-    (g.K.Sink.state c.push.new.sink) _ c.items-items.ensures
-    c.loop-item.invariant.held c.loop-item.invariant.faults
-    c.bytes-then-bytes-gt-ROOMY_BYTES.ensures.held errs.part errs.faults errs.calm errs.failed
-    errs.no_memory)
+    rw (given.1, given.2) (gathers_no_more c.args.net.now c.loop-item.item-index
+    g.K.Sink.takes_memory (g.K.Sink.state c.args.sink.now) (g.K.Sink.state c.loop-item.sink)
+    (g.K.Sink.state c.push.new.sink) _ c.items-items.ensures c.loop-item.invariant.held
+    c.loop-item.invariant.faults c.bytes-then-bytes-gt-ROOMY_BYTES.ensures.held errs.part
+    errs.faults errs.calm errs.failed errs.no_memory)
 
 pub returns-in_err-push-2-clause-after : goal.returns-in_err-push-2-clause-after
 returns-in_err-push-2-clause-after g c =
@@ -56,10 +55,8 @@ loop-item-preserved g c =
             (w.in_ok-push.ensures.gathered is.held.front first.bytes is.held.gathered),
         w.in_ok-push.ensures.calm (λ e. cc) ∙ is.faults,
       )
-      | else-bytes-gt-ROOMY_BYTES w ↦
-          rw (w.sink-is, w.block-is, w.line-is) (is.held, is.faults)
-    ] in
-    record {
+      | else-bytes-gt-ROOMY_BYTES w ↦ rw (w.sink-is, w.block-is, w.line-is) (is.held, is.faults)
+    ] in record {
       held = rw (
         c.push_line.ensures.text,
         lines_more net items c.loop-item.item-index item c.loop-item-test.true c.item-item.is,

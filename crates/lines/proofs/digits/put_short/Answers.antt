@@ -3,13 +3,12 @@ use Rattle.lines.proofs.ShortNumbers.{decimal_pair, decimal_pairs}
 use Rattle.lines.proofs.digits.put_short.Goals as goal
 
 pub returns-then-n-lt10000-clause-held : goal.returns-then-n-lt10000-clause-held
-returns-then-n-lt10000-clause-held c =
-    rw (
-      c.put_pair.ensures,
-      c.put_first-end.ensures.held,
-      decimal_pair c.args.n c.if-n-lt100.false c.requires.short,
-      append_assoc,
-    )
+returns-then-n-lt10000-clause-held c = rw (
+  c.put_pair.ensures,
+  c.put_first-end.ensures.held,
+  decimal_pair c.args.n c.if-n-lt100.false c.requires.short,
+  append_assoc,
+)
 
 pub returns-else-n-lt10000-clause-held : goal.returns-else-n-lt10000-clause-held
 returns-else-n-lt10000-clause-held c =

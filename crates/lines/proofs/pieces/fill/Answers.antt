@@ -12,6 +12,5 @@ returns c =
     let some : length (take (2048 - len) piece) ≡ 2048 - len =
     length-take-le (2048 - len) piece (omega arith) in
     rw c.copy_from_slice.ensures.after
-    (take-put_mid len (2048 - len) bytes (take (2048 - len) piece) 2048 (omega arith)
-    (omega arith)
+    (take-put_mid len (2048 - len) bytes (take (2048 - len) piece) 2048 (omega arith) (omega arith)
     ∙ part (take len bytes) piece (2048 - len) (omega arith))

@@ -8,8 +8,7 @@ loop-at-preserved c =
     let at = c.loop-at.at - 2 in
     let left = c.loop-at.left in
     let back : c.loop-at.at ≡ at + 2 = omega (arith, c.loop-at.invariant.even) in
-    let pair = pairs_at (left % 256) (omega arith) in
-    record {
+    let pair = pairs_at (left % 256) (omega arith) in record {
       digits = rw (pair.0, pair.1) (c.loop-at.invariant.digits
           ∙ ap (λ n. hex_digits n left ++ drop n c.loop-at.digits) back
           ∙ two_more at left c.loop-at.digits
@@ -21,7 +20,6 @@ loop-at-preserved c =
 
 pub returns : goal.returns
 unfolding hex_digits
-returns c =
-    let none : c.loop-at.at ≡ 0 = omega arith in
+returns c = let none : c.loop-at.at ≡ 0 = omega arith in
     sym (c.loop-at.invariant.digits
     ∙ ap (λ n. hex_digits n c.loop-at.left ++ drop n c.loop-at.digits) none)

@@ -3,5 +3,4 @@ use Rattle.message_bag.proofs.ComingOut.{IsFedTo}
 use Rattle.message_bag.proofs.reading.assembled.Given as goal
 
 abbrev pub invariant-loop-place : goal.invariant-loop-place
-invariant-loop-place l =
-    (m : Message) × IsFedTo l.first l.frames l.assembler l.frame l.place m
+invariant-loop-place l = (m : Message) × IsFedTo l.first l.frames l.assembler l.frame l.place m

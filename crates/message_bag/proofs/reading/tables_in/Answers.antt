@@ -8,8 +8,7 @@ unreachable-requires-in-None-tables_of c =
     c.in-Some.ensures.frame c.in_ok-message-in-Some.ensures (c.in-None-tables_of.ensures.none refl)
 
 pub returns : goal.returns
-returns c =
-    cloned_say _ c.clone.result c.in-Some-tables_of.tables.now c.args.frames.now c.clone.ensures.cases
-    (out_says c.args.frames.now c.in-Some.first.now c.in_ok-message-in-Some.message
-    c.in-Some-tables_of.field-0-0 c.in-Some-tables_of.tables.now c.in-Some.ensures.frame
-    c.in_ok-message-in-Some.ensures c.in-Some-tables_of.ensures.some)
+returns c = cloned_say _ c.clone.result c.in-Some-tables_of.tables.now c.args.frames.now
+    c.clone.ensures.cases (out_says c.args.frames.now c.in-Some.first.now
+    c.in_ok-message-in-Some.message c.in-Some-tables_of.field-0-0 c.in-Some-tables_of.tables.now
+    c.in-Some.ensures.frame c.in_ok-message-in-Some.ensures c.in-Some-tables_of.ensures.some)

@@ -15,11 +15,10 @@ post_like-requires-clause-like c =
     (c.in-Some.ensures.same ∙ ap (λ (m : Message). m.body) (c.get.ensures ∙ sym c.get-in-Some.ensures))
 
 pub returns-in-Some-clause-posted : goal.returns-in-Some-clause-posted
-returns-in-Some-clause-posted c =
-    subst (λ (m : Message). OnOk c.post_like.result (c.post_like.new.self ≡ c.args.bag.now ++ posted_frames m ∷ []))
-    c.get-in-Some.ensures
-    (framed_after c.post_like.result c.get-in-Some.result.now c.args.bag.now c.args.bag.now c.post_like.new.self
-    c.post_like.ensures.fits c.post_like.ensures.posted refl)
+returns-in-Some-clause-posted c = subst (λ (m : Message). OnOk c.post_like.result
+    (c.post_like.new.self ≡ c.args.bag.now ++ posted_frames m ∷ [])) c.get-in-Some.ensures
+    (framed_after c.post_like.result c.get-in-Some.result.now c.args.bag.now c.args.bag.now
+    c.post_like.new.self c.post_like.ensures.fits c.post_like.ensures.posted refl)
 
 pub returns-in-Some-clause-adverts : goal.returns-in-Some-clause-adverts
 returns-in-Some-clause-adverts c =

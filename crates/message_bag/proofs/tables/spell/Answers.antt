@@ -8,14 +8,12 @@ use Rattle.message_bag.proofs.tables.spell.Goals as goal
 
 its : (c : goal.In_ok-put_first) → CarryTables c.args.tables.now
     (get_or c.keep.new.kept.items c.in_ok-number.number [])
-its c =
-    let fs = get_or c.keep.new.kept.items c.in_ok-number.number [] in
+its c = let fs = get_or c.keep.new.kept.items c.in_ok-number.number [] in
     subst (λ (t : Tables). CarryTables t fs) c.tables.ensures c.in_ok-number.ensures.carry
 
 pub returns-clause-fits : goal.returns-clause-fits
-returns-clause-fits c =
-    tables_fit c.args.message.now c.args.boot c.args.tables.now c.requires.carries c.in_ok-put_first.ensures.fits
-    (its c).behind.fits c.requires.spelling.suits
+returns-clause-fits c = tables_fit c.args.message.now c.args.boot c.args.tables.now
+    c.requires.carries c.in_ok-put_first.ensures.fits (its c).behind.fits c.requires.spelling.suits
 
 pub returns-clause-own : goal.returns-clause-own
 returns-clause-own c =

@@ -6,12 +6,10 @@ use Rattle.meters.proofs.board.offer.Goals as goal
 use Rattle.meters.proofs.board.offer.Given.{Over}
 
 -- what the answer says of the meter
-answered : (g : Over) (c : goal.After-note g) (answer : Stay) → c.note.result ≡ answer
-    → IsNoted c.args.leaving.now (g.M.Meter.seen c.args.meter.now)
-    (g.M.Meter.seen c.note.new.self) answer
-answered g c answer is =
-    subst (λ (it : Stay). IsNoted c.args.leaving.now (g.M.Meter.seen c.args.meter.now)
-    (g.M.Meter.seen c.note.new.self) it) is c.note.ensures
+answered : (g : Over) (c : goal.After-note g) (answer : Stay) → c.note.result ≡ answer → IsNoted
+    c.args.leaving.now (g.M.Meter.seen c.args.meter.now) (g.M.Meter.seen c.note.new.self) answer
+answered g c answer is = subst (λ (it : Stay). IsNoted c.args.leaving.now
+    (g.M.Meter.seen c.args.meter.now) (g.M.Meter.seen c.note.new.self) it) is c.note.ensures
 
 pub returns-then-port-clause-stay : goal.returns-then-port-clause-stay
 returns-then-port-clause-stay g c =
@@ -24,6 +22,5 @@ returns-then-port-clause-leave g c =
     (g.M.Meter.seen c.note.new.self) (sym c.port.ensures ∙ c.if-port.true) (answered g c _ leaves)
 
 pub returns-else-port-clause-stay : goal.returns-else-port-clause-stay
-returns-else-port-clause-stay g c =
-    λ _. kept_elsewhere c.args.port c.args.leaving.now (g.M.Meter.seen c.args.meter.now)
-    (λ same. c.if-port.false (c.port.ensures ∙ same))
+returns-else-port-clause-stay g c = λ _. kept_elsewhere c.args.port c.args.leaving.now
+    (g.M.Meter.seen c.args.meter.now) (λ same. c.if-port.false (c.port.ensures ∙ same))

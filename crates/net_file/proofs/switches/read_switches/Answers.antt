@@ -18,9 +18,8 @@ returns-in_err-switch-clause-refused c =
     let e = c.in_err-switch.field-0.0 in
     let p = err_from_is_err_and c.from_residual.result c.from_residual.ensures.1 in
     rw (p.1, p.2) (refused_same _ _ e (inv.rest ∙ ap (rows_read 0 switch_read rows) left)
-    (refused_row 0 switch_read rows (view c.value-item.result) more (c.loop-value.row + 1) e
-    (omega (arith, inv.count, inv.row))
-    (rw (← c.deref.ensures.value) c.in_err-switch.ensures.refused)))
+    (refused_row 0 switch_read rows (view c.value-item.result) more (c.loop-value.row + 1) e (omega
+    (arith, inv.count, inv.row)) (rw (← c.deref.ensures.value) c.in_err-switch.ensures.refused)))
 
 pub loop-value-preserved : goal.loop-value-preserved
 loop-value-preserved c =
@@ -30,8 +29,7 @@ loop-value-preserved c =
     let items : c.push.new.self.items ≡ rows ++ row ∷ [] = c.in_ok-push.ensures.items in
     let more = map view (drop (c.loop-value.value-index + 1) c.args.values.now) in
     let left = values_more c.args.values.now c.loop-value.value-index c.value-item.result
-    c.loop-value-test.true c.value-item.is in
-    record {
+    c.loop-value-test.true c.value-item.is in record {
       rest = rw items (inv.rest ∙ ap (rows_read 0 switch_read rows) left
           ∙ next_row 0 switch_read rows (view c.value-item.result) more row
           (rw (← c.deref.ensures.value) c.in_ok-switch.ensures.switch));

@@ -10,8 +10,7 @@ unfolding change_of
 returns-in-Err-Refused-clause-refused c =
     let rows = c.in_ok-rows.field-0.rows.items in
     let from = c.in_ok-rows.ensures.read in
-    let (place, is, first) = rw c.in-Err-Refused.field-0-is at
-    c.in-Err-Refused.ensures.refused in
+    let (place, is, first) = rw c.in-Err-Refused.field-0-is at c.in-Err-Refused.ensures.refused in
     from.under ∙ repeated change_rows from.records rows c.in_ok-rows.field-0.refusal place from.read
     first.there first.repeated (λ k d. fresh_edits rows place k d first.first)
     ∙ ap (λ row. Err (record { refusal = why.SamePriority; row = row })) (cc)

@@ -6,8 +6,7 @@ use Rattle.policy_file.proofs.StatedRows.{ended, next_of, refused_row, state_pus
 use Rattle.policy_file.proofs.file_rows.read_records.Goals as goal
 
 pub returns-then-not-branch-clause-read : goal.returns-then-not-branch-clause-read
-returns-then-not-branch-clause-read g c =
-    let known = c.loop-records.invariant in
+returns-then-not-branch-clause-read g c = let known = c.loop-records.invariant in
     ended g.R.FileRow.format c.args.records.now c.loop-records.rows.items (fields_of c.read_next.new.fields)
     c.read_next.new.self c.loop-records.records c.in_ok-read_next.field-0 known.stated known.few
     known.within c.if-not-branch.true known.left c.in_ok-read_next.ensures.takes
@@ -19,8 +18,7 @@ returns-in-Err-clause-read g c =
     let fields = fields_of c.read_next.new.fields in
     let room : n < 2000 = omega arith in
     let next = next_of c.args.records.now n fields c.read_next.new.self c.loop-records.records
-    c.in_ok-read_next.field-0 c.if-not-branch.false known.left c.in_ok-read_next.ensures.takes
-    in
+    c.in_ok-read_next.field-0 c.if-not-branch.false known.left c.in_ok-read_next.ensures.takes in
     record {
       stated = known.stated;
       few = known.few;
@@ -42,8 +40,7 @@ loop-records-preserved g c =
     let fields = fields_of c.read_next.new.fields in
     let room : length rows < 2000 = omega arith in
     let next = next_of records (length rows) fields c.read_next.new.self c.loop-records.records
-    c.in_ok-read_next.field-0 c.if-not-branch.false known.left c.in_ok-read_next.ensures.takes
-    in
+    c.in_ok-read_next.field-0 c.if-not-branch.false known.left c.in_ok-read_next.ensures.takes in
     let items : c.push.new.self.items ≡ rows ++ row ∷ [] = c.in_ok-push-in-Ok.ensures.items in
     let len : length c.push.new.self.items ≡ length rows + 1 =
     omega (arith, ap length items, length-append rows (row ∷ [])) in
@@ -52,8 +49,7 @@ loop-records-preserved g c =
     subst (λ xs. StateEach format xs (rows ++ row ∷ [])) (sym next.more)
     (state_push format (take (length rows) records) rows fields row known.stated is) in
     let stated : StateEach format (take (length rows + 1) records) c.push.new.self.items =
-    subst (StateEach format (take (length rows + 1) records)) (sym items) pushed in
-    record {
+    subst (StateEach format (take (length rows + 1) records)) (sym items) pushed in record {
       stated = subst (λ k. StateEach format (take k records) c.push.new.self.items) (sym len) stated;
       left = sym next.rest ∙ ap (λ k. drop k records) (sym len);
       within = omega (arith, len, next.within);
@@ -64,8 +60,7 @@ loop-records-preserved g c =
     }
 
 pub returns-then-not-branch-2-clause-read : goal.returns-then-not-branch-2-clause-read
-returns-then-not-branch-2-clause-read g c =
-    let known = c.loop-records.invariant in
+returns-then-not-branch-2-clause-read g c = let known = c.loop-records.invariant in
     ended g.R.FileRow.format c.args.records.now c.loop-records.rows.items (fields_of c.read_next-2.new.fields)
     c.read_next-2.new.self c.loop-records.records c.in_ok-read_next-2.field-0 known.stated
     known.few known.within c.if-not-branch-2.true known.left c.in_ok-read_next-2.ensures.takes
@@ -77,8 +72,7 @@ returns-clause-read g c =
     let full : n ≡ 2000 = omega arith in
     let next = next_of c.args.records.now n (fields_of c.read_next-2.new.fields)
     c.read_next-2.new.self c.loop-records.records c.in_ok-read_next-2.field-0
-    c.if-not-branch-2.false known.left c.in_ok-read_next-2.ensures.takes in
-    record {
+    c.if-not-branch-2.false known.left c.in_ok-read_next-2.ensures.takes in record {
       stated = known.stated;
       few = known.few;
       within = known.within;

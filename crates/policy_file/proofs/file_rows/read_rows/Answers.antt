@@ -5,16 +5,14 @@ use Rattle.policy_file.proofs.StatedRows.{under_heading}
 use Rattle.policy_file.proofs.file_rows.read_rows.Goals as goal
 
 pub returns-clause-read : goal.returns-clause-read
-returns-clause-read g c =
-    let format = g.R.FileRow.format in
-    record {
-      records = c.read_next.new.self;
-      under = ap (rows_under_heading format) (sym c.new-records.ensures)
-          ∙ under_heading format c.new-records.result c.read_next.new.self
-          (fields_of c.read_next.new.fields) c.in_ok-read_next.field-0 c.if-not-branch.false
-          c.in_ok-read_next.ensures.takes (sym c.is_heading.ensures ∙ c.if-not-is_heading.false);
-      read = c.in_ok-read_records.ensures.read;
-    }
+returns-clause-read g c = let format = g.R.FileRow.format in record {
+  records = c.read_next.new.self;
+  under = ap (rows_under_heading format) (sym c.new-records.ensures)
+      ∙ under_heading format c.new-records.result c.read_next.new.self
+      (fields_of c.read_next.new.fields) c.in_ok-read_next.field-0 c.if-not-branch.false
+      c.in_ok-read_next.ensures.takes (sym c.is_heading.ensures ∙ c.if-not-is_heading.false);
+  read = c.in_ok-read_records.ensures.read;
+}
 
 pub returns-clause-few : goal.returns-clause-few
 returns-clause-few g c = c.in_ok-read_records.ensures.read.few

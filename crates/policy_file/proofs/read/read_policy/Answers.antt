@@ -9,8 +9,7 @@ unfolding policy_of
 returns-in-Err-Refused-clause-refused c =
     let rows = c.in_ok-rows.field-0.rows.items in
     let from = c.in_ok-rows.ensures.read in
-    let (place, is, first) = rw c.in-Err-Refused.field-0-is at
-    c.in-Err-Refused.ensures.refused in
+    let (place, is, first) = rw c.in-Err-Refused.field-0-is at c.in-Err-Refused.ensures.refused in
     from.under ∙ repeated policy_rows from.records rows c.in_ok-rows.field-0.refusal place from.read
     first.there first.repeats (fresh_rows rows place first.first)
     ∙ ap (λ row. Err (record { refusal = why.SamePriority; row = row })) (cc)

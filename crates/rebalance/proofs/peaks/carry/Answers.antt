@@ -7,19 +7,17 @@ pub loop-partition-init : goal.loop-partition-init
 loop-partition-init c = λ s within. c.requires.none s
 
 pub add_first-requires : goal.add_first-requires
-add_first-requires c = λ s d within.
-    omega (
-      arith,
-      get_or_default c.loop-partition.carried s d 0 within,
-      c.loop-partition.invariant s within,
-      carried-within c.args.weights.now c.args.targets.now s c.loop-partition.partition
-          c.loop-partition-test.true,
-      c.requires.small,
-    )
+add_first-requires c = λ s d within. omega (
+  arith,
+  get_or_default c.loop-partition.carried s d 0 within,
+  c.loop-partition.invariant s within,
+  carried-within c.args.weights.now c.args.targets.now s c.loop-partition.partition
+      c.loop-partition-test.true,
+  c.requires.small,
+)
 
 pub loop-partition-preserved : goal.loop-partition-preserved
-loop-partition-preserved c = λ s within.
-    let targets = c.args.targets.now in
+loop-partition-preserved c = λ s within. let targets = c.args.targets.now in
     let k = c.loop-partition.partition in
     let there : k < length targets = omega (arith, c.loop-partition-test.true, c.requires.each) in
     let here : s < length c.loop-partition.carried = omega (arith, within, c.add_first.auto.carried)
@@ -30,8 +28,7 @@ loop-partition-preserved c = λ s within.
     (c.loop-partition.invariant s here) (c.add_first.ensures s here)
 
 pub returns : goal.returns
-returns c = λ s within.
-    let weights = c.args.weights.now in
+returns c = λ s within. let weights = c.args.weights.now in
     let targets = c.args.targets.now in
     let all : c.loop-partition.partition ≡ length weights = omega arith in
     c.loop-partition.invariant s (omega (arith, within, c.loop-partition.auto.carried))

@@ -4,6 +4,5 @@ use Rattle.rebalance.proofs.LoadLemmas.{carried}
 use Rattle.rebalance.proofs.peaks.carry.Given as goal
 
 abbrev pub invariant-loop-partition : goal.invariant-loop-partition
-invariant-loop-partition l =
-    (s : ℕ) → s < length l.carried → get_or l.carried s 0
-    ≡ sum_by (carried l.weights l.targets s) (range_with_len 0 l.partition)
+invariant-loop-partition l = (s : ℕ) → s < length l.carried
+    → get_or l.carried s 0 ≡ sum_by (carried l.weights l.targets s) (range_with_len 0 l.partition)

@@ -4,13 +4,11 @@ use Rattle.rebalance.proofs.SpreadLemmas.{kept_by_lack, kept_by_peak}
 use Rattle.rebalance.proofs.proposing.proposed.Goals as goal
 
 pub returns-in_default : goal.returns-in_default
-returns-in_default c = λ sizes rooms backups is none.
-    let refused = rw c.in_default.is at none in
+returns-in_default c = λ sizes rooms backups is none. let refused = rw c.in_default.is at none in
     inr (kept_by_lack sizes c.args.weights.now rooms backups refused.0 c.args.old.items refused.1)
 
 pub returns : goal.returns
-returns c = λ sizes rooms backups is none.
-    let weights = c.args.weights.now in
+returns c = λ sizes rooms backups is none. let weights = c.args.weights.now in
     let spread = rw c.in-Some.is at is in
     let new_peak : c.peak.result ≡ peak weights c.in-Some.new.items =
     c.peak.ensures ∙ ap (peak weights) c.deref.ensures.value in

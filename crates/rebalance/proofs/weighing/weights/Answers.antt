@@ -16,8 +16,7 @@ loop-item-init c = record {
 }
 
 pub add_one-requires : goal.add_one-requires
-add_one-requires c = λ p d within.
-    let items = c.items-items.result.now in
+add_one-requires c = λ p d within. let items = c.items-items.result.now in
     let i = c.loop-item.item-index in
     let here : p < length c.loop-item.weights.items =
     omega (arith, within, ap length c.deref_mut.ensures.value) in

@@ -24,14 +24,11 @@ loop-next-init g c = record {
 }
 
 -- what holds of the step that is asked for next
-next_asked : (g : Over) (c : After-refines g)
-    → Asked (setting_at c.loop-next.world) c.args.row c.args.event.now c.loop-next.is_begun
-    c.loop-next.world.journal c.in-Some.next
-next_asked g c =
-    asked c.drains_end.ensures.fewer c.deliveries_rise.ensures c.loop-next.world c.args.row
-    c.args.event.now c.loop-next.is_begun c.in-Some.next
-    (c.refines.ensures c.loop-next.invariant.able)
-    (sym c.in-Some.ensures)
+next_asked : (g : Over) (c : After-refines g) → Asked (setting_at c.loop-next.world) c.args.row
+    c.args.event.now c.loop-next.is_begun c.loop-next.world.journal c.in-Some.next
+next_asked g c = asked c.drains_end.ensures.fewer c.deliveries_rise.ensures c.loop-next.world
+    c.args.row c.args.event.now c.loop-next.is_begun c.in-Some.next
+    (c.refines.ensures c.loop-next.invariant.able) (sym c.in-Some.ensures)
 
 pub step-requires-clause-few : goal.step-requires-clause-few
 step-requires-clause-few g c =
@@ -51,8 +48,7 @@ step-requires-clause-may g c =
     (omega (arith, refines.counted, so_far.packets, next.none, c.requires.few))
 
 pub loop-next-smaller : goal.loop-next-smaller
-loop-next-smaller g c =
-    let next = next_asked g (goal.at.loop-next-smaller g c).After-refines in
+loop-next-smaller g c = let next = next_asked g (goal.at.loop-next-smaller g c).After-refines in
     rw c.in_ok-step.ensures.written (next.fewer c.in_ok-step.ensures.room)
 
 pub loop-next-preserved : goal.loop-next-preserved
@@ -78,14 +74,12 @@ loop-next-preserved g c =
           keep_up_next c.args.world.now.journal world.journal c.step.new.self.journal _
           (take (length items - length before) (drop (length before) items)) _ _ _
           c.in_ok-step.ensures.written so_far.kept c.in_ok-note_left.ensures
-          (rest_is world.journal c.step.new.self.journal before items
-          (c.items-before.ensures ∙ c.journal.ensures)
-          (c.items.ensures ∙ c.journal-in-Some.ensures));
+          (rest_is world.journal c.step.new.self.journal before items (c.items-before.ensures
+          ∙ c.journal.ensures) (c.items.ensures ∙ c.journal-in-Some.ensures));
     }
 
 pub returns-in_err-step-clause-part : goal.returns-in_err-step-clause-part
-returns-in_err-step-clause-part g c =
-    let so_far = c.loop-next.invariant in
+returns-in_err-step-clause-part g c = let so_far = c.loop-next.invariant in
     on_err_holds c.from_residual.result _
     (begins_next (setting_at c.args.world.now) c.args.row c.args.event.now c.loop-next.is_begun
     c.args.world.now.journal c.loop-next.world.journal c.step.new.self.journal c.in-Some.next
@@ -102,18 +96,16 @@ returns-in_err-step-clause-stops g c = λ is.
     c.loop-next.invariant.took (sym c.in-Some.ensures) (c.in_err-step.ensures.full full))
 
 pub returns-in_err-step-clause-kept_part : goal.returns-in_err-step-clause-kept_part
-returns-in_err-step-clause-kept_part g c =
-    on_err_holds c.from_residual.result _ (λ spent. record {
-      whole = c.loop-next.world.journal;
-      written = c.in_err-step.ensures.part.written;
-      longer = c.in_err-step.ensures.part.grown;
-      kept = c.loop-next.invariant.kept;
-    })
+returns-in_err-step-clause-kept_part g c = on_err_holds c.from_residual.result _ (λ spent. record {
+  whole = c.loop-next.world.journal;
+  written = c.in_err-step.ensures.part.written;
+  longer = c.in_err-step.ensures.part.grown;
+  kept = c.loop-next.invariant.kept;
+})
 
 pub returns-in_err-note_left-clause-kept_part : goal.returns-in_err-note_left-clause-kept_part
-returns-in_err-note_left-clause-kept_part g c =
-    on_err_holds c.from_residual-in_err-note_left.result _ (λ spent.
-    absurd (true≢false (sym spent ∙ c.in_ok-step.ensures.goes_on)))
+returns-in_err-note_left-clause-kept_part g c = on_err_holds c.from_residual-in_err-note_left.result
+    _ (λ spent. absurd (true≢false (sym spent ∙ c.in_ok-step.ensures.goes_on)))
 
 pub returns-in_err-step-clause-able_full : goal.returns-in_err-step-clause-able_full
 returns-in_err-step-clause-able_full g c = λ is.
@@ -135,8 +127,7 @@ returns-in_err-step-clause-kept_full g c = λ is.
     (sym (c.in_err-step.ensures.unchanged full)) c.loop-next.invariant.kept
 
 pub returns-in_err-note_left-clause-part : goal.returns-in_err-note_left-clause-part
-returns-in_err-note_left-clause-part g c =
-    let so_far = c.loop-next.invariant in
+returns-in_err-note_left-clause-part g c = let so_far = c.loop-next.invariant in
     on_err_holds c.from_residual-in_err-note_left.result _
     (begins_whole (setting_at c.args.world.now) c.args.row c.args.event.now true
     c.args.world.now.journal c.step.new.self.journal
@@ -146,10 +137,9 @@ returns-in_err-note_left-clause-part g c =
     (rw so_far.setting at c.in_ok-step.ensures.written)))
 
 pub returns-clause-happens : goal.returns-clause-happens
-returns-clause-happens g c =
-    happens_whole (setting_at c.args.world.now) c.args.row c.args.event.now c.loop-next.is_begun
-    c.args.world.now.journal c.loop-next.world.journal c.loop-next.invariant.took
-    (sym c.next_of.ensures ∙ c.in_default.is)
+returns-clause-happens g c = happens_whole (setting_at c.args.world.now) c.args.row c.args.event.now
+    c.loop-next.is_begun c.args.world.now.journal c.loop-next.world.journal
+    c.loop-next.invariant.took (sym c.next_of.ensures ∙ c.in_default.is)
 
 pub returns-clause-packets : goal.returns-clause-packets
 returns-clause-packets g c = omega (

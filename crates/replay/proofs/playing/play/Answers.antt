@@ -41,20 +41,18 @@ loop-event-init g c =
     }
 
 pub loop-event-preserved : goal.loop-event-preserved
-loop-event-preserved g c =
-    let so_far = c.loop-event.invariant in record {
-      rows = ap (λ n. n + 1) so_far.rows;
-      setting = c.in-Ok.ensures.setting ∙ so_far.setting;
-      able = c.in-Ok.ensures.able;
-      packets = omega (arith, c.in-Ok.ensures.packets, brought_few, so_far.packets);
-      plays_on = λ whole stop rest. so_far.plays_on whole stop
-          (plays_on_by (setting_at c.args.world) c.loop-event.world.journal
-          c.take_steps.new.world.journal whole (c.loop-event.row + 1) c.args.events.now
-          c.loop-event.event-index _ stop c.loop-event-test.true
-          (rw so_far.setting at c.in-Ok.ensures.happens) rest);
-      board = kept_up _ _ _ _ c.args.ports (map g.M.Meter.seen c.args.meters.items)
-          c.in-Ok.ensures.kept so_far.board;
-    }
+loop-event-preserved g c = let so_far = c.loop-event.invariant in record {
+  rows = ap (λ n. n + 1) so_far.rows;
+  setting = c.in-Ok.ensures.setting ∙ so_far.setting;
+  able = c.in-Ok.ensures.able;
+  packets = omega (arith, c.in-Ok.ensures.packets, brought_few, so_far.packets);
+  plays_on = λ whole stop rest. so_far.plays_on whole stop (plays_on_by (setting_at c.args.world)
+      c.loop-event.world.journal c.take_steps.new.world.journal whole
+      (c.loop-event.row + 1) c.args.events.now c.loop-event.event-index _ stop
+      c.loop-event-test.true (rw so_far.setting at c.in-Ok.ensures.happens) rest);
+  board = kept_up _ _ _ _ c.args.ports (map g.M.Meter.seen c.args.meters.items)
+      c.in-Ok.ensures.kept so_far.board;
+}
 
 pub returns-in-Err-Refused-clause-play : goal.returns-in-Err-Refused-clause-play
 returns-in-Err-Refused-clause-play g c =
@@ -66,9 +64,8 @@ returns-in-Err-Refused-clause-play g c =
     in
     rw (c.ended.ensures.journal, c.ended.ensures.full)
     (plays_from_start setting c.args.events.now after (Some row)
-    (so_far.plays_on after (Some row)
-    (stops_by setting c.loop-event.world.journal after row c.args.events.now
-    c.loop-event.event-index _ c.loop-event-test.true stops)))
+    (so_far.plays_on after (Some row) (stops_by setting c.loop-event.world.journal after row
+    c.args.events.now c.loop-event.event-index _ c.loop-event-test.true stops)))
 
 pub returns-clause-play : goal.returns-clause-play
 returns-clause-play g c =
@@ -78,50 +75,42 @@ returns-clause-play g c =
     let none = drop_all c.loop-event.event-index c.args.events.now c.loop-event-test.false in
     rw (c.ended-2.ensures.journal, c.ended-2.ensures.full)
     (plays_from_start setting c.args.events.now journal None
-    (c.loop-event.invariant.plays_on journal None
-    (subst (λ events. PlaysOn setting journal row events journal None) (sym none)
-    (plays_no_more setting journal row))))
+    (c.loop-event.invariant.plays_on journal None (subst (λ events. PlaysOn setting journal row
+    events journal None) (sym none) (plays_no_more setting journal row))))
 
 -- a full journal's board is the one that it says
 full_board : (g : Over) (c : goal.After-ended g)
-    → seen_board g.M.Meter.seen c.take_steps.new.board
-    ≡ board_after c.args.ports (left_in c.take_steps.new.world.journal)
-    (map g.M.Meter.seen c.args.meters.items)
+    → seen_board g.M.Meter.seen c.take_steps.new.board ≡ board_after c.args.ports
+    (left_in c.take_steps.new.world.journal) (map g.M.Meter.seen c.args.meters.items)
 full_board g c = kept_up _ _ _ _ c.args.ports (map g.M.Meter.seen c.args.meters.items)
     (c.in-Err-Refused.ensures.kept_full (ap Err c.in-Err-Refused.field-0-is))
     c.loop-event.invariant.board
 
 pub returns-in-Err-Refused-clause-kept : goal.returns-in-Err-Refused-clause-kept
-returns-in-Err-Refused-clause-kept g c =
-    rw (c.ended.ensures.journal, c.ended.ensures.meters)
+returns-in-Err-Refused-clause-kept g c = rw (c.ended.ensures.journal, c.ended.ensures.meters)
     (ap (λ (board : BoardValue Seen). board.meters) (full_board g c))
 
 pub returns-in-Err-Refused-clause-gone : goal.returns-in-Err-Refused-clause-gone
-returns-in-Err-Refused-clause-gone g c =
-    rw (c.ended.ensures.journal, c.ended.ensures.gone)
+returns-in-Err-Refused-clause-gone g c = rw (c.ended.ensures.journal, c.ended.ensures.gone)
     (ap (λ (board : BoardValue Seen). board.gone) (full_board g c))
 
 pub returns-clause-kept : goal.returns-clause-kept
-returns-clause-kept g c =
-    rw (c.ended-2.ensures.journal, c.ended-2.ensures.meters)
+returns-clause-kept g c = rw (c.ended-2.ensures.journal, c.ended-2.ensures.meters)
     (ap (λ (board : BoardValue Seen). board.meters) c.loop-event.invariant.board)
 
 pub returns-clause-gone : goal.returns-clause-gone
-returns-clause-gone g c =
-    rw (c.ended-2.ensures.journal, c.ended-2.ensures.gone)
+returns-clause-gone g c = rw (c.ended-2.ensures.journal, c.ended-2.ensures.gone)
     (ap (λ (board : BoardValue Seen). board.gone) c.loop-event.invariant.board)
 
 pub returns-in-Err-Refused-clause-held : goal.returns-in-Err-Refused-clause-held
-returns-in-Err-Refused-clause-held g c =
-    c.plays_held_on_the_way.ensures (setting_at c.args.world) c.args.events.now
-    c.ended.result.journal c.ended.result.full
+returns-in-Err-Refused-clause-held g c = c.plays_held_on_the_way.ensures (setting_at c.args.world)
+    c.args.events.now c.ended.result.journal c.ended.result.full
     (tie_of c.args.world (c.refines.ensures c.requires.begun.able)).sound c.requires.events
     (returns-in-Err-Refused-clause-play g c)
 
 pub returns-clause-held : goal.returns-clause-held
-returns-clause-held g c =
-    c.plays_held_on_the_way.ensures (setting_at c.args.world) c.args.events.now
-    c.ended-2.result.journal c.ended-2.result.full
+returns-clause-held g c = c.plays_held_on_the_way.ensures (setting_at c.args.world)
+    c.args.events.now c.ended-2.result.journal c.ended-2.result.full
     (tie_of c.args.world (c.refines.ensures c.requires.begun.able)).sound c.requires.events
     (returns-clause-play g c)
 
@@ -133,11 +122,9 @@ returns-in-Err-Refused-clause-plan g c =
     c.in_ok-plan-in-Err-Refused.ensures)
 
 pub returns-clause-plan : goal.returns-clause-plan
-returns-clause-plan g c =
-    rw (c.ended-2.ensures.journal, c.ended-2.ensures.plan)
+returns-clause-plan g c = rw (c.ended-2.ensures.journal, c.ended-2.ensures.plan)
     (subst (λ setting. IsPlanInForce setting c.loop-event.world.journal c.in_ok-plan.plan)
     c.loop-event.invariant.setting c.in_ok-plan.ensures)
 
 pub plan_in_force-requires : goal.plan_in_force-requires
-plan_in_force-requires g c =
-    c.in-Err-Refused.ensures.able_full (ap Err c.in-Err-Refused.field-0-is)
+plan_in_force-requires g c = c.in-Err-Refused.ensures.able_full (ap Err c.in-Err-Refused.field-0-is)

@@ -6,6 +6,5 @@ use Rattle.schedule.proofs.laws.schedule_laws.Goals as goal
 pub returns : goal.returns
 unfolding schedule_of
 returns c = record {
-  sound = λ net files bytes events is. text_sound net files (records_of bytes)
-      events is;
+  sound = λ net files bytes events is. text_sound net files (records_of bytes) events is;
 }

@@ -7,8 +7,7 @@ loop-written-preserved g c =
     let bytes = c.args.bytes.now in
     let rest = length bytes - c.loop-written.written in
     let more = gained_more (g.K.Sink.state c.args.sink.now).bytes bytes c.loop-written.written rest
-    c.min.result c.in_ok-taken.taken c.in_ok-taken.ensures.within in
-    record {
+    c.min.result c.in_ok-taken.taken c.in_ok-taken.ensures.within in record {
       within = omega (
         arith,
         c.in_ok-taken.ensures.within,

@@ -3,8 +3,7 @@ use Rattle.switch_core.proofs.NeighbourBodies.{told_all, told_none}
 use Rattle.switch_core.proofs.hearing.flood.Goals as goal
 
 pub loop-other-init : goal.loop-other-init
-loop-other-init c =
-    c.in_ok-messages.ensures.items ∙ sym (told_none _ _ c.ranges.near.fits)
+loop-other-init c = c.in_ok-messages.ensures.items ∙ sym (told_none _ _ c.ranges.near.fits)
 
 pub returns : goal.returns
 returns c = c.from_items.ensures ∙ c.loop-other.invariant

@@ -3,7 +3,6 @@ use Rattle.switch_table.proofs.LiveLemmas.{filled}
 use Rattle.switch_table.proofs.live.fill.Goals as goal
 
 pub returns : goal.returns
-returns c =
-    filled c.args.places c.loop-count.count-items
+returns c = filled c.args.places c.loop-count.count-items
     (subst (λ n. c.args.places ≤ 64 * n) (sym c.loop-count.auto.count-items) c.requires)
     (λ k less. c.loop-count.invariant.1 k (omega arith))

@@ -10,7 +10,6 @@ authority-requires c =
     let header = c.args.header.now in
     let own = c.args.tables.now.auth in
     let found : Some c.in-Some-own_part.part.now ≡ find (is_in header) own =
-    c.in-Some-own_part.ensures
-    ∙ ap (λ n. find (λ (part : Partition). holds part.region n) c.items.result.now)
-    c.number-number.ensures.number ∙ ap (find (is_in header)) c.items.ensures in
+    c.in-Some-own_part.ensures ∙ ap (λ n. find (λ (part : Partition). holds part.region n)
+    c.items.result.now) c.number-number.ensures.number ∙ ap (find (is_in header)) c.items.ensures in
     own_found header own c.in-Some-own_part.part.now found c.requires.few_rules

@@ -12,12 +12,10 @@ returns c =
     let flags = flags_of slots in
     let start = c.if-before-eq0.start in
     let begins : IsStart start.0 start.1 before flags = elim c.if-before-eq0.branch [
-      | then-before-eq0 w ↦
-          subst (λ (p : ℕ × ℕ). IsStart p.0 p.1 before flags) (sym w.start-is)
-          (starts_first c.args.live.now c.args.first before slots c.requires.slots
-          c.requires.some w.if-before-eq0.true)
-      | else-before-eq0 w ↦
-          subst (λ (p : ℕ × ℕ). IsStart p.0 p.1 before flags) (sym w.start-is)
+      | then-before-eq0 w ↦ subst (λ (p : ℕ × ℕ). IsStart p.0 p.1 before flags) (sym w.start-is)
+          (starts_first c.args.live.now c.args.first before slots c.requires.slots c.requires.some
+          w.if-before-eq0.true)
+      | else-before-eq0 w ↦ subst (λ (p : ℕ × ℕ). IsStart p.0 p.1 before flags) (sym w.start-is)
           (starts_block w.block_of-block.result.0 w.block_of-block.result.1 before flags
           (w.block_of-block.ensures flags c.requires.slots.counted c.requires.some))
     ] in

@@ -12,9 +12,8 @@ unwrap-word-requires c = c.new.ensures.taken.1
     (under_is_word c.args.header c.mask-bits.result c.mask-bits.ensures.bound)
 
 -- a place under the key that is looked up is one under the mask
-under_mask : (c : After-unwrap-word) (place : ℕ)
-    → place ≡ position_or_len
-    (has_live (record { number = c.args.number; word = c.unwrap-word.result })) c.args.map.now.entries
+under_mask : (c : After-unwrap-word) (place : ℕ) → place ≡ position_or_len (has_live
+    (record { number = c.args.number; word = c.unwrap-word.result })) c.args.map.now.entries
     → place ≡ position_or_len (has_live (key_under c.args.number c.args.header c.args.mask.now))
     c.args.map.now.entries
 under_mask c place is =
@@ -35,22 +34,19 @@ found_at c = (Found-position
     c.args.map.now.entries c.in-Some.place (sym c.in-Some.ensures.index)).or_len
 
 pub returns-then-slot : goal.returns-then-slot
-returns-then-slot c =
-    under_mask (goal.at.returns-then-slot c).After-unwrap-word c.in-Some.place
+returns-then-slot c = under_mask (goal.at.returns-then-slot c).After-unwrap-word c.in-Some.place
     (place_live _ _ _ (c.in-Some.field-0-1.now, c.in-Some.slot.now)
     (found_at (goal.at.returns-then-slot c).In-Some) c.in-Some.ensures.entry c.if-slot.true)
 
 pub returns-else-slot : goal.returns-else-slot
 unfolding equal_keys
-returns-else-slot c =
-    under_mask (goal.at.returns-else-slot c).After-unwrap-word c.len.result
-    (c.len.ensures.len
-    ∙ place_dead _ _ _ (c.in-Some.field-0-1.now, c.in-Some.slot.now) c.len.ensures.unique
-    (found_at (goal.at.returns-else-slot c).In-Some) c.in-Some.ensures.entry c.if-slot.false)
+returns-else-slot c = under_mask (goal.at.returns-else-slot c).After-unwrap-word c.len.result
+    (c.len.ensures.len ∙ place_dead _ _ _ (c.in-Some.field-0-1.now, c.in-Some.slot.now)
+    c.len.ensures.unique (found_at (goal.at.returns-else-slot c).In-Some) c.in-Some.ensures.entry
+    c.if-slot.false)
 
 pub returns-in-None : goal.returns-in-None
 unfolding equal_keys
-returns-in-None c =
-    under_mask (goal.at.returns-in-None c).After-unwrap-word c.len-in-None.result
-    (c.len-in-None.ensures.len
-    ∙ place_missing _ _ (Missing-position _ _ (sym c.in-None.ensures.index)).or_len)
+returns-in-None c = under_mask (goal.at.returns-in-None c).After-unwrap-word c.len-in-None.result
+    (c.len-in-None.ensures.len ∙ place_missing _ _
+    (Missing-position _ _ (sym c.in-None.ensures.index)).or_len)

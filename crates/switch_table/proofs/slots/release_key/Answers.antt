@@ -33,8 +33,7 @@ returns-clause-slots c = λ live first are.
     same_flags live first _ _ c.vacate.ensures.flags c.vacate.ensures.named are
 
 pub returns-clause-gone : goal.returns-clause-gone
-returns-clause-gone c =
-    let place = found (goal.at.returns-clause-gone c).In-Some in
+returns-clause-gone c = let place = found (goal.at.returns-clause-gone c).In-Some in
     subst (λ (key : CacheKey). OnOk c.vacate.result (get equal_keys c.vacate.new.map key ≡ None))
     (sym (equal_keys_same c.args.key.now place.pair.0 place.passes))
     (both_ok c.vacate.result (λ gone again. gone place.pair place.at) c.vacate.ensures.gone

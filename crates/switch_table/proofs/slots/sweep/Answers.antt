@@ -6,16 +6,14 @@ use Rattle.switch_table.proofs.slots.sweep.Goals as goal
 use Rattle.switch_table.proofs.slots.sweep.Goals.{After-retain}
 
 kept : (c : After-retain) → c.retain.new.self.entries ≡ filter is_live c.args.map.now.entries
-kept c =
-    filter-RetainsPairs _ is_live _ (λ k v b w g called. (search rules, search rules, search rules))
-    _ _ c.retain.ensures.filtered
+kept c = filter-RetainsPairs _ is_live _
+    (λ k v b w g called. (search rules, search rules, search rules)) _ _ c.retain.ensures.filtered
 
 pub returns-clause-slots : goal.returns-clause-slots
 returns-clause-slots c = kept (goal.at.returns-clause-slots c).After-retain
 
 pub returns-clause-counts : goal.returns-clause-counts
-returns-clause-counts c =
-    let left = kept (goal.at.returns-clause-counts c).After-retain in
+returns-clause-counts c = let left = kept (goal.at.returns-clause-counts c).After-retain in
     subst (AreCounts c.fill.new.self)
     (ap (λ n. replicate n true) (c.len.ensures.len ∙ ap length left)
     ∙ sym (swept_flags c.args.map.now.entries) ∙ ap flags_of (sym left)) c.fill.ensures

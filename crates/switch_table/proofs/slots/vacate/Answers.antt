@@ -27,16 +27,14 @@ new_key c = record { number = 2 ^ 64 - 1 - c.args.place; word = c.any.result }
 
 absent : (c : After-swap_remove_index) → get equal_keys c.args.map.now (new_key c) ≡ None
 unfolding new_key
-absent c =
-    named_absent (new_key c) c.args.place 0 c.args.map.now.entries (omega (arith, within c))
+absent c = named_absent (new_key c) c.args.place 0 c.args.map.now.entries (omega (arith, within c))
     (within c) c.requires.named (λ at slot there here. c.requires.old slot
     (ap (slice_get c.args.map.now.entries) (sym (at_place at c.args.place here)) ∙ there))
 
 made : (c : After-swap_remove_index) → IsRekeyed c.args.place (new_key c)
     c.swap_remove_index.result c.args.map.now.entries c.swap_remove_index.new.self.entries
 unfolding new_key equal_keys
-made c =
-    rekeyed c.args.place (new_key c) _ _ _ _ _ c.requires.dead c.index-slot.ensures
+made c = rekeyed c.args.place (new_key c) _ _ _ _ _ c.requires.dead c.index-slot.ensures
     (c.in_ok-insert.ensures.entries ∙ insert_entry-new _ c.args.map.now (new_key c) _ (absent c))
     c.swap_remove_index.ensures.entry c.swap_remove_index.ensures.entries
 

@@ -24,17 +24,14 @@ returns-in-None-clause-some c =
     ))
 
 pub returns-in-None-clause-none : goal.returns-in-None-clause-none
-returns-in-None-clause-none c =
-    IfNone-weaker c.lowest-in-None.result c.lowest-in-None.ensures.none
+returns-in-None-clause-none c = IfNone-weaker c.lowest-in-None.result c.lowest-in-None.ensures.none
     (none_free c.args.region.now (some_fix c.args.candidates.now) c.fixed_by_some.result
     c.free_bits-free.result (λ k within. c.fixed_by_some.ensures k) c.free_bits-free.ensures)
 
 pub returns-in-Some-clause-free : goal.returns-in-Some-clause-free
-returns-in-Some-clause-free c =
-    cut_is_free c.args.candidates.now c.args.region.now c.in-Some.bit
+returns-in-Some-clause-free c = cut_is_free c.args.candidates.now c.args.region.now c.in-Some.bit
     (returns-in-Some-clause-some c)
 
 pub returns-in-None-clause-free : goal.returns-in-None-clause-free
-returns-in-None-clause-free c =
-    IfSome_then c.lowest-in-None.result (returns-in-None-clause-some c)
+returns-in-None-clause-free c = IfSome_then c.lowest-in-None.result (returns-in-None-clause-some c)
     (cut_is_free c.args.candidates.now c.args.region.now)

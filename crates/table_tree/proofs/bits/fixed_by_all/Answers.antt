@@ -7,13 +7,11 @@ pub loop-candidate-init : goal.loop-candidate-init
 loop-candidate-init c = λ bit within. all_none bit within
 
 pub loop-candidate-preserved : goal.loop-candidate-preserved
-loop-candidate-preserved c = λ bit within.
-    all_more c.args.candidates.now c.loop-candidate.candidate-index c.candidate-item.result _ _ bit
-    c.loop-candidate-test.true c.candidate-item.is c.mask-bits.ensures.mask
-    (c.loop-candidate.invariant bit within)
+loop-candidate-preserved c = λ bit within. all_more c.args.candidates.now
+    c.loop-candidate.candidate-index c.candidate-item.result _ _ bit c.loop-candidate-test.true
+    c.candidate-item.is c.mask-bits.ensures.mask (c.loop-candidate.invariant bit within)
 
 pub returns : goal.returns
-returns c = λ bit within.
-    c.loop-candidate.invariant bit within
+returns c = λ bit within. c.loop-candidate.invariant bit within
     ∙ ap (λ candidates. all_fix candidates bit)
     (take_all c.loop-candidate.candidate-index c.args.candidates.now (omega arith))

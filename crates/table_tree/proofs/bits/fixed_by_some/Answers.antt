@@ -7,13 +7,10 @@ pub loop-candidate-init : goal.loop-candidate-init
 loop-candidate-init c = λ bit. some_none bit
 
 pub loop-candidate-preserved : goal.loop-candidate-preserved
-loop-candidate-preserved c = λ bit.
-    some_more c.args.candidates.now c.loop-candidate.candidate-index c.candidate-item.result _ _ bit
-    c.loop-candidate-test.true c.candidate-item.is c.mask-bits.ensures.mask
-    (c.loop-candidate.invariant bit)
+loop-candidate-preserved c = λ bit. some_more c.args.candidates.now c.loop-candidate.candidate-index
+    c.candidate-item.result _ _ bit c.loop-candidate-test.true c.candidate-item.is
+    c.mask-bits.ensures.mask (c.loop-candidate.invariant bit)
 
 pub returns : goal.returns
-returns c = λ bit.
-    c.loop-candidate.invariant bit
-    ∙ ap (λ candidates. some_fix candidates bit)
+returns c = λ bit. c.loop-candidate.invariant bit ∙ ap (λ candidates. some_fix candidates bit)
     (take_all c.loop-candidate.candidate-index c.args.candidates.now (omega arith))

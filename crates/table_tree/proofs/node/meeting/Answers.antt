@@ -4,9 +4,7 @@ use Rattle.table_tree.proofs.NodeLemmas.{kept_more}
 use Rattle.table_tree.proofs.node.meeting.Goals as goal
 
 pub loop-candidate-preserved : goal.loop-candidate-preserved
-loop-candidate-preserved c =
-    rw c.in_ok-push.ensures.items
+loop-candidate-preserved c = rw c.in_ok-push.ensures.items
     (kept_more (candidate_meets c.args.region.now) c.args.candidates.now c.loop-candidate.kept.items
     c.loop-candidate.candidate-index c.candidate-item.result c.loop-candidate-test.true
-    c.candidate-item.is
-    (sym c.meets.ensures ∙ c.if-not-meets.false) c.loop-candidate.invariant)
+    c.candidate-item.is (sym c.meets.ensures ∙ c.if-not-meets.false) c.loop-candidate.invariant)

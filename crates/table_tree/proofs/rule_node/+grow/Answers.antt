@@ -4,15 +4,13 @@ use Rattle.table_tree.proofs.RuleLemmas.{rank_of, within_cut, within_end}
 use Rattle.table_tree.proofs.rule_node.+grow.Goals as goal
 
 pub returns-in_default : goal.returns-in_default
-returns-in_default t c =
-    let node = c.args.node in
+returns-in_default t c = let node = c.args.node in
     ap Leaf (c.in_ok-places.ensures ∙ ap (map rank_of) c.deref.ensures.value)
     ∙ within_end c.args.cuts node.rules.items node.region
     (sym c.in_default.is ∙ c.paying_cut.ensures.cut)
 
 pub returns : goal.returns
-returns t c =
-    let node = c.args.node in
+returns t c = let node = c.args.node in
     rw (c.new.ensures, c.in_ok-new.ensures.ok, c.in_ok-new-2.ensures.ok)
     (within_cut c.args.cuts node.rules.items node.region c.in-Some.cost _ _ _ _ _ _
     c.in-Some.ensures.left c.in-Some.ensures.cut c.in_ok-low.ensures.rules

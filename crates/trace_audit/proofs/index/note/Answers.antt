@@ -4,6 +4,5 @@ use Rattle.trace_audit.proofs.IndexedRows.{notes_pushed}
 use Rattle.trace_audit.proofs.index.note.Goals as goal
 
 pub returns-in_ok-push : goal.returns-in_ok-push
-returns-in_ok-push c =
-    subst (Notes c.args.shapes.now.items c.args.shape) (sym c.in_ok-push.ensures.items)
-    (notes_pushed c.args.shapes.now.items c.args.shape)
+returns-in_ok-push c = subst (Notes c.args.shapes.now.items c.args.shape)
+    (sym c.in_ok-push.ensures.items) (notes_pushed c.args.shapes.now.items c.args.shape)

@@ -16,8 +16,7 @@ returns-in-None c =
     bad_here c.args.files.now c.args.trace.now rest c.loop-rest.line (state_seen c.loop-rest.auditor)
     (Open rest) [] c.files_are_sound.ensures c.loop-rest.invariant
     (lines_open rest (some_left rest (sym c.is_empty.ensures ∙ c.loop-rest-test.true))
-    c.in-None.ensures) (λ other r. absurd r) _ c.saturating_add-line.ensures in
-    record {
+    c.in-None.ensures) (λ other r. absurd r) _ c.saturating_add-line.ensures in record {
       verdict = is;
       exactly = verdict_exact c.args.files.now lines verdict is;
       run = verdict_run c.args.files.now lines verdict is;
@@ -29,15 +28,13 @@ returns-then-not-good c =
     let rest = c.loop-rest.rest.now in
     let lines = lines_of c.args.trace.now in
     let verdict = No c.saturating_add-line.result in
-    let is : IsAuditVerdict c.args.files.now lines verdict =
-    bad_here c.args.files.now c.args.trace.now rest c.loop-rest.line (state_seen c.loop-rest.auditor)
+    let is : IsAuditVerdict c.args.files.now lines verdict = bad_here c.args.files.now
+    c.args.trace.now rest c.loop-rest.line (state_seen c.loop-rest.auditor)
     (Whole c.in-Some.text.now) (lines_of c.in-Some.next.now) c.files_are_sound.ensures
-    c.loop-rest.invariant
-    (lines_next rest c.in-Some.text.now c.in-Some.next.now c.in-Some.ensures)
+    c.loop-rest.invariant (lines_next rest c.in-Some.text.now c.in-Some.next.now c.in-Some.ensures)
     (subst (λ good. IsLineRead c.args.files.now (state_seen c.loop-rest.auditor)
     (Whole c.in-Some.text.now) (state_seen c.take_line.new.auditor) good) c.if-not-good.true
-    c.in_ok-good-in-Some.ensures) _ c.saturating_add-line.ensures in
-    record {
+    c.in_ok-good-in-Some.ensures) _ c.saturating_add-line.ensures in record {
       verdict = is;
       exactly = verdict_exact c.args.files.now lines verdict is;
       run = verdict_run c.args.files.now lines verdict is;
@@ -52,8 +49,7 @@ loop-rest-smaller c = omega (
 )
 
 pub loop-rest-preserved : goal.loop-rest-preserved
-loop-rest-preserved c =
-    let rest = c.loop-rest.rest.now in
+loop-rest-preserved c = let rest = c.loop-rest.rest.now in
     good_here c.args.files.now c.args.trace.now rest c.in-Some.next.now c.loop-rest.line
     (state_seen c.loop-rest.auditor) (state_seen c.take_line.new.auditor)
     (Whole c.in-Some.text.now) c.loop-rest.invariant
@@ -66,11 +62,9 @@ pub returns : goal.returns
 returns c =
     let rest = c.loop-rest.rest.now in
     let lines = lines_of c.args.trace.now in
-    let is : IsAuditVerdict c.args.files.now lines Yes =
-    all_good c.args.files.now c.args.trace.now c.loop-rest.line (state_seen c.loop-rest.auditor)
-    lines_nil
-    (subst (λ left. IsSoFar c.args.files.now c.args.trace.now left c.loop-rest.line
-    (state_seen c.loop-rest.auditor))
+    let is : IsAuditVerdict c.args.files.now lines Yes = all_good c.args.files.now c.args.trace.now
+    c.loop-rest.line (state_seen c.loop-rest.auditor) lines_nil (subst (λ left. IsSoFar
+    c.args.files.now c.args.trace.now left c.loop-rest.line (state_seen c.loop-rest.auditor))
     (nil_left rest (sym c.is_empty.ensures ∙ c.loop-rest-test.false)) c.loop-rest.invariant) in
     record {
       verdict = is;

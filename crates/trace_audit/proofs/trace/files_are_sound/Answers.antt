@@ -4,12 +4,10 @@ use Rattle.policy_rules.specs.Exports.{IsPolicyFile}
 use Rattle.trace_audit.proofs.trace.files_are_sound.Goals as goal
 
 pub loop-file-preserved : goal.loop-file-preserved
-loop-file-preserved c =
-    All-more IsPolicyFile c.args.files.now c.loop-file.file-index c.file-item.result
-    c.loop-file-test.true c.loop-file.invariant
+loop-file-preserved c = All-more IsPolicyFile c.args.files.now c.loop-file.file-index
+    c.file-item.result c.loop-file-test.true c.loop-file.invariant
     (subst IsPolicyFile c.file-item.is c.file_is_sound.ensures)
 
 pub returns : goal.returns
-returns c =
-    subst (All IsPolicyFile) (take_all c.loop-file.file-index c.args.files.now (omega arith))
-    c.loop-file.invariant
+returns c = subst (All IsPolicyFile)
+    (take_all c.loop-file.file-index c.args.files.now (omega arith)) c.loop-file.invariant

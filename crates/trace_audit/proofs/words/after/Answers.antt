@@ -13,8 +13,7 @@ returns-then-text-place c = not_begun c.args.word.now c.args.text.now
     ∙ get_or_append_left c.args.word.now (32 ∷ rest) 0 c.loop-place.place c.loop-place-test.true))
 
 pub returns-then-text-word-ne32 : goal.returns-then-text-word-ne32
-returns-then-text-word-ne32 c =
-    let word = c.args.word.now in
+returns-then-text-word-ne32 c = let word = c.args.word.now in
     not_begun word c.args.text.now (λ rest e. c.if-text-word-ne32.true
     (ap (λ t. get_or t (length word) 0) e ∙ get_or_at word 32 rest 0 (length word) refl))
 

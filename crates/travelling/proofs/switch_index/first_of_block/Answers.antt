@@ -20,6 +20,5 @@ overflow_add-result-2 c =
 
 pub returns : goal.returns
 unfolding least_in
-returns c =
-    let fit = c.type_inv.masks (c.args.block * 64 + c.args.switch) in
+returns c = let fit = c.type_inv.masks (c.args.block * 64 + c.args.switch) in
     first_marked c.args.masks.now c.args.block c.args.switch c.requires.some (omega (arith, fit.fits))

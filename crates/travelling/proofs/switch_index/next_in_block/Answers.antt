@@ -8,8 +8,7 @@ returns-then-place-masks c =
     λ i above _. none_past c.args.masks.now c.args.switch c.args.from c.if-place-masks.true i above
 
 pub returns-then-rest-eq0 : goal.returns-then-rest-eq0
-returns-then-rest-eq0 c =
-    none_in_mask c.args.masks.now c.args.switch c.args.from c.if-rest-eq0.true
+returns-then-rest-eq0 c = none_in_mask c.args.masks.now c.args.switch c.args.from c.if-rest-eq0.true
 
 pub returns : goal.returns
 unfolding least_in

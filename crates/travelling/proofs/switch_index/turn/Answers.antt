@@ -14,13 +14,11 @@ old_is c = c.index-old.ensures ∙ get_or_default_zero c.args.masks.now.items
     (c.args.number / 64 * 64 + c.args.switch) _ (there c)
 
 pub returns-clause-marks : goal.returns-clause-marks
-returns-clause-marks c =
-    let read = (goal.at.returns-clause-marks c).After-index-old in
+returns-clause-marks c = let read = (goal.at.returns-clause-marks c).After-index-old in
     rw (old_is read, c.only_if.ensures)
     (turns c.args.masks.now.items c.args.number c.args.switch c.requires.switch (there read))
 
 pub returns-clause-blocks : goal.returns-clause-blocks
-returns-clause-blocks c =
-    let read = (goal.at.returns-clause-blocks c).After-index-old in
+returns-clause-blocks c = let read = (goal.at.returns-clause-blocks c).After-index-old in
     rw (old_is read, c.only_if.ensures)
     (changes c.args.masks.now.items c.args.number c.args.switch c.requires.switch (there read))

@@ -3,7 +3,4 @@ use Rattle.travelling.proofs.PacketTable.{pushed_same}
 use Rattle.travelling.proofs.travelling.make_room.Goals as goal
 
 pub loop-slots-preserved : goal.loop-slots-preserved
-loop-slots-preserved c = record {
-  few = grind (arith);
-  same = grind (arith, pushed_same);
-}
+loop-slots-preserved c = record { few = grind (arith); same = grind (arith, pushed_same) }

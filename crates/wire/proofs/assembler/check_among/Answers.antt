@@ -12,9 +12,8 @@ at_place : (frames : List (List ℕ)) (frame : List ℕ) (place : ℕ) (held : O
 at_place frames frame place held is found = ap (held_at frames) (sym is) ∙ sym found
 
 pub returns-then-are_same : goal.returns-then-are_same
-returns-then-are_same c =
-    check_held c.args.frames.now c.args.frame.now c.in-Some.held.now c.requires.long
-    c.requires.short c.requires.below c.requires.rising
+returns-then-are_same c = check_held c.args.frames.now c.args.frame.now c.in-Some.held.now
+    c.requires.long c.requires.short c.requires.below c.requires.rising
     (at_place _ _ _ _ c.place_of-place.ensures c.in-Some.ensures)
     (sym c.bytes.ensures.bytes ∙ c.if-are_same.ensures.0 refl)
 
@@ -24,8 +23,7 @@ returns-else-are_same c =
     (λ e. false_not_true (c.if-are_same.ensures.1 (c.bytes.ensures.bytes ∙ e)))
 
 pub returns-in-None : goal.returns-in-None
-returns-in-None c =
-    let are : AreBytes c.args.frame.now = λ i. omega (arith, c.type_inv.frame i) in
+returns-in-None c = let are : AreBytes c.args.frame.now = λ i. omega (arith, c.type_inv.frame i) in
     check_new c.args.frames.now c.args.frame.now c.index_of.result c.requires.long c.requires.short
     are c.requires.below c.requires.rising
     (at_place _ _ _ _ c.place_of-place.ensures c.in-None.ensures)

@@ -10,11 +10,10 @@ returns-in_err-message c =
     rw (p.1, p.2) (none_spelled c.args.frames.now c.args.bytes.now c.in_err-message.field-0.0 c.requires.bytes c.in_err-message.ensures.malformed)
 
 pub returns-then-are_chunks : goal.returns-then-are_chunks
-returns-then-are_chunks c =
-    frames_by c.in_ok-message.message c.args.bytes.now c.args.frames.now c.requires.rising c.in_ok-message.ensures.found
+returns-then-are_chunks c = frames_by c.in_ok-message.message c.args.bytes.now c.args.frames.now
+    c.requires.rising c.in_ok-message.ensures.found
     (c.if-are_chunks.ensures.0 refl ∙ ap (map (λ p. p.now)) c.deref.ensures.value
-    ∙ c.in_ok-parts.ensures
-    ∙ ap (λ n. chunks_behind_head n c.args.bytes.now) c.head_len.ensures)
+    ∙ c.in_ok-parts.ensures ∙ ap (λ n. chunks_behind_head n c.args.bytes.now) c.head_len.ensures)
 
 pub returns-else-are_chunks : goal.returns-else-are_chunks
 returns-else-are_chunks c =

@@ -3,5 +3,4 @@ use Rattle.wire.specs.Exports.{chunk_of}
 use Rattle.wire.proofs.assembly.joined.Given as goal
 
 abbrev pub invariant-loop-frame : goal.invariant-loop-frame
-invariant-loop-frame l =
-    l.bytes.items ≡ flat_map chunk_of (take l.frame-index l.frames)
+invariant-loop-frame l = l.bytes.items ≡ flat_map chunk_of (take l.frame-index l.frames)

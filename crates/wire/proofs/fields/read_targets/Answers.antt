@@ -19,8 +19,7 @@ pub loop-place-preserved : goal.loop-place-preserved
 loop-place-preserved c =
     let switches = c.loop-place.switches in
     let place = c.loop-place.place in
-    let below : place < length switches = omega arith in
-    record {
+    let below : place < length switches = omega arith in record {
       few = c.loop-place.invariant.few;
       long = length-set switches place c.in_ok-switches.field-0 ∙ c.loop-place.invariant.long;
       so_far = rw (take_more_set switches place c.in_ok-switches.field-0 below)

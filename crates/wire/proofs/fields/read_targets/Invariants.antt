@@ -4,10 +4,9 @@ use Rattle.wire.proofs.ItemLoops.{with_front}
 use Rattle.wire.proofs.fields.read_targets.Given as goal
 
 abbrev pub invariant-loop-place : goal.invariant-loop-place
-invariant-loop-place l =
-    record {
-      few : l.count ≤ 4;
-      long : length l.switches ≡ 4;
-      so_far : with_front (take l.place l.switches) (read_items switch (l.count - l.place) l.reader)
-          ≡ read_items switch l.count l.initial.reader;
-    }
+invariant-loop-place l = record {
+  few : l.count ≤ 4;
+  long : length l.switches ≡ 4;
+  so_far : with_front (take l.place l.switches) (read_items switch (l.count - l.place) l.reader)
+      ≡ read_items switch l.count l.initial.reader;
+}

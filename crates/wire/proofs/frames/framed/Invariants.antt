@@ -3,6 +3,5 @@ use Rattle.wire.specs.Exports.{frames_from, frames_of}
 use Rattle.wire.proofs.frames.framed.Given as goal
 
 abbrev pub invariant-loop-place : goal.invariant-loop-place
-invariant-loop-place l =
-    let parts = map (λ p. p.now) l.parts in
+invariant-loop-place l = let parts = map (λ p. p.now) l.parts in
     l.frames.items ++ frames_from l.place (length parts) (drop l.place parts) ≡ frames_of parts

@@ -13,14 +13,12 @@ returns-in_err-read g c =
     c.in_err-read.ensures c.loop.invariant)
 
 pub loop-preserved : goal.loop-preserved
-loop-preserved g c =
-    let f = g.T.Part.format in
+loop-preserved g c = let f = g.T.Part.format in
     rw c.in_ok-push.ensures.items
     (goes_on f c.loop.items.items c.args.count c.loop.counter c.loop.reader c.in_ok-read.field-0 c.read.new.reader
     (read_items f c.args.count c.args.reader.now) c.loop-test.true c.in_ok-read.ensures c.loop.invariant)
 
 pub returns : goal.returns
-returns g c =
-    let f = g.T.Part.format in
+returns g c = let f = g.T.Part.format in
     is_done f c.loop.items.items c.args.count c.loop.counter c.loop.reader
     (read_items f c.args.count c.args.reader.now) c.loop-test.false c.loop.invariant

@@ -11,6 +11,5 @@ returns-in-Ok c =
     let made = applied c.args.policy.now c.args.change.now in
     subst (λ (words : List WordValue). IfOk result (IsMade c.args.net.now (made, words)))
     c.in_ok-touched-in-Ok.ensures
-    (subst (λ (these : Result (List Row) Inapplicable).
-    IfOk result (IsMade c.args.net.now (these, c.in_ok-touched-in-Ok.touched)))
-    (sym c.in-Ok.ensures.applied) c.plan_or_code.ensures)
+    (subst (λ (these : Result (List Row) Inapplicable). IfOk result (IsMade c.args.net.now
+    (these, c.in_ok-touched-in-Ok.touched))) (sym c.in-Ok.ensures.applied) c.plan_or_code.ensures)

@@ -31,6 +31,5 @@ loop-place-preserved c =
     ]
 
 pub returns : goal.returns
-returns c =
-    all_forgotten c.args.files.now c.loop-place.place c.args.compiled.now.items
+returns c = all_forgotten c.args.files.now c.loop-place.place c.args.compiled.now.items
     c.loop-place.compiled.items c.requires (omega arith) c.loop-place.invariant

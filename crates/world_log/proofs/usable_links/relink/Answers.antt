@@ -26,31 +26,25 @@ loop-s-preserved c =
     let own : SwitchValue = c.index_mut.result.now in
     let count_is : c.len-count.result ≡ length old = omega arith in
     let within : n < length so = omega (arith, c.loop-s-test.true, inv.0) in
-    let at : own ≡ get_or old n own =
-    c.index_mut.ensures.value ∙ inv.2 n own (omega arith) in
+    let at : own ≡ get_or old n own = c.index_mut.ensures.value ∙ inv.2 n own (omega arith) in
     let is : one ≡ relinked_as (get_or had n 0) (get_or now n 0) own =
     c.relink_one.ensures.switch in (
       length-set so n one ∙ inv.0,
       λ s d below. elim (cases_lt s n) [
         | inl less ↦ get_or-set_other so n s one d (omega (arith, less)) ∙ inv.1 s d less
-        | inr more ↦
-            let same : n ≡ s = omega (arith, below, more) in
+        | inr more ↦ let same : n ≡ s = omega (arith, below, more) in
             subst (λ k. get_or (set so n one) k d
             ≡ relinked_as (get_or had k 0) (get_or now k 0) (get_or old k d)) same
-            (get_or-set_same so n one d within ∙ is
-            ∙ ap (relinked_as (get_or had n 0) (get_or now n 0))
-            (c.index_mut.ensures.value ∙ get_or_default so n own d within
-            ∙ inv.2 n d (omega arith)))
+            (get_or-set_same so n one d within
+            ∙ is ∙ ap (relinked_as (get_or had n 0) (get_or now n 0)) (c.index_mut.ensures.value
+            ∙ get_or_default so n own d within ∙ inv.2 n d (omega arith)))
       ],
       λ s d past. get_or-set_other so n s one d (omega (arith, past))
           ∙ inv.2 s d (omega (arith, past)),
-      c.in_ok-relink_one.ensures.told
-          ∙ ap (λ count. c.loop-s.messages.items
-          ++ adverts_on_change count (get_or had n 0) (get_or now n 0) own)
-          count_is
+      c.in_ok-relink_one.ensures.told ∙ ap (λ count. c.loop-s.messages.items
+          ++ adverts_on_change count (get_or had n 0) (get_or now n 0) own) count_is
           ∙ ap (λ js. js ++ adverts_on_change (length old) (get_or had n 0) (get_or now n 0) own)
-          inv.3
-          ∙ ap (λ w. all_below (length old) had now old n
+          inv.3 ∙ ap (λ w. all_below (length old) had now old n
           ++ adverts_on_change (length old) (get_or had n 0) (get_or now n 0) w) at
           ∙ sym (all_more (length old) had now old n own (omega (arith, within, inv.0))),
     )

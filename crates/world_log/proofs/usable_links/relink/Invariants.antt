@@ -9,7 +9,6 @@ abbrev pub invariant-loop-s : goal.invariant-loop-s
 invariant-loop-s l = (length l.switches.items ≡ length l.initial.switches.items)
     × ((s : ℕ) (d : SwitchValue) → s < l.s → get_or l.switches.items s d
     ≡ relinked_as (get_or l.had s 0) (get_or l.now s 0) (get_or l.initial.switches.items s d))
-    × ((s : ℕ) (d : SwitchValue) → l.s ≤ s
-    → get_or l.switches.items s d ≡ get_or l.initial.switches.items s d)
-    × (l.messages.items ≡ all_below (length l.initial.switches.items) l.had l.now
-    l.initial.switches.items l.s)
+    × ((s : ℕ) (d : SwitchValue) → l.s ≤ s → get_or l.switches.items s d
+    ≡ get_or l.initial.switches.items s d) × (l.messages.items
+    ≡ all_below (length l.initial.switches.items) l.had l.now l.initial.switches.items l.s)

@@ -3,6 +3,5 @@ use Rattle.world_log.proofs.RelinkingAdverts.{held_all}
 use Rattle.world_log.proofs.usable_links.send_all_held.Goals as goal
 
 pub returns : goal.returns
-returns c =
-    let all : ◌≡◌ {A = ℕ} c.loop-origin.origin 64 = omega arith in
+returns c = let all : ◌≡◌ {A = ℕ} c.loop-origin.origin 64 = omega arith in
     cc (held_all c.args.switch.now c.args.other)

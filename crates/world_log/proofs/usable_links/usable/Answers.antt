@@ -21,7 +21,6 @@ loop-s-preserved c =
 
 pub returns : goal.returns
 unfolding near_all
-returns c =
-    let all : ◌≡◌ {A = ℕ} c.loop-s.s 64 = omega arith in
+returns c = let all : ◌≡◌ {A = ℕ} c.loop-s.s 64 = omega arith in
     fill_by_all (near_by c.args.links.now c.args.switches.now) c.loop-s.near 64 0
     c.loop-s.invariant.0 (λ k below. c.loop-s.invariant.1 k (omega (arith, below, all)))

@@ -8,22 +8,16 @@ use Rattle.controller.proofs.controller.Controller.add.Goals.{After-settle}
 
 -- the version that comes next
 abbrev Next : After-settle → ℕ → KeptPlan
-Next c count = record {
-  version = count + 1;
-  plan = c.args.plan;
-  touched = c.args.touched;
-}
+Next c count = record { version = count + 1; plan = c.args.plan; touched = c.args.touched }
 
 next_is : (c : After-settle) → c.in_ok-version.version ≡ Next c c.self.inside.marks.count
 next_is c = c.in_ok-version.ensures ∙ ap (Next c) c.count-number.ensures.count
 
 pushed : (c : After-settle) → c.push.new.self.items ≡ c.self.inside.versions.items
     ++ Next c c.self.inside.marks.count ∷ []
-pushed c = c.in_ok-push.ensures.items
-    ∙ ap (λ v. c.self.inside.versions.items ++ v ∷ []) (next_is c)
+pushed c = c.in_ok-push.ensures.items ∙ ap (λ v. c.self.inside.versions.items ++ v ∷ []) (next_is c)
 
-whole : (c : After-settle) → IsWhole c.add_version-settled.new.marks
-    c.settle.new.versions.items
+whole : (c : After-settle) → IsWhole c.add_version-settled.new.marks c.settle.new.versions.items
 whole c = whole_more c.self.inside.marks c.self.inside.versions.items
     (Next c c.self.inside.marks.count) _ _ _ _ c.hosted.ensures.sound refl c.self.invariant c.add_version-settled.ensures.rule
     c.add_version-settled.ensures.settled (pushed c) c.settle.ensures.versions
@@ -69,9 +63,8 @@ returns-clause-sends c =
     } in
     c.from_items.ensures ∙ c.in_ok-settle.ensures.acts _ c.add_version-settled.ensures.settled
     ∙ ap (λ l. l ++ settling_acts (current_touched new) (with_version old) new.marks)
-    (c.in_ok-acts.ensures ∙ ap
-    (λ (version : KeptPlan). map (λ s. install_act s (boot_recorded old s) version)
-    (switches_where (λ known. not (is_over known.phase)) old.switches)) (next_is at))
+    (c.in_ok-acts.ensures ∙ ap (λ (version : KeptPlan). map (λ s. install_act s (boot_recorded old
+    s) version) (switches_where (λ known. not (is_over known.phase)) old.switches)) (next_is at))
     ∙ ap (λ (value : ControllerValue). submit_acts value.marks (Next at value.marks.count) new)
     c.self.view_is
 

@@ -20,16 +20,13 @@ returns c =
     marks in
     let once : plans_from marks.current kept ≡ kept = ap (plans_from marks.current)
     c.hello_sends.ensures.versions ∙ plans_twice marks.current c.self.inside.versions.items
-    ∙ sym c.hello_sends.ensures.versions in
-    record {
+    ∙ sym c.hello_sends.ensures.versions in record {
       after = search settles_at;
       sends = IfOk-weaker c.hello_sends.result _ _
-          (λ sends is. is
-          ∙ ap (λ b. told ++ cond b (map (install_act s boot) kept) [])
-          c.hello-settled.ensures.taken
-          ∙ ap (λ (plans : List KeptPlan). told ++ cond (takes_hello boot (record_of old s))
-          (map (install_act s boot) plans) []) (sym once)
-          ∙ ap (λ (old : ControllerValue). hear_acts (Hello s boot) old.marks
+          (λ sends is. is ∙ ap (λ b. told ++ cond b (map (install_act s boot) kept) [])
+          c.hello-settled.ensures.taken ∙ ap (λ (plans : List KeptPlan). told
+          ++ cond (takes_hello boot (record_of old s)) (map (install_act s boot) plans) [])
+          (sym once) ∙ ap (λ (old : ControllerValue). hear_acts (Hello s boot) old.marks
           (record { marks = marks; plans = kept })) c.self.view_is)
           (c.hello_sends.ensures.sends _ c.hello-settled.ensures.settled);
       rule = search stays_at;

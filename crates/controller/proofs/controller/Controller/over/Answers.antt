@@ -19,8 +19,7 @@ returns c =
     search settles_at in
     let stays : StaysController old new = search stays_at in
     let sent = c.settled_sends.ensures.sends _ (settles_seen c.args.s after_over _ _ _ _ _
-    c.self.view_is c.over-settled.ensures.settled) in
-    record {
+    c.self.view_is c.over-settled.ensures.settled) in record {
       after = settles;
       newest = newest_stays (at_switch c.args.s after_over old.marks) old new stays.controller
           settles refl;

@@ -21,10 +21,8 @@ index-requires c =
 -- the plan is the one at the version's place, which is one of those that are kept
 kept_is : (c : After-tables) → c.index.result.now ≡ get_or c.self.inside.versions.items
     (c.args.version - c.self.inside.marks.current) c.index.result.now
-kept_is c =
-    c.index.ensures
-    ∙ ap (λ current. get_or c.self.inside.versions.items (c.args.version - current)
-    c.index.result.now) c.current.ensures.current
+kept_is c = c.index.ensures ∙ ap (λ current. get_or c.self.inside.versions.items
+    (c.args.version - current) c.index.result.now) c.current.ensures.current
 
 first : (c : After-tables) → c.self.inside.marks.current ≤ c.args.version
 first c = subst (λ (w : ControllerValue). w.marks.current ≤ c.args.version) (sym c.self.view_is)

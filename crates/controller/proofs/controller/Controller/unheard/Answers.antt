@@ -12,8 +12,7 @@ returns c =
     record {
       none = c.from_items.ensures ∙ c.new.ensures.items;
       idle = ap (λ (value : ControllerValue). settling_acts (current_touched value) value.marks
-          value.marks) (sym c.self.view_is)
-          ∙ nothing_sent _ marks is.marks;
+          value.marks) (sym c.self.view_is) ∙ nothing_sent _ marks is.marks;
       after = subst Stay c.self.view_is (record {
         marks = (nothing_rose true, c.settling_laws.ensures.idle marks true is.marks);
         plans = sym (all_kept marks.current marks.current _ c.self.inside.versions.items

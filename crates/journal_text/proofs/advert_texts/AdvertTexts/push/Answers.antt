@@ -27,7 +27,6 @@ returns-in-None-clause-text c =
     ∙ held_text line (advert_text net c.args.advert.now)
 
 pub returns-in-Some-clause-of_type : goal.returns-in-Some-clause-of_type
-returns-in-Some-clause-of_type c =
-    let kept = c.in-Some.ensures.text c.args.net.now c.requires in
+returns-in-Some-clause-of_type c = let kept = c.in-Some.ensures.text c.args.net.now c.requires in
     subst (λ (advert : Advert). IsNumber advert.boot × IsNumber advert.seq) c.in-Some.ensures.advert
     (kept.boot, kept.seq)

@@ -14,14 +14,12 @@ its c =
     (c.in_ok-extend_from_slice.ensures.items ∙ ap (λ (b : List ℕ). b ++ (0 ∷ 0 ∷ 0 ∷ 0 ∷ 0 ∷ 0 ∷ 0 ∷ 1 ∷ [])) c.clear.ensures.items))
 
 pub invariant_of-self-2 : goal.invariant_of-self-2
-invariant_of-self-2 c =
-    let kept = c.self.inside.tables.items in
+invariant_of-self-2 c = let kept = c.self.inside.tables.items in
     kept_after c.push.result c.args.message.now kept kept c.self.inside.firsts c.push.new.self
     (c.deref.result.now, None) (same_grown kept) c.self.invariant c.push.ensures.pushed c.push.ensures.unchanged
     tt (record { fits = c.in_ok-append.ensures.fits; short = c.requires.short }) (its c)
 
 pub returns-clause-posted : goal.returns-clause-posted
-returns-clause-posted c =
-    let kept = c.self.inside.tables.items in
+returns-clause-posted c = let kept = c.self.inside.tables.items in
     posted_after c.push.result c.args.message.now kept kept c.args.self.now c.self.inside.firsts c.push.new.self
     (c.deref.result.now, None) (same_grown kept) c.self.invariant c.self.view_is c.push.ensures.pushed (its c)

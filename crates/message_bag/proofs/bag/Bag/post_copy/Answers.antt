@@ -7,26 +7,23 @@ use Rattle.message_bag.proofs.PostedMessages.{kept_after, posted_after, same_gro
 use Rattle.message_bag.proofs.bag.Bag.post_copy.Goals as goal
 
 pub set_receiver-requires-clause-long : goal.set_receiver-requires-clause-long
-set_receiver-requires-clause-long c =
-    omega (
-      arith,
-      long c.self.inside.tables.items c.in-Some.frame.now c.in-Some.tables c.args.message.now
-          (found c.self.inside.tables.items c.self.inside.firsts c.args.self.now c.args.number
-          c.args.message.now _ c.self.invariant c.self.view_is c.requires.like c.in-Some.ensures.some),
-      ap length (c.deref_mut.ensures.value ∙ c.in_ok-extend_from_slice.ensures.items
-          ∙ ap (λ (b : List ℕ). b ++ c.in-Some.frame.now) c.clear.ensures.items),
-    )
+set_receiver-requires-clause-long c = omega (
+  arith,
+  long c.self.inside.tables.items c.in-Some.frame.now c.in-Some.tables c.args.message.now
+      (found c.self.inside.tables.items c.self.inside.firsts c.args.self.now c.args.number
+      c.args.message.now _ c.self.invariant c.self.view_is c.requires.like c.in-Some.ensures.some),
+  ap length (c.deref_mut.ensures.value ∙ c.in_ok-extend_from_slice.ensures.items
+      ∙ ap (λ (b : List ℕ). b ++ c.in-Some.frame.now) c.clear.ensures.items),
+)
 
 like : (c : goal.After-push)
     → AreLike c.self.inside.tables.items (c.in-Some.frame.now, c.in-Some.tables) c.args.message.now
-like c =
-    found c.self.inside.tables.items c.self.inside.firsts c.args.self.now c.args.number c.args.message.now _
-    c.self.invariant c.self.view_is c.requires.like c.in-Some.ensures.some
+like c = found c.self.inside.tables.items c.self.inside.firsts c.args.self.now c.args.number
+    c.args.message.now _ c.self.invariant c.self.view_is c.requires.like c.in-Some.ensures.some
 
 its : (c : goal.After-push)
     → frames_in c.self.inside.tables.items (c.deref.result.now, c.in-Some.tables) ≡ frames c.args.message.now
-its c =
-    let written : c.deref.result.now ≡ c.set_receiver.new.frame = grind (arith, common_steps) in
+its c = let written : c.deref.result.now ≡ c.set_receiver.new.frame = grind (arith, common_steps) in
     ap (λ (b : List ℕ). frames_in c.self.inside.tables.items (b, c.in-Some.tables))
     (written ∙ c.set_receiver.ensures.written
     ∙ ap (begun_for c.args.message.now.to) (c.deref_mut.ensures.value ∙ c.in_ok-extend_from_slice.ensures.items
@@ -34,20 +31,17 @@ its c =
     ∙ copied c.self.inside.tables.items c.in-Some.frame.now c.in-Some.tables c.args.message.now (like c)
 
 pub invariant_of-self-2 : goal.invariant_of-self-2
-invariant_of-self-2 c =
-    let kept = c.self.inside.tables.items in
+invariant_of-self-2 c = let kept = c.self.inside.tables.items in
     kept_after c.push.result c.args.message.now kept kept c.self.inside.firsts c.push.new.self
     (c.deref.result.now, c.in-Some.tables) (same_grown kept) c.self.invariant c.push.ensures.pushed
     c.push.ensures.unchanged (like c).there
     (has kept _ c.args.message.now (like c) c.set_receiver.ensures.fits c.requires.spelling) (its c)
 
 pub returns-clause-fits : goal.returns-clause-fits
-returns-clause-fits c =
-    on_ok c.push.result (has c.self.inside.tables.items _ c.args.message.now (like c) c.set_receiver.ensures.fits
-    c.requires.spelling).fits
+returns-clause-fits c = on_ok c.push.result (has c.self.inside.tables.items _ c.args.message.now
+    (like c) c.set_receiver.ensures.fits c.requires.spelling).fits
 
 pub returns-clause-posted : goal.returns-clause-posted
-returns-clause-posted c =
-    let kept = c.self.inside.tables.items in
+returns-clause-posted c = let kept = c.self.inside.tables.items in
     posted_after c.push.result c.args.message.now kept kept c.args.self.now c.self.inside.firsts c.push.new.self
     (c.deref.result.now, c.in-Some.tables) (same_grown kept) c.self.invariant c.self.view_is c.push.ensures.pushed (its c)

@@ -21,11 +21,10 @@ its c =
     ∙ c.in_ok-number.ensures.own
 
 pub invariant_of-self-2 : goal.invariant_of-self-2
-invariant_of-self-2 c =
-    kept_after c.push.result c.args.message.now c.self.inside.tables.items c.spell.new.kept.items
-    c.self.inside.firsts c.push.new.self (c.deref.result.now, Some c.in_ok-number.number)
-    c.spell.ensures.grown c.self.invariant c.push.ensures.pushed c.push.ensures.unchanged
-    c.in_ok-number.ensures.there
+invariant_of-self-2 c = kept_after c.push.result c.args.message.now c.self.inside.tables.items
+    c.spell.new.kept.items c.self.inside.firsts c.push.new.self
+    (c.deref.result.now, Some c.in_ok-number.number) c.spell.ensures.grown c.self.invariant
+    c.push.ensures.pushed c.push.ensures.unchanged c.in_ok-number.ensures.there
     (record { fits = c.in_ok-number.ensures.fits; short = c.requires.short }) (its c)
 
 pub returns-clause-posted : goal.returns-clause-posted

@@ -10,6 +10,5 @@ invariant_of-self-2 c =
     c.self.view_is c.requires.there c.in_ok-repeat.ensures.pushed c.self.invariant
 
 pub returns-clause-posted : goal.returns-clause-posted
-returns-clause-posted c =
-    repeated c.self.inside.tables.items c.self.inside.firsts c.repeat.new.self c.args.self.now c.args.number
-    c.self.view_is c.in_ok-repeat.ensures.pushed
+returns-clause-posted c = repeated c.self.inside.tables.items c.self.inside.firsts c.repeat.new.self
+    c.args.self.now c.args.number c.self.view_is c.in_ok-repeat.ensures.pushed

@@ -14,6 +14,5 @@ invariant_of-self c =
     (taken_back passed before (subst (ArePassed passed) is c.self.invariant))
 
 pub returns : goal.returns
-returns c = λ before is.
-    c.truncate.ensures.items
+returns c = λ before is. c.truncate.ensures.items
     ∙ without_last _ c.self.inside.statuses.items before (c.self.view_is ∙ is) (omega arith)

@@ -4,5 +4,4 @@ use Rattle.message_bag.proofs.post_bag.PostBag.forget.Goals as goal
 
 pub returns : goal.returns
 returns c = posts_changed forgotten_status c.self.inside.frames c.self.inside.deliveries _ _
-    c.args.number
-    c.self.invariant c.self.view_is c.forget.ensures
+    c.args.number c.self.invariant c.self.view_is c.forget.ensures

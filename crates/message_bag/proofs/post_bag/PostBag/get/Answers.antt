@@ -20,15 +20,13 @@ is_there c =
     ∙ sym c.may_be_delivered.ensures ∙ c.if-may_be_delivered.true
 
 pub returns-then-may_be_delivered-clause-found : goal.returns-then-may_be_delivered-clause-found
-returns-then-may_be_delivered-clause-found c =
-    subst (λ (posts : List Post). IfOk c.take.result (λ answer. is_some answer
-    ≡ is_post_deliverable posts c.args.number)) (are c)
-    (found_known c.bag.result.now c.self.inside.deliveries c.args.number (same c)
-    (is_there c) c.take.result c.take.ensures.none)
+returns-then-may_be_delivered-clause-found c = subst (λ (posts : List Post). IfOk c.take.result
+    (λ answer. is_some answer ≡ is_post_deliverable posts c.args.number)) (are c)
+    (found_known c.bag.result.now c.self.inside.deliveries c.args.number (same c) (is_there c)
+    c.take.result c.take.ensures.none)
 
 pub returns-then-may_be_delivered-clause-message : goal.returns-then-may_be_delivered-clause-message
-returns-then-may_be_delivered-clause-message c =
-    subst (λ (posts : List Post). IfOk c.take.result (λ (answer : Option Message).
-    IfSome answer (IsMessageOf posts c.args.number))) (are c)
-    (found_there c.bag.result.now c.self.inside.deliveries c.args.number (same c)
-    (is_there c) c.take.result c.take.ensures.message)
+returns-then-may_be_delivered-clause-message c = subst (λ (posts : List Post). IfOk c.take.result
+    (λ (answer : Option Message). IfSome answer (IsMessageOf posts c.args.number))) (are c)
+    (found_there c.bag.result.now c.self.inside.deliveries c.args.number (same c) (is_there c)
+    c.take.result c.take.ensures.message)

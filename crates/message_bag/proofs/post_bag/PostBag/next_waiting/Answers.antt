@@ -5,8 +5,6 @@ use Rattle.message_bag.proofs.FramesByStatus.{statuses_of_zip}
 use Rattle.message_bag.proofs.post_bag.PostBag.next_waiting.Goals as goal
 
 pub returns : goal.returns
-returns c =
-    c.next_waiting.ensures
-    ∙ ap (λ all. statuses.next_waiting all c.args.from)
+returns c = c.next_waiting.ensures ∙ ap (λ all. statuses.next_waiting all c.args.from)
     (sym (statuses_of_zip c.self.inside.frames c.self.inside.deliveries c.self.invariant))
     ∙ ap (λ posts. next_waiting_post posts c.args.from) c.self.view_is

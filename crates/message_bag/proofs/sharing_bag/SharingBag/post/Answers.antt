@@ -8,6 +8,5 @@ invariant_of-self c =
     c.post.ensures.posted c.post.ensures.unchanged c.self.invariant
 
 pub returns-clause-posted : goal.returns-clause-posted
-returns-clause-posted c =
-    framed_after c.post.result c.args.message.now c.self.inside.bag c.args.self.now c.post.new.self
-    c.post.ensures.fits c.post.ensures.posted c.self.view_is
+returns-clause-posted c = framed_after c.post.result c.args.message.now c.self.inside.bag
+    c.args.self.now c.post.new.self c.post.ensures.fits c.post.ensures.posted c.self.view_is

@@ -17,18 +17,15 @@ are c = subst (λ (frames : List (List ℕ)). AreOfMessage (c.args.first.now ∷
     (others c) c.requires
 
 pub slice_bounds-front_of-count : goal.slice_bounds-front_of-count
-slice_bounds-front_of-count c =
-    let start = (goal.at.slice_bounds-front_of-count c).In_ok-tables in
+slice_bounds-front_of-count c = let start = (goal.at.slice_bounds-front_of-count c).In_ok-tables in
     omega (arith, long_installed c.args.first.now c.self.inside.said (are start))
 
 pub slice_bounds-front_of-start : goal.slice_bounds-front_of-start
-slice_bounds-front_of-start c =
-    let start = (goal.at.slice_bounds-front_of-start c).In_ok-tables in
+slice_bounds-front_of-start c = let start = (goal.at.slice_bounds-front_of-start c).In_ok-tables in
     omega (arith, long_installed c.args.first.now c.self.inside.said (are start))
 
 pub front_of-requires : goal.front_of-requires
-front_of-requires c =
-    let start = (goal.at.front_of-requires c).In_ok-tables in
+front_of-requires c = let start = (goal.at.front_of-requires c).In_ok-tables in
     has_front c.args.first.now _ c.self.inside.said (are start) (rest_is c.args.first.now)
 
 pub returns : goal.returns

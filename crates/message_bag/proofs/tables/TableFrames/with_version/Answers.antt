@@ -6,15 +6,13 @@ use Rattle.message_bag.proofs.tables.TableFrames.with_version.Goals as goal
 
 said_too : (c : goal.In_ok-frames) (t : Tables) → CarryTables t c.self.inside.frames
     → CarryTables (record t { version = c.args.version }) c.in_ok-frames.frames
-said_too c t carry =
-    let few : c.args.version < 2 ^ 32 = omega (arith, c.ranges.version.fits) in
+said_too c t carry = let few : c.args.version < 2 ^ 32 = omega (arith, c.ranges.version.fits) in
     subst (CarryTables (record t { version = c.args.version })) (sym c.in_ok-frames.ensures)
     (says_too c.args.version t c.self.inside.frames few carry)
 
 pub invariant_of-result : goal.invariant_of-result
-invariant_of-result c =
-    subst (λ (t : Tables). CarryTables t c.in_ok-frames.frames) (sym c.in_ok-said.ensures)
-    (said_too c c.self.inside.said c.self.invariant)
+invariant_of-result c = subst (λ (t : Tables). CarryTables t c.in_ok-frames.frames)
+    (sym c.in_ok-said.ensures) (said_too c c.self.inside.said c.self.invariant)
 
 pub returns : goal.returns
 returns c = λ t carry. said_too c t (subst (CarryTables t) (sym c.self.view_is) carry)

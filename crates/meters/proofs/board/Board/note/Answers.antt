@@ -7,10 +7,9 @@ use Rattle.meters.proofs.board.Board.note.Given.{Over}
 
 pub loop-at-preserved-in-Stay : goal.loop-at-preserved-in-Stay
 loop-at-preserved-in-Stay g c = record {
-  noted = c.loop-at.invariant.noted ∙ after_stay g.M.Meter.seen
-      ((c.args.port, c.args.leaving.now) ∷ []) c.loop-at.self-inside.meters.items c.loop-at.at
-      c.index_mut.result.now c.offer.new.meter (search rules) (sym c.index_mut.ensures.value)
-      (c.offer.ensures.stay c.in-Stay.is);
+  noted = c.loop-at.invariant.noted ∙ after_stay g.M.Meter.seen ((c.args.port, c.args.leaving.now)
+      ∷ []) c.loop-at.self-inside.meters.items c.loop-at.at c.index_mut.result.now c.offer.new.meter
+      (search rules) (sym c.index_mut.ensures.value) (c.offer.ensures.stay c.in-Stay.is);
   told = c.loop-at.invariant.told ∙ told_stay g.M.Meter.seen (c.args.port, c.args.leaving.now)
       c.loop-at.self-inside.gone c.loop-at.self-inside.meters.items c.loop-at.at
       c.index_mut.result.now c.offer.new.meter (search rules) (sym c.index_mut.ensures.value)
@@ -31,16 +30,14 @@ its_records g c =
 
 pub loop-at-preserved : goal.loop-at-preserved
 loop-at-preserved g c = record {
-  noted = c.loop-at.invariant.noted ∙ after_leave g.M.Meter.seen
-      ((c.args.port, c.args.leaving.now) ∷ []) c.loop-at.self-inside.meters.items c.loop-at.at
-      c.index_mut.result.now c.offer.new.meter c.remove-meter.new.self.items (search rules)
-      (sym c.index_mut.ensures.value) (c.offer.ensures.leave c.in-Leave.is)
-      c.remove-meter.ensures.items;
+  noted = c.loop-at.invariant.noted ∙ after_leave g.M.Meter.seen ((c.args.port, c.args.leaving.now)
+      ∷ []) c.loop-at.self-inside.meters.items c.loop-at.at c.index_mut.result.now c.offer.new.meter
+      c.remove-meter.new.self.items (search rules) (sym c.index_mut.ensures.value)
+      (c.offer.ensures.leave c.in-Leave.is) c.remove-meter.ensures.items;
   told = c.loop-at.invariant.told ∙ told_leave g.M.Meter.seen (c.args.port, c.args.leaving.now)
-      c.loop-at.self-inside.gone c.in_ok-records-in-Leave.field-0
-      c.loop-at.self-inside.meters.items c.remove-meter.new.self.items c.loop-at.at
-      c.index_mut.result.now c.offer.new.meter (search rules) (sym c.index_mut.ensures.value)
-      (its_records g c) c.remove-meter.ensures.items
+      c.loop-at.self-inside.gone c.in_ok-records-in-Leave.field-0 c.loop-at.self-inside.meters.items
+      c.remove-meter.new.self.items c.loop-at.at c.index_mut.result.now c.offer.new.meter
+      (search rules) (sym c.index_mut.ensures.value) (its_records g c) c.remove-meter.ensures.items
       ∙ ap (λ gone. gone ++ flat_map (leaving_records (c.args.port, c.args.leaving.now))
       (map g.M.Meter.seen (drop c.loop-at.at c.remove-meter.new.self.items)))
       (sym c.in_ok-append-in-Leave.ensures);
@@ -48,28 +45,24 @@ loop-at-preserved g c = record {
 
 -- at the end each meter noted it
 noted : (g : Over) (c : goal.After-loop-at g)
-    → map g.M.Meter.seen c.loop-at.self-inside.meters.items
-    ≡ meters_after ((c.args.port, c.args.leaving.now) ∷ [])
-    (map g.M.Meter.seen c.args.self.now.meters)
+    → map g.M.Meter.seen c.loop-at.self-inside.meters.items ≡ meters_after
+    ((c.args.port, c.args.leaving.now) ∷ []) (map g.M.Meter.seen c.args.self.now.meters)
 noted g c =
-    sym (c.loop-at.invariant.noted ∙ after_all g.M.Meter.seen
-    ((c.args.port, c.args.leaving.now) ∷ []) c.loop-at.self-inside.meters.items c.loop-at.at
-    (search rules))
+    sym (c.loop-at.invariant.noted ∙ after_all g.M.Meter.seen ((c.args.port, c.args.leaving.now)
+    ∷ []) c.loop-at.self-inside.meters.items c.loop-at.at (search rules))
 
 -- and those that left have told
 told : (g : Over) (c : goal.After-loop-at g) → c.loop-at.self-inside.gone
     ≡ c.args.self.now.gone ++ flat_map (leaving_records (c.args.port, c.args.leaving.now))
     (map g.M.Meter.seen c.args.self.now.meters)
-told g c =
-    sym (c.loop-at.invariant.told ∙ told_all g.M.Meter.seen (c.args.port, c.args.leaving.now)
+told g c = sym (c.loop-at.invariant.told ∙ told_all g.M.Meter.seen (c.args.port, c.args.leaving.now)
     c.loop-at.self-inside.gone c.loop-at.self-inside.meters.items c.loop-at.at (search rules))
 
 pub returns-clause-noted : goal.returns-clause-noted
 returns-clause-noted g c = noted g c
 
 pub returns-clause-told : goal.returns-clause-told
-returns-clause-told g c =
-    told g c ∙ ap (λ all. c.args.self.now.gone ++ all) (sym (append-nil _))
+returns-clause-told g c = told g c ∙ ap (λ all. c.args.self.now.gone ++ all) (sym (append-nil _))
 
 pub returns-clause-goes_on : goal.returns-clause-goes_on
 returns-clause-goes_on g c =

@@ -5,9 +5,8 @@ use Rattle.meters.proofs.board.Board.note.Given as goal
 abbrev pub invariant-loop-at : goal.invariant-loop-at
 invariant-loop-at g l = record {
   noted : meters_after ((l.port, l.leaving) ∷ []) (map g.M.Meter.seen l.fn.self.meters)
-      ≡ map g.M.Meter.seen (take l.at l.self-inside.meters.items)
-      ++ meters_after ((l.port, l.leaving) ∷ [])
-      (map g.M.Meter.seen (drop l.at l.self-inside.meters.items));
+      ≡ map g.M.Meter.seen (take l.at l.self-inside.meters.items) ++ meters_after
+      ((l.port, l.leaving) ∷ []) (map g.M.Meter.seen (drop l.at l.self-inside.meters.items));
   told : l.fn.self.gone
       ++ flat_map (leaving_records (l.port, l.leaving)) (map g.M.Meter.seen l.fn.self.meters)
       ≡ l.self-inside.gone ++ flat_map (leaving_records (l.port, l.leaving))

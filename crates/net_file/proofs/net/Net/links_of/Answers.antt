@@ -16,9 +16,8 @@ loop-link-preserved c =
       | in-Some w ↦ record {
         items = inv.items;
         small = rw w.mask-is w.with-mask.ensures.small;
-        bits = λ k. rw (w.mask-is, w.with-mask.ensures.bits)
-            (in_mask_with mask w.in-Some.other k ∙ ap (λ b. b || nat_eq k w.in-Some.other)
-            (inv.bits k)
+        bits = λ k. rw (w.mask-is, w.with-mask.ensures.bits) (in_mask_with mask w.in-Some.other k
+            ∙ ap (λ b. b || nat_eq k w.in-Some.other) (inv.bits k)
             ∙ ap (λ b. are_linked (take i links) s k || b) (sym (w.in-Some.ensures.other k))
             ∙ sym (list_any_more (joins s k) links i _ c.loop-link-test.true));
       }
@@ -32,9 +31,7 @@ loop-link-preserved c =
     ]
 
 pub returns : goal.returns
-returns c =
-    let inv = c.loop-link.invariant in
+returns c = let inv = c.loop-link.invariant in
     mask_of_is c.loop-link.mask _ inv.small
-    (λ k. inv.bits k ∙ ap (λ links. are_linked links c.args.switch k)
-    (take_all c.loop-link.link-index c.items-link-items.result.now c.loop-link-test.false
-    ∙ inv.items))
+    (λ k. inv.bits k ∙ ap (λ links. are_linked links c.args.switch k) (take_all
+    c.loop-link.link-index c.items-link-items.result.now c.loop-link-test.false ∙ inv.items))

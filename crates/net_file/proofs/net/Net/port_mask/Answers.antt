@@ -8,8 +8,7 @@ pub loop-row-preserved : goal.loop-row-preserved
 loop-row-preserved c =
     let inv = c.loop-row.invariant in
     let rows = c.items-row-items.result.now in
-    let row = c.row-item.result in
-    record {
+    let row = c.row-item.result in record {
       items = inv.items;
       bits = λ k. in_mask_or c.loop-row.mask row.ports k
           ∙ ap (λ b. b || has_port k row) (inv.bits k)
@@ -19,9 +18,7 @@ loop-row-preserved c =
     }
 
 pub returns : goal.returns
-returns c =
-    let inv = c.loop-row.invariant in
+returns c = let inv = c.loop-row.invariant in
     mask_of_is c.loop-row.mask _ (Fits-lt-pow c.loop-row.auto.mask-fits)
     (λ k. inv.bits k ∙ ap (λ rows. have_port rows k)
-    (take_all c.loop-row.row-index c.items-row-items.result.now c.loop-row-test.false
-    ∙ inv.items))
+    (take_all c.loop-row.row-index c.items-row-items.result.now c.loop-row-test.false ∙ inv.items))

@@ -4,8 +4,7 @@ use Rattle.shelf.proofs.BlockWrites.{all_written, part_longer, part_written, wai
 use Rattle.shelf.proofs.block.Block.push.Goals as goal
 
 pub returns-clause-gathered : goal.returns-clause-gathered
-returns-clause-gathered g c = λ text before gathered.
-    let piece = c.args.piece.now in
+returns-clause-gathered g c = λ text before gathered. let piece = c.args.piece.now in
     let now = (g.K.Sink.state c.args.sink.now).bytes in
     let later = (g.K.Sink.state c.write_whole.new.sink).bytes in
     subst (λ (waiting : List ℕ). IsGathered (text ++ piece) before later waiting)

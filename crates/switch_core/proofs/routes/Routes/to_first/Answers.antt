@@ -4,8 +4,7 @@ use Rattle.switch_core.proofs.FirstTargets.{to_any}
 use Rattle.switch_core.proofs.routes.Routes.to_first.Goals as goal
 
 pub returns-in-Some-kept_route-clause-route : goal.returns-in-Some-kept_route-clause-route
-returns-in-Some-kept_route-clause-route c =
-    let route = c.in-Some-kept_route.route.now in
+returns-in-Some-kept_route-clause-route c = let route = c.in-Some-kept_route.route.now in
     ap Some c.in_ok-clone.ensures.cases
     ∙ sym (subst (λ (targets : List ℕ). route_of c.args.self.now c.args.from targets c.args.near
     no_links ≡ Some route) c.items.ensures.list

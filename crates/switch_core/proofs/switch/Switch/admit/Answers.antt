@@ -6,8 +6,7 @@ use Rattle.switch_core.proofs.LookupAnswers.{entry_uncached}
 use Rattle.switch_core.proofs.switch.Switch.admit.Goals as goal
 
 pub returns-then-not-serves-clause-answer : goal.returns-then-not-serves-clause-answer
-returns-then-not-serves-clause-answer c = λ site number.
-    not_admitted c.args.self.now site
+returns-then-not-serves-clause-answer c = λ site number. not_admitted c.args.self.now site
     (incoming_packet c.args.self.now number c.args.h.now)
     (sym c.serves.ensures ∙ c.if-not-serves.true)
 
@@ -16,13 +15,10 @@ returns-then-not-serves-clause-uncached c = λ site number.
     entry_uncached c.args.self.now site number c.args.h.now
 
 pub returns-clause-answer : goal.returns-clause-answer
-returns-clause-answer c = λ site number.
-    was_admitted c.args.self.now c.count-2.new.self site number c.args.h.now
-    c.look_up-forwarding.result c.self.inside.number c.count-2.ensures
-    (sym c.serves.ensures ∙ c.if-not-serves.false)
-    (ap (λ (s : SwitchValue). s.number) c.self.view_is)
-    (c.look_up-forwarding.ensures site number no_links)
+returns-clause-answer c = λ site number. was_admitted c.args.self.now c.count-2.new.self site number
+    c.args.h.now c.look_up-forwarding.result c.self.inside.number c.count-2.ensures
+    (sym c.serves.ensures ∙ c.if-not-serves.false) (ap (λ (s : SwitchValue). s.number)
+    c.self.view_is) (c.look_up-forwarding.ensures site number no_links)
 
 pub returns-clause-uncached : goal.returns-clause-uncached
-returns-clause-uncached c = λ site number.
-    entry_uncached c.args.self.now site number c.args.h.now
+returns-clause-uncached c = λ site number. entry_uncached c.args.self.now site number c.args.h.now

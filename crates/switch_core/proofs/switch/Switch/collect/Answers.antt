@@ -6,9 +6,8 @@ use Rattle.switch_core.specs.Exports.{collected_to}
 use Rattle.switch_core.proofs.switch.Switch.collect.Goals as goal
 use Rattle.switch_core.proofs.switch.Switch.collect.Goals.{After-retain}
 
-kept : (c : After-retain) → c.retain.new.self.items
-    ≡ filter (λ (tables : Tables). nat_lt c.max-self-inside.result tables.version)
-    c.self.inside.tables.items
+kept : (c : After-retain) → c.retain.new.self.items ≡ filter (λ (tables : Tables). nat_lt
+    c.max-self-inside.result tables.version) c.self.inside.tables.items
 kept c = filter_same _ (λ (tables : Tables). nat_lt c.max-self-inside.result tables.version) _
     (λ e b f called. (search rules, search rules)) _ _ c.retain.ensures.filtered
 

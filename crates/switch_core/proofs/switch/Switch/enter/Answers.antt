@@ -11,31 +11,26 @@ closed None is = refl
 closed (Some answer) is = absurd cc
 
 pub answer_entry-requires : goal.answer_entry-requires
-answer_entry-requires c =
-    let site = around c.args.near c.args.ports.now in
+answer_entry-requires c = let site = around c.args.near c.args.ports.now in
     by_lookup c.admit.new.self site
     (incoming_packet c.args.self.now c.args.packet c.args.h.now) c.in-Some.forwarding
     (admitted c.args.self.now site (incoming_packet c.args.self.now c.args.packet c.args.h.now))
     (c.in-Some.ensures.answer site c.args.packet)
 
 pub returns-in-None : goal.returns-in-None
-returns-in-None c =
-    let site = around c.args.near c.args.ports.now in
-    record {
-      answer = closed (admitted c.args.self.now site
-          (incoming_packet c.args.self.now c.args.packet c.args.h.now)) (c.in-None.ensures.answer site c.args.packet);
-      uncached = entry_uncached c.args.self.now site c.args.packet c.args.h.now;
-      after = c.admit.ensures.after;
-    }
+returns-in-None c = let site = around c.args.near c.args.ports.now in record {
+  answer = closed (admitted c.args.self.now site
+      (incoming_packet c.args.self.now c.args.packet c.args.h.now)) (c.in-None.ensures.answer site c.args.packet);
+  uncached = entry_uncached c.args.self.now site c.args.packet c.args.h.now;
+  after = c.admit.ensures.after;
+}
 
 pub returns-in-Some : goal.returns-in-Some
-returns-in-Some c =
-    let site = around c.args.near c.args.ports.now in
-    record {
-      answer = answered c.args.self.now c.admit.new.self site c.args.packet c.args.h.now
-          c.in-Some.forwarding c.answer_entry.result c.self.inside.number c.empty.result
-          (ap (λ (s : SwitchValue). s.number) c.self.view_is) c.empty.ensures.value
-          c.answer_entry.ensures (c.in-Some.ensures.answer site c.args.packet);
-      uncached = entry_uncached c.args.self.now site c.args.packet c.args.h.now;
-      after = c.admit.ensures.after;
-    }
+returns-in-Some c = let site = around c.args.near c.args.ports.now in record {
+  answer = answered c.args.self.now c.admit.new.self site c.args.packet c.args.h.now
+      c.in-Some.forwarding c.answer_entry.result c.self.inside.number c.empty.result
+      (ap (λ (s : SwitchValue). s.number) c.self.view_is) c.empty.ensures.value
+      c.answer_entry.ensures (c.in-Some.ensures.answer site c.args.packet);
+  uncached = entry_uncached c.args.self.now site c.args.packet c.args.h.now;
+  after = c.admit.ensures.after;
+}

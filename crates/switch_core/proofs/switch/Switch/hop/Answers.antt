@@ -18,8 +18,7 @@ rerouted c =
     ∙ hop_down c.args.self.now c.args.near t other found
 
 pub returns-in-LinkDown-clause-end : goal.returns-in-LinkDown-clause-end
-returns-in-LinkDown-clause-end c =
-    c.reroute.ensures.end ∙ ap (λ (m : Moved). m.end) (rerouted c)
+returns-in-LinkDown-clause-end c = c.reroute.ensures.end ∙ ap (λ (m : Moved). m.end) (rerouted c)
 
 pub returns-in-LinkDown-clause-tunnel : goal.returns-in-LinkDown-clause-tunnel
 returns-in-LinkDown-clause-tunnel c =

@@ -6,8 +6,7 @@ use Rattle.switch_core.proofs.switch.Switch.install.Goals as goal
 pub invariant_of-self-2 : goal.invariant_of-self-2
 invariant_of-self-2 c =
     let kept : c.push.new.self.items ≡ c.self.inside.tables.items ++ c.args.tables.now ∷ [] =
-    search rules in
-    record {
+    search rules in record {
       number = c.self.invariant.number;
       sound = rw kept (All-push AreSoundTables c.self.inside.tables.items c.args.tables.now
           c.self.invariant.sound c.requires);

@@ -9,10 +9,8 @@ pub invariant_of-self : goal.invariant_of-self
 invariant_of-self c =
     let s = c.self.inside in
     let advert = own_advert s.number s.boot (s.seq + 1) c.args.near in
-    let news : is_news s.database advert ≡ true =
-    next_is_news s.database s.number s.boot s.seq c.args.near c.self.invariant.number
-    c.self.invariant.own in
-    record {
+    let news : is_news s.database advert ≡ true = next_is_news s.database s.number s.boot s.seq
+    c.args.near c.self.invariant.number c.self.invariant.own in record {
       number = c.self.invariant.number;
       sound = c.self.invariant.sound;
       own = rw (c.hear.ensures.after, after_news s.database advert news)
@@ -23,7 +21,6 @@ pub returns-clause-after : goal.returns-clause-after
 returns-clause-after c =
     let s = c.self.inside in
     let advert = own_advert s.number s.boot (s.seq + 1) c.args.near in
-    let news : is_news s.database advert ≡ true =
-    next_is_news s.database s.number s.boot s.seq c.args.near c.self.invariant.number
-    c.self.invariant.own in
+    let news : is_news s.database advert ≡ true = next_is_news s.database s.number s.boot s.seq
+    c.args.near c.self.invariant.number c.self.invariant.own in
     rw (← c.self.view_is, c.hear.ensures.after, after_news s.database advert news)

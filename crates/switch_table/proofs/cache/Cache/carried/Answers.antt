@@ -34,8 +34,7 @@ loop-entry-preserved-in-Continue-1 c =
 
 pub loop-entry-preserved : goal.loop-entry-preserved
 loop-entry-preserved c =
-    let left = left_out
-    (carried_entry c.args.version c.args.touched.now c.args.self.now.entries)
+    let left = left_out (carried_entry c.args.version c.args.touched.now c.args.self.now.entries)
     c.loop-entry.yielded c.in-Some.entry (sym c.carried_entry.ensures ∙ c.in_default.is) in (
       c.loop-entry.invariant.0
           ∙ (λ i. record { entries = left i; capacity = c.args.self.now.capacity }),

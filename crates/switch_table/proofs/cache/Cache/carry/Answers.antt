@@ -8,16 +8,14 @@ use Rattle.switch_table.proofs.cache.Cache.carry.Goals.{After-keep_carried}
 
 kept : (c : After-keep_carried) → c.keep_carried.new.self
     ≡ pairs_over c.self.inside.shift c.args.version c.args.touched.now c.self.inside.slots
-kept c =
-    let lower = c.self.inside.shift - 1 in
+kept c = let lower = c.self.inside.shift - 1 in
     c.keep_carried.ensures
     ∙ (λ i. filter (λ (pair : Pair). is_carried_key (c.from.ensures i + lower) c.args.touched.now
     pair.0) c.self.inside.slots)
 
 -- the shift isn't 0
 some : (c : After-keep_carried) → 0 < c.self.inside.shift
-some c = omega
-    (arith, c.self.invariant.falls, c.if-self-version.true, c.ranges.version.fits)
+some c = omega (arith, c.self.invariant.falls, c.if-self-version.true, c.ranges.version.fits)
 
 gone_over : (c : After-keep_carried) → let entries = kept_entries c.self.inside.shift c.self.inside.slots in
     kept_entries (c.self.inside.shift - 1) c.keep_carried.new.self
@@ -27,9 +25,8 @@ gone_over c =
     let version = c.args.version in
     let touched = c.args.touched.now in
     let entries = kept_entries shift c.self.inside.slots in
-    let below : All (IsBelow version) entries =
-    below_newest version c.self.inside.newest entries (omega (arith, c.if-self-version.true))
-    c.self.invariant.up_to in
+    let below : All (IsBelow version) entries = below_newest version c.self.inside.newest entries
+    (omega (arith, c.if-self-version.true)) c.self.invariant.up_to in
     ap (kept_entries (shift - 1)) (kept c)
     ∙ carried_pairs shift version touched entries c.self.inside.slots
     (some c) c.self.invariant.versions below below
@@ -43,13 +40,11 @@ invariant_of-self c =
     let entries = kept_entries shift c.self.inside.slots in
     subst (λ masks. HoldsEntries masks (shift - 1) version c.self.inside.capacity
     c.keep_carried.new.self) (sym c.wait_for.ensures)
-    (holds_of c.self.inside.masks (shift - 1) version c.self.inside.capacity
-    c.keep_carried.new.self _
-    (omega (arith, c.self.invariant.fits))
+    (holds_of c.self.inside.masks (shift - 1) version c.self.inside.capacity c.keep_carried.new.self
+    _ (omega (arith, c.self.invariant.fits))
     (omega (arith, c.self.invariant.falls, c.if-self-version.true, c.ranges.version.fits))
-    (subst (HaveVersions (shift - 1)) (sym (kept here))
-    (versions_over shift version touched c.self.inside.slots (some here)
-    (omega (arith, c.ranges.version.fits)))) (gone_over here)
+    (subst (HaveVersions (shift - 1)) (sym (kept here)) (versions_over shift version touched
+    c.self.inside.slots (some here) (omega (arith, c.ranges.version.fits)))) (gone_over here)
     (up_to_carried version c.self.inside.newest version touched entries c.self.invariant.up_to
     (omega (arith, c.if-self-version.true)) (omega arith))
     (masked_carried c.self.inside.masks version touched entries c.self.invariant.masked)

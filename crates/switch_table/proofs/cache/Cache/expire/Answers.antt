@@ -6,14 +6,12 @@ use Rattle.switch_table.proofs.PairLemmas.{few_removed, holds_removed}
 use Rattle.switch_table.proofs.cache.Cache.expire.Goals as goal
 
 pub invariant_of-self : goal.invariant_of-self
-invariant_of-self c =
-    let entries = kept_entries c.self.inside.shift c.self.inside.slots in
+invariant_of-self c = let entries = kept_entries c.self.inside.shift c.self.inside.slots in
     holds_removed _ _ _ _ _ c.args.k _ _ c.self.invariant c.remove.ensures.rest
     (omega (arith, few_removed entries c.args.k, c.self.invariant.few))
 
 pub invariant_of-self-2 : goal.invariant_of-self-2
-invariant_of-self-2 c =
-    let entries = kept_entries c.self.inside.shift c.self.inside.slots in
+invariant_of-self-2 c = let entries = kept_entries c.self.inside.shift c.self.inside.slots in
     holds_removed _ _ _ _ _ c.args.k _ _ c.self.invariant c.remove.ensures.rest
     (omega (arith, few_removed entries c.args.k, c.self.invariant.few))
 

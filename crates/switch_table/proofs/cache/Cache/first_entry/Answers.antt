@@ -9,18 +9,16 @@ use Rattle.switch_table.proofs.cache.Cache.first_entry.Goals as goal
 use Rattle.switch_table.proofs.cache.Cache.first_entry.Goals.{After-first_hit}
 
 -- the first entry, by the first pair of such a key
-entry_is : (c : After-first_hit) (pair : Option Pair)
-    → pair ≡ find (λ (p : Pair). is_hit (c.from.result + c.self.inside.shift) c.args.number
-    c.in-Some.masks.now p.0) c.self.inside.slots
+entry_is : (c : After-first_hit) (pair : Option Pair) → pair ≡ find (λ (p : Pair). is_hit
+    (c.from.result + c.self.inside.shift) c.args.number c.in-Some.masks.now p.0) c.self.inside.slots
     → option_map (kept_entry c.self.inside.shift) pair
     ≡ first_entry c.args.version c.args.number c.args.self.now.entries
 entry_is c pair is =
     let shift = c.self.inside.shift in
     let masks = c.in-Some.masks.now in
     let pairs = c.self.inside.slots in
-    ap (option_map (kept_entry shift)) (is ∙ ap
-    (λ version. find (λ (p : Pair). is_hit (version + shift) c.args.number masks p.0) pairs)
-    c.from.ensures)
+    ap (option_map (kept_entry shift)) (is ∙ ap (λ version. find
+    (λ (p : Pair). is_hit (version + shift) c.args.number masks p.0) pairs) c.from.ensures)
     ∙ first_by_hits shift c.args.version c.args.number masks pairs c.self.invariant.versions
     (subst (λ known. AreMasked known (kept_entries shift pairs)) c.in-Some.ensures
     c.self.invariant.masked)
@@ -28,8 +26,7 @@ entry_is c pair is =
     c.self.view_is
 
 pub returns-in_err-key-in-Some : goal.returns-in_err-key-in-Some
-returns-in_err-key-in-Some c =
-    let none : c.from_residual.result ≡ None = search rules in
+returns-in_err-key-in-Some c = let none : c.from_residual.result ≡ None = search rules in
     none ∙ entry_is (goal.at.returns-in_err-key-in-Some c).After-first_hit None (search rules)
 
 pub of-requires : goal.of-requires
@@ -39,8 +36,7 @@ of-requires c =
     (found_is (HasVersion c.self.inside.shift) _ c.self.inside.slots c.self.invariant.versions)
 
 pub returns-in_ok-key-in-Some : goal.returns-in_ok-key-in-Some
-returns-in_ok-key-in-Some c =
-    ap Some c.of.ensures
+returns-in_ok-key-in-Some c = ap Some c.of.ensures
     ∙ entry_is (goal.at.returns-in_ok-key-in-Some c).After-first_hit
     (Some (c.in_ok-key-in-Some.key, c.in_ok-key-in-Some.learnt)) c.in_ok-key-in-Some.ensures
 

@@ -5,7 +5,6 @@ use Rattle.switch_table.proofs.live.LiveCounts.add.Goals as goal
 pub returns : goal.returns
 returns c = λ flags are len. record {
   all = all_added flags c.args.self.now.all are.all (omega (arith, len));
-  blocks =
-      added c.args.place c.index_mut-block.result.now c.args.self.now.blocks.items flags
+  blocks = added c.args.place c.index_mut-block.result.now c.args.self.now.blocks.items flags
       c.requires.room len are.blocks c.index_mut-block.ensures.value;
 }

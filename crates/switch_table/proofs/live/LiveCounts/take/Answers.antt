@@ -4,13 +4,10 @@ use Rattle.switch_table.proofs.LiveLemmas.{all_taken, taken}
 use Rattle.switch_table.proofs.live.LiveCounts.take.Goals as goal
 
 pub returns : goal.returns
-returns c = λ flags are at.
-    let place = c.args.place in
+returns c = λ flags are at. let place = c.args.place in
     let there = slice_get_within flags place true at in
-    let live = get_or_from_slice_get flags place true false at in
-    record {
+    let live = get_or_from_slice_get flags place true false at in record {
       all = all_taken flags c.args.self.now.all place are.all (omega arith) there live;
-      blocks =
-          taken place c.index_mut-block.result.now c.args.self.now.blocks.items flags there live
-          are.blocks c.index_mut-block.ensures.value;
+      blocks = taken place c.index_mut-block.result.now c.args.self.now.blocks.items flags there
+          live are.blocks c.index_mut-block.ensures.value;
     }

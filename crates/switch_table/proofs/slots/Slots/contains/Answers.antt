@@ -6,14 +6,12 @@ use Rattle.switch_table.proofs.slots.Slots.contains.Goals as goal
 
 pub returns-in-Some : goal.returns-in-Some
 unfolding equal_keys
-returns-in-Some c =
-    sym (found_live c.args.key.now c.self.inside.map.entries c.index.result.now
+returns-in-Some c = sym (found_live c.args.key.now c.self.inside.map.entries c.index.result.now
     c.in-Some.ensures.unique (sym c.in-Some.ensures.value ∙ c.index.ensures))
     ∙ ap (has_key c.args.key.now) c.self.view_is
 
 pub returns-in-None : goal.returns-in-None
 unfolding equal_keys
-returns-in-None c =
-    sym (absent_live c.args.key.now c.self.inside.map.entries
+returns-in-None c = sym (absent_live c.args.key.now c.self.inside.map.entries
     (none_from_not_some _ (sym c.in-None.ensures.found)))
     ∙ ap (has_key c.args.key.now) c.self.view_is

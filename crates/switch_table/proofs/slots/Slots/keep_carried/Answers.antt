@@ -11,15 +11,13 @@ kept c = filter-RetainsPairs _ (is_kept (is_carried_key c.args.number c.args.tou
     (λ k v b w g called. (search rules, search rules, search rules)) _ _ c.retain.ensures.filtered
 
 pub invariant_of-self : goal.invariant_of-self
-invariant_of-self c =
-    kept_slots (is_carried_key c.args.number c.args.touched.now) c.fill.new.self
+invariant_of-self c = kept_slots (is_carried_key c.args.number c.args.touched.now) c.fill.new.self
     c.self.inside.map.entries c.retain.new.self.entries c.len.result
     (kept (goal.at.invariant_of-self c).After-retain) c.len.ensures.len c.fill.ensures
     c.self.invariant.named
 
 pub returns : goal.returns
-returns c =
-    ap live_pairs (kept (goal.at.returns c).After-retain)
+returns c = ap live_pairs (kept (goal.at.returns c).After-retain)
     ∙ kept_pairs (is_carried_key c.args.number c.args.touched.now) c.self.inside.map.entries
     ∙ ap (filter (λ (pair : Pair). is_carried_key c.args.number c.args.touched.now pair.0))
     c.self.view_is

@@ -12,14 +12,12 @@ kept c = filter-RetainsPairs _ (is_kept (λ (key : CacheKey). leb c.args.number 
     (λ k v b w g called. (search rules, search rules, search rules)) _ _ c.retain.ensures.filtered
 
 pub invariant_of-self : goal.invariant_of-self
-invariant_of-self c =
-    kept_slots (λ (key : CacheKey). leb c.args.number key.number) c.fill.new.self
+invariant_of-self c = kept_slots (λ (key : CacheKey). leb c.args.number key.number) c.fill.new.self
     c.self.inside.map.entries c.retain.new.self.entries c.len.result
     (kept (goal.at.invariant_of-self c).After-retain) c.len.ensures.len c.fill.ensures
     c.self.invariant.named
 
 pub returns : goal.returns
-returns c =
-    ap live_pairs (kept (goal.at.returns c).After-retain)
+returns c = ap live_pairs (kept (goal.at.returns c).After-retain)
     ∙ kept_pairs (λ (key : CacheKey). leb c.args.number key.number) c.self.inside.map.entries
     ∙ ap (filter (λ (pair : Pair). leb c.args.number pair.0.number)) c.self.view_is

@@ -4,8 +4,7 @@ use Rattle.switch_table.proofs.SlotPushLemmas.{count_live, distinct_live, live_f
 use Rattle.switch_table.proofs.slots.Slots.len.Goals as goal
 
 pub returns-clause-len : goal.returns-clause-len
-returns-clause-len c =
-    let slots = c.self.inside.map.entries in
+returns-clause-len c = let slots = c.self.inside.map.entries in
     omega (
       arith,
       c.min.ensures,
@@ -19,6 +18,5 @@ returns-clause-len c =
 
 pub returns-clause-distinct : goal.returns-clause-distinct
 unfolding equal_keys
-returns-clause-distinct c =
-    subst HaveOwnKeys c.self.view_is
+returns-clause-distinct c = subst HaveOwnKeys c.self.view_is
     (distinct_live c.self.inside.map.entries c.len-slots.ensures.unique)

@@ -6,13 +6,11 @@ use Rattle.switch_table.proofs.SlotPushLemmas.{pushed_pairs, pushed_slots, with_
 use Rattle.switch_table.proofs.slots.Slots.push.Goals as goal
 use Rattle.switch_table.proofs.slots.Slots.push.Goals.{In_ok-insert}
 
-added : (c : In_ok-insert) → c.insert.new.self.entries
-    ≡ c.release_key.new.map.entries
+added : (c : In_ok-insert) → c.insert.new.self.entries ≡ c.release_key.new.map.entries
     ++ (c.args.key, record { learnt = c.args.learnt; is_live = true }) ∷ []
 unfolding equal_keys
-added c =
-    c.in_ok-insert.ensures.entries
-    ∙ insert_entry-new _ c.release_key.new.map c.args.key _ c.in_ok-release_key.ensures.gone
+added c = c.in_ok-insert.ensures.entries ∙ insert_entry-new _ c.release_key.new.map c.args.key _
+    c.in_ok-release_key.ensures.gone
 
 pub invariant_of-self : goal.invariant_of-self
 invariant_of-self c = c.release_key.ensures.slots c.self.inside.live c.self.inside.first c.self.invariant
@@ -41,8 +39,6 @@ invariant_of-self-2 c =
     ∙ sym c.len-place.ensures.len)) c.requires.fits)
 
 pub returns-clause-ok : goal.returns-clause-ok
-returns-clause-ok c =
-    ap live_pairs (added (goal.at.returns-clause-ok c).In_ok-insert)
-    ∙ pushed_pairs c.release_key.new.map.entries c.args.key c.args.learnt
-    ∙ ap (λ pairs. pairs ++ (c.args.key, c.args.learnt) ∷ [])
-    (c.in_ok-release_key.ensures.pairs ∙ c.self.view_is)
+returns-clause-ok c = ap live_pairs (added (goal.at.returns-clause-ok c).In_ok-insert)
+    ∙ pushed_pairs c.release_key.new.map.entries c.args.key c.args.learnt ∙ ap (λ pairs. pairs
+    ++ (c.args.key, c.args.learnt) ∷ []) (c.in_ok-release_key.ensures.pairs ∙ c.self.view_is)

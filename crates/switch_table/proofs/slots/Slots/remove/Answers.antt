@@ -40,8 +40,7 @@ rest c =
     ]
 
 pub overflow_sub-len : goal.overflow_sub-len
-overflow_sub-len c =
-    let inside = c.if-place-eq0.self-inside in
+overflow_sub-len c = let inside = c.if-place-eq0.self-inside in
     omega (
       arith,
       c.all.ensures,
@@ -50,23 +49,20 @@ overflow_sub-len c =
     )
 
 pub overflow_add-all : goal.overflow_add-all
-overflow_add-all c =
-    let inside = c.if-place-eq0.self-inside in
+overflow_add-all c = let inside = c.if-place-eq0.self-inside in
     omega (
       arith,
       c.all-2.ensures,
       c.len-2.ensures.len,
       c.len-2.ensures.small,
-      all_fit inside.live inside.map.entries
-          (left (goal.at.overflow_add-all c).After-all).counted,
+      all_fit inside.live inside.map.entries (left (goal.at.overflow_add-all c).After-all).counted,
     )
 
 pub sweep-requires : goal.sweep-requires
 sweep-requires c = (left (goal.at.sweep-requires c).After-all).counted
 
 pub invariant_of-self : goal.invariant_of-self
-invariant_of-self c =
-    let are = left (goal.at.invariant_of-self c).After-all in
+invariant_of-self c = let are = left (goal.at.invariant_of-self c).After-all in
     swept_slots c.sweep.new.live c.sweep.new.map.entries c.sweep.ensures.counts
     (subst (AreNamed 0) (sym c.sweep.ensures.slots)
     (named_kept is_live (λ slot is. is) 0 0 c.if-place-eq0.self-inside.map.entries are.named))
@@ -76,19 +72,15 @@ invariant_of-self-else-len-all c = left (goal.at.invariant_of-self-else-len-all 
 
 -- what was there
 taken : (c : After-all) → c.pair_at-pair.result ≡ slice_get c.args.self.now c.args.place
-taken c =
-    c.pair_at-pair.ensures
-    ∙ nth_pair c.self.inside.map.entries c.args.place c.place_of_live-at.result
-    c.place_of_live-at.ensures
+taken c = c.pair_at-pair.ensures ∙ nth_pair c.self.inside.map.entries c.args.place
+    c.place_of_live-at.result c.place_of_live-at.ensures
     ∙ ap (λ pairs. slice_get pairs c.args.place) c.self.view_is
 
 pub returns-then-len-all-clause-pair : goal.returns-then-len-all-clause-pair
-returns-then-len-all-clause-pair c =
-    taken (goal.at.returns-then-len-all-clause-pair c).After-all
+returns-then-len-all-clause-pair c = taken (goal.at.returns-then-len-all-clause-pair c).After-all
 
 pub returns-else-len-all-clause-pair : goal.returns-else-len-all-clause-pair
-returns-else-len-all-clause-pair c =
-    taken (goal.at.returns-else-len-all-clause-pair c).After-all
+returns-else-len-all-clause-pair c = taken (goal.at.returns-else-len-all-clause-pair c).After-all
 
 pub returns-then-len-all-clause-rest : goal.returns-then-len-all-clause-rest
 returns-then-len-all-clause-rest c =

@@ -7,8 +7,7 @@ use Rattle.table_tree.proofs.FindLemmas.{first_in, none_there, one_read}
 use Rattle.table_tree.proofs.finder.Finder.first.Goals as goal
 
 pub returns-in-None-clause-place : goal.returns-in-None-clause-place
-returns-in-None-clause-place c =
-    ap (option_and_then (first_in c.args.header.now))
+returns-in-None-clause-place c = ap (option_and_then (first_in c.args.header.now))
     (none_there c.items.result.now c.args.partition c.in-None.ensures
     ∙ ap (find (λ (part : Partition). part.number == c.args.partition))
     (c.items.ensures ∙ ap (λ (t : Tables). t.auth) c.deref.ensures

@@ -46,9 +46,8 @@ returns-in-Some c =
     c.end_of-place.ensures in
     let there = sym (c.in-Some.ensures ∙ ap (position (λ (p : Partition). p.number == place))
     (c.items.ensures ∙ ap (λ (t : Tables). t.auth) c.deref-2.ensures)) in
-    let first = c.first_at.ensures.place
-    ∙ sym (ap (λ (v : FinderValue). option_and_then (first_in header)
-    (slice_get v.tables.auth c.in-Some.own)) c.self.view_is) in
+    let first = c.first_at.ensures.place ∙ sym (ap (λ (v : FinderValue). option_and_then
+    (first_in header) (slice_get v.tables.auth c.in-Some.own)) c.self.view_is) in
     ap (Authority place) c.unwrap_or.ensures
     ∙ own_decides tables header place c.in-Some.own c.first_at.result c.self.invariant.sound
     c.number.ensures.header at there first

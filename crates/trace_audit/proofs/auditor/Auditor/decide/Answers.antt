@@ -24,9 +24,8 @@ returns c = λ files. (
     packet = packet_seen c.in-Some.packet;
     policy = c.in-Some-get.policy.now;
     entered = sym c.in-Some.ensures;
-    undecided = none_made_of (λ (hit : Hit). hit.action)
-        (packet_seen c.in-Some.packet).decision c.action.result c.action.ensures
-        (sym c.is_some.ensures ∙ c.if-is_some.false);
+    undecided = none_made_of (λ (hit : Hit). hit.action) (packet_seen c.in-Some.packet).decision
+        c.action.result c.action.ensures (sym c.is_some.ensures ∙ c.if-is_some.false);
     not_ended = none_from_not_some (packet_seen c.in-Some.packet).end (search rules);
     not_retired = omega arith;
     submitted = policy_there _ _ _ _ c.deref.ensures.value (sym c.in-Some-get.ensures.lookup.0)

@@ -24,8 +24,7 @@ loop-place-preserved c =
     ∙ slice_get-get_or read place none c.loop-place-test.true)
     (ap (λ (p : AddressBlock). p.address) (c.src.view_is ∙ c.new-src.ensures.block))
     (ap (λ (p : AddressBlock). p.address) (c.dst.view_is ∙ c.new-dst.ensures.block))
-    (subst (λ n. IsBetter shapes rows n fields first better)
-    (c.slot-slot.ensures.slot
+    (subst (λ n. IsBetter shapes rows n fields first better) (c.slot-slot.ensures.slot
     ∙ ap (λ (xs : List Shape). slot_of (length xs) place src dst) c.deref.ensures.value)
     c.best_in-best.ensures)
     c.loop-place.invariant
@@ -33,8 +32,7 @@ loop-place-preserved c =
 pub returns : goal.returns
 returns c =
     let shapes = c.args.self.now.shapes.items in
-    let all : c.loop-place.place ≡ length shapes =
-    omega (
+    let all : c.loop-place.place ≡ length shapes = omega (
       arith,
       c.loop-place-test.false,
       c.loop-place.auto.place-end,

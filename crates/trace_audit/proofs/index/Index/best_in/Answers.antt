@@ -3,14 +3,12 @@ use Rattle.trace_audit.proofs.IndexedRows.{IsWalked, walk_ends, walk_falls, walk
 use Rattle.trace_audit.proofs.index.Index.best_in.Goals as goal
 
 pub loop-at-smaller : goal.loop-at-smaller
-loop-at-smaller c =
-    walk_falls c.loop-at.invariant c.requires.index c.in-Some.is c.index-rows-place.is
-    c.index-at-in-Some.ensures
+loop-at-smaller c = walk_falls c.loop-at.invariant c.requires.index c.in-Some.is
+    c.index-rows-place.is c.index-at-in-Some.ensures
 
 pub loop-at-preserved : goal.loop-at-preserved
-loop-at-preserved c =
-    walk_on c.loop-at.invariant c.requires.index c.in-Some.is c.index-rows-place.is
-    c.index-at-in-Some.ensures c.better-best.ensures
+loop-at-preserved c = walk_on c.loop-at.invariant c.requires.index c.in-Some.is
+    c.index-rows-place.is c.index-at-in-Some.ensures c.better-best.ensures
 
 pub returns : goal.returns
 returns c =

@@ -57,12 +57,10 @@ returns-then-place-len-2 c =
     let above = c.if-number-self.true in
     seen_put packet_seen (λ n. option_or (run_get old.first old.run.items n) (others n))
     (λ n. option_or (run_get old.first c.push-then-place-len-2.new.self.items n) (others n)) number item
-    (ap (λ xs. option_or (run_get old.first xs number) (others number)) items
-    ∙ ap (λ o. option_or o (others number))
-    (push_here old.first old.run.items number item above end))
-    (λ n other. ap (λ xs. option_or (run_get old.first xs n) (others n)) items
-    ∙ ap (λ o. option_or o (others n))
-    (push_there old.first old.run.items number item above end n other))
+    (ap (λ xs. option_or (run_get old.first xs number) (others number)) items ∙ ap (λ o. option_or o
+    (others number)) (push_here old.first old.run.items number item above end))
+    (λ n other. ap (λ xs. option_or (run_get old.first xs n) (others n)) items ∙ ap (λ o. option_or
+    o (others n)) (push_there old.first old.run.items number item above end n other))
 
 pub returns : goal.returns
 returns c =

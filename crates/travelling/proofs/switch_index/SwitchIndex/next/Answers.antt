@@ -8,11 +8,10 @@ returns-in-Some-next_by_blocks c =
     let s = c.args.switch in
     let from = c.args.from in
     let block = c.in-Some-next_by_blocks.block in
-    rw (← c.self.view_is) (least_beyond c.self.inside.packets.items c.self.inside.blocks.items s
-    from c.requires c.self.invariant.low
-    (subst (λ masks. IsNextInBlock masks s from None) c.deref.ensures.value
-    (subst (IsNextInBlock c.deref.result.now s from) c.in_default.is c.next_in_block.ensures))
-    block
+    rw (← c.self.view_is)
+    (least_beyond c.self.inside.packets.items c.self.inside.blocks.items s from c.requires
+    c.self.invariant.low (subst (λ masks. IsNextInBlock masks s from None) c.deref.ensures.value
+    (subst (IsNextInBlock c.deref.result.now s from) c.in_default.is c.next_in_block.ensures)) block
     (subst (λ masks. IsLeastMarked masks s (from / 64 + 1) block) c.deref-2.ensures.value
     c.in-Some-next_by_blocks.ensures) c.first_of_block.result
     (subst (λ masks. IsLeastMarked masks s (block * 64) c.first_of_block.result)

@@ -11,6 +11,5 @@ invariant_of-result c = record {
   room = λ i below. absurd (omega (arith, below, ap length c.new.ensures.items));
   marked = λ i s below. ap (λ by_switch. is_marked by_switch i s) c.new-2.ensures ∙ none_marked i s
       ∙ sym (ap (λ (slots : Flights). stands_at s (flight slots i)) c.new.ensures.items);
-  below = λ i s past.
-      ap (λ (slots : Flights). stands_at s (flight slots i)) c.new.ensures.items;
+  below = λ i s past. ap (λ (slots : Flights). stands_at s (flight slots i)) c.new.ensures.items;
 }

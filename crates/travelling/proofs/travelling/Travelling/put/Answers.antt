@@ -10,9 +10,8 @@ invariant_of-self c = record {
   few = c.self.invariant.few;
   none = c.self.invariant.none;
   room = λ i below. omega (arith, c.self.invariant.room i below, c.make_bits.ensures.grown);
-  marked = marked_on c.self.inside.slots.items c.self.inside.slots.items
-      c.self.inside.by_switch c.make_bits.new.self c.self.invariant.marked (λ i. refl)
-      c.make_bits.ensures.same;
+  marked = marked_on c.self.inside.slots.items c.self.inside.slots.items c.self.inside.by_switch
+      c.make_bits.new.self c.self.invariant.marked (λ i. refl) c.make_bits.ensures.same;
   below = c.self.invariant.below;
 }
 
@@ -31,9 +30,8 @@ invariant_of-self-in_err-make_room c = record {
 }
 
 pub set_slot-requires-clause-marked : goal.set_slot-requires-clause-marked
-set_slot-requires-clause-marked c =
-    marked_on c.self.inside.slots.items c.make_room.new.slots.items c.self.inside.by_switch
-    c.make_bits.new.self c.self.invariant.marked c.make_room.ensures.same
+set_slot-requires-clause-marked c = marked_on c.self.inside.slots.items c.make_room.new.slots.items
+    c.self.inside.by_switch c.make_bits.new.self c.self.invariant.marked c.make_room.ensures.same
     c.make_bits.ensures.same
 
 pub set_slot-requires-clause-below : goal.set_slot-requires-clause-below
@@ -44,13 +42,11 @@ pub invariant_of-self-2 : goal.invariant_of-self-2
 invariant_of-self-2 c =
     let long : length c.set_slot.new.slots.items ≡ length c.make_room.new.slots.items =
     ap length c.set_slot.ensures.slots ∙ length-set c.make_room.new.slots.items c.args.packet _ in
-    let low : c.if-self-len.first ≤ c.args.packet =
-    elim c.if-self-len.branch [
+    let low : c.if-self-len.first ≤ c.args.packet = elim c.if-self-len.branch [
       | then-self-len w ↦ omega (arith, w.first-is, w.min-first.ensures)
       | else-self-len w ↦ omega (arith, w.first-is)
     ] in
-    let before : (i : ℕ) → i < c.if-self-len.first
-    → flight c.self.inside.slots.items i ≡ None =
+    let before : (i : ℕ) → i < c.if-self-len.first → flight c.self.inside.slots.items i ≡ None =
     λ i below. elim c.if-self-len.branch [
       | then-self-len w ↦ c.self.invariant.none i
           (omega (arith, below, w.first-is, w.min-first.ensures))
@@ -62,8 +58,7 @@ invariant_of-self-2 c =
     ] in
     let all = room_on c.self.inside.slots.items c.make_room.new.slots.items
     c.self.inside.by_switch c.make_bits.new.self c.args.packet c.self.invariant.room
-    c.make_room.ensures.few c.make_bits.ensures.grown c.in_ok-make_bits.ensures.room in
-    record {
+    c.make_room.ensures.few c.make_bits.ensures.grown c.in_ok-make_bits.ensures.room in record {
       few = omega (
         arith,
         long,
@@ -75,11 +70,7 @@ invariant_of-self-2 c =
           ∙ get_or-set_other c.make_room.new.slots.items c.args.packet i _ None
           (λ e. absurd (omega (arith, e, below, low))) ∙ c.make_room.ensures.same i
           ∙ before i below;
-      room = λ i below. omega (
-        arith,
-        all i (omega (arith, below, long)),
-        c.set_slot.ensures.room,
-      );
+      room = λ i below. omega (arith, all i (omega (arith, below, long)), c.set_slot.ensures.room);
       marked = c.set_slot.ensures.marked;
       below = c.set_slot.ensures.below;
     }

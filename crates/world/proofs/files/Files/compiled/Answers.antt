@@ -28,11 +28,9 @@ within c =
     omega (arith, c.requires, as_many)
 
 -- and what was compiled was made of that
-made : (c : In_ok-compiled) → IsMade c.self.inside.net
-    (made_at c.self.inside.files.items c.self.inside.newest.policy c.args.place)
-    c.in_ok-compiled.compiled
-made c =
-    made_at_place c.self.inside.net c.self.inside.files.items c.self.inside.newest.policy
+made : (c : In_ok-compiled) → IsMade c.self.inside.net (made_at c.self.inside.files.items
+    c.self.inside.newest.policy c.args.place) c.in_ok-compiled.compiled
+made c = made_at_place c.self.inside.net c.self.inside.files.items c.self.inside.newest.policy
     c.policy-newest.result.now c.args.place c.index-file.result.now c.in_ok-compiled.compiled
     (within c) c.index-file.ensures c.policy-newest.ensures c.in_ok-compiled.ensures
 
@@ -45,7 +43,6 @@ invariant_of-self c =
     (subst (IsMade c.self.inside.net of_place) (sym c.in_ok-kept.ensures.cases) (made at))
 
 pub returns-clause-compiled : goal.returns-clause-compiled
-returns-clause-compiled c =
-    subst (λ (f : FilesValue). IsMade f.net (made_at f.files f.newest c.args.place)
-    c.in_ok-compiled.compiled) c.self.view_is
+returns-clause-compiled c = subst (λ (f : FilesValue). IsMade f.net
+    (made_at f.files f.newest c.args.place) c.in_ok-compiled.compiled) c.self.view_is
     (made (goal.at.returns-clause-compiled c).In_ok-compiled)

@@ -16,16 +16,14 @@ index-requires c = place_in c.args.switch c.requires c.requires.begins.ready.may
 -- ---- it is up
 
 pub returns-then-is_up : goal.returns-then-is_up
-returns-then-is_up c = λ before row begins.
-    goes_nothing begins refl
+returns-then-is_up c = λ before row begins. goes_nothing begins refl
     (still_up begins.ready.refines row c.args.switch _ begins.ready.may c.index.ensures
     (sym c.is_up.ensures ∙ c.if-is_up.true)) c.push.ensures.pushed c.push.ensures.unchanged
 
 -- ---- it is down
 
 pub over-requires : goal.over-requires
-over-requires c =
-    let known = known_in c.args.switch c.requires c.requires.begins.ready.may in
+over-requires c = let known = known_in c.args.switch c.requires c.requires.begins.ready.may in
     omega (arith, known)
 
 pub returns-in_err-sends : goal.returns-in_err-sends
@@ -33,9 +31,8 @@ returns-in_err-sends c = λ before row begins.
     nothing_goes begins (net_stays refl refl) c.from_residual.ensures.0 refl
 
 pub returns-in_err-push : goal.returns-in_err-push
-returns-in_err-push c = λ before row begins.
-    nothing_goes begins (net_stays refl refl) c.from_residual-in_err-push.ensures.0
-    c.in_err-push.ensures.unchanged
+returns-in_err-push c = λ before row begins. nothing_goes begins (net_stays refl refl)
+    c.from_residual-in_err-push.ensures.0 c.in_err-push.ensures.unchanged
 
 pub note_acts-requires : goal.note_acts-requires
 note_acts-requires c =
@@ -47,12 +44,10 @@ note_acts-requires c =
     ready.room)
 
 pub returns : goal.returns
-returns c = λ before row begins.
-    let s = c.args.switch in
+returns c = λ before row begins. let s = c.args.switch in
     let ready = begins.ready in
     let new : ControllerValue = c.over.new.self in
-    let acts : List Act =
-    settling_acts (current_touched new)
+    let acts : List Act = settling_acts (current_touched new)
     (at_switch s after_over c.args.self.now.controller.marks) new.marks in
     let down = sym c.is_up.ensures ∙ c.if-is_up.false in
     let its = c.note_acts.ensures in

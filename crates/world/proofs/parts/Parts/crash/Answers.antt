@@ -26,8 +26,7 @@ index_mut-requires c = place_in c.args.switch c.requires c.requires.begins.ready
 -- ---- it is down
 
 pub returns-then-not-is_up : goal.returns-then-not-is_up
-returns-then-not-is_up c = λ before row begins.
-    let self = c.args.self.now in
+returns-then-not-is_up c = λ before row begins. let self = c.args.self.now in
     goes_nothing begins refl (stays_down begins.ready.refines row c.args.switch c.index.result.now
     begins.ready.may c.index.ensures (sym c.is_up.ensures ∙ c.if-not-is_up.true))
     c.push.ensures.pushed c.push.ensures.unchanged
@@ -35,8 +34,7 @@ returns-then-not-is_up c = λ before row begins.
 -- ---- it goes down
 
 was_up : (c : After-index_mut) → c.index_mut.result.now.is_up ≡ true
-was_up c =
-    let self = c.args.self.now in
+was_up c = let self = c.args.self.now in
     ap (λ (w : SwitchValue). w.is_up) (same_switch self.switches.items c.args.switch
     c.index_mut.result.now c.index.result.now
     (switch_in c.args.switch c.requires c.requires.begins.ready.may)
@@ -44,13 +42,11 @@ was_up c =
     ∙ sym c.is_up.ensures ∙ c.if-not-is_up.false
 
 pub returns-in_err-push : goal.returns-in_err-push
-returns-in_err-push c = λ before row begins.
-    nothing_goes begins
-    (net_stays refl refl) c.from_residual.ensures.0 c.in_err-push.ensures.unchanged
+returns-in_err-push c = λ before row begins. nothing_goes begins (net_stays refl refl)
+    c.from_residual.ensures.0 c.in_err-push.ensures.unchanged
 
 pub returns-in_err-lose_at : goal.returns-in_err-lose_at
-returns-in_err-lose_at c = λ before row begins.
-    let self = c.args.self.now in
+returns-in_err-lose_at c = λ before row begins. let self = c.args.self.now in
     let s = c.args.switch in
     let own = c.index_mut.result.now in
     let changed = c.crash.new.self in
@@ -74,25 +70,18 @@ returns-in_err-lose_at c = λ before row begins.
 -- ---- links change
 
 pub change_links-requires-clause-many : goal.change_links-requires-clause-many
-change_links-requires-clause-many c =
-    let self = c.args.self.now in
-    omega (
-      arith,
-      length-set self.switches.items c.args.switch c.crash.new.self,
-      few_in c.requires,
-    )
+change_links-requires-clause-many c = let self = c.args.self.now in
+    omega (arith, length-set self.switches.items c.args.switch c.crash.new.self, few_in c.requires)
 
 pub change_links-requires-clause-next : goal.change_links-requires-clause-next
-change_links-requires-clause-next c =
-    let ready = c.requires.begins.ready in
+change_links-requires-clause-next c = let ready = c.requires.begins.ready in
     crash_next ready.refines c.requires.row c.args.switch c.index_mut.result.now c.crash.new.self
     ready.may (switch_in c.args.switch c.requires ready.may) c.index_mut.ensures.value
     c.crash.ensures (was_up (goal.at.change_links-requires-clause-next c).After-index_mut)
     ready.room
 
 pub change_links-requires-clause-may : goal.change_links-requires-clause-may
-change_links-requires-clause-may c =
-    let ready = c.requires.begins.ready in
+change_links-requires-clause-may c = let ready = c.requires.begins.ready in
     rw c.lose_at.ensures.unsent
     (crash_may ready.refines c.requires.row c.args.switch c.index_mut.result.now c.crash.new.self
     ready.may (switch_in c.args.switch c.requires ready.may) c.index_mut.ensures.value
@@ -100,8 +89,7 @@ change_links-requires-clause-may c =
     ready.room)
 
 pub returns : goal.returns
-returns c = λ before row begins.
-    let self = c.args.self.now in
+returns c = λ before row begins. let self = c.args.self.now in
     let new = c.change_links.new.self in
     let r = c.change_links.result in
     let s = c.args.switch in
@@ -128,14 +116,12 @@ returns c = λ before row begins.
     ∙ ap (λ bag. behind.journal ++ sent_from (length bag + 1) messages) c.lose_at.ensures.unsent
     ∙ ap (λ js. js ++ sends) c.in_ok-lose_at.ensures.written
     ∙ append_assoc down losses sends) c.change_links.ensures.written))
-    (step_part r self.log.journal down new.log.journal (losses ++ sends)
-    (item.Down s ∷ losses ++ sends) (item.Down s) refl c.in_ok-push.ensures.pushed
-    (on_err_weaker r (λ part. part_of_rest down behind.journal losses sends new.log.journal
-    c.in_ok-lose_at.ensures.written
+    (step_part r self.log.journal down new.log.journal (losses ++ sends) (item.Down s
+    ∷ losses ++ sends) (item.Down s) refl c.in_ok-push.ensures.pushed (on_err_weaker r (λ part.
+    part_of_rest down behind.journal losses sends new.log.journal c.in_ok-lose_at.ensures.written
     (subst (λ bag. IsPart behind.journal (sent_from (length bag + 1) messages) new.log.journal)
     c.lose_at.ensures.unsent part)) c.change_links.ensures.part))
-    (three_ok r (λ near_is are posts_are.
-    let posts = self.log.bag ++ map new_post messages in
+    (three_ok r (λ near_is are posts_are. let posts = self.log.bag ++ map new_post messages in
     let bag_is : new.log.bag ≡ posts =
     posts_are ∙ ap (λ bag. bag ++ map new_post messages) c.lose_at.ensures.unsent in
     subst (λ bag. RefineJournal (setting_in self)

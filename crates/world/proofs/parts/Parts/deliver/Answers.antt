@@ -25,8 +25,7 @@ returns-in_err-get c = λ before row begins.
     nothing_goes begins (net_stays refl refl) c.from_residual.ensures.0 refl
 
 pub returns-in-None : goal.returns-in-None
-returns-in-None c = λ before row begins.
-    let self = c.args.self.now in
+returns-in-None c = λ before row begins. let self = c.args.self.now in
     goes_nothing begins refl (undelivered begins.ready.refines row c.args.number begins.ready.may
     (sym c.in_ok-get.ensures.found ∙ ap is_some c.in-None.is))
     c.push.ensures.pushed c.push.ensures.unchanged
@@ -34,19 +33,16 @@ returns-in-None c = λ before row begins.
 -- ---- at the controller
 
 pub returns-in_err-push : goal.returns-in_err-push
-returns-in_err-push c = λ before row begins.
-    nothing_goes begins (net_stays refl refl) c.from_residual-in_err-push.ensures.0
-    c.in_err-push.ensures.unchanged
+returns-in_err-push c = λ before row begins. nothing_goes begins (net_stays refl refl)
+    c.from_residual-in_err-push.ensures.0 c.in_err-push.ensures.unchanged
 
 pub deliver_to_controller-requires-clause-there : goal.deliver_to_controller-requires-clause-there
-deliver_to_controller-requires-clause-there c =
-    let self = c.args.self.now in
+deliver_to_controller-requires-clause-there c = let self = c.args.self.now in
     names_known c.requires.begins.ready.refines c.args.number c.in-Some.message
     (found_there _ _ _ _ c.in-Some.is c.in_ok-get.ensures.message) c.in-Controller.is
 
 pub deliver_to_controller-requires-clause-may : goal.deliver_to_controller-requires-clause-may
-deliver_to_controller-requires-clause-may c = λ new settles.
-    let self = c.args.self.now in
+deliver_to_controller-requires-clause-may c = λ new settles. let self = c.args.self.now in
     let ready = c.requires.begins.ready in
     subst (λ bag. MayNote bag (hear_acts c.in-Some.message.body self.controller.marks new))
     (sym c.deliver.ensures)
@@ -55,8 +51,7 @@ deliver_to_controller-requires-clause-may c = λ new settles.
     ready.room)
 
 pub returns-in-Controller : goal.returns-in-Controller
-returns-in-Controller c = λ before row begins.
-    let self = c.args.self.now in
+returns-in-Controller c = λ before row begins. let self = c.args.self.now in
     let n = c.args.number in
     let message = c.in-Some.message in
     let new : ControllerValue = c.deliver_to_controller.new.controller in
@@ -89,8 +84,7 @@ returns-in-Controller c = λ before row begins.
 
 hears : (c : In-Switch) → (c.in-Switch.switch < length c.args.self.now.switches.items)
     × (c.in-Switch.switch < 64) × IsSoundBody c.in-Some.message.body
-hears c =
-    let self = c.args.self.now in
+hears c = let self = c.args.self.now in
     hear_ready c.requires.begins.ready.refines c.args.number c.in-Switch.switch c.in-Some.message
     (found_there _ _ _ _ c.in-Some.is c.in_ok-get.ensures.message) c.in-Switch.is
 
@@ -107,8 +101,7 @@ pub hear-requires : goal.hear-requires
 hear-requires c = (hears (goal.at.hear-requires c).In-Switch).2
 
 pub returns-in_err-heard : goal.returns-in_err-heard
-returns-in_err-heard c = λ before row begins.
-    let self = c.args.self.now in
+returns-in_err-heard c = λ before row begins. let self = c.args.self.now in
     first_goes (item.Delivered c.args.number) _ begins (net_stays refl refl)
     (first_piece begins.ready.refines row c.args.number c.in-Some.message
     (found_there _ _ _ _ c.in-Some.is c.in_ok-get.ensures.message))
@@ -132,8 +125,7 @@ send_all-requires c =
     (sym c.in_ok-heard.ensures.opened ∙ c.in-None-opened.is) ready.room))
 
 pub returns-in-None-opened : goal.returns-in-None-opened
-returns-in-None-opened c = λ before row begins.
-    let self = c.args.self.now in
+returns-in-None-opened c = λ before row begins. let self = c.args.self.now in
     let n = c.args.number in
     let s = c.in-Switch.switch in
     let message = c.in-Some.message in
@@ -169,17 +161,15 @@ returns-in-None-opened c = λ before row begins.
           (subst (λ bag. OnOk c.send_all.result
           (c.send_all.new.self.bag ≡ bag ++ map new_post c.into_items.result.items))
           c.deliver.ensures c.send_all.ensures.posted);
-      refines = on_ok_weaker c.send_all.result
-          (λ done. shut_refines ready.refines row n s message own c.hear.new.self near ready.may
-          there c.in-Switch.is within.0 c.index_mut.ensures.value usable c.in_ok-heard.ensures.after
-          shut) c.send_all.ensures.written;
+      refines = on_ok_weaker c.send_all.result (λ done. shut_refines ready.refines row n s message
+          own c.hear.new.self near ready.may there c.in-Switch.is within.0 c.index_mut.ensures.value
+          usable c.in_ok-heard.ensures.after shut) c.send_all.ensures.written;
     })
 
 -- ---- it opens
 
 pub returns-in_err-push-in-Some-opened : goal.returns-in_err-push-in-Some-opened
-returns-in_err-push-in-Some-opened c = λ before row begins.
-    let self = c.args.self.now in
+returns-in_err-push-in-Some-opened c = λ before row begins. let self = c.args.self.now in
     first_goes (item.Delivered c.args.number) _ begins (net_stays refl refl)
     (first_piece begins.ready.refines row c.args.number c.in-Some.message
     (found_there _ _ _ _ c.in-Some.is c.in_ok-get.ensures.message))
@@ -187,8 +177,7 @@ returns-in_err-push-in-Some-opened c = λ before row begins.
     (c.in_err-push-in-Some-opened.ensures.unchanged ∙ c.in_ok-push.ensures.pushed)
 
 pub change_links-requires-clause-many : goal.change_links-requires-clause-many
-change_links-requires-clause-many c =
-    let self = c.args.self.now in
+change_links-requires-clause-many c = let self = c.args.self.now in
     omega (
       arith,
       length-set self.switches.items c.in-Switch.switch c.hear.new.self,
@@ -216,8 +205,7 @@ change_links-requires-clause-may c =
     (sym c.in_ok-heard.ensures.opened ∙ c.in-Some-opened.is) ready.room)
 
 pub returns : goal.returns
-returns c = λ before row begins.
-    let self = c.args.self.now in
+returns c = λ before row begins. let self = c.args.self.now in
     let new = c.change_links.new.self in
     let n = c.args.number in
     let s = c.in-Switch.switch in

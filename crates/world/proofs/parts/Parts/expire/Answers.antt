@@ -9,8 +9,7 @@ pub index_mut-requires : goal.index_mut-requires
 index_mut-requires c = place_in c.args.switch c.requires c.requires.begins.ready.may.0
 
 pub returns-in-None : goal.returns-in-None
-returns-in-None c = λ before row begins.
-    let self = c.args.self.now in
+returns-in-None c = λ before row begins. let self = c.args.self.now in
     goes_one begins
     (files_stay refl refl) item.Nothing self.log.bag (plane_stays refl refl refl) refl (none_in _)
     (expired_refines begins.ready.refines row c.args.switch c.args.place c.index_mut.result.now
@@ -19,8 +18,7 @@ returns-in-None c = λ before row begins.
     c.push.ensures.pushed c.push.ensures.unchanged
 
 pub returns-in-Some : goal.returns-in-Some
-returns-in-Some c = λ before row begins.
-    let self = c.args.self.now in
+returns-in-Some c = λ before row begins. let self = c.args.self.now in
     goes_one begins
     (files_stay refl refl) (item.Expired c.args.switch c.args.place c.in-Some.message) self.log.bag
     (plane_stays refl refl refl) refl (none_in _)

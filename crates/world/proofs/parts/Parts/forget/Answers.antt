@@ -6,15 +6,13 @@ use Rattle.world.proofs.StepFrame.{files_stay, goes_nothing, goes_one, none_in, 
 use Rattle.world.proofs.parts.Parts.forget.Goals as goal
 
 pub returns-then-not-may_be_delivered : goal.returns-then-not-may_be_delivered
-returns-then-not-may_be_delivered c = λ before row begins.
-    let self = c.args.self.now in
+returns-then-not-may_be_delivered c = λ before row begins. let self = c.args.self.now in
     goes_nothing begins refl (unforgotten begins.ready.refines row c.args.number begins.ready.may
     (sym c.may_be_delivered.ensures ∙ c.if-not-may_be_delivered.true))
     c.push.ensures.pushed c.push.ensures.unchanged
 
 pub returns : goal.returns
-returns c = λ before row begins.
-    let self = c.args.self.now in
+returns c = λ before row begins. let self = c.args.self.now in
     goes_one begins (files_stay refl refl)
     (item.Forgotten c.args.number) (with_forgotten self.log.bag c.args.number)
     (plane_stays refl refl refl) c.forget.ensures (none_in _)

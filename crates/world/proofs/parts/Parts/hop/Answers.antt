@@ -8,16 +8,14 @@ use Rattle.world.proofs.OverParts.{hop_goes, may_go_on}
 use Rattle.world.proofs.parts.Parts.hop.Goals as goal
 
 pub hop-requires-clause-there : goal.hop-requires-clause-there
-hop-requires-clause-there c = λ t its.
-    rw c.deref_mut.ensures.value (within_here c.requires.begins.ready.refines c.args.packet t
-    (here t.tunnel) its refl)
+hop-requires-clause-there c = λ t its. rw c.deref_mut.ensures.value
+    (within_here c.requires.begins.ready.refines c.args.packet t (here t.tunnel) its refl)
 
 pub hop-requires-clause-may : goal.hop-requires-clause-may
 hop-requires-clause-may c = rw c.deref_mut.ensures.value (may_go_on c.requires.begins)
 
 pub returns : goal.returns
-returns c = λ before row begins.
-    let held = c.args.self.now.switches in
+returns c = λ before row begins. let held = c.args.self.now.switches in
     let now = c.hop.new.switches in
     let many : length now ≡ held.len = omega (arith, c.hop.auto.switches, c.deref_mut.ensures.len) in
     hop_goes begins c.hop.result c.hop.new.self _ now

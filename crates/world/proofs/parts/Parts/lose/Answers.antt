@@ -11,14 +11,12 @@ use Rattle.refinement.specs.Exports.{RefineJournal}
 use Rattle.world.proofs.parts.Parts.lose.Goals as goal
 
 pub returns-then-not-has : goal.returns-then-not-has
-returns-then-not-has c = λ before row begins.
-    let self = c.args.self.now in
+returns-then-not-has c = λ before row begins. let self = c.args.self.now in
     goes_nothing begins refl (not_lost begins.ready.refines row c.args.packet begins.ready.may
     (sym c.has.ensures ∙ c.if-not-has.true)) c.push.ensures.pushed c.push.ensures.unchanged
 
 pub returns : goal.returns
-returns c = λ before row begins.
-    let self = c.args.self.now in
+returns c = λ before row begins. let self = c.args.self.now in
     let new = c.lose.new.self in
     let all = record self { log = new } in
     let travelling = sym c.has.ensures ∙ c.if-not-has.false in
@@ -28,9 +26,7 @@ returns c = λ before row begins.
     c.lose.ensures.written (on_err_weaker c.lose.result
     (λ same. part_none self.log.journal (item.Lost c.args.packet ∷ []) new.journal
     (ap (λ (log : Log). log.journal) same)) c.lose.ensures.unchanged)
-    (on_ok_weaker c.lose.result (λ without.
-    subst (λ bag. RefineJournal (setting_in self)
-    (before ++ item.Row row (Lose c.args.packet) ∷ item.Lost c.args.packet ∷ [])
-    (with_posts self all bag)) (sym c.lose.ensures.unsent)
-    (lost begins.ready.refines row c.args.packet new.travelling begins.ready.may travelling
-    without)) c.lose.ensures.lost)
+    (on_ok_weaker c.lose.result (λ without. subst (λ bag. RefineJournal (setting_in self) (before
+    ++ item.Row row (Lose c.args.packet) ∷ item.Lost c.args.packet ∷ []) (with_posts self all bag))
+    (sym c.lose.ensures.unsent) (lost begins.ready.refines row c.args.packet new.travelling
+    begins.ready.may travelling without)) c.lose.ensures.lost)

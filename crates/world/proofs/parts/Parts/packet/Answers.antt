@@ -15,13 +15,11 @@ pub index_mut-requires : goal.index_mut-requires
 index_mut-requires c = place_in c.args.switch c.requires c.requires.begins.ready.may.0
 
 pub enter-requires : goal.enter-requires
-enter-requires c =
-    let self = c.args.self.now in
-    record {
-      stamped = can_look_up c.requires.begins.ready.refines c.args.switch c.index_mut.result.now
-          c.requires.begins.ready.may.0 c.index_mut.ensures.value;
-      few = omega (arith, c.requires.begins.ready.room);
-    }
+enter-requires c = let self = c.args.self.now in record {
+  stamped = can_look_up c.requires.begins.ready.refines c.args.switch c.index_mut.result.now
+      c.requires.begins.ready.may.0 c.index_mut.ensures.value;
+  few = omega (arith, c.requires.begins.ready.room);
+}
 
 pub returns : goal.returns
 returns c = λ before row begins.

@@ -14,9 +14,8 @@ takes c kind is = begun c.args.row c.args.step.now kind c.args.self.now c.push.n
     c.in_ok-push.ensures.pushed is
 
 -- and plays it
-plays : {T E : Type 0} (c : In_ok-push) (kind : Step) → c.args.step.now ≡ kind
-    → (r : Result T E) (new : Parts)
-    → Plays kind r (with_journal c.args.self.now c.push.new.self) new
+plays : {T E : Type 0} (c : In_ok-push) (kind : Step) → c.args.step.now ≡ kind → (r : Result T E)
+    (new : Parts) → Plays kind r (with_journal c.args.self.now c.push.new.self) new
     → Goes r c.args.self.now.log.journal c.args.row c.args.step.now c.args.self.now new
 plays c kind is = played c.args.row c.args.step.now kind c.args.self.now c.push.new.self c.requires
     c.in_ok-push.ensures.pushed is

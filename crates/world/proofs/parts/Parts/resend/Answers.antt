@@ -43,8 +43,7 @@ said : (c : After-are_none)
     ≡ map Post (adverts_again c.args.switch (length c.args.self.now.switches.items)
     (get_or c.args.self.now.near c.args.switch 0) c.index.result.now)
     ++ resend_acts c.args.self.now.controller c.args.switch
-said c =
-    let self = c.args.self.now in
+said c = let self = c.args.self.now in
     acts_same self.controller c.args.switch c.len-count.result (length self.switches.items)
     (get_or self.near c.args.switch 0) _ c.index.result.now c.in_ok-messages.messages.items
     c.into_items-acts.result.items c.in_ok-messages.ensures (omega arith) refl
@@ -55,18 +54,15 @@ none_said : (c : After-are_none) (b : Bool) → c.are_none.result ≡ b
     → (length (map Post (adverts_again c.args.switch (length c.args.self.now.switches.items)
     (get_or c.args.self.now.near c.args.switch 0) c.index.result.now)
     ++ resend_acts c.args.self.now.controller c.args.switch) == 0) ≡ b
-none_said c b is =
-    sym (ap (λ (acts : List Act). length acts == 0)
-    (ap (λ messages. map Post messages ++ c.as_slice-2.result.now) c.as_slice.ensures.value
-    ∙ ap (λ acts. map Post c.in_ok-messages.messages.items ++ acts) c.as_slice-2.ensures.value
-    ∙ said c))
+none_said c b is = sym (ap (λ (acts : List Act). length acts == 0)
+    (ap (λ messages. map Post messages ++ c.as_slice-2.result.now) c.as_slice.ensures.value ∙ ap
+    (λ acts. map Post c.in_ok-messages.messages.items ++ acts) c.as_slice-2.ensures.value ∙ said c))
     ∙ sym c.are_none.ensures ∙ is
 
 -- ---- nothing is sent
 
 pub returns-then-are_none : goal.returns-then-are_none
-returns-then-are_none c = λ before row begins.
-    let self = c.args.self.now in
+returns-then-are_none c = λ before row begins. let self = c.args.self.now in
     let s = c.args.switch in
     let none = none_said (goal.at.returns-then-are_none c).After-are_none in
     goes_nothing begins refl
@@ -89,8 +85,7 @@ send_and_note-requires c =
     (none_said before false c.if-are_none.false) ready.room)
 
 pub returns : goal.returns
-returns c = λ before row begins.
-    let self = c.args.self.now in
+returns c = λ before row begins. let self = c.args.self.now in
     let s = c.args.switch in
     let ready = begins.ready in
     let sent = (goal.at.returns c).After-are_none in

@@ -23,8 +23,7 @@ index_mut-requires c = place_in c.args.switch c.requires c.requires.begins.ready
 -- ---- it is up
 
 pub returns-then-is_up : goal.returns-then-is_up
-returns-then-is_up c = λ before row begins.
-    goes_nothing begins refl
+returns-then-is_up c = λ before row begins. goes_nothing begins refl
     (up_already begins.ready.refines row c.args.switch _ begins.ready.may c.index.ensures
     (sym c.is_up.ensures ∙ c.if-is_up.true)) c.push.ensures.pushed c.push.ensures.unchanged
 
@@ -52,25 +51,22 @@ restart-boot-requires c =
     record { down = can.down; boot = can.boot }
 
 pub returns-in_err-push : goal.returns-in_err-push
-returns-in_err-push c = λ before row begins.
-    nothing_goes begins (net_stays refl refl) c.from_residual.ensures.0
-    c.in_err-push.ensures.unchanged
+returns-in_err-push c = λ before row begins. nothing_goes begins (net_stays refl refl)
+    c.from_residual.ensures.0 c.in_err-push.ensures.unchanged
 
 pub send-requires : goal.send-requires
 send-requires c =
     let self = c.args.self.now in
     let ready = c.requires.begins.ready in
     let there = switch_in c.args.switch c.requires ready.may in
-    let below : c.args.switch < 64 = omega (arith, there, few_in c.requires) in
-    record {
+    let below : c.args.switch < 64 = omega (arith, there, few_in c.requires) in record {
       spelling = subst HasShortSpelling (sym c.hello.ensures)
           (hello_spelled c.args.switch c.restart-boot.result below);
       few = omega (arith, ready.room);
     }
 
 pub returns : goal.returns
-returns c = λ before row begins.
-    let self = c.args.self.now in
+returns c = λ before row begins. let self = c.args.self.now in
     let s = c.args.switch in
     let ready = begins.ready in
     let own = c.index_mut.result.now in

@@ -41,8 +41,7 @@ set_ends-requires-clause-two c = (ends c.args.self.now c.args.one c.args.two c.a
 -- ---- it is so already
 
 pub returns-then-has-up : goal.returns-then-has-up
-returns-then-has-up c = λ before row begins.
-    let self = c.args.self.now in
+returns-then-has-up c = λ before row begins. let self = c.args.self.now in
     let one = c.args.one in
     let two = c.args.two in
     let up = c.args.up in
@@ -54,9 +53,8 @@ returns-then-has-up c = λ before row begins.
 -- ---- it changes
 
 pub returns-in_err-push : goal.returns-in_err-push
-returns-in_err-push c = λ before row begins.
-    nothing_goes begins (net_stays refl refl) c.from_residual.ensures.0
-    c.in_err-push.ensures.unchanged
+returns-in_err-push c = λ before row begins. nothing_goes begins (net_stays refl refl)
+    c.from_residual.ensures.0 c.in_err-push.ensures.unchanged
 
 pub change_links-requires-clause-many : goal.change_links-requires-clause-many
 change_links-requires-clause-many c = few_in c.requires
@@ -64,8 +62,7 @@ change_links-requires-clause-many c = few_in c.requires
 pub change_links-requires-clause-next : goal.change_links-requires-clause-next
 change_links-requires-clause-next c =
     let self = c.args.self.now in
-    let ready = c.requires.begins.ready in
-    numbers_left ready.refines ready.room
+    let ready = c.requires.begins.ready in numbers_left ready.refines ready.room
 
 pub change_links-requires-clause-may : goal.change_links-requires-clause-may
 change_links-requires-clause-may c =
@@ -76,8 +73,7 @@ change_links-requires-clause-may c =
     c.set_ends.ensures.set c.set_ends.ensures.fits ready.room
 
 pub returns : goal.returns
-returns c = λ before row begins.
-    let self = c.args.self.now in
+returns c = λ before row begins. let self = c.args.self.now in
     let one = c.args.one in
     let two = c.args.two in
     let up = c.args.up in
@@ -102,8 +98,7 @@ returns c = λ before row begins.
       written = c.change_links.ensures.written;
       part = c.change_links.ensures.part;
       posted = c.change_links.ensures.posted;
-      refines = both_ok c.change_links.result (λ near_is are.
-          relinked_refines rest near_is
+      refines = both_ok c.change_links.result (λ near_is are. relinked_refines rest near_is
           (set_refines ready.refines row one two up ready.may links other c.set_ends.ensures.set
           c.set_ends.ensures.fits c.change_links.new.self.switches.items are))
           c.change_links.ensures.near c.change_links.ensures.switches;

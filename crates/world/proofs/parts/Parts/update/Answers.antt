@@ -26,8 +26,7 @@ making_of self file = made_at self.files.files self.files.newest (file - 1)
 -- as that of a file which is there
 made_there : (self : Parts) (file : ℕ) → 1 ≤ file → file ≤ length self.files.files
     → made_by (slice_get self.files.files (file - 1)) (Some self.files.newest) ≡ made_of self file
-made_there self file first last =
-    ap (λ o. made_by o (Some self.files.newest))
+made_there self file first last = ap (λ o. made_by o (Some self.files.newest))
     (file_there self.files.files (file - 1) (omega (arith, first, last)))
 
 -- the update is refused by this code
@@ -56,15 +55,13 @@ returns-in_err-code c = λ before row begins.
     nothing_goes begins (net_stays c.in_err-code.ensures.same refl) c.from_residual.ensures.0 refl
 
 pub returns-in-Refused : goal.returns-in-Refused
-returns-in-Refused c = λ before row begins.
-    let self = c.args.self.now in
+returns-in-Refused c = λ before row begins. let self = c.args.self.now in
     let file = c.args.file in
     let code = c.in-Refused.code in
     let ready = begins.ready in
     let cause = subst (IsMade self.files.net (making_of self file)) c.in-Refused.is
     c.in_ok-code.ensures.compiled in
-    let own = newest_refines ready.refines row (Update file) self.files.newest
-    ready.newest in
+    let own = newest_refines ready.refines row (Update file) self.files.newest ready.newest in
     let there = made_there self file ready.may.0 ready.may.1 in
     let coded : update_code (setting_in self) (before ++ item.Row row (Update file) ∷ []) file
     ≡ Some code = elim cause [
@@ -90,18 +87,16 @@ changed_net self new files rows changed same ports = record {
 }
 
 -- the plan is that of the next version
-planned : (c : In-Planned) (before : List Item) (row : ℕ)
-    → BeginsStep before row (Update c.args.file) c.args.self.now
-    → IsPlanOfNext (setting_in c.args.self.now) before c.args.file c.in-Planned.plan
-    c.in-Planned.touched
+planned : (c : In-Planned) (before : List Item) (row : ℕ) → BeginsStep before row
+    (Update c.args.file) c.args.self.now → IsPlanOfNext (setting_in c.args.self.now) before
+    c.args.file c.in-Planned.plan c.in-Planned.touched
 planned c before row begins =
     let self = c.args.self.now in
     let file = c.args.file in
     let ready = begins.ready in
     let made = subst (IsMade self.files.net (making_of self file)) c.in-Planned.is
     c.in_ok-code.ensures.compiled in
-    let own = newest_refines ready.refines row (Update file) self.files.newest
-    ready.newest in
+    let own = newest_refines ready.refines row (Update file) self.files.newest ready.newest in
     planned_next self.files.net self.files.files before file self.files.newest c.in-Planned.plan
     c.in-Planned.touched ready.may.0 own.0
     (made_there self file ready.may.0 ready.may.1 ∙ made.policy) made.planned
@@ -109,9 +104,8 @@ planned c before row begins =
     (sym (file_there self.files.files (file - 1) (omega (arith, ready.may.0, ready.may.1)))))
 
 pub returns-in_err-newest : goal.returns-in_err-newest
-returns-in_err-newest c = λ before row begins.
-    nothing_goes begins (net_stays c.in_ok-code.ensures.same refl)
-    c.from_residual-in_err-newest.ensures.0 refl
+returns-in_err-newest c = λ before row begins. nothing_goes begins
+    (net_stays c.in_ok-code.ensures.same refl) c.from_residual-in_err-newest.ensures.0 refl
 
 pub returns-in_err-push-in-Ok : goal.returns-in_err-push-in-Ok
 returns-in_err-push-in-Ok c = λ before row begins.
@@ -134,8 +128,7 @@ note_acts-requires c =
     ))) c.in-Ok.ensures.after ready.room)
 
 pub returns-in-Ok : goal.returns-in-Ok
-returns-in-Ok c = λ before row begins.
-    let self = c.args.self.now in
+returns-in-Ok c = λ before row begins. let self = c.args.self.now in
     let file = c.args.file in
     let ready = begins.ready in
     let of_next = planned (goal.at.returns-in-Ok c).In-Planned before row begins in
@@ -166,30 +159,26 @@ returns-in-Ok c = λ before row begins.
 -- ---- the marks refuse it
 
 pub returns : goal.returns
-returns c = λ before row begins.
-    let self = c.args.self.now in
+returns c = λ before row begins. let self = c.args.self.now in
     let file = c.args.file in
     let code = c.match-this-2.code in
     let submitted = c.submit.ensures in
     let of_next = planned (goal.at.returns c).In-Planned before row begins in
     let is : (c.submit.new.self ≡ self.controller)
     × (piece (setting_in self) before row (Update file)
-    ≡ item.Row row (Update file) ∷ item.Refused file code ∷ []) =
-    elim c.match-this-2.branch [
+    ≡ item.Row row (Update file) ∷ item.Refused file code ∷ []) = elim c.match-this-2.branch [
       | in-Err-Refused-TooManyLive w ↦
           let live : c.submit.result ≡ Err (Refused TooManyLive) = search rules in (
             rw live at submitted.refused,
-            rw w.code-is
-                (live_piece begins.ready.refines row file c.in-Planned.plan c.in-Planned.touched of_next
-                (submitted.live.0 live)),
+            rw w.code-is (live_piece begins.ready.refines row file c.in-Planned.plan
+                c.in-Planned.touched of_next (submitted.live.0 live)),
           )
       | in-Err-Refused-TooManyVersions w ↦
           let versions : c.submit.result ≡ Err (Refused TooManyVersions) = search rules in
           let many = submitted.versions.0 versions in (
             rw versions at submitted.refused,
-            rw w.code-is
-                (versions_piece begins.ready.refines row file c.in-Planned.plan c.in-Planned.touched
-                of_next many.0 many.1),
+            rw w.code-is (versions_piece begins.ready.refines row file c.in-Planned.plan
+                c.in-Planned.touched of_next many.0 many.1),
           )
     ] in
     refused code begins c.in_ok-code.ensures.same is.0 is.1 c.push-2.ensures.pushed

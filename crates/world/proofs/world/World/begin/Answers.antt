@@ -10,9 +10,8 @@ use Rattle.world.proofs.world.World.begin.Goals.{In_ok-plan}
 
 -- the policy of the first file has this plan
 first_is : (c : In_ok-plan) → first_policy c.args.files.items ≡ Some c.in_ok-plan.plan.policy
-first_is c =
-    ap first_policy (sym c.deref.ensures.value) ∙ c.first_policy.ensures
-    ∙ ap Some (sym c.in_ok-plan.ensures.policy)
+first_is c = ap first_policy (sym c.deref.ensures.value)
+    ∙ c.first_policy.ensures ∙ ap Some (sym c.in_ok-plan.ensures.policy)
 
 planned : (c : In_ok-plan)
     → plan_of c.in_ok-plan.plan.policy c.args.net.now ≡ Ok c.in_ok-plan.plan.hosted
@@ -20,14 +19,12 @@ planned c =
     ap (λ rows. plan_of rows c.args.net.now) c.in_ok-plan.ensures.policy ∙ c.in_ok-plan.ensures.plan
 
 pub new-requires-clause-first : goal.new-requires-clause-first
-new-requires-clause-first c =
-    first_is (goal.at.new-requires-clause-first c).In_ok-plan
+new-requires-clause-first c = first_is (goal.at.new-requires-clause-first c).In_ok-plan
     ∙ ap (λ (plan : PlanValue). Some plan.policy) (sym c.in_ok-first.ensures.cases)
 
 pub new-requires-clause-planned : goal.new-requires-clause-planned
-new-requires-clause-planned c =
-    plan_copied c.args.net.now c.in_ok-clone.field-0 c.in_ok-plan.plan c.in_ok-first.first
-    c.in_ok-clone.ensures.cases c.in_ok-first.ensures.cases
+new-requires-clause-planned c = plan_copied c.args.net.now c.in_ok-clone.field-0 c.in_ok-plan.plan
+    c.in_ok-first.first c.in_ok-clone.ensures.cases c.in_ok-first.ensures.cases
     (planned (goal.at.new-requires-clause-planned c).In_ok-plan)
 
 pub invariant_of-result : goal.invariant_of-result
@@ -45,8 +42,7 @@ invariant_of-result c =
     let of_files : files.files ≡ given = ap (λ (f : FilesValue). f.files) c.in_ok-files.ensures in
     let of_plan : files.newest ≡ plan.policy =
     ap (λ (f : FilesValue). f.newest) c.in_ok-files.ensures
-    ∙ ap (λ (plan : PlanValue). plan.policy) c.in_ok-first.ensures.cases in
-    record {
+    ∙ ap (λ (plan : PlanValue). plan.policy) c.in_ok-first.ensures.cases in record {
       sound = record {
         sound = net_begun net files.net of_net c.requires.net;
         owners = owners_begun net files.net c.ports.result of_net c.ports.ensures;
@@ -56,8 +52,7 @@ invariant_of-result c =
           c.new-2.ensures c.new-3.ensures
           (begun_refines net given plan switches controller near c.requires.net
           (first_whole given plan.policy (first_is at)) c.requires.sound c.requires.ports
-          (planned at)
-          (c.in_ok-switches.ensures plan c.in_ok-controller.ensures.first)
+          (planned at) (c.in_ok-switches.ensures plan c.in_ok-controller.ensures.first)
           c.in_ok-controller.ensures.first c.link_masks-near.ensures);
       newest = λ able. ap newest_policy c.in_ok-controller.ensures.first ∙ ap Some (sym of_plan);
     }

@@ -13,7 +13,6 @@ returns-clause-first c = λ able is_one.
     (λ refines. least_travels_in own _ refines (rw is_one at c.next.ensures)) able
 
 pub returns-clause-least : goal.returns-clause-least
-returns-clause-least c =
-    let own = world_value c.self.inside.parts c.self.inside.is_spent in
+returns-clause-least c = let own = world_value c.self.inside.parts c.self.inside.is_spent in
     by_view (λ w. IsLeastFrom (travels w.journal) c.args.from c.next.result) c.self.view_is
     c.self.invariant.refines (λ refines. least_from_in own _ _ refines c.next.ensures)

@@ -13,8 +13,7 @@ returns-clause-first c = λ able is_one.
     c.self.invariant.refines (λ refines. is ∙ least_waits_in own refines) able
 
 pub returns-clause-least : goal.returns-clause-least
-returns-clause-least c =
-    let own = world_value c.self.inside.parts c.self.inside.is_spent in
+returns-clause-least c = let own = world_value c.self.inside.parts c.self.inside.is_spent in
     by_view (λ w. IsLeastFrom (is_waiting w.journal) c.args.from c.next_waiting.result)
     c.self.view_is c.self.invariant.refines
     (λ refines. rw c.next_waiting.ensures (least_from_in own refines c.args.from))

@@ -11,8 +11,7 @@ use Rattle.world.proofs.world.World.step.Goals.{After-play}
 
 -- the network and the files stay
 setting_kept : (old new : Parts) → KeepNet old new → setting_in new ≡ setting_in old
-setting_kept old new keeps =
-    ap (λ (net : Net). setting_of net new.files.files) keeps.same_net
+setting_kept old new keeps = ap (λ (net : Net). setting_of net new.files.files) keeps.same_net
     ∙ ap (λ (files : List PolicyFile). setting_of old.files.net files) keeps.same_files
 
 pub returns-in_err-play-clause-setting : goal.returns-in_err-play-clause-setting
@@ -21,16 +20,14 @@ returns-in_err-play-clause-setting c =
     ∙ ap setting_at c.self.view_is
 
 pub returns-clause-setting : goal.returns-clause-setting
-returns-clause-setting c =
-    setting_kept c.self.inside.parts c.play.new.self c.in_ok-play.ensures.net
+returns-clause-setting c = setting_kept c.self.inside.parts c.play.new.self c.in_ok-play.ensures.net
     ∙ ap setting_at c.self.view_is
 
 pub play-requires : goal.play-requires
 play-requires c =
     let room = subst (λ (w : WorldValue). HasRoom w.journal) c.self.view_is
     (has_room (c.self.invariant.refines c.if-self.false)
-    (omega (arith, c.sent.ensures, c.if-sent-ge-FULL_AT.false))) in
-    record {
+    (omega (arith, c.sent.ensures, c.if-sent-ge-FULL_AT.false))) in record {
       sound = c.self.invariant.sound;
       refines = c.self.invariant.refines c.if-self.false;
       newest = c.self.invariant.newest c.if-self.false;
@@ -42,9 +39,8 @@ play-requires c =
     }
 
 pub returns-then-sent-ge-FULL_AT-clause-full : goal.returns-then-sent-ge-FULL_AT-clause-full
-returns-then-sent-ge-FULL_AT-clause-full c = λ is.
-    subst (λ (w : WorldValue). IsFull w.journal) c.self.view_is
-    (is_full (c.self.invariant.refines c.if-self.false)
+returns-then-sent-ge-FULL_AT-clause-full c = λ is. subst (λ (w : WorldValue). IsFull w.journal)
+    c.self.view_is (is_full (c.self.invariant.refines c.if-self.false)
     (omega (arith, c.sent.ensures, c.if-sent-ge-FULL_AT.true)))
 
 pub returns-in_err-play-clause-full : goal.returns-in_err-play-clause-full
@@ -57,8 +53,7 @@ room c = subst (λ (w : WorldValue). HasRoom w.journal) c.self.view_is
     (has_room (c.self.invariant.refines c.if-self.false)
     (omega (arith, c.sent.ensures, c.if-sent-ge-FULL_AT.false)))
 
-may : (c : After-play)
-    → let old = world_value c.self.inside.parts c.self.inside.is_spent in
+may : (c : After-play) → let old = world_value c.self.inside.parts c.self.inside.is_spent in
     IsStep old.net (length old.files) c.args.step.now
 may c = subst (λ (w : WorldValue). IsStep w.net (length w.files) c.args.step.now)
     (sym c.self.view_is) (c.requires.may (room c))
@@ -75,15 +70,13 @@ returns-clause-refused c = λ able full.
     absurd (omega (arith, room (goal.at.returns-clause-refused c).After-play, full))
 
 pub returns-then-sent-ge-FULL_AT-clause-so_far : goal.returns-then-sent-ge-FULL_AT-clause-so_far
-returns-then-sent-ge-FULL_AT-clause-so_far c = λ able.
-    subst (λ (w : WorldValue). HoldsSoFar (setting_at w) w.journal) c.self.view_is
-    (so_far_in c.journals_hold_so_far.ensures
-    (world_value c.self.inside.parts c.self.inside.is_spent)
-    (c.self.invariant.refines c.if-self.false))
+returns-then-sent-ge-FULL_AT-clause-so_far c = λ able. subst
+    (λ (w : WorldValue). HoldsSoFar (setting_at w) w.journal) c.self.view_is
+    (so_far_in c.journals_hold_so_far.ensures (world_value c.self.inside.parts
+    c.self.inside.is_spent) (c.self.invariant.refines c.if-self.false))
 
 pub returns-in_err-play-clause-so_far : goal.returns-in_err-play-clause-so_far
-returns-in_err-play-clause-so_far c = λ able.
-    let after : List Item = c.play.new.self.log.journal in
+returns-in_err-play-clause-so_far c = λ able. let after : List Item = c.play.new.self.log.journal in
     subst (λ (w : WorldValue). HoldsSoFar (setting_at w) after) c.self.view_is
     (part_so_far c.journals_hold_so_far.ensures
     (world_value c.self.inside.parts c.self.inside.is_spent)
@@ -91,8 +84,7 @@ returns-in_err-play-clause-so_far c = λ able.
     (may (goal.at.returns-in_err-play-clause-so_far c).After-play) c.in_err-play.ensures.part)
 
 pub returns-clause-so_far : goal.returns-clause-so_far
-returns-clause-so_far c = λ able.
-    let after : List Item = c.play.new.self.log.journal in
+returns-clause-so_far c = λ able. let after : List Item = c.play.new.self.log.journal in
     subst (λ (w : WorldValue). HoldsSoFar (setting_at w) after) c.self.view_is
     (step_so_far c.journals_hold_so_far.ensures
     (world_value c.self.inside.parts c.self.inside.is_spent)

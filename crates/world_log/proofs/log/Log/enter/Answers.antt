@@ -20,12 +20,10 @@ module _ {T E : Type 0} (r : Result T E) (number packet : ℕ) (at : Standing) (
   closed (Some what) is log = absurd cc
 
   entered : (said : Arrival) (answer : Option Answer) → Some said ≡ option_map Answered answer
-      → LogAfter r (item.Entered at.packet at.switch at.header
-      ∷ arrived_items number at 0 None said) (arrived_posts at said) packet
-      (arrived_flight 0 None said) old new → Is answer
+      → LogAfter r (item.Entered at.packet at.switch at.header ∷ arrived_items number at 0 None
+      said) (arrived_posts at said) packet (arrived_flight 0 None said) old new → Is answer
   entered said None is log = absurd cc
-  entered said (Some what) is log =
-      let same : said ≡ Answered what = cc in
+  entered said (Some what) is log = let same : said ≡ Answered what = cc in
       subst (λ said. LogAfter r (item.Entered at.packet at.switch at.header
       ∷ arrived_items number at 0 None said) (arrived_posts at said) packet
       (arrived_flight 0 None said) old new) same log
@@ -33,9 +31,8 @@ module _ {T E : Type 0} (r : Result T E) (number packet : ℕ) (at : Standing) (
 pub returns-in-None-clause-log : goal.returns-in-None-clause-log
 returns-in-None-clause-log c =
     let s = c.args.switch.now in
-    let P : ℕ → Type 0 = λ here.
-    LogAfter c.end.result (item.Closed c.args.packet here ∷ []) [] c.args.packet None
-    c.args.self.now c.end.new.self in
+    let P : ℕ → Type 0 = λ here. LogAfter c.end.result (item.Closed c.args.packet here ∷ []) []
+    c.args.packet None c.args.self.now c.end.new.self in
     closed c.end.result (length c.args.self.now.bag + 1) c.args.packet
     (coming_in c.args.packet c.args.header.now s.number) c.args.self.now c.end.new.self
     (admitted s (site_of c.args.site) (incoming_packet s c.args.packet c.args.header.now))
@@ -62,8 +59,7 @@ returns-in_ok-push-in-Some-clause-log c =
     (said s.number)
     (admitted s (site_of c.args.site) (incoming_packet s c.args.packet c.args.header.now))
     (c.in-Some.ensures.answer (site_of c.args.site) c.args.packet)
-    (subst P c.number-number.ensures.number
-    (log_behind c.settle.result
-    (item.Entered c.args.packet c.number-number.result c.args.header.now ∷ []) _ [] _
-    c.args.packet _ self (record self { journal = c.push.new.self }) c.settle.new.self
+    (subst P c.number-number.ensures.number (log_behind c.settle.result
+    (item.Entered c.args.packet c.number-number.result c.args.header.now ∷ []) _ [] _ c.args.packet
+    _ self (record self { journal = c.push.new.self }) c.settle.new.self
     c.in_ok-push-in-Some.ensures.pushed (sym (append-nil self.bag)) refl c.settle.ensures.log))

@@ -15,15 +15,13 @@ use Rattle.world_log.proofs.log.Log.follow.Goals as goal
 -- by the next switch of its route
 module _ {T E : Type 0} (r : Result T E) (number : ℕ) (s : SwitchValue) (near : ℕ) (ports : Ports)
     (t : Flight) (packet : ℕ) (old new : Log) where
-  by_next : (onward : Option ℕ) → next t.tunnel ≡ onward
-      → (let m = move_answer t.tunnel onward in
+  by_next : (onward : Option ℕ) → next t.tunnel ≡ onward → (let m = move_answer t.tunnel onward in
       LogAfter r (ended_items number s near ports (record t { tunnel = m.tunnel }) m.end)
       (ended_posts s near ports (record t { tunnel = m.tunnel }) m.end) packet
       (ended_flight s near ports (record t { tunnel = m.tunnel }) m.end) old new)
       → LogAfter r (followed_items number s near ports t) (followed_posts s near ports t) packet
       (followed_flight s near ports t) old new
-  by_next onward is log =
-      subst (λ o. let m = move_answer t.tunnel o in
+  by_next onward is log = subst (λ o. let m = move_answer t.tunnel o in
       LogAfter r (ended_items number s near ports (record t { tunnel = m.tunnel }) m.end)
       (ended_posts s near ports (record t { tunnel = m.tunnel }) m.end) packet
       (ended_flight s near ports (record t { tunnel = m.tunnel }) m.end) old new) (sym is) log
@@ -36,8 +34,7 @@ asked s t onward is = ap (λ o. ended_switch s (move_answer t.tunnel o).end) (sy
 -- ---- it moves on
 
 pub move_to-requires : goal.move_to-requires
-move_to-requires c =
-    subst (λ place. place < length c.args.kept.tunnel.route)
+move_to-requires c = subst (λ place. place < length c.args.kept.tunnel.route)
     (ap (λ place. place + 1) (sym c.place-place.ensures.place))
     (slice_get_within c.args.kept.tunnel.route (c.args.kept.tunnel.place + 1) c.in-Some.next
     (sym c.next.ensures ∙ c.in-Some.is))
@@ -58,28 +55,24 @@ returns-in_ok-put-in-Some-clause-log c =
     (subst (λ packet. LogAfter c.push.result (item.Hopped packet c.in-Some.next ∷ []) [] packet
     (Some (placed_at (t.tunnel.place + 1) t)) self now) c.packet-packet.ensures
     (log_one c.push.result (item.Hopped c.packet-packet.result c.in-Some.next)
-    c.packet-packet.result (Some (placed_at (t.tunnel.place + 1) t)) self now
-    c.push.ensures.pushed c.push.ensures.unchanged refl
-    (subst (λ (k : Flight). WithOne self.travelling c.packet-packet.result (Some k) c.put.new.self)
-    moved c.in_ok-put-in-Some.ensures)))
+    c.packet-packet.result (Some (placed_at (t.tunnel.place + 1) t)) self now c.push.ensures.pushed
+    c.push.ensures.unchanged refl (subst (λ (k : Flight). WithOne self.travelling
+    c.packet-packet.result (Some k) c.put.new.self) moved c.in_ok-put-in-Some.ensures)))
 
 pub returns-in_ok-put-in-Some-clause-asked : goal.returns-in_ok-put-in-Some-clause-asked
-returns-in_ok-put-in-Some-clause-asked c =
-    on_ok_weaker c.push.result (λ _. asked c.args.switch.now c.args.kept (Some c.in-Some.next)
-    (sym c.next.ensures ∙ c.in-Some.is)) c.push.ensures.pushed
+returns-in_ok-put-in-Some-clause-asked c = on_ok_weaker c.push.result (λ _. asked c.args.switch.now
+    c.args.kept (Some c.in-Some.next) (sym c.next.ensures ∙ c.in-Some.is)) c.push.ensures.pushed
 
 -- ---- or it has arrived
 
 pub receive-forwarding-requires-clause-here : goal.receive-forwarding-requires-clause-here
-receive-forwarding-requires-clause-here c =
-    let t = c.args.kept.tunnel in
+receive-forwarding-requires-clause-here c = let t = c.args.kept.tunnel in
     placed (StandsAt c.args.switch.now) c.route.result.now c.place-place.result t
     c.route.ensures c.place-place.ensures.place
     (c.requires.last (sym c.next.ensures ∙ c.in-None.is)).0
 
 pub receive-forwarding-requires-clause-last : goal.receive-forwarding-requires-clause-last
-receive-forwarding-requires-clause-last c =
-    let t = c.args.kept.tunnel in
+receive-forwarding-requires-clause-last c = let t = c.args.kept.tunnel in
     placed (λ route place. ◌≡◌ {A = Option ℕ} (slice_get route (place + 1)) None)
     c.route.result.now c.place-place.result t c.route.ensures c.place-place.ensures.place
     (sym c.next.ensures ∙ c.in-None.is)
@@ -119,7 +112,6 @@ returns-in_ok-at-in-None-clause-log c =
     c.settle.ensures.log)
 
 pub returns-in_ok-at-in-None-clause-asked : goal.returns-in_ok-at-in-None-clause-asked
-returns-in_ok-at-in-None-clause-asked c =
-    on_ok_weaker c.settle.result (λ _. c.settle.ensures.same ∙ c.receive-forwarding.ensures.after
-    ∙ asked c.args.switch.now c.args.kept None (sym c.next.ensures ∙ c.in-None.is))
-    c.settle.ensures.log.written
+returns-in_ok-at-in-None-clause-asked c = on_ok_weaker c.settle.result
+    (λ _. c.settle.ensures.same ∙ c.receive-forwarding.ensures.after ∙ asked c.args.switch.now
+    c.args.kept None (sym c.next.ensures ∙ c.in-None.is)) c.settle.ensures.log.written

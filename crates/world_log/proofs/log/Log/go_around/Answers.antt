@@ -18,30 +18,26 @@ use Rattle.world_log.proofs.log.Log.go_around.Goals as goal
 use Rattle.world_log.proofs.log.Log.go_around.Goals.{After-push, In_ok-mark_down}
 
 -- memory ran out behind the link
-fails : (c : After-push) {T E : Type 0} (r : Result T E) (now : Log) (switch : SwitchValue) → IsErr r
-    → now.journal ≡ c.args.self.now.journal
-    ++ item.FoundDown c.args.at.packet c.args.at.switch c.args.other ∷ []
-    → (before : SwitchValue) (t : Flight) → MeetsDownLink (standing_kept c.args.at) c.args.at.version
-    c.args.at.rule c.args.leg c.args.targets c.args.other before c.args.switch.now
-    c.args.site.near t
-    → HasHopped r c.args.at.packet before c.args.site.near c.args.site.ports.now c.args.self.now
-    switch now t
+fails : (c : After-push) {T E : Type 0} (r : Result T E) (now : Log) (switch : SwitchValue)
+    → IsErr r → now.journal ≡ c.args.self.now.journal ++ item.FoundDown c.args.at.packet
+    c.args.at.switch c.args.other ∷ [] → (before : SwitchValue) (t : Flight)
+    → MeetsDownLink (standing_kept c.args.at) c.args.at.version c.args.at.rule c.args.leg
+    c.args.targets c.args.other before c.args.switch.now c.args.site.near t → HasHopped r
+    c.args.at.packet before c.args.site.near c.args.site.ports.now c.args.self.now switch now t
 fails c r now switch failed grown before t met = record {
   log = log_failed r _ _ c.args.at.packet _ c.args.self.now now failed
       (found_part before c.args.site.near c.args.site.ports.now t
       (length c.args.self.now.bag + 1) c.args.at.packet c.args.at.switch c.args.other
-      c.args.self.now.journal now.journal met.found
-      (ap (λ (a : Standing). a.packet) met.stands) (ap (λ (a : Standing). a.switch) met.stands)
-      grown);
+      c.args.self.now.journal now.journal met.found (ap (λ (a : Standing). a.packet) met.stands)
+      (ap (λ (a : Standing). a.switch) met.stands) grown);
   counted = on_ok_failed _ r failed;
 }
 
 out_of_memory : (c : After-push) {T E : Type 0} {e : E} (now : Log) (switch : SwitchValue)
-    → now.journal ≡ c.args.self.now.journal
-    ++ item.FoundDown c.args.at.packet c.args.at.switch c.args.other ∷ []
-    → (before : SwitchValue) (t : Flight) → MeetsDownLink (standing_kept c.args.at) c.args.at.version
-    c.args.at.rule c.args.leg c.args.targets c.args.other before c.args.switch.now
-    c.args.site.near t
+    → now.journal ≡ c.args.self.now.journal ++ item.FoundDown c.args.at.packet c.args.at.switch
+    c.args.other ∷ [] → (before : SwitchValue) (t : Flight)
+    → MeetsDownLink (standing_kept c.args.at) c.args.at.version c.args.at.rule c.args.leg
+    c.args.targets c.args.other before c.args.switch.now c.args.site.near t
     → HasHopped {T = T} (Err e) c.args.at.packet before c.args.site.near c.args.site.ports.now
     c.args.self.now switch now t
 out_of_memory c {T} {E} {e} now switch = fails c {T = T} {E = E} (Err e) now switch refl
@@ -53,22 +49,19 @@ returns-in_err-push c = λ before t met. record {
 }
 
 pub returns-in_err-mark_down : goal.returns-in_err-mark_down
-returns-in_err-mark_down c =
-    fails (goal.at.returns-in_err-mark_down c).After-push c.from_residual-in_err-mark_down.result
-    (record c.args.self.now { journal = c.push.new.self }) c.args.switch.now
-    c.from_residual-in_err-mark_down.ensures.0 c.in_ok-push.ensures.pushed
+returns-in_err-mark_down c = fails (goal.at.returns-in_err-mark_down c).After-push
+    c.from_residual-in_err-mark_down.result (record c.args.self.now { journal = c.push.new.self })
+    c.args.switch.now c.from_residual-in_err-mark_down.ensures.0 c.in_ok-push.ensures.pushed
 
 pub returns-in-Err-NoMemory : goal.returns-in-Err-NoMemory
-returns-in-Err-NoMemory c =
-    out_of_memory (goal.at.returns-in-Err-NoMemory c).After-push
+returns-in-Err-NoMemory c = out_of_memory (goal.at.returns-in-Err-NoMemory c).After-push
     (record c.args.self.now { journal = c.push.new.self }) c.shared_route.new.self
     c.in_ok-push.ensures.pushed
 
 -- ---- there is no other route
 
 pub returns-in-Err-Refused : goal.returns-in-Err-Refused
-returns-in-Err-Refused c = λ before t met.
-    let at = standing_kept c.args.at in
+returns-in-Err-Refused c = λ before t met. let at = standing_kept c.args.at in
     let s = c.args.switch.now in
     let near = c.args.site.near in
     let links : List ℕ = unwrap_or (option_copied c.links.result) no_links in
@@ -78,19 +71,16 @@ returns-in-Err-Refused c = λ before t met.
     let cause = c.in-Err-Refused.cause in
     let both : (route_of s.database s.number c.args.targets near links ≡ None)
     × (cause ≡ cause_of s near links c.args.leg c.args.targets) =
-    subst (IfRefused (λ cause.
-    (route_of s.database s.number c.args.targets near links ≡ None)
-    × (cause ≡ cause_of s near links c.args.leg c.args.targets)))
-    c.in-Err-Refused.field-0-is c.in-Err-Refused.ensures.refused in
+    subst (IfRefused (λ cause. (route_of s.database s.number c.args.targets near links ≡ None)
+    × (cause ≡ cause_of s near links c.args.leg c.args.targets))) c.in-Err-Refused.field-0-is
+    c.in-Err-Refused.ensures.refused in
     let mid : Log = record c.args.self.now { journal = c.push.new.self } in
     let log = stuck_log at c.args.at.version c.args.at.rule c.args.leg c.args.targets c.args.other
-    before s near t met links links_are cause both.0 both.1 c.stuck.result
-    c.args.site.ports.now (length c.args.self.now.bag + 1) c.args.self.now mid
-    c.stuck.new.self c.in_ok-push.ensures.pushed refl refl
-    (subst (λ (a : Standing). LogAfter c.stuck.result
+    before s near t met links links_are cause both.0 both.1 c.stuck.result c.args.site.ports.now
+    (length c.args.self.now.bag + 1) c.args.self.now mid c.stuck.new.self
+    c.in_ok-push.ensures.pushed refl refl (subst (λ (a : Standing). LogAfter c.stuck.result
     (item.Stuck a.packet a.switch cause c.args.leg a.down ∷ []) [] a.packet None mid
-    c.stuck.new.self) marked (rw c.in-Err-Refused.field-0-is at c.stuck.ensures)) in
-    record {
+    c.stuck.new.self) marked (rw c.in-Err-Refused.field-0-is at c.stuck.ensures)) in record {
       log = log;
       counted = on_ok_weaker c.stuck.result (λ _. c.shared_route.ensures.same ∙ met.asked
           ∙ stuck_switch at c.args.at.version c.args.at.rule c.args.leg c.args.targets
@@ -106,8 +96,7 @@ kept_is : (c : In_ok-mark_down) (leg : Leg) (targets route : List ℕ) (kept : F
     → kept ≡ travels_by (begun_at (marked_at (standing_kept c.args.at) c.args.other) leg targets route)
     c.args.at.version c.args.at.rule
 kept_is c leg targets route kept is =
-    is
-    ∙ ap (λ (a : Standing). travels_by (begun_at a leg targets route)
+    is ∙ ap (λ (a : Standing). travels_by (begun_at a leg targets route)
     c.mark_down.new.self.version c.mark_down.new.self.rule) c.in_ok-mark_down.ensures.marked
     ∙ ap (λ (a : packet.Standing). travels_by (begun_at (marked_at (standing_kept c.args.at)
     c.args.other) leg targets route) a.version a.rule) c.mark_down.ensures.rest
@@ -135,8 +124,7 @@ follow-requires-clause-last c =
     c.args.targets c.args.other before s near t met links links_are route some))
 
 pub returns-in_ok-push-in-Ok : goal.returns-in_ok-push-in-Ok
-returns-in_ok-push-in-Ok c = λ before t met.
-    let at = standing_kept c.args.at in
+returns-in_ok-push-in-Ok c = λ before t met. let at = standing_kept c.args.at in
     let s = c.args.switch.now in
     let near = c.args.site.near in
     let ports = c.args.site.ports.now in
@@ -162,9 +150,8 @@ returns-in_ok-push-in-Ok c = λ before t met.
     (followed_flight w near ports k) mid c.follow.new.self in
     let log = turned_log at c.args.at.version c.args.at.rule c.args.leg c.args.targets c.args.other
     before s near t met links links_are route some c.follow.result ports n self mid
-    c.follow.new.self grown refl refl
-    (subst (P s) its (subst (λ w. P w c.begin-kept.result) c.shared_route.ensures.same
-    c.follow.ensures.log)) in
+    c.follow.new.self grown refl refl (subst (P s) its
+    (subst (λ w. P w c.begin-kept.result) c.shared_route.ensures.same c.follow.ensures.log)) in
     record {
       log = log;
       counted = on_ok_weaker c.follow.result (λ is. turned_switch at c.args.at.version

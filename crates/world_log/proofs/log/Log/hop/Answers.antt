@@ -43,27 +43,23 @@ module _ (c : After-place-place) where
   its = sym (ap option_copied c.in-Some.is) ∙ c.look.ensures
 
   own : slice_get c.args.switches.now (here kept.tunnel) ≡ Some asked
-  own =
-      subst (λ n. slice_get c.args.switches.now n ≡ Some asked) c.here-here.ensures.here
+  own = subst (λ n. slice_get c.args.switches.now n ≡ Some asked) c.here-here.ensures.here
       (slice_get-get_or c.args.switches.now c.here-here.result c.index-switches-here.result
       (subst (λ n. n < length c.args.switches.now) (sym c.here-here.ensures.here)
       (c.requires.there kept (sym its))))
 
   may : MayGoOn c.args.packet asked links kept
-  may =
-      subst (λ n. MayGoOn c.args.packet asked (slice_index c.args.near.now n) kept)
+  may = subst (λ n. MayGoOn c.args.packet asked (slice_index c.args.near.now n) kept)
       (sym c.here-here.ensures.here) (c.requires.may kept asked (sym its) own)
 
   stands : StandsAt asked c.route-route.result.now c.place-place.result
-  stands =
-      placed (StandsAt asked) c.route-route.result.now c.place-place.result kept.tunnel
+  stands = placed (StandsAt asked) c.route-route.result.now c.place-place.result kept.tunnel
       c.route-route.ensures c.place-place.ensures.place may.here
 
   passed : (answer : Onward)
       → answer ≡ onward_to links (slice_get c.route-route.result.now (c.place-place.result + 1))
       → answer ≡ onward_to links (next kept.tunnel)
-  passed answer =
-      passed_by links answer c.route-route.result.now c.place-place.result kept.tunnel
+  passed answer = passed_by links answer c.route-route.result.now c.place-place.result kept.tunnel
       c.route-route.ensures c.place-place.ensures.place
 
   -- what the packet does there is what the hop does
@@ -87,15 +83,13 @@ module _ (c : After-place-place) where
       → Hops r c.args.packet c.args.near.now c.args.ports.now c.args.self.now c.args.switches.now
       c.args.self.now (set c.args.switches.now c.here-here.result after)
       (flight c.args.self.now.travelling c.args.packet)
-  fails r after failed =
-      hops r after c.args.self.now (record {
-        log = log_unwritten failed refl;
-        counted = on_ok_failed _ r failed;
-      })
+  fails r after failed = hops r after c.args.self.now (record {
+    log = log_unwritten failed refl;
+    counted = on_ok_failed _ r failed;
+  })
 
 pub pass-requires : goal.pass-requires
-pass-requires c =
-    let before = (goal.at.pass-requires c).After-place-place in
+pass-requires c = let before = (goal.at.pass-requires c).After-place-place in
     record { serving = (may before).serving; here = stands before }
 
 -- ---- it moves on
@@ -176,10 +170,9 @@ returns-in_ok-at-in-AtEnd c =
     (arrival_log c.settle.result (length self.bag + 1) (call_counted s) near ports k
     (standing_kept at) at.version at.rule c.leg-leg.result c.args.packet _ self c.settle.new.self
     (says.at ∙ ap (λ n. standing_at n k) here) says.version says.rule c.leg-leg.ensures
-    (ap (λ (a : Standing). a.packet) says.at ∙ (may before).known)
-    (rw c.pass.ensures.after at (c.receive-forwarding.ensures.answer (around near ports)
-    at.packet (standing_kept at).down)) c.settle.ensures.log)
-    (c.settle.ensures.same ∙ c.receive-forwarding.ensures.after
+    (ap (λ (a : Standing). a.packet) says.at ∙ (may before).known) (rw c.pass.ensures.after at
+    (c.receive-forwarding.ensures.answer (around near ports) at.packet (standing_kept at).down))
+    c.settle.ensures.log) (c.settle.ensures.same ∙ c.receive-forwarding.ensures.after
     ∙ ap call_counted c.pass.ensures.after))
 
 -- ---- the link to the next switch is down
@@ -188,14 +181,12 @@ met : (before : After-place-place) (c : In_ok-at-in-LinkDown)
     → MayGoOn c.args.packet (asked before) (links before) c.in-Some.kept.now
     → c.pass.result ≡ onward_to (links before) (next c.in-Some.kept.now.tunnel)
     → c.pass.new.self ≡ call_counted (asked before)
-    → MeetsDownLink (standing_kept c.in_ok-at-in-LinkDown.at)
-    c.in_ok-at-in-LinkDown.at.version c.in_ok-at-in-LinkDown.at.rule c.leg-leg-in-LinkDown.result
-    c.targets-targets.result.now c.in-LinkDown.other (asked before) c.pass.new.self
-    (links before) c.in-Some.kept.now
+    → MeetsDownLink (standing_kept c.in_ok-at-in-LinkDown.at) c.in_ok-at-in-LinkDown.at.version
+    c.in_ok-at-in-LinkDown.at.rule c.leg-leg-in-LinkDown.result c.targets-targets.result.now
+    c.in-LinkDown.other (asked before) c.pass.new.self (links before) c.in-Some.kept.now
 met before c may passed after =
     let k = c.in-Some.kept.now in
-    let says = c.in_ok-at-in-LinkDown.ensures in
-    record {
+    let says = c.in_ok-at-in-LinkDown.ensures in record {
       stands = says.at ∙ ap (λ n. standing_at n k) (c.number-in-LinkDown.ensures.number
           ∙ ap (λ (w : SwitchValue). w.number) after);
       version = says.version;
@@ -216,8 +207,7 @@ go_around-requires c =
     let before = at.After-place-place in
     let number = ap (λ (a : Standing). a.switch) c.in_ok-at-in-LinkDown.ensures.at
     ∙ c.number-in-LinkDown.ensures.number in
-    let other = c.pass.ensures.other c.in-LinkDown.other c.in-LinkDown.is in
-    record {
+    let other = c.pass.ensures.other c.in-LinkDown.other c.in-LinkDown.is in record {
       serving = rw c.pass.ensures.after (may before).serving;
       stamped = rw c.pass.ensures.after (may before).stamped;
       met = (
@@ -236,9 +226,8 @@ go_around-requires c =
     }
 
 pub returns-in_err-at-in-LinkDown : goal.returns-in_err-at-in-LinkDown
-returns-in_err-at-in-LinkDown c =
-    fails (goal.at.returns-in_err-at-in-LinkDown c).After-place-place _ _
-    c.from_residual-in_err-at-in-LinkDown.ensures.0
+returns-in_err-at-in-LinkDown c = fails (goal.at.returns-in_err-at-in-LinkDown c).After-place-place
+    _ _ c.from_residual-in_err-at-in-LinkDown.ensures.0
 
 pub returns-in_ok-at-in-LinkDown : goal.returns-in_ok-at-in-LinkDown
 returns-in_ok-at-in-LinkDown c =

@@ -11,26 +11,23 @@ use Rattle.world_log.proofs.log.Log.leave.Goals as goal
 
 pub returns-in-Drop-clause-log : goal.returns-in-Drop-clause-log
 unfolding next_of
-returns-in-Drop-clause-log c =
-    by_action c.end.result (standing_kept c.args.at) c.args.at.packet c.args.self.now
-    c.end.new.self c.args.switch.now (site_of c.args.site) c.args.decision Drop c.in-Drop.is
-    c.end.ensures
+returns-in-Drop-clause-log c = by_action c.end.result (standing_kept c.args.at) c.args.at.packet
+    c.args.self.now c.end.new.self c.args.switch.now (site_of c.args.site) c.args.decision Drop
+    c.in-Drop.is c.end.ensures
 
 pub returns-in-None-clause-log : goal.returns-in-None-clause-log
-returns-in-None-clause-log c =
-    unowned c.stuck.result (standing_kept c.args.at) c.args.at.packet c.args.self.now
-    c.stuck.new.self c.args.switch.now (site_of c.args.site) c.args.decision c.in-Out.port
-    c.in-Out.is (sym c.owner.ensures ∙ c.in-None.is) c.stuck.ensures
+returns-in-None-clause-log c = unowned c.stuck.result (standing_kept c.args.at) c.args.at.packet
+    c.args.self.now c.stuck.new.self c.args.switch.now (site_of c.args.site) c.args.decision
+    c.in-Out.port c.in-Out.is (sym c.owner.ensures ∙ c.in-None.is) c.stuck.ensures
 
 pub returns-then-owner-number-clause-log : goal.returns-then-owner-number-clause-log
-returns-then-owner-number-clause-log c =
-    owned c.end-then-owner-number.result (standing_kept c.args.at) c.args.at.packet
-    c.args.self.now c.end-then-owner-number.new.self c.args.switch.now (site_of c.args.site)
-    c.args.decision c.in-Out.port c.in-Some.owner true c.in-Out.is (sym c.owner.ensures ∙ c.in-Some.is)
-    (eq-eqb c.in-Some.owner c.args.switch.now.number
-    (c.if-owner-number.true ∙ c.number.ensures.number))
-    (subst (λ (i : Item). LogAfter c.end-then-owner-number.result (i ∷ []) [] c.args.at.packet
-    None c.args.self.now c.end-then-owner-number.new.self) c.leaves.ensures
+returns-then-owner-number-clause-log c = owned c.end-then-owner-number.result
+    (standing_kept c.args.at) c.args.at.packet c.args.self.now c.end-then-owner-number.new.self
+    c.args.switch.now (site_of c.args.site) c.args.decision c.in-Out.port c.in-Some.owner true
+    c.in-Out.is (sym c.owner.ensures ∙ c.in-Some.is) (eq-eqb c.in-Some.owner
+    c.args.switch.now.number (c.if-owner-number.true ∙ c.number.ensures.number))
+    (subst (λ (i : Item). LogAfter c.end-then-owner-number.result (i ∷ []) [] c.args.at.packet None
+    c.args.self.now c.end-then-owner-number.new.self) c.leaves.ensures
     c.end-then-owner-number.ensures)
 
 pub returns-else-owner-number-clause-log : goal.returns-else-owner-number-clause-log
@@ -52,6 +49,5 @@ returns-else-owner-number-clause-log c =
     (ne_eqb c.in-Some.owner s.number
     (λ same. c.if-owner-number.false (same ∙ sym c.number.ensures.number)))
     (exits c.set_out.result at c.args.at.packet c.args.self.now c.set_out.new.self decision
-    (set_out s site.near (packet_standing at) leg to)
-    (subst (λ these. Q (set_out s site.near (packet_standing at) leg these)) targets
-    c.set_out.ensures.log))
+    (set_out s site.near (packet_standing at) leg to) (subst (λ these. Q
+    (set_out s site.near (packet_standing at) leg these)) targets c.set_out.ensures.log))

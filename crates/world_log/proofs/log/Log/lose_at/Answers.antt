@@ -22,13 +22,11 @@ loop-packet-smaller c =
     omega (arith, within, c.in-Some.ensures.0)
 
 pub returns-in_err-lose-clause-part : goal.returns-in_err-lose-clause-part
-returns-in_err-lose-clause-part c =
-    on_err c.from_residual.result
+returns-in_err-lose-clause-part c = on_err c.from_residual.result
     (rw c.in_err-lose.ensures.unchanged (lost_part _ _ _ _ _ _ c.loop-packet.invariant.0))
 
 pub returns-in_err-lose-clause-left : goal.returns-in_err-lose-clause-left
-returns-in_err-lose-clause-left c =
-    on_err c.from_residual.result
+returns-in_err-lose-clause-left c = on_err c.from_residual.result
     (rw c.in_err-lose.ensures.unchanged (c.loop-packet.from, c.loop-packet.invariant.0))
 
 pub returns-in_err-lose-clause-unsent : goal.returns-in_err-lose-clause-unsent

@@ -7,6 +7,5 @@ note_each-requires c =
     subst (MayNote c.args.self.now.bag) (sym (map-id c.args.acts.items)) c.requires
 
 pub returns : goal.returns
-returns c =
-    subst (λ acts. HasNoted c.note_each.result acts c.args.self.now c.note_each.new.self)
+returns c = subst (λ acts. HasNoted c.note_each.result acts c.args.self.now c.note_each.new.self)
     (map-id c.args.acts.items) c.note_each.ensures

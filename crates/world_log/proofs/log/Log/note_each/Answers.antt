@@ -5,12 +5,11 @@ use Rattle.world_log.proofs.MessageLogs.{AreDone, acts_of, come_all, come_more, 
 use Rattle.world_log.proofs.log.Log.note_each.Goals as goal
 
 pub loop-one-init : goal.loop-one-init
-loop-one-init g c =
-    let came = c.into_iter-one-iterator.ensures.into_iter_gives in (
-      done_begun c.args.self.now.journal c.args.self.now.bag,
-      record { parts = came.0; many = omega (arith, came.1, c.args.all.ok.0) },
-      refl,
-    )
+loop-one-init g c = let came = c.into_iter-one-iterator.ensures.into_iter_gives in (
+  done_begun c.args.self.now.journal c.args.self.now.bag,
+  record { parts = came.0; many = omega (arith, came.1, c.args.all.ok.0) },
+  refl,
+)
 
 pub note-requires : goal.note-requires
 note-requires g c =
@@ -19,8 +18,7 @@ note-requires g c =
     let first = c.loop-one.yielded in
     let one = c.in-Some.one in
     let next = acts_of act first _ all (come_next all first _ _ one _ c.loop-one.invariant.1
-    c.in-Some.ensures.steps.0) in
-    record {
+    c.in-Some.ensures.steps.0) in record {
       few = omega (
         arith,
         done_few _ _ _ _ (map act first) c.loop-one.invariant.0 _ (map act all) (act one) next,
@@ -31,13 +29,11 @@ note-requires g c =
     }
 
 pub returns-in_err-note : goal.returns-in_err-note
-returns-in_err-note g c =
-    let acts = map g.T.Noted.act c.args.all.items in
+returns-in_err-note g c = let acts = map g.T.Noted.act c.args.all.items in
     noting_failed c.from_residual.result acts c.args.self.now c.note.new.log
     c.from_residual.ensures.0
     (subst (λ journal. IsPart c.args.self.now.journal
-    (act_items (length c.args.self.now.bag + 1) acts) journal)
-    (sym c.in_err-note.ensures.unwritten)
+    (act_items (length c.args.self.now.bag + 1) acts) journal) (sym c.in_err-note.ensures.unwritten)
     (done_part _ _ _ _ (map g.T.Noted.act c.loop-one.yielded) c.loop-one.invariant.0 _ acts
     (acts_of g.T.Noted.act c.loop-one.yielded _ c.args.all.items c.loop-one.invariant.1.parts)))
     (c.in_err-note.ensures.travelling ∙ c.loop-one.invariant.2)
@@ -56,8 +52,7 @@ returns g c =
     let self = c.loop-one.self in
     let done = subst (λ all. AreDone c.args.self.now.journal c.args.self.now.bag
     (map g.T.Noted.act all) self.journal self.bag)
-    (come_all _ _ _ _ c.loop-one.invariant.1 c.in-None.ensures.steps.0)
-    c.loop-one.invariant.0 in
+    (come_all _ _ _ _ c.loop-one.invariant.1 c.in-None.ensures.steps.0) c.loop-one.invariant.0 in
     record {
       written = done.written;
       posted = done.posted;

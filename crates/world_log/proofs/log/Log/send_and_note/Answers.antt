@@ -16,19 +16,17 @@ sent c = record {
 done : (c : goal.After-note_acts) → OnOk c.note_acts.result (AreDone c.args.self.now.journal
     c.args.self.now.bag (map Post c.args.messages.items ++ c.args.acts.items)
     c.note_acts.new.self.journal c.note_acts.new.self.bag)
-done c = both_ok c.note_acts.result
-    (done_both c.args.self.now.journal _ c.args.self.now.bag _ (map Post c.args.messages.items)
-    c.args.acts.items (sent c) _ _)
-    c.note_acts.ensures.written c.note_acts.ensures.posted
+done c = both_ok c.note_acts.result (done_both c.args.self.now.journal _ c.args.self.now.bag _
+    (map Post c.args.messages.items) c.args.acts.items (sent c) _ _) c.note_acts.ensures.written
+    c.note_acts.ensures.posted
 
 pub note_each-requires : goal.note_each-requires
 note_each-requires c =
     may_first c.args.self.now.bag (map Post c.args.messages.items) c.args.acts.items c.requires
 
 pub note_acts-requires : goal.note_acts-requires
-note_acts-requires c =
-    may_later c.args.self.now.bag (map Post c.args.messages.items) c.args.acts.items c.requires _
-    c.in_ok-note_each.ensures.posted
+note_acts-requires c = may_later c.args.self.now.bag (map Post c.args.messages.items)
+    c.args.acts.items c.requires _ c.in_ok-note_each.ensures.posted
 
 pub returns-in_err-note_each : goal.returns-in_err-note_each
 returns-in_err-note_each c =
@@ -43,8 +41,7 @@ pub returns : goal.returns
 returns c = record {
   written = on_ok_weaker c.note_acts.result (λ acts. acts.written) (done c);
   posted = on_ok_weaker c.note_acts.result (λ acts. acts.posted) (done c);
-  part = on_err_weaker c.note_acts.result (later_part c.args.self.now.journal _
-      c.args.self.now.bag _ (map Post c.args.messages.items) c.args.acts.items (sent c) _)
-      c.note_acts.ensures.part;
+  part = on_err_weaker c.note_acts.result (later_part c.args.self.now.journal _ c.args.self.now.bag
+      _ (map Post c.args.messages.items) c.args.acts.items (sent c) _) c.note_acts.ensures.part;
   travelling = c.note_acts.ensures.travelling ∙ c.in_ok-note_each.ensures.travelling;
 }

@@ -35,10 +35,9 @@ returns-in-Some-clause-written c =
 
 pub returns-in-Some-clause-posted : goal.returns-in-Some-clause-posted
 returns-in-Some-clause-posted c =
-    let P : Option WordValue → Type 0 = λ word. OnOk c.send.result (c.send.new.self.bag
-    ≡ c.args.self.now.bag
-    ++ map new_post (message_list (cache_message c.args.ingress
-    (cached_by c.args.decision.now word)))) in
+    let P : Option WordValue → Type 0 =
+    λ word. OnOk c.send.result (c.send.new.self.bag ≡ c.args.self.now.bag ++ map new_post
+    (message_list (cache_message c.args.ingress (cached_by c.args.decision.now word)))) in
     let Q : Body → Type 0 = λ body. OnOk c.send.result (c.send.new.self.bag
     ≡ c.args.self.now.bag ++ new_post (record {
       to = receiver.Switch c.args.ingress;

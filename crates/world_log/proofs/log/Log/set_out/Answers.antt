@@ -20,9 +20,8 @@ returns-in-Err-Refused-clause-log c =
     let cause = c.in-Err-Refused.cause in
     let both : (route_of s.database s.number c.args.targets c.args.near links ≡ None)
     × (cause ≡ cause_of s c.args.near links c.args.leg c.args.targets) =
-    subst (IfRefused (λ cause.
-    (route_of s.database s.number c.args.targets c.args.near links ≡ None)
-    × (cause ≡ cause_of s c.args.near links c.args.leg c.args.targets)))
+    subst (IfRefused (λ cause. (route_of s.database s.number c.args.targets c.args.near links
+    ≡ None) × (cause ≡ cause_of s c.args.near links c.args.leg c.args.targets)))
     c.in-Err-Refused.field-0-is c.in-Err-Refused.ensures.refused in
     let Q : Result TunnelValue Cause → Type 0 = λ found.
     LogAfter c.stuck.result (set_item at c.args.leg found ∷ []) [] c.args.at.packet
@@ -50,8 +49,7 @@ returns-in_ok-put-in-Ok-clause-log c =
     subst Q (route_known s c.args.near (packet_standing at) c.args.leg c.args.targets links route
     c.links.ensures some)
     (subst (λ (i : Item). LogAfter c.push.result (i ∷ []) [] c.args.at.packet (Some kept)
-    c.args.self.now now) item_is
-    (log_one c.push.result c.takes_route-item.result c.args.at.packet (Some kept) c.args.self.now
-    now c.push.ensures.pushed c.push.ensures.unchanged refl
+    c.args.self.now now) item_is (log_one c.push.result c.takes_route-item.result c.args.at.packet
+    (Some kept) c.args.self.now now c.push.ensures.pushed c.push.ensures.unchanged refl
     (subst (λ (k : Flight). WithOne c.args.self.now.travelling c.args.at.packet (Some k)
     c.put.new.self) c.begin-kept.ensures c.in_ok-put-in-Ok.ensures)))
