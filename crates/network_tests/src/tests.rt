@@ -1,11 +1,5 @@
-mod journal_lines;
 mod loads;
-mod marks;
-mod messages;
 mod pairs;
-mod quiet_journals;
 mod replays;
-mod routes;
-mod sends;
 mod traces;
 mod worlds;

@@ -7,6 +7,5 @@ mod loads;
 mod meter_runs;
 mod networks;
 mod one_switch;
-mod placements;
 mod plans;
 mod policies;

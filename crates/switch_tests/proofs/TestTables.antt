@@ -1,5 +1,5 @@
 -- The tables that tests use are sound: one region has all headers, and one rule decides them.
-use Rattle.std.proofs.Common.{[], ◌<◌, ◌==◌, ◌^◌, ◌∙◌, ◌∷◌, ◌≡◌, Bool, IfSome, IsSomeAnd, IsTrue, List, None, Option, Some, ap, arith, cond, eq-eqb, eqb-true, false, get_or, is_some, length, lit<, map, refl, slice_get, sym, true, ℕ}
+use Rattle.std.proofs.Common.{[], ◌<◌, ◌==◌, ◌^◌, ◌∙◌, ◌∷◌, ◌≡◌, Bool, IfSome, IsSomeAnd, IsTrue, List, None, Option, Some, ap, arith, cond, eq-eqb, eqb-true, false, get_or, length, lit<, map, refl, slice_get, sym, true, ℕ}
 use Rattle.base.proofs.Exports.{All-one, slice_get-get_or}
 use Rattle.five_tuple.specs.Exports.{number_of}
 use Rattle.five_tuple.specs.declared.header.Header.{Header}
@@ -14,7 +14,7 @@ use Rattle.failover.specs.declared.advert.Advert.{Advert}
 use Rattle.switch_table.specs.Exports.{AreSoundTables}
 use Rattle.switch_table.specs.declared.tables.PartRow.{PartRow}
 use Rattle.switch_table.specs.declared.tables.Tables.{Tables}
-use Rattle.switch_core.specs.Exports.{CanLookUp, IsAtAuthority, StandsAt, SwitchValue, held_tables, holds_version, new_switch, own_part}
+use Rattle.switch_core.specs.Exports.{CanLookUp, IsAtAuthority, StandsAt, SwitchValue, new_switch, own_part}
 use Rattle.tunnel.specs.Exports.{IsOnRoute}
 
 abbrev pub whole_row : PartRow
@@ -25,16 +25,6 @@ whole_rule = record { word = any_word; rank = 0; rule = Some 100; action = Out 2
 
 abbrev pub whole_part : Partition
 whole_part = record { number = 0; region = any_word; rules = whole_rule ∷ [] }
-
-pub sound_ingress : (t : Tables) → t.parts ≡ whole_row ∷ [] → t.auth ≡ [] → AreSoundTables t
-sound_ingress t parts auth = record {
-  one = λ header is. rw (parts, any_holds (number_of header)) refl;
-  numbers = rw auth (λ k d within. absurd (omega arith));
-  distinct = rw auth (λ i j d less within. absurd (omega arith));
-  covers = rw auth (λ k d within. absurd (omega arith));
-  few_rows = rw parts (lit< tt);
-  few_rules = rw auth (λ k d within. absurd (omega arith));
-}
 
 pub sound_authority : (t : Tables) → t.parts ≡ whole_row ∷ [] → t.auth ≡ whole_part ∷ [] →
     AreSoundTables t
@@ -69,18 +59,6 @@ at_authority t capacity base own header = by_test (t.version == 1)
 pub looks_up : (t : Tables) (capacity : ℕ) (base : List (Option Advert)) → t.version ≡ 1 →
     CanLookUp (new_switch 1 capacity t base)
 looks_up t capacity base version serving = rw (eq-eqb t.version 1 version) refl
-
--- a leg of a version that the switch doesn't have
-pub not_held : (s : SwitchValue) (header : Header) (version partition : ℕ) (holds : Bool) →
-    holds ≡ holds_version s version → holds ≡ false →
-    IsAtAuthority s header (Seek version partition)
-not_held s header version partition holds is other =
-    by_tables (held_tables s version) (sym is ∙ other)
-  where
-    by_tables : (tables : Option Tables) → is_some tables ≡ false → IfSome tables
-        (λ t. IsSomeAnd (own_part t partition) (λ part. IsTrue (is_in header part)))
-    by_tables (Some tables) h = absurd (cc)
-    by_tables None h = tt
 
 -- a packet stands at the switch that has this number
 pub stands : (s : SwitchValue) (route : List ℕ) (place at number : ℕ) → IsOnRoute route place →

@@ -1,8 +1,9 @@
-//! Worked values of a switch, its cache and the words of its cache rules, and of the wire:
-//! encodings byte by byte, bytes that are no encoding, and frames in another order than theirs.
+//! Worked values of a switch that decides and of a full cache, and of the wire: encodings byte by
+//! byte, bytes that are no encoding, and frames in another order than theirs.
 //!
-//! They make each public call once, with ample memory, on values that come from outside. There are
-//! only tests here, so that none of those crates is proved a second time together with its tests.
+//! They make the calls that no example shows, with ample memory, on values that come from outside.
+//! There are only tests here, so that none of those crates is proved a second time together with
+//! its tests.
 #![tactic(auto)]
 
 #[cfg(test)]

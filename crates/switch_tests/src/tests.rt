@@ -1,6 +1,4 @@
 mod assembled;
-mod bags;
-mod cache_words;
 mod caches;
 mod messages;
 mod spellings;

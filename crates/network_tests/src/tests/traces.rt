@@ -1,6 +1,4 @@
-//! Traces that are audited: of a packet on one switch, of changes of its policy, and of a day of
-//! several switches.
-use crate::tests::pairs::hopped;
+//! Traces that are audited: of a packet on one switch, and of changes of its policy.
 use policy_file::read_file;
 use std::alloc::Global;
 use std::test::Fail;
@@ -130,66 +128,8 @@ const BAD: [(&[&str], u32); 44] = [
     (&["meter"], 1),
 ];
 
-const ONE: &str = "priority,src,dst,sport,dport,proto,action\n\
-    600,any,10.0.2.10/32,any,443,tcp,out:2\n\
-    500,10.0.1.0/24,10.0.2.0/24,1024-65535,22,tcp,out:2\n\
-    400,any,10.0.2.0/24,any,any,any,drop\n\
-    300,10.0.0.0/16,any,any,53,udp,out:3\n\
-    200,10.0.0.0/16,any,any,any,any,out:3\n";
-
-/// The same, except that the first row drops.
-const TWO: &str = "priority,src,dst,sport,dport,proto,action\n\
-    600,any,10.0.2.10/32,any,443,tcp,drop\n\
-    500,10.0.1.0/24,10.0.2.0/24,1024-65535,22,tcp,out:2\n\
-    400,any,10.0.2.0/24,any,any,any,drop\n\
-    300,10.0.0.0/16,any,any,53,udp,out:3\n\
-    200,10.0.0.0/16,any,any,any,any,out:3\n";
-
-/// What a replay of a day prints, without most hops and messages, which no audit reads: of the
-/// first packet after its hop to b, of the second one, and when a link fails, ..
-const MORNING: &str = "  decided 1 v1 rule 600 out:2 authority b part 0\n\
-    \x20 sent 1 a cache version 1 word 000000000a00020a000001bb06/00000000ffffffff0000ffffff \
-    rule 600 out:2\n\
-    \x20 exit 1 via b d\n\
-    row 2: hop 1\n\
-    \x20 hopped 1 d\n\
-    row 2: hop 1\n\
-    \x20 out 1 port 2\n\
-    row 3: deliver 1\n\
-    \x20 delivered 1\n\
-    row 4: packet a 10.0.1.6 10.0.2.10 40001 443 tcp\n\
-    \x20 entered 2 a\n\
-    \x20 decided 2 v1 rule 600 out:2 cache 1\n\
-    \x20 exit 2 via a b d\n\
-    row 5: hop 2\n\
-    \x20 out 2 port 2\n\
-    row 6: linkdown b d\n\
-    \x20 link b d down\n\
-    \x20 sent 2 a advert b boot 1 seq 2 up a\n";
-
-/// The lines of the third packet after its hop, and the row of the update.
-const FORENOON: &str = "  decided 3 v1 rule 300 out:3 authority b part 0\n\
-    \x20 exit 3 via b a c d\n\
-    row 9: hop 3\n\
-    \x20 out 3 port 3\n\
-    row 10: update 2\n";
-
 /// The line of the second policy, as it is submitted.
 const SUBMITTED: &str = "  submitted file 2 version 2\n";
-
-/// The lines until the first version is retired.
-const NOON: &str = "  sent 15 a install boot 1 version 2\n\
-    row 11: deliver 15\n\
-    \x20 delivered 15\n\
-    \x20 sent 19 controller installed a boot 1 version 2\n\
-    \x20 current 2\n\
-    \x20 sent 23 a stamp boot 1 version 2\n";
-
-/// .. and of the fourth packet after its hop.
-const EVENING: &str = "  decided 4 v2 rule 600 drop authority b part 0\n\
-    \x20 dropped 4\n\
-    meter port 2 notes 2\n\
-    meter port 3 notes 1\n";
 
 fn verdict(alloc: Global, parts: &[&str], policies: &[&str]) -> Result<Verdict, Fail> {
     let mut files = Vec::new(alloc);
@@ -260,22 +200,5 @@ fn traces_of_changes(rt: HostRuntime) -> Result<(), Fail> {
     // there is no version before the first
     let first = verdict(alloc, &["  submitted file 1 version 1\n"], &[CHANGE])?;
     assert!(rt; first == Verdict::No { line: 1 });
-    Ok(())
-}
-
-#[test]
-fn traces_of_a_day(rt: HostRuntime) -> Result<(), Fail> {
-    let alloc = rt.alloc();
-    let first = hopped(alloc, 1, 1, "10.0.1.5 10.0.2.10 40000 443 tcp", 1)?;
-    let third = hopped(alloc, 8, 3, "10.0.1.5 8.8.8.8 5353 53 udp", 1)?;
-    let fourth = hopped(alloc, 12, 4, "10.0.1.6 10.0.2.10 40001 443 tcp", 2)?;
-    let before = format!(in alloc; "{first}{MORNING}{third}{FORENOON}")?;
-    let behind = format!(in alloc; "{fourth}{EVENING}")?;
-    let (before, behind) = (before.as_str(), behind.as_str());
-    let day = [before, SUBMITTED, NOON, RETIRED, behind];
-    let moved = [before, RETIRED, SUBMITTED, NOON, behind];
-    let is_good = verdict(alloc, &day, &[ONE, TWO])? == Verdict::Yes;
-    let bad = verdict(alloc, &moved, &[ONE, TWO])?;
-    assert!(rt; is_good && bad == Verdict::No { line: 36 });
     Ok(())
 }

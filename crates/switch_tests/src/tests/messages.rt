@@ -50,21 +50,7 @@ pub fn hello() -> Message
     }
 }
 
-pub fn cache_rule() -> Message
-    ensures { HasSpelling result }
-{
-    Message {
-        to: Place::Switch(5),
-        body: Body::CacheRule {
-            version: 3,
-            word: Word::any(),
-            rule: Some(100),
-            action: Action::Out(2),
-        },
-    }
-}
-
-// Rules that drop: this many defaults, encoded in 38 bytes each, and this many of rows, in 42.
+// Rules that drop: of no row, in 38 bytes each, and of a row, in 42 bytes each.
 fn rules(alloc: Global, defaults: u32, rows: u32) -> Result<Vec<Rule>, Fail>
     ensures { IfOk result (λ rules. length rules.items < 2 ^ 32) }
 {
@@ -91,28 +77,11 @@ fn rules(alloc: Global, defaults: u32, rows: u32) -> Result<Vec<Rule>, Fail>
     Ok(rules)
 }
 
-/// An installation of one partition: its tables are encoded in 52 bytes, plus 38 or 42 for each
+/// An installation of one partition: its tables are encoded in 52 bytes, and 38 or 42 for each
 /// rule.
 pub fn install(alloc: Global, defaults: u32, rows: u32) -> Result<Message, Fail>
     ensures { IfOk result HasSpelling }
 {
-    install_of(alloc, 1, 1, 1, defaults, rows)
-}
-
-/// The same tables under this version, for this switch in this boot.
-pub fn install_of(
-    alloc: Global,
-    version: u32,
-    switch: u32,
-    boot: u32,
-    defaults: u32,
-    rows: u32,
-) -> Result<Message, Fail>
-    ensures { IfOk result HasSpelling }
-{
-    if switch >= 64 {
-        return Err(Fail::from("no such switch"));
-    }
     let part = Partition {
         number: 0,
         region: Word::any(),
@@ -121,13 +90,13 @@ pub fn install_of(
     let mut auth = Vec::new(alloc);
     auth.push(part)?;
     let tables = Tables {
-        version,
+        version: 1,
         parts: PartRows::new(Vec::new(alloc))?,
         auth: Partitions::new(auth)?,
     };
     let tables = SharedTables::new(alloc, tables)?;
     Ok(Message {
-        to: Place::Switch(switch),
-        body: Body::Install { boot, tables },
+        to: Place::Switch(1),
+        body: Body::Install { boot: 1, tables },
     })
 }

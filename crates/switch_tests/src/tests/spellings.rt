@@ -1,7 +1,7 @@
 //! Encodings byte by byte, and bytes that are none.
 ghost use Rattle.wire.specs.Messages.{HasSpelling};
 
-use crate::tests::messages::{cache_rule, collect, hello, install, stamp};
+use crate::tests::messages::{collect, hello, stamp};
 use ctrl_msg::{Body, Message, Place};
 use std::alloc::{AllocError, Global};
 use std::test::*;
@@ -38,7 +38,7 @@ fn stamps_have_their_words(rt: HostRuntime) -> Result<(), Fail> {
     Ok(())
 }
 
-// Whether the bytes encode the `Hello` of switch 0 in its second boot.
+// Whether the bytes encode the Hello of the switch 0 in its second boot.
 fn is_hello(alloc: Global, bytes: &[u8]) -> bool {
     match decode(alloc, bytes) {
         Ok(read) => {
@@ -51,27 +51,4 @@ fn is_hello(alloc: Global, bytes: &[u8]) -> bool {
 #[test]
 fn a_spelling_is_read(rt: HostRuntime) {
     assert!(rt; is_hello(rt.alloc(), &[255, 7, 0, 0, 0, 0, 2]));
-}
-
-// Whether the encoding is decoded, but no proper beginning of it, nor the encoding and a byte more.
-fn is_read_alone(alloc: Global, message: &Message) -> Result<bool, AllocError>
-    requires { HasSpelling message.now }
-{
-    let mut bytes = encode(alloc, message)?;
-    let is_read = decode(alloc, &bytes).is_ok();
-    let mut are_malformed = true;
-    for len in 0..bytes.len() {
-        are_malformed = are_malformed && is_malformed(alloc, &bytes[..len]);
-    }
-    bytes.push(0)?;
-    Ok(is_read && are_malformed && is_malformed(alloc, &bytes))
-}
-
-#[test]
-fn no_part_of_a_spelling_is_one(rt: HostRuntime) -> Result<(), Fail> {
-    let alloc = rt.alloc();
-    let (stamp, install) = (stamp(alloc, 2)?, install(alloc, 2, 1)?);
-    let are_fixed = is_read_alone(alloc, &collect())? && is_read_alone(alloc, &cache_rule())?;
-    assert!(rt; are_fixed && is_read_alone(alloc, &stamp)? && is_read_alone(alloc, &install)?);
-    Ok(())
 }
