@@ -1,5 +1,5 @@
 -- What adverts say, whatever happened, in any order: they name only links of the network, and no
--- switch hears an advert of its own that is newer than its own one. An OSPF router that forgot its
+-- switch hears an advert of itself that is newer than what it sends. An OSPF router that forgot its
 -- sequence number may (RFC 2328, section 13.4); boot numbers, which never repeat, prevent it here.
 use Rattle.std.specs.Prelude.{[], ◌<◌, ◌∷◌, ◌≡◌, ◌≤◌, ◌⊎◌, All, IsTrue, List, Some, ℕ, ⊤}
 use Rattle.failover.specs.Exports.{AreJoined, is_newer}
@@ -9,7 +9,7 @@ use Rattle.steps.specs.Exports.{HasLink, HasSwitch}
 
 -- ---- all adverts of a journal
 
--- true of each advert that was sent, that a switch heard in its boot or has, and of each own one
+-- true of each advert that was sent, and of each that a switch heard in its boot, has or makes
 pub record AllAdverts (setting : Setting) (journal : List Item) (Holds : Advert → Type 0)
     : Type 0 where
   pub sent : (n s : ℕ) (advert : Advert) → message_of journal n ≡ Some (advert_to s advert) →
@@ -47,14 +47,14 @@ pub record LinksAreThere (setting : Setting) (journal : List Item) : Type 0 wher
 -- ---- own adverts
 
 -- the advert's boot is at most its origin's present one; and while the origin is up, the advert is
--- the origin's own one or older than it
+-- the origin's own or older than that
 pub record IsNoNewer (setting : Setting) (journal : List Item) (advert : Advert) : Type 0 where
   pub boot : advert.boot ≤ boot_of journal advert.origin
   pub own : IsTrue (is_up journal advert.origin) →
       (advert ≡ own_advert setting journal advert.origin)
       ⊎ IsTrue (is_newer (own_advert setting journal advert.origin) advert)
 
--- no advert is newer than its origin's own one
+-- no advert is newer than its origin's own
 abbrev pub OwnAreNewest : Setting → List Item → Type 0
 OwnAreNewest setting journal = AllAdverts setting journal (IsNoNewer setting journal)
 

@@ -3,7 +3,7 @@ use Rattle.std.specs.Prelude.{◌<◌, ◌≡◌, ◌≤◌, IsTrue, List, Some,
 use Rattle.update_machine.specs.Exports.{Collect, Item, Setting, acked_stamp, current_mark, is_member, message_of, retired_mark, stamp_of, to_switch, version_count}
 
 -- the current version exists; retired versions are below it and below the acknowledged stamp of
--- each member of the network, and a member is told to drop only versions below its own one
+-- each member of the network, and a member is told to drop only versions below that stamp
 pub record MarksAreBounded (setting : Setting) (journal : List Item) : Type 0 where
   pub first : 1 ≤ current_mark journal
   pub there : current_mark journal ≤ version_count journal

@@ -97,7 +97,7 @@ pub record BeginsBoot (before : List Item) (s boot : ℕ) : Type 0 where
   pub down : IsFalse (is_up before s)
   pub next : boot ≡ boot_of before s + 1
 
--- a switch that is up opens with its stamp, which is at least the version of some message that was
+-- the switch is up and opens with its stamp, which is at least the version of some message that was
 -- sent to open it in this boot
 pub record OpensRightly (before : List Item) (s stamp : ℕ) : Type 0 where
   pub up : IsTrue (is_up before s)

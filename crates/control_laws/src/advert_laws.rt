@@ -12,7 +12,7 @@ pub fn adverts_name_links()
     ensures { HoldsBehindItems LinksAreThere }
 {}
 
-/// No advert that is sent, heard or kept is newer than its origin's own one.
+/// No advert that is sent, heard or kept is newer than its origin's own.
 pub fn own_adverts_are_newest()
     ensures { HoldsBehindItems OwnAreNewest }
 {}

@@ -3,7 +3,7 @@ use Rattle.std.specs.Prelude.{None, Option, Some, ℕ}
 use Rattle.ctrl_msg.specs.declared.message.Body.{Body}
 use Rattle.ctrl_msg.specs.declared.message.Body.TheVariants.{Install, OpenAt, Stamp, Collect, Hello, Installed, Stamped}
 
--- the boot that a body carries; an advertisement and a cache rule carry none
+-- the boot that a body carries; an advert and a cache rule carry none
 abbrev pub body_boot : Body → Option ℕ
 body_boot (Install boot tables) = Some boot
 body_boot (OpenAt boot version) = Some boot

@@ -82,7 +82,7 @@ pub struct Message {
 }
 
 impl Body {
-    /// The boot that the message is for or from; `None` for an advertisement or a cache rule.
+    /// The boot that the message is for or from; `None` for an advert or a cache rule.
     pub fn boot(&self) -> Option<u32>
         ensures { result ≡ body_boot self.now }
     {

@@ -40,7 +40,7 @@ pub struct TooManyLeaves;
 ///
 /// # Errors
 /// `TooManyLeaves` exactly if that tree has more than 512 leaves; then building stops at the
-/// first leaf too many.
+/// first leaf too many. Otherwise only out of memory.
 pub fn build(alloc: Global, rules: &[Rule], cap: u32) -> Result<Tree, Failure<TooManyLeaves>>
     requires cap { 0 < cap }
     requires few_rules { length rules.now < 2 ^ 32 }

@@ -145,7 +145,7 @@ pub record Unfinished (command : Command) (files : Option Files) (takes_memory :
   pub written : WrotePart (play_text inputs.report inputs.setting.net journal full
       (gone_by inputs.setting.net journal taken) given answer) before now
 
--- the journal, the meters and the output that each status of a play ensures; if nothing was played
+-- the journal, the meters and the output that each status of a play ensures; if nothing was played,
 -- no meter remains or, if memory ran out before the command was read, all do
 abbrev pub PlayOutcome : Command → Option Files → (takes_memory : Bool) → Status → List Item
     → (taken given : List Seen) → (before now : SinkState) → Type 0

@@ -25,7 +25,7 @@ pub record IsFilledRoute (r : Inside) : Type 0 where
 abbrev pub filled_route : List ℕ → Inside
 filled_route xs = record { switches = filled_places 64 xs; len = length xs }
 
--- 64 places are those of the list that is in them
+-- the list of 64 places, put in 64 places, gives the same places
 pub filled-first_switches : (r : Inside) → IsFilledRoute r → filled_route (first_switches r) ≡ r
 filled-first_switches r h =
     let held = filled-take 64 r.len r.switches h.places h.few h.rest in rw (held.1, held.0)

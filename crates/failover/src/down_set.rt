@@ -62,7 +62,7 @@ impl DownSet {
         if one >= MAX_SWITCHES || two >= MAX_SWITCHES {
             return false;
         }
-        // The mask of the greater switch never has the other; two look-ups cost less than ordering
+        // The mask of the greater switch never has the other; two lookups cost less than ordering
         // them.
         has(masks[one as usize], two) || has(masks[two as usize], one)
     }

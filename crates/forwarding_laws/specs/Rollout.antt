@@ -67,8 +67,8 @@ pub record IsDroppedRightly (before : List Item) (packet : ℕ) : Type 0 where
   pub decided : decision_of before packet ≡ Some decision
   pub drops : decision.action ≡ Drop
 
--- how a packet ends if none of its targets is cut off: by its decision it is dropped, or leaves by
--- its decision's port; or it is lost by its own row
+-- how a packet ends that isn't cut off: by its decision it is dropped, or leaves by its decision's
+-- port; or it is lost by its own row
 abbrev pub EndsRightly : Setting → ℕ → List Item → Item → Type 0
 EndsRightly setting packet before (item.Dropped i) = (i ≡ packet) × IsDroppedRightly before packet
 EndsRightly setting packet before (item.Left i port leaving) =

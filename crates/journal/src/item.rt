@@ -106,12 +106,12 @@ pub enum Item {
         place: u32,
         message: u32,
     },
-    /// The policy of the file became this version.
+    /// The policy that the file has or makes became this version.
     Submitted {
         file: u32,
         version: u32,
     },
-    /// The policy of the file was refused with this code.
+    /// The policy or the change of the file was refused with this code.
     Refused {
         file: u32,
         code: u32,

@@ -66,7 +66,7 @@ pub record IsRedirected (setting : Setting) (before : List Item)
       ≡ found.Redirect partition targets
   pub stamp : version ≡ stamp_of before switch
 
--- its decision, just made, is a port of another switch
+-- its decision, just made, is to leave by a port of another switch
 pub record IsSentOut (setting : Setting) (before : List Item) (packet switch port : ℕ) : Type 0
   where
     pub judged : stage_of before packet ≡ Some Judged
@@ -216,7 +216,7 @@ pub record SendsRule (setting : Setting) (before : List Item) (message : Message
 
 -- ---- ends
 
--- its decision, just made, is a port of its switch; or it arrives at the switch of its port
+-- its decision, just made, is to leave by a port of its switch; or it arrives at its port's switch
 abbrev pub IsAtPort : Setting → List Item → ℕ → ℕ → ℕ → Type 0
 IsAtPort setting before packet switch port =
     ((stage_of before packet ≡ Some Judged) × ((owner setting port == switch) ≡ true)

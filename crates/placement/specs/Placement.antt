@@ -150,7 +150,7 @@ placement_of sizes rooms backups =
     let turns = in_order (is_earlier sizes) (range_with_len 0 (length sizes)) in
     placement_from sizes rooms backups (replicate (length sizes) []) turns
 
--- the placement that the function returns satisfies the relation, and so does its refusal
+-- what the function returns, a placement or a refusal, satisfies its own relation
 abbrev pub MeetsPlacement : List ℕ → List ℕ → ℕ → Result (List (List ℕ)) ℕ → Type 0
 MeetsPlacement sizes rooms backups answer =
     MatchResult answer (IsPlacement sizes rooms backups) (LacksRoom sizes rooms backups)

@@ -36,7 +36,7 @@ pub struct NoRoom {
 ///
 /// # Errors
 /// `NoRoom` with the first partition, by falling size and then by number, that finds fewer switches
-/// than it needs.
+/// than it needs; or out of memory.
 pub fn place(
     alloc: Global,
     sizes: &[u32],

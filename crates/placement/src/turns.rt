@@ -27,7 +27,7 @@ impl Load {
     ///
     /// # Errors
     /// `NoRoom` with the first partition, by falling key and then by number, that finds fewer
-    /// switches than it needs.
+    /// switches than it needs; or out of memory.
     pub fn take_turns(
         self,
         alloc: Global,

@@ -14,7 +14,7 @@ pub record AreFilledTargets (t : Inside) : Type 0 where
 abbrev pub filled_targets : List ℕ → Inside
 filled_targets xs = record { places = filled_places 4 xs; len = length xs }
 
--- four places are those of the list that is in them
+-- the list of four places, put in four places, gives the same places
 pub filled_targets-take : (t : Inside) → AreFilledTargets t
     → filled_targets (take t.len t.places) ≡ t
 filled_targets-take t h =

@@ -60,7 +60,7 @@ impl Amendment {
     /// # Errors
     /// `Repeated` exactly if a priority occurs twice in one of the lists. The count of
     /// edits runs over the removed priorities and then over the added rows: a number greater than
-    /// the count of removed priorities names an added row.
+    /// the count of removed priorities names an added row. Otherwise only out of memory.
     pub fn new(
         alloc: Global,
         removed: Vec<u32>,
@@ -86,7 +86,7 @@ impl Amendment {
     /// The amendment of these edits.
     ///
     /// # Errors
-    /// `Repeated` exactly if an edit repeats an earlier one.
+    /// `Repeated` exactly if an edit repeats an earlier one; otherwise only out of memory.
     pub fn of_edits(alloc: Global, edits: Vec<Edit>) -> Result<Amendment, Failure<Repeated>>
         requires { vec_len edits < 2 ^ 32 }
         ensures edits { IfOk result (λ change. change ≡ edits.items) }

@@ -38,7 +38,7 @@ pub type ApplyError = Failure<Inapplicable>;
 /// # Errors
 /// The first of these: `Absent` exactly if a removed priority belongs to no row, `Taken`
 /// exactly if an added row has the priority of one that stays, `TooManyRows` exactly if there
-/// would be more than 2,000 rows.
+/// would be more than 2,000 rows. Otherwise only out of memory.
 pub fn apply(alloc: Global, policy: &Policy, change: &Amendment) -> Result<Policy, ApplyError>
     ensures applied { IfOk result (λ amended. applied policy.now change.now ≡ Ok amended) }
     ensures policy { IfOk result IsPolicy }

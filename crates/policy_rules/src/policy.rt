@@ -102,7 +102,7 @@ impl Policy {
     /// The policy of these rows.
     ///
     /// # Errors
-    /// `SamePriority` exactly if two rows have the same priority.
+    /// `SamePriority` exactly if two rows have the same priority; otherwise only out of memory.
     pub fn new(alloc: Global, rows: Vec<Row>) -> Result<Policy, Failure<SamePriority>>
         requires { vec_len rows < 2 ^ 32 }
         ensures rows { IfOk result (λ policy. policy ≡ rows.items) }

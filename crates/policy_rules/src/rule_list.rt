@@ -32,7 +32,7 @@ pub struct TooManyWords {
 ///
 /// # Errors
 /// `TooManyWords` exactly if the rows have more than 4,096 words together; this is checked
-/// before anything is allocated.
+/// before anything is allocated. Otherwise only out of memory.
 pub fn to_rules(alloc: Global, policy: &Policy) -> Result<Vec<Rule>, Failure<TooManyWords>>
     ensures rules { IfOk result (λ rules. rules.items ≡ rules_of policy.now) }
     ensures first_match { IfOk result (λ rules. (header : Header) → IsHeader header →

@@ -196,7 +196,7 @@ fn read_six(
 /// The event that the record states for the network and this many policy files.
 ///
 /// # Errors
-/// The first fault: the kind, then the number of fields, then the fields from left to right.
+/// The first refusal: the kind, then the number of fields, then the fields from left to right.
 #[tactic(auto, using(crate::proofs::EventFields::counted))]
 pub fn read_event(fields: &ByteRecord, net: &Net, files: u32) -> Result<Event, ScheduleRefusal>
     requires { IsNet net.now }

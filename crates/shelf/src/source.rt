@@ -1,4 +1,4 @@
-//! The source of whole files, and a look-up among files in memory.
+//! The source of whole files, and a lookup among files in memory.
 ghost use Rattle.std.specs.Prelude.{◌≡◌, ◌≤◌, ◌↔◌, IfOk, IsErrOf, false, find, length, string_bytes};
 ghost use Rattle.std.specs.Option.{ForSome, ForNone, option_copied};
 ghost use Rattle.std.specs.Str.{bytes_eq};

@@ -21,7 +21,7 @@ pub enum Step {
     Forget { message: u32 },
     /// The entry at this place of the switch's cache expires; the place of the oldest is 0.
     Expire { switch: u32, place: u32 },
-    /// The policy of this file becomes the newest version, or is refused; the first file is 1.
+    /// The policy that this file, from 1, has or makes becomes the newest version, or is refused.
     Update { file: u32 },
     /// The link between these two switches fails.
     LinkDown { one: u32, two: u32 },

@@ -115,7 +115,7 @@ impl Switch {
         }
     }
 
-    // The switch's stamp, if the body opens it; `None` if it was open already.
+    // The stamp with which the body opens the switch; `None` if it doesn't open it.
     fn opened_by(&self, body: &Body) -> Option<u32>
         ensures { result ≡ opened_by self.now body.now }
     {

@@ -8,7 +8,7 @@ use std::alloc::{AllocError, Global};
 use std::marker::Model;
 use ternary::Word;
 
-// The least new entries before the masks are collected again.
+// The fewest new entries before the masks are collected again.
 const LEAST_WAIT: usize = 1024;
 
 // The most masks that count as few.
@@ -118,7 +118,7 @@ impl Masks {
     }
 }
 
-// Whether one look-up for each mask is less work than a test of each entry, if there are this many.
+// Whether one lookup for each mask is less work than a test of each entry, if there are this many.
 fn are_few(masks: usize, entries: usize) -> bool {
     masks <= MAX_FEW.min(entries / 64)
 }

@@ -62,7 +62,7 @@ unfoldable pub route_from : Setting → List Item → ℕ → List ℕ → List 
 route_from setting journal s targets down =
     route_of (adverts_known setting journal s) s targets (near setting journal s) down
 
--- none of the links that the switch knows, except those that are down, ends at the target
+-- the target is another switch, and no link that this switch knows, without those down, ends at it
 unfoldable pub is_cut_off : Setting → List Item → ℕ → List ℕ → ℕ → Bool
 is_cut_off setting journal s down target =
     is_isolated (adverts_known setting journal s) s target (near setting journal s) down

@@ -28,7 +28,7 @@ use Rattle.update_machine.specs.PacketRoutes.{found_down, next_switch, route_in,
 use Rattle.update_machine.specs.LinkMasks.{near, adverts_begun, adverts_heard, links_known}
 use Rattle.update_machine.specs.Touched.{touched_by}
 
--- the journal says nothing about a packet that didn't enter
+-- a journal without items says nothing about the packet
 pub record PacketStarts (i : ℕ) : Type 0 where
   pub header : header_in [] i ≡ None
   pub ingress : ingress_of [] i ≡ None
@@ -41,7 +41,7 @@ pub record PacketStarts (i : ℕ) : Type 0 where
   pub next : next_switch [] i ≡ None
   pub found : found_down [] i ≡ no_links
 
--- the journal says nothing about a message that wasn't sent
+-- a journal without items says nothing about the message
 pub record MessageStarts (n : ℕ) : Type 0 where
   pub message : message_of [] n ≡ None
   pub delivered : was_delivered [] n ≡ false
@@ -221,7 +221,7 @@ pub record KnownLinkLaws : Type 0 where
   pub route : (setting : Setting) (journal : List Item) (s : ℕ) (targets down : List ℕ) →
       IsRoute (links_known setting journal s down) s targets
       (route_from setting journal s targets down)
-  -- a target is cut off exactly if it is another switch and no known link ends at it
+  -- a target is isolated exactly if it is another switch and no known link ends at it
   pub cut_off : (setting : Setting) (journal : List Item) (s target : ℕ) (down : List ℕ) →
       IsTrue (is_cut_off setting journal s down target) ↔
       IsIsolated (links_known setting journal s down) s target

@@ -128,7 +128,7 @@ pub fn other_items_change_nothing()
 {}
 
 /// A switch knows the newest advert of each other one, and routes by the least shortest path over
-/// the links that it knows. A target is cut off exactly if it is another switch and no known link
+/// the links that it knows. A target is isolated exactly if it is another switch and no known link
 /// ends at it. There is no route to a port that no switch has.
 pub fn switches_know_links()
     ensures { KnownLinkLaws }

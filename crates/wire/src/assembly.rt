@@ -70,7 +70,7 @@ fn complete(alloc: Global, frames: &[Frame]) -> Result<Message, WireError>
 /// The message of these frames at rising places; `None` if there are fewer than `count`.
 ///
 /// # Errors
-/// `Malformed` exactly if there are as many, and they are the frames of no message.
+/// `Malformed` exactly if there are as many, and they are those of no message; or out of memory.
 pub(crate) fn message_of(
     alloc: Global,
     count: u32,

@@ -39,7 +39,7 @@ fn rooms_too_small_and_large_enough(rt: HostRuntime) {
 
 #[test]
 fn the_least_loaded_switch_with_room_comes_first(rt: HostRuntime) {
-    // Partition 1 goes to switch 0 and 2 to switch 1; then 0 fits only with 1, and 3 joins 2.
+    // Partition 1 goes to switch 0 and 2 to 1; then 0 fits only at switch 0, and 3 goes to 1.
     let wanted: [&[u32]; 4] = [&[0], &[0], &[1], &[1]];
     assert!(rt; is_placed(rt.alloc(), &[2, 5, 5, 1], &[10, 6], 0, &wanted));
 }
