@@ -31,14 +31,15 @@ use Rattle.difane_cli.specs.declared.status.Status.TheVariants as status
 
 -- ---- plays
 
--- the inputs have the network and the policies that the command names, and are within the limits
+-- as many policies as the command names, the network of one switch if it names none, and its
+-- report; and the inputs are within the limits
 pub record IsReplayOf (command : ReplayCommand) (inputs : Inputs) : Type 0 where
   pub net : IsNetOf command.net inputs.setting.net
   pub policies : length inputs.setting.files ≡ length command.policies
   pub report : inputs.report ≡ command.report
   pub limits : AreWithinLimits inputs
 
--- the inputs are those that the command names: a replay's, or the load case
+-- the inputs are as the command asks: as many files as it names, or the load case
 abbrev pub IsPlayOf : Command → Inputs → Type 0
 IsPlayOf (asked.Replay args) inputs = IsReplayOf args inputs
 IsPlayOf (asked.Load n) inputs = inputs ≡ case_inputs (load_case n)

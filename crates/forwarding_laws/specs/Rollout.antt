@@ -1,7 +1,7 @@
 -- If no switch crashes and no link fails, the network drops no packet: however many updates run,
 -- and however messages are lost, repeated or reordered. A packet ends by its decision, is lost by
--- its own row, or is cut off. That an update drops none is a requirement of Reitblatt, Foster,
--- Rexford, Schlesinger and Walker, "Abstractions for Network Update".
+-- its own row, or is stuck, cut off from its targets. That an update drops none is a requirement
+-- of Reitblatt, Foster, Rexford, Schlesinger and Walker, "Abstractions for Network Update".
 use Rattle.std.specs.Prelude.{[], ◌++◌, ◌∷◌, ◌≡◌, ◌≢◌, All, Bool, Contains, IsFalse, List, Some, false, true, ℕ, ⊤}
 use Rattle.update_machine.specs.Exports.{AreTargets, Cause, Crash, Decision, Drop, Event, Header, Item, Leads, LeavesRightly, Leg, LinkDown, Lose, Net, One, Setting, Step, decision_of, present_step, standing}
 use Rattle.journal.specs.declared.item.Item.TheVariants as item

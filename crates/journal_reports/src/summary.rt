@@ -6,9 +6,9 @@ use journal::{How, Item, Journal};
 /// What became of the packets of a play, what was sent in it, and the versions that it ended with.
 #[derive(Clone, Copy)]
 pub struct Summary {
-    /// Packets that entered, or were refused at a switch that did not serve.
+    /// Packets that entered, or came to a switch that did not serve.
     pub packets: usize,
-    /// Packets that were refused at a switch that did not serve.
+    /// Packets that came to a switch that did not serve.
     pub closed: usize,
     /// Packets that left the network by a port.
     pub delivered: usize,

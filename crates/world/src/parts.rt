@@ -22,7 +22,7 @@ pub struct Parts {
     pub near: [u64; 64],
     pub switches: Vec<Switch>,
     pub log: Log,
-    /// How many packets entered or were refused.
+    /// How many packets entered or came to a switch that did not serve.
     pub packets: u32,
     pub controller: Controller,
 }
@@ -55,7 +55,7 @@ impl Parts {
         }
     }
 
-    // A packet enters at a switch, or is refused there.
+    // A packet enters at a switch, or the switch does not serve.
     fn packet(&mut self, alloc: Global, switch: u32, header: &Header) -> Result<(), AllocError>
         requires { HasBegun (PacketStep switch header.now) self.old }
         ensures { Plays (PacketStep switch header.now) result self.old self.new }

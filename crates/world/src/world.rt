@@ -208,7 +208,7 @@ impl World {
         &self.parts.controller
     }
 
-    /// How many packets entered or were refused.
+    /// How many packets entered or came to a switch that did not serve.
     pub fn packets(&self) -> u32
         ensures { result ≡ self.now.packets }
     {
