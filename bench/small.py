@@ -439,14 +439,18 @@ def schedules(folder, turns=20):
 
 SWITCHES = """//! Hands packets to a switch again and again.
 #![tactic(auto)]
+ghost use Rattle.std.specs.Prelude.{◌≡◌};
+ghost use Rattle.net_file.specs.Exports.{IsNet};
+ghost use Rattle.switch_table.specs.Exports.{AreSoundTables};
 
 use controller::{compile, tables_of};
 use ctrl_msg::SharedTables;
 use failover::{Database, DownSet, Route};
 use five_tuple::{Fields, Header};
-use net_file::read_net;
+use net_file::{Net, read_net};
 use policy_file::read_policy;
 use policy_rules::{Leg, Targets};
+use std::alloc::{AllocError, Global};
 use std::{env, fs};
 use switch_core::{Arriving, Forwarding, Onward, Switch, switch_laws};
 
@@ -516,34 +520,52 @@ fn route_to(base: &Database, target: u32, near: u64) -> Option<Route> {
     base.route(0, &targets, near, &DownSet::empty())
 }
 
-fn main(rt: HostRuntime) -> anyhow::Result<()> {
-    let alloc = rt.alloc();
-    let net = read_net(alloc, &fs::read(&rt, "FOLDER/n.toml")?)?;
-    let policy = read_policy(alloc, &fs::read(&rt, "FOLDER/p.csv")?)?;
-    let plan = compile(alloc, &policy, &net)?;
-    let tables = SharedTables::new(alloc, tables_of(alloc, &plan, 1, 0)?)?;
+// The links of each switch.
+fn links_near(net: &Net) -> [u64; 64]
+    requires { IsNet net.now }
+{
     let mut near = [0u64; 64];
-    for s in 0..64usize {
-        if s < net.switches.items().len() {
-            near[s] = net.links_of(s as u32);
-        }
+    for s in 0..64u32 {
+        near[s as usize] = net.links_of(s);
     }
+    near
+}
+
+// The first switch, with the tables of version 1.
+fn first_switch(alloc: Global, tables: SharedTables, base: &[u64; 64]) -> Result<Switch, AllocError>
+    requires sound { AreSoundTables tables }
+    requires version { tables.version ≡ 1 }
+{
     switch_laws();
-    let base = Database::begin(&near, 64);
-    let mut switch = Switch::begin(alloc, 0, 256, tables, base)?;
-    let told = Database::begin(&near, 64);
+    Switch::begin(alloc, 0, 256, tables, Database::begin(base, 64))
+}
+
+// As many calls of each kind as the arguments say.
+fn calls(rt: &HostRuntime) -> anyhow::Result<[u32; 3]> {
     let mut turns = [0u32; 3];
-    for (place, arg) in env::args(&rt)?.skip(1).enumerate() {
+    for (place, arg) in env::args(rt)?.skip(1).enumerate() {
         if place < 3 {
             turns[place] = arg.parse::<u32>()?;
         }
     }
-    let [admitted, passing, received] = turns;
+    Ok(turns)
+}
+
+fn main(rt: HostRuntime) -> anyhow::Result<()> {
+    let alloc = rt.alloc();
+    let net = read_net(alloc, &fs::read(&rt, "FOLDER/n.toml")?)?;
+    let policy = read_policy(alloc, &fs::read(&rt, "FOLDER/p.csv")?)?;
+    let near = links_near(&net);
+    let plan = compile(alloc, &policy, &net)?;
+    let tables = SharedTables::new(alloc, tables_of(alloc, &plan, 1, 0)?)?;
+    let mut switch = first_switch(alloc, tables, &near)?;
+    let [admitted, passing, received] = calls(&rt)?;
+    let base = Database::begin(&near, 64);
     let mut counted = admit_all(&mut switch, admitted);
-    if let Some(route) = route_to(&told, 1, near[0]) {
+    if let Some(route) = route_to(&base, 1, near[0]) {
         counted = counted.wrapping_add(pass_all(&mut switch, &route, near[0], passing));
     }
-    if let Some(route) = route_to(&told, 0, near[0]) {
+    if let Some(route) = route_to(&base, 0, near[0]) {
         counted = counted.wrapping_add(receive_all(&mut switch, &route, received));
     }
     println!(rt; "{counted}")?;
@@ -557,7 +579,7 @@ def switches(folder, turns=2_000_000):
     links = "".join(f'[[link]]\nends = ["s{s}", "s{(s + 1) % 64}"]\n' for s in range(64))
     write(folder, p_csv=in_512_parts(), n_toml=network(3, 1, 64) + links)
     uses = ["anyhow", "controller", "ctrl_msg", "failover", "five_tuple", "net_file"]
-    uses += ["policy_file", "policy_rules", "switch_core"]
+    uses += ["policy_file", "policy_rules", "switch_core", "switch_table"]
     text = SWITCHES.replace("FOLDER", str(folder))
     program = build(folder, "switch_turns", uses, text, ["0", "0", "0"])
     none = seconds(program, 0, 0, 0)
