@@ -15,8 +15,7 @@ thirds = record { region = fix_of (fix_of any_word 71 false) 103 false; targets 
     ∷ record { region = fix_of any_word 71 true; targets = 1 ∷ [] } ∷ []
 
 one_third : (a b : ℕ) → a < 2 → b < 2
-    → 0 + cond ((a == 0) && (b == 0)) 1 0 + cond ((a == 0) && (b == 1)) 1 0 + cond (a == 1) 1 0
-    ≡ 1
+    → 0 + cond ((a == 0) && (b == 0)) 1 0 + cond ((a == 0) && (b == 1)) 1 0 + cond (a == 1) 1 0 ≡ 1
 one_third a b p q = grind (arith, nat_tests)
 
 free_high : IsFalse (is_fixed_of (fix_of any_word 71 false) 103)

@@ -20,9 +20,8 @@ text_written text in_memory takes_memory before now result after untouched = rec
   failed = after.failed;
   no_memory = λ is. inl (after.no_memory is);
   faults = after.faults;
-}
-  where
-    failed : (r : Result (⊤) SinkError) → OnErr r (GainedPart before.bytes text now.bytes)
-        → IsErrOf r sink.Failed → GainedPart before.bytes text now.bytes
-    failed (Ok done) part is = absurd (cc is)
-    failed (Err why) part is = part
+} where
+  failed : (r : Result (⊤) SinkError) → OnErr r (GainedPart before.bytes text now.bytes)
+      → IsErrOf r sink.Failed → GainedPart before.bytes text now.bytes
+  failed (Ok done) part is = absurd (cc is)
+  failed (Err why) part is = part

@@ -14,29 +14,25 @@ TellsIfAny (Some _) = ⊥
 play_tells : (line : StatedLine) (names : List (List ℕ))
     → TellsIfAny (play_from report.Flows line names)
 play_tells line [] = tt
-play_tells line (schedule ∷ policies) = go (may_be_policies (length policies))
-  where
-    go : (b : Bool) → TellsIfAny (cond b (Some (Replay (record {
-      schedule = schedule;
-      policies = policies;
-      net = line.net;
-      report = report.Flows;
-    }))) None)
-    go true = refl
-    go false = tt
+play_tells line (schedule ∷ policies) = go (may_be_policies (length policies)) where
+  go : (b : Bool) → TellsIfAny (cond b (Some (Replay (record {
+    schedule = schedule;
+    policies = policies;
+    net = line.net;
+    report = report.Flows;
+  }))) None)
+  go true = refl
+  go false = tt
 
 line_tells : (found : Option StatedLine)
     → TellsIfAny (option_and_then (command_by (codes "flows")) found)
 line_tells None = tt
-line_tells (Some line) = go line.quiet
-  where
-    go : (quiet : Bool)
-        → TellsIfAny (cond quiet None (play_from report.Flows line line.names))
-    go true = tt
-    go false = play_tells line line.names
+line_tells (Some line) = go line.quiet where
+  go : (quiet : Bool) → TellsIfAny (cond quiet None (play_from report.Flows line line.names))
+  go true = tt
+  go false = play_tells line line.names
 
-pub flows_tell : (texts : List (List ℕ)) → asks_flows texts ≡ true
-    → TellsIfAny (command_of texts)
+pub flows_tell : (texts : List (List ℕ)) → asks_flows texts ≡ true → TellsIfAny (command_of texts)
 flows_tell [] asks = tt
 flows_tell (name ∷ args) asks =
     let is : name ≡ codes "flows" = (bytes_eq-Decides name (codes "flows")).0 asks in

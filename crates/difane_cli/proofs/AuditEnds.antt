@@ -27,8 +27,7 @@ few_parts (text ∷ next ∷ parts) = omega (arith, few_parts (next ∷ parts))
 -- at most one behind the last line feed
 few_lines : (trace : List ℕ) → length (lines_of trace) ≤ length trace + 1
 unfolding lines_of
-few_lines trace =
-    let feeds = length-slice_split (λ (b : ℕ). b == 10) trace in
+few_lines trace = let feeds = length-slice_split (λ (b : ℕ). b == 10) trace in
     omega (
       arith,
       few_parts (parts_round 10 trace),
@@ -37,9 +36,8 @@ few_lines trace =
     )
 
 -- so in a trace that isn't too long no number of a line stands still
-own_number : (files : List PolicyFile) (trace : List ℕ) (line : ℕ)
-    → length trace ≤ most_trace_bytes → IsAuditVerdict files (lines_of trace) (No line)
-    → IsFirstBad files (lines_of trace) line
+own_number : (files : List PolicyFile) (trace : List ℕ) (line : ℕ) → length trace ≤ most_trace_bytes
+    → IsAuditVerdict files (lines_of trace) (No line) → IsFirstBad files (lines_of trace) line
 own_number files trace line short is =
     let first = is.1 in
     let same : is.0 ≡ line = omega (arith, is.2, first.there, few_lines trace, short) in

@@ -27,8 +27,7 @@ policies_read (Some files) command trace is = rw (is files refl) (omega arith)
 
 pub trace_alone : (command : AuditCommand) (old new : ShelfState) → IsAfterReads 1 old new
     → IsAfterReads (most_reads old.files (Some (Audit command))) old new
-trace_alone command old new after =
-    fewer_reads 1 _ old new (trace_read old.files command) after
+trace_alone command old new after = fewer_reads 1 _ old new (trace_read old.files command) after
 
 pub both_read : (command : AuditCommand) (trace : List ℕ) (ports : ℕ) (old one new : ShelfState)
     → ports ≡ solo_ports

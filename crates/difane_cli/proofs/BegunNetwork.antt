@@ -67,9 +67,8 @@ first_drawn : (policies : List (List Row)) → 1 ≤ length policies
 first_drawn [] some = absurd (omega (arith, some))
 first_drawn (rows ∷ policies) some = refl
 
-pub are_drawn : PortLaws → (load : LoadCase) (files : List PolicyFile)
-    → 1 ≤ length load.policies → All IsPolicy load.policies → IsPlayable load
-    → files ≡ case_files load → AreDrawn load files
+pub are_drawn : PortLaws → (load : LoadCase) (files : List PolicyFile) → 1 ≤ length load.policies
+    → All IsPolicy load.policies → IsPlayable load → files ≡ case_files load → AreDrawn load files
 are_drawn laws load files some sound may same =
     let HasPort : Row → Type 0 =
     λ row. IsTrue (names_port_of (port_mask load.net.switches) row.action) in
@@ -119,12 +118,11 @@ few_named owned may =
 -- ---- the inputs of a replay
 
 -- they are as the command asks for them
-pub asked_for : (args : ReplayCommand) (net : Net) (read : List PolicyFile)
-    (events : List Event) (setting : Setting) → IsNetOf args.net net
-    → setting ≡ setting_of net read → length read ≡ length args.policies
-    → length args.policies ≤ most_policies → length events ≤ max_events
-    → All (λ file. file_length file ≤ 2000) read → IsReplayOf args
-    (record { setting = setting; events = events; report = args.report })
+pub asked_for : (args : ReplayCommand) (net : Net) (read : List PolicyFile) (events : List Event)
+    (setting : Setting) → IsNetOf args.net net → setting ≡ setting_of net read
+    → length read ≡ length args.policies → length args.policies ≤ most_policies → length events
+    ≤ max_events → All (λ file. file_length file ≤ 2000) read
+    → IsReplayOf args (record { setting = setting; events = events; report = args.report })
 asked_for args net read events setting named own many some few short = record {
   net = subst (λ s. IsNetOf args.net s.net) (sym own) named;
   policies = named_each;
@@ -134,10 +132,9 @@ asked_for args net read events setting named own many some few short = record {
     events = few;
     rows = subst (λ s. All (λ file. file_length file ≤ 2000) s.files) (sym own) short;
   };
-}
-  where
-    named_each : length setting.files ≡ length args.policies
-    named_each = ap (λ s. length s.files) own ∙ many
+} where
+  named_each : length setting.files ≡ length args.policies
+  named_each = ap (λ s. length s.files) own ∙ many
 
 -- what is planned goes on
 and_then_ok : {X Y : Type 0} (read : Result X Refusal) (result : Result Y Refusal) → IsOk read
@@ -148,26 +145,22 @@ and_then_ok (Err refusal) result is = cc is
 -- what a replay is to play, where its files are read and the first policy is planned
 abbrev pub planned_inputs : ReplayCommand → Net → List PolicyFile → List Event
     → Result Inputs Refusal
-planned_inputs args net read events =
-    and_then (first_plan args.policies net read) (λ hosted.
-    Ok (record { setting = setting_of net read; events = events; report = args.report }))
+planned_inputs args net read events = and_then (first_plan args.policies net read)
+    (λ hosted. Ok (record { setting = setting_of net read; events = events; report = args.report }))
 
 -- where all is read, what is left is to plan the first policy
 pub inputs_then : (known middle later : Option Files) (args : ReplayCommand) (net : Net)
-    (read : List PolicyFile) (events : List Event) (count ports : ℕ)
-    → middle ≡ known → later ≡ known → count ≡ length args.policies
-    → ports ≡ port_mask net.switches
+    (read : List PolicyFile) (events : List Event) (count ports : ℕ) → middle ≡ known
+    → later ≡ known → count ≡ length args.policies → ports ≡ port_mask net.switches
     → ForSome known (λ files. read_net files args.net ≡ Ok net)
     → ForSome middle (λ files. read_schedule net count files args.schedule ≡ Ok events)
     → ForSome later (λ files. read_files true ports files args.policies ≡ Ok read)
     → ForSome known (λ files. inputs_of files args ≡ planned_inputs args net read events)
 inputs_then known middle later args net read events count ports first second many mask net_is
-    events_are files_are = λ files is.
-    let own_events =
+    events_are files_are = λ files is. let own_events =
     subst (λ (n : ℕ). read_schedule net n files args.schedule ≡ Ok events) many
     (events_are files (first ∙ is)) in
-    let own_files =
-    subst (λ (p : ℕ). read_files true p files args.policies ≡ Ok read) mask
+    let own_files = subst (λ (p : ℕ). read_files true p files args.policies ≡ Ok read) mask
     (files_are files (second ∙ is)) in
     rw (net_is files is, own_events, own_files) refl
 

@@ -18,12 +18,11 @@ pub stops_with : {V : Type 0} (few all : List (List ℕ)) (most : ℕ) (old new 
     → AreAmong few all → IsAfterReads most old new → IsCalmStop old new why
     → NamesOneOf few (status_of why) → ReadsFiles all most old new result
 stops_with few all most old new why (Ok value) is wider after calm named = absurd is
-stops_with few all most old new why (Err stop) is wider after calm named =
-    rw is (record {
-      after = after;
-      calm = calm;
-      stops = among few all (status_of why) wider named;
-    })
+stops_with few all most old new why (Err stop) is wider after calm named = rw is (record {
+  after = after;
+  calm = calm;
+  stops = among few all (status_of why) wider named;
+})
 
 -- one that ends with the stop of the last of its readings, before which no fault was counted
 pub stops_behind : {V : Type 0} {n m : ℕ} (few all : List (List ℕ)) (most : ℕ)
@@ -47,17 +46,16 @@ all_calm old new (Err why) calm = λ may. calm
 pub refused_calm : (old new : ShelfState) (given : Refusal) (why : Stop)
     → (given.code ≡ missing_file) ⊎ (given.code ≡ too_long) → RefusesInput given why
     → ForSome old.files (λ files. new.faults ≡ old.faults) → IsCalmStop old new why
-refused_calm old new given why code refuses known = by old.files refl
-  where
-    follows : (why : Stop) → RefusesInput given why → MayFollowFault None (status_of why)
-    follows (stop.Refused refusal) is =
-        subst (λ (other : Refusal). (other.code ≡ missing_file) ⊎ (other.code ≡ too_long)) (sym is)
-        code
-    follows stop.NoMemory is = tt
-    follows stop.ReadFault is = absurd is
+refused_calm old new given why code refuses known = by old.files refl where
+  follows : (why : Stop) → RefusesInput given why → MayFollowFault None (status_of why)
+  follows (stop.Refused refusal) is =
+      subst (λ (other : Refusal). (other.code ≡ missing_file) ⊎ (other.code ≡ too_long)) (sym is)
+      code
+  follows stop.NoMemory is = tt
+  follows stop.ReadFault is = absurd is
 
-    by : (files : Option Files) → old.files ≡ files → IsCalmStop old new why
-    by None is = λ may. absurd (may
-        (subst (λ (files : Option Files). MayFollowFault files (status_of why)) (sym is)
-        (follows why refuses)))
-    by (Some files) is = λ may. known files is
+  by : (files : Option Files) → old.files ≡ files → IsCalmStop old new why
+  by None is = λ may. absurd (may
+      (subst (λ (files : Option Files). MayFollowFault files (status_of why)) (sym is)
+      (follows why refuses)))
+  by (Some files) is = λ may. known files is

@@ -21,8 +21,7 @@ text_accounts code name read next (failure.Refused row) (stop.Refused refusal) i
     rw is (ap Err (sym same))
 text_accounts code name read next (failure.Refused row) stop.NoMemory is same = tt
 text_accounts code name read next (failure.Refused row) stop.ReadFault is same = tt
-text_accounts code name read next failure.NoMemory (stop.Refused refusal) is same =
-    absurd (cc same)
+text_accounts code name read next failure.NoMemory (stop.Refused refusal) is same = absurd (cc same)
 text_accounts code name read next failure.NoMemory stop.NoMemory is same = tt
 text_accounts code name read next failure.NoMemory stop.ReadFault is same = tt
 
@@ -34,32 +33,30 @@ is_policy bytes none = rw none refl
 
 pub is_whole : (bytes : List ℕ) (file : PolicyFile) → is_change_text bytes ≡ false
     → policy_file_of bytes ≡ Ok file → IsSome (own_policy file)
-is_whole bytes file none is = by (policy_of bytes) file (rw (is_policy bytes none) at is)
-  where
-    by : (read : Result (List Row) (InRow PolicyRefusal)) (file : PolicyFile)
-        → on_ok Whole read ≡ Ok file → IsSome (own_policy file)
-    by (Ok rows) (Whole own) is = refl
-    by (Ok rows) _ is = absurd (cc is)
-    by (Err refused) file is = absurd (cc is)
+is_whole bytes file none is = by (policy_of bytes) file (rw (is_policy bytes none) at is) where
+  by : (read : Result (List Row) (InRow PolicyRefusal)) (file : PolicyFile)
+      → on_ok Whole read ≡ Ok file → IsSome (own_policy file)
+  by (Ok rows) (Whole own) is = refl
+  by (Ok rows) _ is = absurd (cc is)
+  by (Err refused) file is = absurd (cc is)
 
 -- so a first file that is no change is checked as any other
 first_is : (ports : ℕ) (name bytes : List ℕ) → is_change_text bytes ≡ false
     → first_stated ports name bytes ≡ file_stated ports name bytes
-first_is ports name bytes none = rw (none, is_policy bytes none) (by (policy_of bytes))
-  where
-    by_ports : (rows : List Row) (lack : Option NoPort)
-        → and_then (with_ports name rows lack) (λ own. Ok (Whole own))
-        ≡ with_ports name (Whole rows) lack
-    by_ports rows None = refl
-    by_ports rows (Some lack) = refl
+first_is ports name bytes none = rw (none, is_policy bytes none) (by (policy_of bytes)) where
+  by_ports : (rows : List Row) (lack : Option NoPort)
+      → and_then (with_ports name rows lack) (λ own. Ok (Whole own))
+      ≡ with_ports name (Whole rows) lack
+  by_ports rows None = refl
+  by_ports rows (Some lack) = refl
 
-    by : (read : Result (List Row) (InRow PolicyRefusal))
-        → and_then (and_then (read_from policy_code name read)
-        (λ rows. with_ports name rows (first_without_port ports rows))) (λ own. Ok (Whole own))
-        ≡ and_then (read_from policy_code name (on_ok Whole read))
-        (λ file. with_ports name file (first_in_file ports file))
-    by (Ok rows) = by_ports rows (first_without_port ports rows)
-    by (Err refused) = refl
+  by : (read : Result (List Row) (InRow PolicyRefusal))
+      → and_then (and_then (read_from policy_code name read)
+      (λ rows. with_ports name rows (first_without_port ports rows))) (λ own. Ok (Whole own))
+      ≡ and_then (read_from policy_code name (on_ok Whole read))
+      (λ file. with_ports name file (first_in_file ports file))
+  by (Ok rows) = by_ports rows (first_without_port ports rows)
+  by (Err refused) = refl
 
 pub stated_so : (is_first : Bool) (ports : ℕ) (name bytes : List ℕ)
     → (is_first ≡ true → is_change_text bytes ≡ false)

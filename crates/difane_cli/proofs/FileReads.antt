@@ -57,8 +57,7 @@ none_read ports names shelf = record {
 -- so it is before what is left
 pub at_next : (ports : ℕ) (names : List (Bor (List ℕ))) (i : ℕ) (own : List PolicyFile)
     (old now : ShelfState)
-    → HasRead ports (names_seen names) (drop i (names_seen names)) own old now
-    → i < length names
+    → HasRead ports (names_seen names) (drop i (names_seen names)) own old now → i < length names
     → HasRead ports (names_seen names)
     (get_or (names_seen names) i [] ∷ drop (i + 1) (names_seen names)) own old now
 at_next ports names i own old now so_far within =
@@ -68,8 +67,7 @@ at_next ports names i own old now so_far within =
 -- ---- one more
 
 more_by : (own : List PolicyFile) (file : PolicyFile) (read : Result (List PolicyFile) Refusal)
-    → and_more own (and_then read (λ more. Ok (file ∷ more)))
-    ≡ and_more (own ++ file ∷ []) read
+    → and_more own (and_then read (λ more. Ok (file ∷ more))) ≡ and_more (own ++ file ∷ []) read
 more_by own file (Ok more) = ap Ok (sym (append_assoc own (file ∷ []) more))
 more_by own file (Err refusal) = refl
 
@@ -91,13 +89,11 @@ pub first_behind : (own : List PolicyFile) (file : PolicyFile) (i : ℕ) (is_fir
     → length own ≡ i → is_first ≡ is_none own → (0 < i → IsSome (first_policy own))
     → (is_first ≡ true → IsSome (own_policy file)) → IsSome (first_policy (own ++ file ∷ []))
 first_behind [] file i is_first many none so_far next = next none
-first_behind (one ∷ own) file i is_first many none so_far next =
-    so_far (omega (arith, many))
+first_behind (one ∷ own) file i is_first many none so_far next = so_far (omega (arith, many))
 
 pub one_read : (ports : ℕ) (names left : List (List ℕ)) (name : List ℕ) (own : List PolicyFile)
-    (file : PolicyFile) (old middle now : ShelfState)
-    → HasRead ports names (name ∷ left) own old middle
-    → ForSome middle.files (λ files. read_file (is_none own) ports files name ≡ Ok file)
+    (file : PolicyFile) (old middle now : ShelfState) → HasRead ports names (name ∷ left) own old
+    middle → ForSome middle.files (λ files. read_file (is_none own) ports files name ≡ Ok file)
     → IsAfterReads 1 middle now → HasRead ports names left (own ++ file ∷ []) old now
 one_read ports names left name own file old middle now so_far read then =
     let this : ForSome old.files (λ files. read_file (is_none own) ports files name ≡ Ok file) =
@@ -122,9 +118,8 @@ one_read ports names left name own file old middle now so_far read then =
 
 -- what the next one is refused for, all are
 refuses : (read : Result PolicyFile Refusal) (own : List PolicyFile)
-    (next : PolicyFile → Result (List PolicyFile) Refusal) (given : Stop)
-    → Accounts read (status_of given)
-    → Accounts (and_more own (and_then read next)) (status_of given)
+    (next : PolicyFile → Result (List PolicyFile) Refusal) (given : Stop) → Accounts read
+    (status_of given) → Accounts (and_more own (and_then read next)) (status_of given)
 refuses read own next (stop.Refused refusal) is = rw is refl
 refuses read own next stop.ReadFault is = tt
 refuses read own next stop.NoMemory is = tt
@@ -150,16 +145,14 @@ stops_at ports names left name own seen old middle now given (Err stop) same so_
 some_read : (is_first : Bool) (ports : ℕ) (known : Option Files) (name : List ℕ)
     (left : List (List ℕ)) → 1 ≤ file_reads is_first ports known (name ∷ left)
 some_read is_first ports None name left = omega arith
-some_read is_first ports (Some files) name left = by _ _
-  where
-    by : (accepted : Bool) (others : List Bool) → 1 ≤ up_to_refusal (accepted ∷ others)
-    by true others = omega arith
-    by false others = omega arith
+some_read is_first ports (Some files) name left = by _ _ where
+  by : (accepted : Bool) (others : List Bool) → 1 ≤ up_to_refusal (accepted ∷ others)
+  by true others = omega arith
+  by false others = omega arith
 
-pub reads_at : (ports : ℕ) (names left : List (List ℕ)) (name : List ℕ)
-    (own : List PolicyFile) (old middle now : ShelfState)
-    → HasRead ports names (name ∷ left) own old middle → IsAfterReads 1 middle now
-    → IsAfterReads (file_reads true ports old.files names) old now
+pub reads_at : (ports : ℕ) (names left : List (List ℕ)) (name : List ℕ) (own : List PolicyFile)
+    (old middle now : ShelfState) → HasRead ports names (name ∷ left) own old middle
+    → IsAfterReads 1 middle now → IsAfterReads (file_reads true ports old.files names) old now
 reads_at ports names left name own old middle now so_far then =
     reads_then (length own) 1 _ old middle now
     (omega (arith, so_far.most, some_read (is_none own) ports old.files name left)) so_far.after
@@ -169,8 +162,7 @@ reads_at ports names left name own old middle now so_far then =
 pub all_read : (ports : ℕ) (names : List (List ℕ)) (own : List PolicyFile)
     (old now : ShelfState) → HasRead ports names [] own old now
     → ForSome old.files (λ files. read_files true ports files names ≡ Ok own)
-all_read ports names own old now so_far = λ files is.
-    so_far.value files is ∙ ap Ok (append-nil own)
+all_read ports names own old now so_far = λ files is. so_far.value files is ∙ ap Ok (append-nil own)
 
 none_left : (is_first : Bool) (ports : ℕ) (known : Option Files)
     → file_reads is_first ports known [] ≡ 0
@@ -180,6 +172,5 @@ none_left is_first ports (Some files) = refl
 pub reads_all : (ports : ℕ) (names : List (List ℕ)) (own : List PolicyFile)
     (old now : ShelfState) → HasRead ports names [] own old now
     → IsAfterReads (file_reads true ports old.files names) old now
-reads_all ports names own old now so_far =
-    subst (λ (n : ℕ). IsAfterReads n old now)
+reads_all ports names own old now so_far = subst (λ (n : ℕ). IsAfterReads n old now)
     (omega (arith, so_far.most, none_left (is_none own) ports old.files)) so_far.after

@@ -44,8 +44,7 @@ notes_whole port notes =
 meter_whole : (port : ℕ) (held : List Leaving)
     → with_line_feeds (meter_texts port held) ≡ line_by port held
 meter_whole port [] = refl
-meter_whole port (one ∷ held) =
-    append-nil (notes_text port (length (one ∷ held)) ++ 10 ∷ [])
+meter_whole port (one ∷ held) = append-nil (notes_text port (length (one ∷ held)) ++ 10 ∷ [])
     ∙ notes_whole port (length (one ∷ held))
 
 meters_whole : (meters : List Seen) → with_line_feeds (all_texts meters) ≡ meter_lines meters
@@ -86,9 +85,8 @@ meter_is_last port (one ∷ held) =
 
 meters_are_last : (meters : List Seen) → All IsLastLine (all_texts meters)
 meters_are_last [] = All-nil IsLastLine
-meters_are_last (meter ∷ meters) =
-    All-append IsLastLine (meter_texts meter.port meter.held) (all_texts meters)
-    (meter_is_last meter.port meter.held) (meters_are_last meters)
+meters_are_last (meter ∷ meters) = All-append IsLastLine (meter_texts meter.port meter.held)
+    (all_texts meters) (meter_is_last meter.port meter.held) (meters_are_last meters)
 
 answer_is_last : (word : List ℕ) → IsOneLine (codes "quiet " ++ word)
     → All IsLastLine ((codes "quiet " ++ word) ∷ [])
@@ -114,18 +112,15 @@ good_text : TextsAreGood → (setting : Setting) (events : List Event) (journal 
     → length setting.files ≤ max_number
     → AreGood setting.files (lines_of (replay_text setting.net journal full meters answer))
 good_text laws setting events journal None meters answer is own play few numbered =
-    subst (λ (text : List ℕ).
-    AreGood setting.files (lines_of (journal_text setting.net journal ++ text)))
-    (last_whole meters answer)
+    subst (λ (text : List ℕ). AreGood setting.files
+    (lines_of (journal_text setting.net journal ++ text))) (last_whole meters answer)
     (laws setting events journal None (all_texts meters ++ quiet_texts answer) is own
-    (answered setting events journal None play) few numbered
-    (All-append IsLastLine (all_texts meters) (quiet_texts answer) (meters_are_last meters)
-    (quiet_is_last answer)))
+    (answered setting events journal None play) few numbered (All-append IsLastLine
+    (all_texts meters) (quiet_texts answer) (meters_are_last meters) (quiet_is_last answer)))
 good_text laws setting events journal (Some row) meters answer is own play few numbered =
     subst (λ (text : List ℕ). AreGood setting.files (lines_of text))
-    (append-nil (journal_text setting.net journal))
-    (laws setting events journal (Some row) [] is own (answered setting events journal (Some row) play)
-    few numbered (All-nil IsLastLine))
+    (append-nil (journal_text setting.net journal)) (laws setting events journal (Some row) [] is
+    own (answered setting events journal (Some row) play) few numbered (All-nil IsLastLine))
 
 -- ---- what a play tells
 
@@ -143,11 +138,9 @@ module _ (laws : TextsAreGood) (inputs : Inputs) (journal : List Item) (full : O
   good_lines few some report.Placement tells = absurd tells
   good_lines few some report.Summary tells = absurd tells
 
-  pub good_trace : (command : Command) → IsPlayOf command inputs
-      → IsGoodTrace inputs
+  pub good_trace : (command : Command) → IsPlayOf command inputs → IsGoodTrace inputs
       (play_text inputs.report inputs.setting.net journal full gone meters answer)
-  good_trace (asked.Replay args) own =
-      good_lines own.limits.events own.limits.files inputs.report
+  good_trace (asked.Replay args) own = good_lines own.limits.events own.limits.files inputs.report
   good_trace (asked.Load n) own = λ tells.
       absurd (subst (λ (drawn : Inputs). TellsLines drawn.report) own tells)
   good_trace (asked.Print args) own = absurd own

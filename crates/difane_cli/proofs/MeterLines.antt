@@ -94,8 +94,7 @@ piece_cut before middle now front piece rest whole takes_memory why written same
 
 -- a play that didn't stop full has both
 pub text_whole : (net : Net) (journal : List Item) (full : Option ℕ) (meters : List Seen)
-    (answer : Option Bool) → full ≡ None
-    → journal_text net journal ++ last_lines meters answer
+    (answer : Option Bool) → full ≡ None → journal_text net journal ++ last_lines meters answer
     ≡ replay_text net journal full meters answer
 text_whole net journal None meters answer is = refl
 text_whole net journal (Some row) meters answer is = absurd (cc is)
@@ -113,7 +112,6 @@ pub cut_short : (net : Net) (journal : List Item) (full : Option ℕ) (meters : 
     (answer : Option Bool) (before now : SinkState) (takes_memory : Bool) (why : SinkError)
     → IsAfterWrite (journal_text net journal) takes_memory before now (Err why)
     → IsAfterWrite (replay_text net journal full meters answer) takes_memory before now (Err why)
-cut_short net journal None meters answer before now takes_memory why after =
-    first_part before now (journal_text net journal) (last_lines meters answer) takes_memory why
-    after
+cut_short net journal None meters answer before now takes_memory why after = first_part before now
+    (journal_text net journal) (last_lines meters answer) takes_memory why after
 cut_short net journal (Some row) meters answer before now takes_memory why after = after

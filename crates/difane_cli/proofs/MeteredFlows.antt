@@ -34,14 +34,11 @@ told_by : (args : ReplayCommand) (files : Option Files) (journal : List Item) (g
 told_by args files journal given before now is played =
     let net = played.inputs.setting.net in
     let meters = new_meters true in
-    let told = played.played.asked.report ∙ is in
-    record {
-      written = subst (λ (all : List Seen).
-          Wrote (play_text report.Flows net journal None (gone_by net journal meters) all
-          played.answer) before now) played.kept
-          (subst (λ (r : Report).
-          Wrote (play_text r net journal None (gone_by net journal meters) given played.answer)
-          before now) told played.written);
+    let told = played.played.asked.report ∙ is in record {
+      written = subst (λ (all : List Seen). Wrote (play_text report.Flows net journal None
+          (gone_by net journal meters) all played.answer) before now) played.kept
+          (subst (λ (r : Report). Wrote (play_text r net journal None (gone_by net journal meters)
+          given played.answer) before now) told played.written);
       counted = subst (AreCounted journal) played.kept
           (played.counted most_headers (are_new (range_with_len 0 64)));
     }
@@ -54,8 +51,7 @@ told_of : (texts : List (List ℕ)) (command : Option Command) → command_of te
 told_of texts None is files takes_memory journal given before now tells known outcome =
     absurd (known refl)
 told_of texts (Some (Replay args)) is files takes_memory journal given before now tells known outcome =
-    let played = plays args.report _ _ tells outcome in
-    record {
+    let played = plays args.report _ _ tells outcome in record {
       command = Replay args;
       asked = is;
       inputs = played.inputs;
@@ -83,10 +79,9 @@ pub flows_told : (texts : List (List ℕ)) (files : Option Files) (takes_memory 
     → MeteredOutcome texts files takes_memory ended journal before now
     → (ended ≡ status.Words) ↔ (command_of texts ≡ None)
     → asks_flows texts ≡ true → ended ≡ status.Ok → TellsFlows texts files journal before now
-flows_told texts files takes_memory ended journal before now outcome words asks done =
-    told_of texts (command_of texts) refl files takes_memory journal outcome.0 before now
-    (flows_tell texts asks) (λ none. absurd (cc (sym done ∙ words.1 none)))
-    (subst (λ (b : Bool). Outcome (command_of texts) files takes_memory status.Ok journal
-    (new_meters b) outcome.0 before now) asks
+flows_told texts files takes_memory ended journal before now outcome words asks done = told_of texts
+    (command_of texts) refl files takes_memory journal outcome.0 before now (flows_tell texts asks)
+    (λ none. absurd (cc (sym done ∙ words.1 none))) (subst (λ (b : Bool). Outcome (command_of texts)
+    files takes_memory status.Ok journal (new_meters b) outcome.0 before now) asks
     (subst (λ (s : Status). Outcome (command_of texts) files takes_memory s journal
     (new_meters (asks_flows texts)) outcome.0 before now) done outcome.1))

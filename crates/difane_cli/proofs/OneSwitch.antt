@@ -25,13 +25,11 @@ no_load size = rw (and_false (is_earlier (size ∷ []) 0 0)) refl
 only_target : (size : ℕ) → size ≤ 8192 → placement_of (size ∷ []) (8192 ∷ []) 0 ≡ Ok ((0 ∷ []) ∷ [])
 unfolding placement_of in_order has_room
 only_target size few =
-    let room : leb (0 + size) 8192 ≡ true = grind (arith, nat_tests) in
-    rw (no_load size, room) refl
+    let room : leb (0 + size) 8192 ≡ true = grind (arith, nat_tests) in rw (no_load size, room) refl
 
 pub one_partition : RuleListLaws → TreeLaws → (rows : List Row) → IsPolicy rows
-    → word_total rows ≤ 4096
-    → plan_of rows solo_net ≡ Ok
-    ((record { number = 0; region = any_word; rules = rules_of rows }, 0 ∷ []) ∷ [])
+    → word_total rows ≤ 4096 → plan_of rows solo_net
+    ≡ Ok ((record { number = 0; region = any_word; rules = rules_of rows }, 0 ∷ []) ∷ [])
 unfolding numbered_from
 one_partition lists trees rows policy few =
     let rules = rules_of rows in

@@ -17,17 +17,14 @@ use Rattle.command_line.specs.Exports.{Command}
 use Rattle.replay.specs.Leavings.{kept_by, left_in}
 
 -- what the journal of a play is, and what follows
-pub played : AnswerLaws → (command : Command) (files : Option Files) (inputs : Inputs)
-    (journal : List Item) (full : Option ℕ) → IsPlayOf command inputs
+pub played : AnswerLaws → (command : Command) (files : Option Files)
+    (inputs : Inputs) (journal : List Item) (full : Option ℕ) → IsPlayOf command inputs
     → ForSome (known_task files (Some command)) (λ read. read ≡ Ok (Play inputs))
     → MayBePlayed inputs → IsPlay inputs.setting inputs.events journal full
-    → HeldOnTheWay inputs.setting journal
-    → IsAnswer command files inputs journal full
+    → HeldOnTheWay inputs.setting journal → IsAnswer command files inputs journal full
 played laws command files inputs journal full asked accepted sound play held =
-    let whole : HoldsSoFar inputs.setting journal =
-    subst (HoldsSoFar inputs.setting) (take_all (length journal) journal (omega arith))
-    (held.so_far (length journal)) in
-    record {
+    let whole : HoldsSoFar inputs.setting journal = subst (HoldsSoFar inputs.setting)
+    (take_all (length journal) journal (omega arith)) (held.so_far (length journal)) in record {
       asked = asked;
       stated = stated_by files command inputs accepted;
       accepted = accepted;
@@ -72,8 +69,7 @@ unjudged command files takes_memory inputs journal full taken given now answer k
 -- flow meters that held nothing count so
 counted_so : FlowLaws → (net : Net) (journal : List Item) (taken given : List Seen)
     → given ≡ kept_by net journal taken → CountFlows journal taken given
-counted_so laws net journal taken given kept = λ most new.
-    subst (AreCounted journal) (sym kept)
+counted_so laws net journal taken given kept = λ most new. subst (AreCounted journal) (sym kept)
     (laws.stayed most (port_mask net.switches) (left_in journal) taken new)
 
 -- a journal that was played, and what is to be told of it that was written, or not
@@ -87,9 +83,8 @@ pub told : AnswerLaws → (command : Command) (files : Option Files) (inputs : I
     (gone_by inputs.setting.net journal taken) given said)
     (is_made inputs.report full) takes_memory before now written
     → PlayOutcome command files takes_memory (status_after written full) journal taken given before now
-told laws command files inputs journal full taken given said before now takes_memory
-    (Ok done) answer kept judged after =
-    ended full (record {
+told laws command files inputs journal full taken given said before now takes_memory (Ok done)
+    answer kept judged after = ended full (record {
       inputs = inputs;
       played = answer;
       kept = kept;
@@ -107,8 +102,7 @@ told laws command files inputs journal full taken given said before now takes_me
     ended None played = played
     ended (Some row) played = played
 told laws command files inputs journal full taken given said before now takes_memory
-    (Err sink.Failed) answer kept judged after =
-    record {
+    (Err sink.Failed) answer kept judged after = record {
       inputs = inputs;
       full = full;
       played = answer;
@@ -118,8 +112,7 @@ told laws command files inputs journal full taken given said before now takes_me
       written = after.part refl;
     }
 told laws command files inputs journal full taken given said before now takes_memory
-    (Err sink.NoMemory) answer kept judged after =
-    inr (record {
+    (Err sink.NoMemory) answer kept judged after = inr (record {
       inputs = inputs;
       full = full;
       wanted = wanted (after.no_memory refl);

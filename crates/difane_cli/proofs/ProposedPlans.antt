@@ -31,27 +31,24 @@ sizes_are (hosted ∷ plan) = ap (λ sizes. length hosted.0.rules ∷ sizes) (si
 -- each partition was asked so often
 pub as_many_weights : (journal : List Item) (plan : List Hosted)
     → length (weights_in journal plan) ≡ length plan
-as_many_weights journal plan =
-    length-map (range_with_len 0 (length plan)) (weight journal)
+as_many_weights journal plan = length-map (range_with_len 0 (length plan)) (weight journal)
     ∙ length-range_with_len 0 (length plan)
 
 pub sized : (journal : List Item) (plan : List Hosted)
     → length (sizes_in plan) ≡ length (weights_in journal plan)
-sized journal plan =
-    omega (
-      arith,
-      length-map plan (λ (hosted : Hosted). length hosted.0.rules),
-      as_many_weights journal plan,
-    )
+sized journal plan = omega (
+  arith,
+  length-map plan (λ (hosted : Hosted). length hosted.0.rules),
+  as_many_weights journal plan,
+)
 
 pub targeted : (journal : List Item) (plan : List Hosted)
     → length (targets_by_partition plan) ≡ length (weights_in journal plan)
-targeted journal plan =
-    omega (
-      arith,
-      length-map plan (λ (hosted : Hosted). hosted.1),
-      as_many_weights journal plan,
-    )
+targeted journal plan = omega (
+  arith,
+  length-map plan (λ (hosted : Hosted). hosted.1),
+  as_many_weights journal plan,
+)
 
 -- a partition has a rule, since its last one covers its region
 has_rule : (part : Partition) → LastCovers part → 0 < length part.rules
@@ -62,28 +59,23 @@ weighed : (rows : List Row) (plan : List Hosted) (net : Net) (journal : List Ite
     → IsPlan rows net plan → AreWeighed (sizes_in plan) (weights_in journal plan) (rooms_of net)
 weighed rows plan net journal sound is = record {
   each = sized journal plan;
-  some = λ k d within.
-      let few : k < length plan = omega
-      (arith, within, length-map plan (λ (hosted : Hosted). length hosted.0.rules)) in
+  some = λ k d within. let few : k < length plan =
+      omega (arith, within, length-map plan (λ (hosted : Hosted). length hosted.0.rules)) in
       let all : k < length (map (λ (hosted : Hosted). hosted.0) plan) = omega
       (arith, few, length-map plan (λ (hosted : Hosted). hosted.0)) in
       sized_at k d few all;
   few = omega (arith, length-map net.switches (λ row. row.room), sound.few_switches);
-}
-  where
-    sized_at : (k d : ℕ) → k < length plan → k < length (map (λ (hosted : Hosted). hosted.0) plan)
-        → 0 < get_or (sizes_in plan) k d
-    sized_at k d few all = by_list plan k few is.ended
-      where
-        by_list : (hosts : List Hosted) (k : ℕ) → k < length hosts
-            → All LastCovers (map (λ (hosted : Hosted). hosted.0) hosts)
-            → 0 < get_or (sizes_in hosts) k d
-        by_list [] k below ended = absurd (omega (arith, below))
-        by_list (hosted ∷ hosts) zero below ended =
-            has_rule hosted.0 (ended 0 hosted.0 (omega arith))
-        by_list (hosted ∷ hosts) (suc k) below ended =
-            by_list hosts k (omega (arith, below))
-            (λ j e within. ended (suc j) e (omega (arith, within)))
+} where
+  sized_at : (k d : ℕ) → k < length plan → k < length (map (λ (hosted : Hosted). hosted.0) plan)
+      → 0 < get_or (sizes_in plan) k d
+  sized_at k d few all = by_list plan k few is.ended where
+    by_list : (hosts : List Hosted) (k : ℕ) → k < length hosts
+        → All LastCovers (map (λ (hosted : Hosted). hosted.0) hosts)
+        → 0 < get_or (sizes_in hosts) k d
+    by_list [] k below ended = absurd (omega (arith, below))
+    by_list (hosted ∷ hosts) zero below ended = has_rule hosted.0 (ended 0 hosted.0 (omega arith))
+    by_list (hosted ∷ hosts) (suc k) below ended = by_list hosts k (omega (arith, below))
+        (λ j e within. ended (suc j) e (omega (arith, within)))
 
 -- ---- the proposal
 
@@ -100,12 +92,11 @@ some_targets sizes rooms backups P fits = λ k d within.
     omega (arith, fits.targets k here, ap length (get_or_default P k d [] within))
 
 pub proposed_for : (rows : List Row) (plan : List Hosted) (net : Net) (journal : List Item)
-    (placement : List (List ℕ)) → ((sizes weights rooms : List ℕ) (backups : ℕ)
-    → AreWeighed sizes weights rooms → SpreadLaws sizes weights rooms backups) → IsNet net
-    → IsPlan rows net plan
+    (placement : List (List ℕ))
+    → ((sizes weights rooms : List ℕ) (backups : ℕ) → AreWeighed sizes weights rooms
+    → SpreadLaws sizes weights rooms backups) → IsNet net → IsPlan rows net plan
     → IsProposal (sizes_in plan) (weights_in journal plan) (rooms_of net) net.backups
-    (targets_by_partition plan) placement
-    → (All (λ switches. 0 < length switches) placement
+    (targets_by_partition plan) placement → (All (λ switches. 0 < length switches) placement
     → LeadEveryHeader rows (with_targets plan placement))
     → IsProposedFor rows plan net journal placement
 proposed_for rows plan net journal placement laws sound is proposal leads =
@@ -122,8 +113,7 @@ proposed_for rows plan net journal placement laws sound is proposal leads =
       fits.number,
       length-map plan (λ (hosted : Hosted). length hosted.0.rules),
       length-map plan part_of,
-    ) in
-    record {
+    ) in record {
       proposal = proposal;
       fits = fits;
       lower = all.never_higher (targets_by_partition plan) placement proposal;
@@ -168,8 +158,7 @@ pub found_for : (rows : List Row) (plan : List Hosted) (net : Net) (journal : Li
     → found.old_peak ≡ peak weights old → found.new_peak ≡ peak weights new
     → found.bound ≡ bound weights rooms → IsFoundFor rows plan net journal found
 found_for rows plan net journal found sizes weights rooms old new laws sound is are proposal policy
-    hosted leads old_peak new_peak least =
-    record {
+    hosted leads old_peak new_peak least = record {
       placement = new;
       proposed = proposed_for rows plan net journal new laws sound is
           (rw (are.sizes_are, are.weights_are, are.rooms_are, are.old_is) at proposal)
@@ -246,19 +235,17 @@ in_force : (setting : Setting) (journal : List Item) (plan : PlanValue)
     (IsWritten : List ℕ → Type 0) → IsPlanInForce setting journal plan
     → ProposesFor plan.policy plan.hosted setting.net journal IsWritten
     → Proposes setting journal IsWritten
-in_force setting journal plan IsWritten is proposes =
-    subst (λ rows. ProposesFor rows (plan_at setting journal (current_mark journal)) setting.net
-    journal IsWritten) is.policy
+in_force setting journal plan IsWritten is proposes = subst (λ rows. ProposesFor rows
+    (plan_at setting journal (current_mark journal)) setting.net journal IsWritten) is.policy
     (subst (λ hosted. ProposesFor plan.policy hosted setting.net journal IsWritten) is.hosted
     proposes)
 
-pub whole_told : (command : ReplayCommand) (files : Option Files) (inputs : Inputs)
-    (journal : List Item) (plan : PlanValue) (takes_memory : Bool) (before now : SinkState)
-    (written : Result (⊤) SinkError)
+pub whole_told : (command : ReplayCommand) (files : Option Files)
+    (inputs : Inputs) (journal : List Item) (plan : PlanValue) (takes_memory : Bool)
+    (before now : SinkState) (written : Result (⊤) SinkError)
     → IsAnswer (asked.Replay command) files inputs journal None
-    → IsPlanInForce inputs.setting journal plan
-    → IsAfterProposal plan.policy plan.hosted inputs.setting.net journal takes_memory before now
-    written
+    → IsPlanInForce inputs.setting journal plan → IsAfterProposal plan.policy plan.hosted
+    inputs.setting.net journal takes_memory before now written
     → ProposalOutcome (IsAnswer (asked.Replay command) files) takes_memory
     (status_after written None) journal before now
 whole_told command files inputs journal plan takes_memory before now (Ok done) answer is after =
@@ -277,20 +264,17 @@ whole_told command files inputs journal plan takes_memory before now (Err sink.F
 whole_told command files inputs journal plan takes_memory before now (Err sink.NoMemory) answer is
     after = by_some (after.some refl)
   where
-    by_some : (now ≡ before) ⊎ (IsTrue takes_memory
-        × ProposesFor plan.policy plan.hosted inputs.setting.net journal
-        (λ text. GainedPart before.bytes text now.bytes))
+    by_some : (now ≡ before) ⊎ (IsTrue takes_memory × ProposesFor plan.policy plan.hosted
+        inputs.setting.net journal (λ text. GainedPart before.bytes text now.bytes))
         → ProposalOutcome (IsAnswer (asked.Replay command) files) takes_memory status.NoMemory
         journal before now
-    by_some (inl same) =
-        inr (inl (record { inputs = inputs; played = answer; untouched = same }))
-    by_some (inr (takes, proposes)) =
-        inr (inr (
-          takes,
-          record {
-            inputs = inputs;
-            played = answer;
-            proposes = in_force inputs.setting journal plan
-                (λ text. GainedPart before.bytes text now.bytes) is proposes;
-          },
-        ))
+    by_some (inl same) = inr (inl (record { inputs = inputs; played = answer; untouched = same }))
+    by_some (inr (takes, proposes)) = inr (inr (
+      takes,
+      record {
+        inputs = inputs;
+        played = answer;
+        proposes = in_force inputs.setting journal plan
+            (λ text. GainedPart before.bytes text now.bytes) is proposes;
+      },
+    ))

@@ -20,19 +20,16 @@ IsOwn name read = (refusal : Refusal) → read ≡ Err refusal → refusal.file 
 
 own_refusal : {X : Type 0} (name : List ℕ) (given : Refusal) → given.file ≡ name
     → IsOwn {X = X} name (Err given)
-own_refusal name given own = λ refusal is.
-    let same : given ≡ refusal = cc is in
+own_refusal name given own = λ refusal is. let same : given ≡ refusal = cc is in
     subst (λ (r : Refusal). r.file ≡ name) same own
 
 own_plan : (name : List ℕ) (net : Net) (rows : List Row) → IsOwn name (plan_on name net rows)
-own_plan name net rows = by (plan_of rows net)
-  where
-    by : (planned : Result (List Hosted) NoPlan) → IsOwn name (plan_from name planned)
-    by (Ok hosted) = λ refusal is. absurd (cc is)
-    by (Err (no_plan.NoRoom partition)) =
-        own_refusal name
-        (record { file = name; code = plan_code (no_plan.NoRoom partition); row = partition }) refl
-    by (Err why) = own_refusal name (refused_whole name (plan_code why)) refl
+own_plan name net rows = by (plan_of rows net) where
+  by : (planned : Result (List Hosted) NoPlan) → IsOwn name (plan_from name planned)
+  by (Ok hosted) = λ refusal is. absurd (cc is)
+  by (Err (no_plan.NoRoom partition)) = own_refusal name
+      (record { file = name; code = plan_code (no_plan.NoRoom partition); row = partition }) refl
+  by (Err why) = own_refusal name (refused_whole name (plan_code why)) refl
 
 -- a check of what the file of this name says
 by_check : {X : Type 0} (name : List ℕ) (read : Result X Refusal) (why : Stop) → IsOwn name read
@@ -102,7 +99,6 @@ among few all _ wider is = tt
 pub first_check : (names : List (List ℕ)) (net : Net) (files : List PolicyFile) (why : Stop)
     → 0 < length names → StopsCheck (first_plan names net files) why
     → NamesOneOf names (status_of why)
-first_check names net files why some is =
-    let name = get_or names 0 [] in
+first_check names net files why some is = let name = get_or names 0 [] in
     among (name ∷ []) names (status_of why) (among_there names 0 [] some)
     (plan_check name net (unwrap_or (first_policy files) []) why is)

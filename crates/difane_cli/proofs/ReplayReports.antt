@@ -34,8 +34,7 @@ play_outcome (asked.Replay args) inputs files takes_memory status journal taken 
     by_report report.Summary never = outcome
 
 -- a load case is told by its summary
-summed : (inputs : Inputs) → inputs.report ≡ report.Summary
-    → inputs.report ≡ report.Placement → ⊥
+summed : (inputs : Inputs) → inputs.report ≡ report.Summary → inputs.report ≡ report.Placement → ⊥
 summed inputs is other = let clash : report.Summary ≡ report.Placement = sym is ∙ other in cc
 
 pub proposal_outcome : (command : Command) (inputs : Inputs) (files : Option Files)
@@ -48,22 +47,18 @@ proposal_outcome (asked.Print args) inputs files takes_memory status journal tak
     own is proposes = absurd own
 proposal_outcome (asked.Audit args) inputs files takes_memory status journal taken given before now
     own is proposes = absurd own
-proposal_outcome (asked.Load n) inputs files takes_memory status journal taken given before now
-    own is proposes =
-    absurd (summed inputs (ap (λ (i : Inputs). i.report) own) is)
-proposal_outcome (asked.Replay args) inputs files takes_memory status journal taken given before
-    now own is proposes =
-    subst (λ (told : Report).
-    ByReport told
+proposal_outcome (asked.Load n) inputs files takes_memory status journal taken given before now own
+    is proposes = absurd (summed inputs (ap (λ (i : Inputs). i.report) own) is)
+proposal_outcome (asked.Replay args) inputs files takes_memory status journal taken given before now
+    own is proposes = subst (λ (told : Report). ByReport told
     (ProposalOutcome (IsAnswer (asked.Replay args) files) takes_memory status journal before now)
     (PlayOutcome (asked.Replay args) files takes_memory status journal taken given before now))
     (sym is ∙ own.report) (proposes args refl)
 
 -- what is proposed is made in memory
-pub proposal_out : (command : Command) (inputs : Inputs) (takes_memory : Bool)
-    (journal : List Item) (before now : SinkState) → IsPlayOf command inputs
-    → inputs.report ≡ report.Placement → IsTrue takes_memory ⊎ (now ≡ before)
-    → RanOut (Some command) takes_memory journal before now
+pub proposal_out : (command : Command) (inputs : Inputs) (takes_memory : Bool) (journal : List Item)
+    (before now : SinkState) → IsPlayOf command inputs → inputs.report ≡ report.Placement
+    → IsTrue takes_memory ⊎ (now ≡ before) → RanOut (Some command) takes_memory journal before now
 proposal_out (asked.Print args) inputs takes_memory journal before now own is out = absurd own
 proposal_out (asked.Audit args) inputs takes_memory journal before now own is out = absurd own
 proposal_out (asked.Load n) inputs takes_memory journal before now own is out =

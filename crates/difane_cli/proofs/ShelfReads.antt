@@ -9,8 +9,7 @@ use Rattle.command_line.specs.Exports.{Print, PrintCommand, Replay, ReplayComman
 
 counted_up-counted_up : (n m x : ℕ) → counted_up n (counted_up m x) ≡ counted_up (n + m) x
 counted_up-counted_up zero m x = ap (λ k. counted_up k x) (omega arith)
-counted_up-counted_up (suc n) m x =
-    let sum : suc (n + m) ≡ suc n + m = omega arith in
+counted_up-counted_up (suc n) m x = let sum : suc (n + m) ≡ suc n + m = omega arith in
     ap next_count (counted_up-counted_up n m x) ∙ ap (λ k. counted_up k x) sum
 
 -- some reads, and then others
@@ -24,8 +23,7 @@ reads_then a b most old middle new few first then =
       reads = (
         m + n,
         omega (arith, few, first.reads.1, then.reads.1),
-        then.reads.2
-            ∙ ap (counted_up m) first.reads.2 ∙ counted_up-counted_up m n old.reads,
+        then.reads.2 ∙ ap (counted_up m) first.reads.2 ∙ counted_up-counted_up m n old.reads,
       );
     }
 
@@ -49,12 +47,11 @@ pub schedule_read : (known : Option Files) (command : ReplayCommand) (net : Net)
     → ForSome known (λ files. read_net files command.net ≡ Ok net)
     → net_reads command.net + 1 ≤ most_reads known (Some (Replay command))
 schedule_read None command net read = omega arith
-schedule_read (Some files) command net read = rw (read files refl) (more _ _)
-  where
-    more : (accepted : Bool) (others : List Bool) → net_reads command.net + 1
-        ≤ net_reads command.net + up_to_refusal (accepted ∷ others)
-    more true others = omega arith
-    more false others = omega arith
+schedule_read (Some files) command net read = rw (read files refl) (more _ _) where
+  more : (accepted : Bool) (others : List Bool) → net_reads command.net + 1
+      ≤ net_reads command.net + up_to_refusal (accepted ∷ others)
+  more true others = omega arith
+  more false others = omega arith
 
 -- and then its policies, where the schedule is accepted
 pub policies_read : (known : Option Files) (command : ReplayCommand) (net : Net)
@@ -106,9 +103,8 @@ policy_read (Some files) command net switch read found = rw (read files refl, fo
 -- its reads, of its network and its policy
 pub both_reads : (command : PrintCommand) (net : Net) (switch : Option ℕ) (old one new : ShelfState)
     → ForSome old.files (λ files. read_net files command.net ≡ Ok net)
-    → switch_on net command.switch ≡ Ok switch
-    → IsAfterReads (net_reads command.net) old one → IsAfterReads 1 one new
-    → IsAfterReads (most_reads old.files (Some (Print command))) old new
+    → switch_on net command.switch ≡ Ok switch → IsAfterReads (net_reads command.net) old one
+    → IsAfterReads 1 one new → IsAfterReads (most_reads old.files (Some (Print command))) old new
 both_reads command net switch old one new read found first second =
     reads_then (net_reads command.net) 1 _ old one new
     (policy_read old.files command net switch read found) first second

@@ -14,9 +14,8 @@ GainedPart-behind before middle now front piece rest written part =
       length front + n,
       rw (length-append, length-append) (omega (arith, shorter)),
       part.2 ∙ ap (λ b. with_gained b (take n piece)) written
-          ∙ gained-gained before front (take n piece)
-          ∙ ap (with_gained before) (ap (λ ys. front ++ ys)
-          (sym (take-append-le n piece rest (omega (arith, shorter))))
+          ∙ gained-gained before front (take n piece) ∙ ap (with_gained before)
+          (ap (λ ys. front ++ ys) (sym (take-append-le n piece rest (omega (arith, shorter))))
           ∙ sym (take-append-add front (piece ++ rest) n)),
     )
 

@@ -28,13 +28,11 @@ same_value read x y one two = cc (one, two)
 content_is : (name : List ℕ) (found : Option (List ℕ)) (bytes : List ℕ)
     → content_from most_bytes name found ≡ Ok bytes → found ≡ Some bytes
 content_is name None bytes is = absurd (cc is)
-content_is name (Some held) bytes is = by (nat_le (length held) most_bytes) is
-  where
-    by : (few : Bool)
-        → (if few then Ok held else Err (refused_whole name too_long)) ≡ Ok bytes
-        → Some held ≡ Some bytes
-    by true is = cc is
-    by false is = absurd (cc is)
+content_is name (Some held) bytes is = by (nat_le (length held) most_bytes) is where
+  by : (few : Bool) → (if few then Ok held else Err (refused_whole name too_long)) ≡ Ok bytes
+      → Some held ≡ Some bytes
+  by true is = cc is
+  by false is = absurd (cc is)
 
 -- a file whose content was read to a value states it
 states : {V E : Type 0} (files : Files) (name : List ℕ) (read : List ℕ → Result V E)
@@ -81,27 +79,23 @@ ported_is code name read lack value is =
 -- a first file that is accepted is no change
 no_change : (ports : ℕ) (name bytes : List ℕ) (file : PolicyFile)
     → first_stated ports name bytes ≡ Ok file → is_change_text bytes ≡ false
-no_change ports name bytes file is = by (is_change_text bytes) is
-  where
-    by : (changes : Bool) → (if changes then Err (refused_whole name first_change)
-        else and_then (policy_stated ports name bytes) (λ rows. Ok (Whole rows))) ≡ Ok file
-        → changes ≡ false
-    by true is = absurd (cc is)
-    by false is = refl
+no_change ports name bytes file is = by (is_change_text bytes) is where
+  by : (changes : Bool) → (if changes then Err (refused_whole name first_change)
+      else and_then (policy_stated ports name bytes) (λ rows. Ok (Whole rows))) ≡ Ok file
+      → changes ≡ false
+  by true is = absurd (cc is)
+  by false is = refl
 
 stated_is : (is_first : Bool) (ports : ℕ) (name bytes : List ℕ) (file : PolicyFile)
     → stated_as is_first ports name bytes ≡ Ok file → policy_file_of bytes ≡ Ok file
-stated_is is_first ports name bytes file is =
-    ported_is policy_code name (policy_file_of bytes) (first_in_file ports) file
-    (sym (stated_so is_first ports name bytes
-    (λ first. no_change ports name bytes file
-    (subst (λ (b : Bool). stated_as b ports name bytes ≡ Ok file) first is))) ∙ is)
+stated_is is_first ports name bytes file is = ported_is policy_code name (policy_file_of bytes)
+    (first_in_file ports) file (sym (stated_so is_first ports name bytes (λ first. no_change ports
+    name bytes file (subst (λ (b : Bool). stated_as b ports name bytes ≡ Ok file) first is))) ∙ is)
 
 file_states : (is_first : Bool) (ports : ℕ) (files : Files) (name : List ℕ) (file : PolicyFile)
     → read_file is_first ports files name ≡ Ok file → States files policy_file_of name file
-file_states is_first ports files name file is =
-    states files name policy_file_of (stated_as is_first ports name) file
-    (λ bytes. stated_is is_first ports name bytes file) is
+file_states is_first ports files name file is = states files name policy_file_of
+    (stated_as is_first ports name) file (λ bytes. stated_is is_first ports name bytes file) is
 
 files_state : (is_first : Bool) (ports : ℕ) (files : Files) (names : List (List ℕ))
     (read : List PolicyFile) → read_files is_first ports files names ≡ Ok read

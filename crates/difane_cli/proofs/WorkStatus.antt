@@ -64,16 +64,14 @@ made_whole told.Summary (Some row) is = absurd (cc is)
 
 wants_to_make : (command : Command) (inputs : Inputs) (full : Option ℕ) → IsPlayOf command inputs
     → IsTrue (is_made inputs.report full) → MayWantMemory (Some command)
-wants_to_make (asked.Replay named) inputs full own is =
-    inr (made_whole named.report full
+wants_to_make (asked.Replay named) inputs full own is = inr (made_whole named.report full
     (subst (λ (report : Report). IsTrue (is_made report full)) own.report is))
 wants_to_make (asked.Print named) inputs full own is = absurd own
 wants_to_make (asked.Load n) inputs full own is = tt
 wants_to_make (asked.Audit named) inputs full own is = absurd own
 
 -- what holds at an error
-pub on_err : {T E : Type 0} (r : Result T E) (P : Type 0) → OnErr r P
-    → ((x : T) → r ≡ Ok x → ⊥) → P
+pub on_err : {T E : Type 0} (r : Result T E) (P : Type 0) → OnErr r P → ((x : T) → r ≡ Ok x → ⊥) → P
 on_err (Ok x) P holds none = absurd (none x refl)
 on_err (Err e) P holds none = holds
 

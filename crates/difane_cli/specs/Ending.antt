@@ -91,8 +91,7 @@ Accounts read _ = ⊤
 -- stop
 abbrev pub EndsRead : {K X V : Type 0} → (known : Option K) → (read : K → Result X Refusal)
     → (seen : V → X) → (old new : ShelfState) → Result V Stop → Type 0
-EndsRead known read seen old new (Ok value) =
-    ForSome known (λ given. read given ≡ Ok (seen value))
+EndsRead known read seen old new (Ok value) = ForSome known (λ given. read given ≡ Ok (seen value))
 EndsRead known read seen old new (Err stop) =
     ForSome known (λ given. Accounts (read given) (status_of stop))
     × (NeedsReadFault old.files (status_of stop) → Rose old.faults new.faults)
@@ -184,8 +183,7 @@ RefusesInput given stop.ReadFault = ⊥
 
 -- a stop at a check of what was read: this accounts for it, and no fault causes it
 abbrev pub StopsCheck : {X : Type 0} → Result X Refusal → Stop → Type 0
-StopsCheck read stop =
-    Accounts read (status_of stop) × (NeedsReadFault None (status_of stop) → ⊥)
+StopsCheck read stop = Accounts read (status_of stop) × (NeedsReadFault None (status_of stop) → ⊥)
 
 -- a stop at a text that is refused in a row by a refusal of this code, or for which memory ran out
 abbrev pub StopsText : {R : Type 0} → (R → ℕ) → List ℕ → Failure (InRow R) → Stop → Type 0

@@ -31,5 +31,4 @@ AreCounted journal given = All (IsCounted (left_in journal)) (flat_map flow_reco
 
 -- this is true if the meters that the command got are empty flow meters
 abbrev pub CountFlows : List Item → (taken given : List Seen) → Type 0
-CountFlows journal taken given =
-    (most : ℕ) → All (IsNewMeter most) taken → AreCounted journal given
+CountFlows journal taken given = (most : ℕ) → All (IsNewMeter most) taken → AreCounted journal given

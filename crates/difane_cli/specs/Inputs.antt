@@ -46,16 +46,14 @@ abbrev pub content_of : Files → List ℕ → Result (List ℕ) Refusal
 content_of files name = content_within most_bytes files name
 
 -- the value that the file states, or the refusal of its row, by its code
-abbrev pub read_from : {X R : Type 0} → (R → ℕ) → List ℕ → Result X (InRow R)
-    → Result X Refusal
+abbrev pub read_from : {X R : Type 0} → (R → ℕ) → List ℕ → Result X (InRow R) → Result X Refusal
 read_from code name (Ok value) = Ok value
 read_from code name (Err refused) =
     Err (record { file = name; code = code refused.refusal; row = refused.row })
 
 -- the events that the bytes of this file state for the network and this many policy files
 abbrev pub schedule_in : Net → ℕ → List ℕ → List ℕ → Result (List Event) Refusal
-schedule_in net policies name bytes =
-    read_from schedule_code name (schedule_of net policies bytes)
+schedule_in net policies name bytes = read_from schedule_code name (schedule_of net policies bytes)
 
 abbrev pub with_ports : {X : Type 0} → List ℕ → X → Option NoPort → Result X Refusal
 with_ports name value None = Ok value

@@ -33,8 +33,7 @@ ProposalOutcome IsAnswer takes_memory (status.Full row) journal before now =
 ProposalOutcome IsAnswer takes_memory status.WriteFault journal before now =
     Rebalanced IsAnswer journal (λ text. GainedPart before.bytes text now.bytes)
 ProposalOutcome IsAnswer takes_memory status.NoMemory journal before now =
-    Unplayed journal before now
-    ⊎ PlayedAlone IsAnswer None journal before now
+    Unplayed journal before now ⊎ PlayedAlone IsAnswer None journal before now
     ⊎ (IsTrue takes_memory
     × Rebalanced IsAnswer journal (λ text. GainedPart before.bytes text now.bytes))
 ProposalOutcome IsAnswer takes_memory (status.No line) journal before now = ⊥

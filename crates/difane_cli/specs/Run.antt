@@ -174,8 +174,7 @@ ByReport _ proposes plays = plays
 -- command ensures
 abbrev pub Outcome : Option Command → Option Files → (takes_memory : Bool) → Status → List Item
     → (taken given : List Seen) → (before now : SinkState) → Type 0
-Outcome None files takes_memory status journal taken given before now =
-    Unplayed journal before now
+Outcome None files takes_memory status journal taken given before now = Unplayed journal before now
 Outcome (Some (asked.Print args)) files takes_memory status journal taken given before now =
     PrintOutcome args files status journal before now
 Outcome (Some (asked.Audit args)) files takes_memory status journal taken given before now =

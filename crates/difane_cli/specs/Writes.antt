@@ -22,5 +22,4 @@ pub record Unplayed (journal : List Item) (before now : SinkState) : Type 0 wher
 pub record WritesLine (whole : List ℕ) (takes_memory : Bool) (old new : SinkState) : Type 0 where
   pub faults : old.faults ≤ new.faults
   pub line : ((new.bytes ≡ with_gained old.bytes whole) × (new.faults ≡ old.faults))
-      ⊎ (GainedPart old.bytes whole new.bytes
-      × (Rose old.faults new.faults ⊎ IsTrue takes_memory))
+      ⊎ (GainedPart old.bytes whole new.bytes × (Rose old.faults new.faults ⊎ IsTrue takes_memory))

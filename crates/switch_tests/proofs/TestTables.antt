@@ -49,12 +49,11 @@ own_whole t auth header = rw auth (any_holds (number_of header))
 pub at_authority : (t : Tables) (capacity : ℕ) (base : List (Option Advert)) →
     ((header : Header) → IsSomeAnd (own_part t 0) (λ part. IsTrue (is_in header part))) →
     (header : Header) → IsAtAuthority (new_switch 1 capacity t base) header (Seek 1 0)
-at_authority t capacity base own header = by_test (t.version == 1)
-  where
-    by_test : (test : Bool) → IfSome (cond test (Some t) None)
-        (λ tables. IsSomeAnd (own_part tables 0) (λ part. IsTrue (is_in header part)))
-    by_test true = own header
-    by_test false = tt
+at_authority t capacity base own header = by_test (t.version == 1) where
+  by_test : (test : Bool) → IfSome (cond test (Some t) None)
+      (λ tables. IsSomeAnd (own_part tables 0) (λ part. IsTrue (is_in header part)))
+  by_test true = own header
+  by_test false = tt
 
 pub looks_up : (t : Tables) (capacity : ℕ) (base : List (Option Advert)) → t.version ≡ 1 →
     CanLookUp (new_switch 1 capacity t base)
@@ -63,6 +62,5 @@ looks_up t capacity base version serving = rw (eq-eqb t.version 1 version) refl
 -- a packet stands at the switch that has this number
 pub stands : (s : SwitchValue) (route : List ℕ) (place at number : ℕ) → IsOnRoute route place →
     at ≡ get_or route place 0 → number ≡ s.number → (at == number) ≡ true → StandsAt s route place
-stands s route place at number on is own same =
-    slice_get-get_or route place 0 on.within
+stands s route place at number on is own same = slice_get-get_or route place 0 on.within
     ∙ ap Some (sym is ∙ eqb-true at number same ∙ own)

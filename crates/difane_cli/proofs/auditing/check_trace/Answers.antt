@@ -24,8 +24,7 @@ returns-in-Ok-Yes-clause-outcome g c = λ command files own accepted.
     c.write_whole.result judged c.write_whole.ensures.after)
 
 pub returns-in-Ok-Yes-clause-no_memory : goal.returns-in-Ok-Yes-clause-no_memory
-returns-in-Ok-Yes-clause-no_memory g c = λ is.
-    inl (c.write_whole.ensures.after.no_memory
+returns-in-Ok-Yes-clause-no_memory g c = λ is. inl (c.write_whole.ensures.after.no_memory
     (by_memory c.write_whole.result None (rw c.after.ensures at is)))
 
 pub returns-in-Ok-Yes-clause-ended : goal.returns-in-Ok-Yes-clause-ended

@@ -41,11 +41,9 @@ returns-clause-shelf g c =
     }
 
 pub returns-clause-read : goal.returns-clause-read
-returns-clause-read g c =
-    auditing_is _ _ (audit_named c.args.args.now) c.in_ok-trace.trace.items
+returns-clause-read g c = auditing_is _ _ (audit_named c.args.args.now) c.in_ok-trace.trace.items
     c.in_ok-files.files.items _ c.in_ok-trace.ensures.shelf.after.same_files all_ports
-    c.in_ok-trace.ensures.read
-    (rw c.deref-names.ensures.value at c.in_ok-files.ensures.read)
+    c.in_ok-trace.ensures.read (rw c.deref-names.ensures.value at c.in_ok-files.ensures.read)
 
 pub returns-clause-asked : goal.returns-clause-asked
 returns-clause-asked g c = record {

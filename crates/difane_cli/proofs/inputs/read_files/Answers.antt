@@ -27,15 +27,12 @@ returns-in_err-file-clause-read g c =
     c.loop-name-test.true in
     stops_at _ _ _ _ _ (λ (read : Vec PolicyFile Global). read.items) old middle now stop
     c.from_residual.result c.from_residual.ensures.1 so_far
-    (subst (λ (is_first : Bool). EndsRead middle.files
-    (λ files. read_file is_first c.args.ports files (get_or (names_seen names) c.loop-name.name-index []))
-    (λ (file : PolicyFile). file) middle now (Err stop))
-    (c.is_empty.ensures ∙ counted c.loop-name.read)
-    (subst (λ (name : List ℕ). EndsRead middle.files
-    (λ files. read_file c.is_empty.result c.args.ports files name)
-    (λ (file : PolicyFile). file) middle now (Err stop))
-    (name_there names c.loop-name.name-index _ c.loop-name-test.true)
-    c.in_err-file.ensures.read))
+    (subst (λ (is_first : Bool). EndsRead middle.files (λ files. read_file is_first c.args.ports
+    files (get_or (names_seen names) c.loop-name.name-index [])) (λ (file : PolicyFile). file)
+    middle now (Err stop)) (c.is_empty.ensures ∙ counted c.loop-name.read)
+    (subst (λ (name : List ℕ). EndsRead middle.files (λ files. read_file c.is_empty.result
+    c.args.ports files name) (λ (file : PolicyFile). file) middle now (Err stop))
+    (name_there names c.loop-name.name-index _ c.loop-name-test.true) c.in_err-file.ensures.read))
 
 pub returns-in_err-file-clause-shelf : goal.returns-in_err-file-clause-shelf
 returns-in_err-file-clause-shelf g c =
@@ -55,8 +52,7 @@ returns-in_err-file-clause-shelf g c =
     (name_there names i _ c.loop-name-test.true) file.stops)
 
 pub returns-in_err-push-clause-shelf : goal.returns-in_err-push-clause-shelf
-returns-in_err-push-clause-shelf g c =
-    let file = c.in_ok-file.ensures.shelf in
+returns-in_err-push-clause-shelf g c = let file = c.in_ok-file.ensures.shelf in
     stops_with [] _ _ _ _ stop.NoMemory c.from_residual-in_err-push.result
     c.from_residual-in_err-push.ensures.1 (λ name is. absurd is)
     (reads_at _ _ _ _ _ _ _ _ (at_next c.args.ports c.args.names.now c.loop-name.name-index _ _ _
@@ -77,13 +73,12 @@ loop-name-preserved g c =
     let name = get_or (names_seen names) c.loop-name.name-index [] in
     let is_first : c.is_empty.result ≡ is_none before =
     c.is_empty.ensures ∙ counted c.loop-name.read in
-    let read : ForSome known (λ files. read_file (is_none before) c.args.ports files name ≡ Ok file) =
-    subst (λ (b : Bool). ForSome known
-    (λ files. read_file b c.args.ports files name ≡ Ok file)) is_first
-    (subst (λ (name : List ℕ). ForSome known
+    let read : ForSome known
+    (λ files. read_file (is_none before) c.args.ports files name ≡ Ok file) =
+    subst (λ (b : Bool). ForSome known (λ files. read_file b c.args.ports files name ≡ Ok file))
+    is_first (subst (λ (name : List ℕ). ForSome known
     (λ files. read_file c.is_empty.result c.args.ports files name ≡ Ok file))
-    (name_there names c.loop-name.name-index _ c.loop-name-test.true)
-    c.in_ok-file.ensures.read) in
+    (name_there names c.loop-name.name-index _ c.loop-name-test.true) c.in_ok-file.ensures.read) in
     record {
       read = subst (λ (own : List PolicyFile). HasRead c.args.ports (names_seen names)
           (drop (c.loop-name.name-index + 1) (names_seen names)) own
@@ -99,9 +94,8 @@ loop-name-preserved g c =
           (first_behind before file c.loop-name.name-index c.is_empty.result
           c.loop-name.invariant.many is_first c.loop-name.invariant.first
           c.in_ok-file.ensures.whole);
-      own_ports = subst (All HasOwn) (sym pushed)
-          (All-push HasOwn before file c.loop-name.invariant.own_ports
-          c.in_ok-file.ensures.own_ports);
+      own_ports = subst (All HasOwn) (sym pushed) (All-push HasOwn before file
+          c.loop-name.invariant.own_ports c.in_ok-file.ensures.own_ports);
       sound = subst (All IsPolicyFile) (sym pushed)
           (All-push IsPolicyFile before file c.loop-name.invariant.sound c.in_ok-file.ensures.sound);
       few = subst (All IsShort) (sym pushed)

@@ -8,8 +8,7 @@ use Rattle.difane_cli.proofs.inputs.read_files.Given as goal
 
 abbrev pub invariant-loop-name : goal.invariant-loop-name
 invariant-loop-name g l = record {
-  read : HasRead l.ports (names_seen l.names)
-      (drop l.name-index (names_seen l.names)) l.read.items
+  read : HasRead l.ports (names_seen l.names) (drop l.name-index (names_seen l.names)) l.read.items
       (g.F.Shelf.state l.fn.shelf) (g.F.Shelf.state l.shelf);
   many : length l.read.items ≡ l.name-index;
   first : 0 < l.name-index → IsSome (first_policy l.read.items);

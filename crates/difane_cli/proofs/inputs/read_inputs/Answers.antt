@@ -52,11 +52,10 @@ policies_read : (g : Over) (c : In_ok-files g)
     → IsAfterReads (most_reads (g.F.Shelf.state c.args.shelf.now).files
     (Some (Replay (replay_named c.args.args.now))))
     (g.F.Shelf.state c.args.shelf.now) (g.F.Shelf.state c.read_files.new.shelf)
-policies_read g c =
-    all_reads (replay_named c.args.args.now) c.in_ok-net.net c.in_ok-events.events.items _ _ _ _ _ _
-    (as_many _ _ c.deref-names.ensures.value) c.port_mask.ensures
-    c.in_ok-net.ensures.read c.in_ok-events.ensures.read c.in_ok-net.ensures.shelf.after
-    c.in_ok-events.ensures.shelf.after
+policies_read g c = all_reads (replay_named c.args.args.now) c.in_ok-net.net
+    c.in_ok-events.events.items _ _ _ _ _ _ (as_many _ _ c.deref-names.ensures.value)
+    c.port_mask.ensures c.in_ok-net.ensures.read c.in_ok-events.ensures.read
+    c.in_ok-net.ensures.shelf.after c.in_ok-events.ensures.shelf.after
     (rw c.deref-names.ensures.value at c.in_ok-files.ensures.shelf.after)
 
 pub returns-in_err-world-clause-shelf : goal.returns-in_err-world-clause-shelf
@@ -88,13 +87,10 @@ returns-in_err-files-clause-read g c =
     let files = c.in_err-files.ensures.shelf.after in grind (arith, common_steps)
 
 -- all is read, and the first policy is left to be planned
-left_to_plan : (g : Over) (c : In_ok-files g)
-    → ForSome (g.F.Shelf.state c.args.shelf.now).files (λ files.
-    inputs_of files (replay_named c.args.args.now)
-    ≡ planned_inputs (replay_named c.args.args.now) c.in_ok-net.net c.in_ok-files.files.items
-    c.in_ok-events.events.items)
-left_to_plan g c =
-    let net_files = c.in_ok-net.ensures.shelf.after.same_files in
+left_to_plan : (g : Over) (c : In_ok-files g) → ForSome (g.F.Shelf.state c.args.shelf.now).files
+    (λ files. inputs_of files (replay_named c.args.args.now) ≡ planned_inputs (replay_named
+    c.args.args.now) c.in_ok-net.net c.in_ok-files.files.items c.in_ok-events.events.items)
+left_to_plan g c = let net_files = c.in_ok-net.ensures.shelf.after.same_files in
     inputs_then _ _ _ (replay_named c.args.args.now) c.in_ok-net.net c.in_ok-files.files.items
     c.in_ok-events.events.items _ _ net_files
     (c.in_ok-events.ensures.shelf.after.same_files ∙ net_files)
@@ -120,24 +116,22 @@ returns-clause-read g c =
     (rw c.deref-names.ensures.value at c.in_ok-world.ensures.planned) c.in_ok-world.ensures.begun.own
 
 pub returns-clause-ready : goal.returns-clause-ready
-returns-clause-ready g c =
-    let begun = c.in_ok-world.ensures.begun in record {
-      begun = record { own = refl; silent = begun.silent; able = begun.able };
-      net = ap (λ s. s.net) begun.own;
-      sound = record {
-        setting = c.in_ok-world.ensures.sound;
-        events = all_are_events c.in_ok-net.net c.in_ok-files.files.items _ _
-            c.in_ok-events.events.items begun.own c.in_ok-files.ensures.many
-            c.in_ok-events.ensures.sound.steps;
-      };
-      few = c.in_ok-events.ensures.sound.few;
-    }
+returns-clause-ready g c = let begun = c.in_ok-world.ensures.begun in record {
+  begun = record { own = refl; silent = begun.silent; able = begun.able };
+  net = ap (λ s. s.net) begun.own;
+  sound = record {
+    setting = c.in_ok-world.ensures.sound;
+    events = all_are_events c.in_ok-net.net c.in_ok-files.files.items _ _
+        c.in_ok-events.events.items begun.own c.in_ok-files.ensures.many
+        c.in_ok-events.ensures.sound.steps;
+  };
+  few = c.in_ok-events.ensures.sound.few;
+}
 
 pub returns-clause-asked : goal.returns-clause-asked
-returns-clause-asked g c =
-    asked_for (replay_named c.args.args.now) c.in_ok-net.net c.in_ok-files.files.items
-    c.in_ok-events.events.items (setting_at c.in_ok-world.world) c.in_ok-net.ensures.named
-    c.in_ok-world.ensures.begun.own
+returns-clause-asked g c = asked_for (replay_named c.args.args.now) c.in_ok-net.net
+    c.in_ok-files.files.items c.in_ok-events.events.items (setting_at c.in_ok-world.world)
+    c.in_ok-net.ensures.named c.in_ok-world.ensures.begun.own
     (c.in_ok-files.ensures.many ∙ as_many _ _ c.deref-names.ensures.value)
-    (few_named c.args.args.now.policies.items c.requires)
-    c.in_ok-events.ensures.sound.few c.in_ok-files.ensures.few
+    (few_named c.args.args.now.policies.items c.requires) c.in_ok-events.ensures.sound.few
+    c.in_ok-files.ensures.few

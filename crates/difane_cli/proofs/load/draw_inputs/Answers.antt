@@ -5,8 +5,7 @@ use Rattle.difane_cli.proofs.load.draw_inputs.Goals as goal
 use Rattle.difane_cli.proofs.load.draw_inputs.Goals.{In_ok-files}
 
 drawn : (c : In_ok-files) → AreDrawn (case_seen c.in-Ok.case) c.in_ok-files.files.items
-drawn c =
-    are_drawn c.port_laws.ensures (case_seen c.in-Ok.case) c.in_ok-files.files.items
+drawn c = are_drawn c.port_laws.ensures (case_seen c.in-Ok.case) c.in_ok-files.files.items
     (subst (λ (load : LoadCase). 1 ≤ length load.policies) (sym c.in-Ok.ensures.case) (omega arith))
     c.in-Ok.ensures.policies c.in-Ok.ensures.playable c.in_ok-files.ensures
 

@@ -56,8 +56,7 @@ returns-in_err-write_meter-clause-after g c =
     ∙ lines_of g.M.Meter.seen meters))
 
 pub returns-in_err-write_meter-clause-no_lines : goal.returns-in_err-write_meter-clause-no_lines
-returns-in_err-write_meter-clause-no_lines g c = λ none.
-    let meters = c.args.meters.now in
+returns-in_err-write_meter-clause-no_lines g c = λ none. let meters = c.args.meters.now in
     let i = c.loop-meter.meter-index in
     let item = c.meter-item.result in
     let own : get_or meters i item ≡ item = sym c.meter-item.is in

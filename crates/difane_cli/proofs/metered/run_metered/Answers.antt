@@ -6,8 +6,7 @@ use Rattle.difane_cli.specs.Exports.{new_meter, new_meters}
 use Rattle.difane_cli.proofs.metered.run_metered.Goals as goal
 
 pub returns-clause-outcome : goal.returns-clause-outcome
-returns-clause-outcome g c =
-    let ended = c.run-finished.result in
+returns-clause-outcome g c = let ended = c.run-finished.result in
     come_to (argument_texts c.args.words.now) (g.F.Shelf.state c.args.shelf.now).files
     g.K.Sink.takes_memory ended.status ended.journal _ _ (g.K.Sink.state c.args.out.now)
     (g.K.Sink.state c.run-finished.new.out)
@@ -17,8 +16,7 @@ returns-clause-outcome g c =
     c.run-finished.ensures.outcome
 
 pub returns-clause-flows : goal.returns-clause-flows
-returns-clause-flows g c = λ asks done.
-    let ended = c.run-finished.result in
+returns-clause-flows g c = λ asks done. let ended = c.run-finished.result in
     flows_told (argument_texts c.args.words.now) (g.F.Shelf.state c.args.shelf.now).files
     g.K.Sink.takes_memory ended.status ended.journal (g.K.Sink.state c.args.out.now)
     (g.K.Sink.state c.run-finished.new.out) (returns-clause-outcome g c)

@@ -9,8 +9,7 @@ use Rattle.difane_cli.proofs.WorkStatus.{after_work, by_failed, by_memory, of_fa
 use Rattle.difane_cli.proofs.playing.play.Goals as goal
 
 pub returns-clause-outcome : goal.returns-clause-outcome
-returns-clause-outcome g c = λ command files asked read.
-    let inputs = inputs_stated c.args.inputs in
+returns-clause-outcome g c = λ command files asked read. let inputs = inputs_stated c.args.inputs in
     let full = c.in-Ok.played.full in
     let journal = c.in-Ok.played.journal in
     let said = c.in-Ok-judge.answer in
@@ -35,13 +34,11 @@ returns-clause-outcome g c = λ command files asked read.
     ∙ ap (λ (net : Net). kept_by net journal taken) (sym c.requires.ready.net) in
     let gone = c.in-Ok.ensures.gone
     ∙ ap (λ (ports : ℕ). gone_records ports (left_in journal) taken) c.port_mask.ensures in
-    let after = subst (λ (net : Net).
-    IsAfterText (play_text inputs.report net journal full (gone_by net journal taken) given said)
-    in_memory takes_memory before now written)
-    (sym c.requires.ready.net)
-    (subst (λ (records : List FlowRecord).
-    IsAfterText (play_text inputs.report c.args.inputs.net journal full records given said)
-    in_memory takes_memory before now written) gone c.write_report-written.ensures) in
+    let after = subst (λ (net : Net). IsAfterText (play_text inputs.report net journal full
+    (gone_by net journal taken) given said) in_memory takes_memory before now written)
+    (sym c.requires.ready.net) (subst (λ (records : List FlowRecord). IsAfterText
+    (play_text inputs.report c.args.inputs.net journal full records given said) in_memory
+    takes_memory before now written) gone c.write_report-written.ensures) in
     rw c.after.ensures (told laws command files inputs journal full taken given said before now
     takes_memory written answer kept verdict after)
 
@@ -55,14 +52,12 @@ returns-in_default-judge-clause-outcome g c = λ command files asked read.
     c.deref.ensures.value c.in-Ok.ensures.play in
     let answer = played laws command files inputs journal full asked read c.requires.ready.sound play
     c.in-Ok.ensures.held in
-    let kept = c.in-Ok.ensures.kept
-    ∙ ap (λ (ports : ℕ). kept_meters ports (left_in journal) (map g.M.Meter.seen c.args.meters.items))
-    c.port_mask.ensures in
+    let kept = c.in-Ok.ensures.kept ∙ ap (λ (ports : ℕ). kept_meters ports (left_in journal)
+    (map g.M.Meter.seen c.args.meters.items)) c.port_mask.ensures in
     let wants = on_err c.judge.result _ c.judge.ensures.wants c.in_default-judge.not-Ok in
     inr (unjudged command files g.K.Sink.takes_memory inputs journal full
-    (map g.M.Meter.seen c.args.meters.items)
-    (map g.M.Meter.seen c.in-Ok.played.meters.items) (g.K.Sink.state c.args.out.now) answer
-    (rw c.requires.ready.net kept)
+    (map g.M.Meter.seen c.args.meters.items) (map g.M.Meter.seen c.in-Ok.played.meters.items)
+    (g.K.Sink.state c.args.out.now) answer (rw c.requires.ready.net kept)
     (subst (λ (asked : Bool). IsTrue (is_asked asked full)) c.asks_quiet.ensures wants))
 
 pub returns-clause-ended : goal.returns-clause-ended
@@ -77,15 +72,13 @@ returns-clause-ended g c =
     }
 
 pub returns-clause-no_memory : goal.returns-clause-no_memory
-returns-clause-no_memory g c = λ command own is.
-    out_of_writing command (inputs_stated c.args.inputs) c.in-Ok.played.full
-    g.K.Sink.takes_memory _ _ _ own
-    (c.write_report-written.ensures.no_memory
-    (by_memory c.write_report-written.result c.in-Ok.played.full (rw c.after.ensures at is)))
+returns-clause-no_memory g c = λ command own is. out_of_writing command
+    (inputs_stated c.args.inputs) c.in-Ok.played.full g.K.Sink.takes_memory _ _ _ own
+    (c.write_report-written.ensures.no_memory (by_memory c.write_report-written.result
+    c.in-Ok.played.full (rw c.after.ensures at is)))
 
 pub returns-in_default-judge-clause-no_memory : goal.returns-in_default-judge-clause-no_memory
-returns-in_default-judge-clause-no_memory g c = λ command own is.
-    let full = c.in-Ok.played.full in
+returns-in_default-judge-clause-no_memory g c = λ command own is. let full = c.in-Ok.played.full in
     let wants = on_err c.judge.result _ c.judge.ensures.wants c.in_default-judge.not-Ok in
     out_of_judging command (inputs_stated c.args.inputs) full g.K.Sink.takes_memory _ _ own
     (subst (λ (asked : Bool). IsTrue (is_asked asked full)) c.asks_quiet.ensures wants)

@@ -5,13 +5,11 @@ use Rattle.difane_cli.proofs.MeterLines.{both_written, first_part, none_left, no
 use Rattle.difane_cli.proofs.playing.write_last.Goals as goal
 
 pub returns-clause-after : goal.returns-clause-after
-returns-clause-after g c =
-    both_written (g.K.Sink.state c.args.out.now) (g.K.Sink.state c.write_meters.new.out)
-    (g.K.Sink.state c.write_answer.new.out) (meter_lines (map g.M.Meter.seen c.args.meters.now))
-    (quiet_line c.args.answer) g.K.Sink.takes_memory c.write_answer.result
-    c.in_ok-write_meters.ensures.after.whole
-    (c.in_ok-write_meters.ensures.after.calm (λ is. absurd (cc is)))
-    c.write_answer.ensures.after
+returns-clause-after g c = both_written (g.K.Sink.state c.args.out.now)
+    (g.K.Sink.state c.write_meters.new.out) (g.K.Sink.state c.write_answer.new.out)
+    (meter_lines (map g.M.Meter.seen c.args.meters.now)) (quiet_line c.args.answer)
+    g.K.Sink.takes_memory c.write_answer.result c.in_ok-write_meters.ensures.after.whole
+    (c.in_ok-write_meters.ensures.after.calm (λ is. absurd (cc is))) c.write_answer.ensures.after
 
 pub returns-in_err-write_meters-clause-after : goal.returns-in_err-write_meters-clause-after
 returns-in_err-write_meters-clause-after g c =

@@ -21,12 +21,10 @@ returns-in-None-clause-after g c =
     ∙ text_whole net journal c.args.played.now.full _ c.args.answer c.in-None.is)
     (both_written before middle now (journal_text net journal) lines g.K.Sink.takes_memory
     c.write_last.result c.in_ok-write_text.ensures.after.whole
-    (c.in_ok-write_text.ensures.after.calm (λ is. absurd (cc is)))
-    c.write_last.ensures.after)
+    (c.in_ok-write_text.ensures.after.calm (λ is. absurd (cc is))) c.write_last.ensures.after)
 
 pub returns-in-None-clause-no_lines : goal.returns-in-None-clause-no_lines
-returns-in-None-clause-no_lines g c = λ none.
-    let net = c.args.net.now in
+returns-in-None-clause-no_lines g c = λ none. let net = c.args.net.now in
     let journal = c.args.played.now.journal in
     let lines = last_lines (map g.M.Meter.seen c.deref.result.now) c.args.answer in
     let both = ap (λ (meters : List g.row.M.Denot). journal_text net journal
@@ -45,7 +43,6 @@ returns-in_err-write_text-clause-after g c =
     _ c.in_err-write_text.ensures.after)
 
 pub returns-in_err-write_text-clause-no_lines : goal.returns-in_err-write_text-clause-no_lines
-returns-in_err-write_text-clause-no_lines g c = λ none.
-    c.in_err-write_text.ensures.no_text
-    (none_of_text c.args.net.now c.args.played.now.journal c.args.played.now.full _
-    c.args.answer none)
+returns-in_err-write_text-clause-no_lines g c = λ none. c.in_err-write_text.ensures.no_text
+    (none_of_text c.args.net.now c.args.played.now.journal c.args.played.now.full _ c.args.answer
+    none)

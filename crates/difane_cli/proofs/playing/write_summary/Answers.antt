@@ -11,8 +11,7 @@ returns-in-Ok g c =
     let is = c.deref.ensures.value ∙ c.in-Ok.ensures
     ∙ ap (λ s. summary_text s) c.summarize.ensures in
     rw c.in-None.is
-    (subst (λ (text : List ℕ).
-    IsAfterText text true g.K.Sink.takes_memory before now c.write_whole.result) is
-    (text_written c.deref.result.now true g.K.Sink.takes_memory before now c.write_whole.result
-    c.write_whole.ensures.after
+    (subst (λ (text : List ℕ). IsAfterText text true g.K.Sink.takes_memory before now
+    c.write_whole.result) is (text_written c.deref.result.now true g.K.Sink.takes_memory before now
+    c.write_whole.result c.write_whole.ensures.after
     (λ none. ap (λ k. g.K.Sink.state k) (c.write_whole.ensures.no_bytes none).1)))

@@ -5,18 +5,15 @@ use Rattle.difane_cli.proofs.FileChecks.{is_whole, stated_so}
 use Rattle.difane_cli.proofs.policies.check_file.Goals as goal
 
 pub returns-in_err-file-clause-stopped : goal.returns-in_err-file-clause-stopped
-returns-in_err-file-clause-stopped c =
-    rw (stated_so c.args.is_first c.args.ports c.args.name.now c.args.bytes.now
-    (grind (arith, common_steps))) (grind (arith, common_steps))
+returns-in_err-file-clause-stopped c = rw (stated_so c.args.is_first c.args.ports c.args.name.now
+    c.args.bytes.now (grind (arith, common_steps))) (grind (arith, common_steps))
 
 pub returns-in_err-map_err-clause-stopped : goal.returns-in_err-map_err-clause-stopped
-returns-in_err-map_err-clause-stopped c =
-    rw (stated_so c.args.is_first c.args.ports c.args.name.now c.args.bytes.now
-    (grind (arith, common_steps))) (grind (arith, common_steps))
+returns-in_err-map_err-clause-stopped c = rw (stated_so c.args.is_first c.args.ports c.args.name.now
+    c.args.bytes.now (grind (arith, common_steps))) (grind (arith, common_steps))
 
 pub returns-clause-value : goal.returns-clause-value
-returns-clause-value c =
-    rw (stated_so c.args.is_first c.args.ports c.args.name.now c.args.bytes.now
+returns-clause-value c = rw (stated_so c.args.is_first c.args.ports c.args.name.now c.args.bytes.now
     (grind (arith, common_steps))) (grind (arith, common_steps))
 
 pub returns-clause-whole : goal.returns-clause-whole

@@ -15,29 +15,23 @@ measured : (c : In_ok-old)
     → AreMeasured c.args.plan.hosted c.args.net.now c.args.journal.now c.in_ok-sizes.sizes.items
     c.in_ok-weights.weights.items c.in_ok-rooms.rooms.items c.in_ok-old.old.items
 measured c = record {
-  sizes_are = c.in_ok-sizes.ensures
-      ∙ ap sizes_of (c.deref.ensures.value ∙ c.in_ok-parts.ensures
+  sizes_are = c.in_ok-sizes.ensures ∙ ap sizes_of (c.deref.ensures.value ∙ c.in_ok-parts.ensures
       ∙ ap (map part_of) c.hosted-hosted.ensures.hosted) ∙ sizes_are c.args.plan.hosted;
-  weights_are = c.in_ok-weights.ensures.weights
-      ∙ ap (λ (hosts : List Hosted). weights_of c.args.journal.now (length hosts))
-      c.hosted-hosted.ensures.hosted;
+  weights_are = c.in_ok-weights.ensures.weights ∙ ap (λ (hosts : List Hosted). weights_of
+      c.args.journal.now (length hosts)) c.hosted-hosted.ensures.hosted;
   rooms_are = c.in_ok-rooms.ensures;
   old_is = c.in_ok-old.ensures ∙ ap targets_by_partition c.hosted-hosted.ensures.hosted;
 }
 
 -- the placement that is proposed
-chosen : (c : In_ok-new)
-    → IsProposal c.in_ok-sizes.sizes.items c.in_ok-weights.weights.items
+chosen : (c : In_ok-new) → IsProposal c.in_ok-sizes.sizes.items c.in_ok-weights.weights.items
     c.in_ok-rooms.rooms.items c.args.net.now.backups c.in_ok-old.old.items c.in_ok-new.new.items
-chosen c =
-    rw (c.deref-4.ensures.value, c.deref-5.ensures.value, c.deref-6.ensures.value)
-    at c.in_ok-new.ensures
+chosen c = rw (c.deref-4.ensures.value, c.deref-5.ensures.value, c.deref-6.ensures.value) at
+    c.in_ok-new.ensures
 
-new_number : (c : In_ok-new)
-    → length c.in_ok-old.old.items ≡ length c.in_ok-weights.weights.items
+new_number : (c : In_ok-new) → length c.in_ok-old.old.items ≡ length c.in_ok-weights.weights.items
     → length c.in_ok-new.new.items ≡ length c.in_ok-weights.weights.items
-new_number c each =
-    proposal_number c.in_ok-sizes.sizes.items c.in_ok-weights.weights.items
+new_number c each = proposal_number c.in_ok-sizes.sizes.items c.in_ok-weights.weights.items
     c.in_ok-rooms.rooms.items c.args.net.now.backups c.in_ok-old.old.items c.in_ok-new.new.items
     each (chosen c)
 
@@ -48,53 +42,44 @@ sizes_of-requires c =
     c.hosted-hosted.ensures.sound.few_rules)
 
 pub peak-old_peak-requires-clause-each : goal.peak-old_peak-requires-clause-each
-peak-old_peak-requires-clause-each c =
-    rw (c.deref-2.ensures.value, c.deref-3.ensures.value)
+peak-old_peak-requires-clause-each c = rw (c.deref-2.ensures.value, c.deref-3.ensures.value)
     (as_many_targets _ _ _ _ _ _ _
     (measured (goal.at.peak-old_peak-requires-clause-each c).In_ok-old))
 
 pub proposed_targets-requires-clause-each : goal.proposed_targets-requires-clause-each
-proposed_targets-requires-clause-each c =
-    rw (c.deref-4.ensures.value, c.deref-5.ensures.value)
+proposed_targets-requires-clause-each c = rw (c.deref-4.ensures.value, c.deref-5.ensures.value)
     (as_many_sizes _ _ _ _ _ _ _
     (measured (goal.at.proposed_targets-requires-clause-each c).In_ok-old))
 
 pub proposed_targets-requires-clause-partitions : goal.proposed_targets-requires-clause-partitions
-proposed_targets-requires-clause-partitions c =
-    omega (
-      arith,
-      ap length c.deref-5.ensures.value,
-      as_many_asked _ _ _ _ _ _ _
-          (measured (goal.at.proposed_targets-requires-clause-partitions c).In_ok-old),
-      c.requires.plan.few,
-    )
+proposed_targets-requires-clause-partitions c = omega (
+  arith,
+  ap length c.deref-5.ensures.value,
+  as_many_asked _ _ _ _ _ _ _
+      (measured (goal.at.proposed_targets-requires-clause-partitions c).In_ok-old),
+  c.requires.plan.few,
+)
 
 pub proposed_targets-requires-clause-switches : goal.proposed_targets-requires-clause-switches
 proposed_targets-requires-clause-switches c =
     rw (c.deref-6.ensures.value, c.in_ok-rooms.ensures) (few_rooms c.args.net.now c.requires.net)
 
 pub proposed_targets-requires-clause-old : goal.proposed_targets-requires-clause-old
-proposed_targets-requires-clause-old c =
-    rw c.deref-5.ensures.value
-    (as_many_targets _ _ _ _ _ _ _
+proposed_targets-requires-clause-old c = rw c.deref-5.ensures.value (as_many_targets _ _ _ _ _ _ _
     (measured (goal.at.proposed_targets-requires-clause-old c).In_ok-old))
 
 pub peak-new_peak-requires-clause-each : goal.peak-new_peak-requires-clause-each
-peak-new_peak-requires-clause-each c =
-    rw (c.deref-7.ensures.value, c.deref-8.ensures.value)
-    (new_number (goal.at.peak-new_peak-requires-clause-each c).In_ok-new
-    (as_many_targets _ _ _ _ _ _ _
-    (measured (goal.at.peak-new_peak-requires-clause-each c).In_ok-old)))
+peak-new_peak-requires-clause-each c = rw (c.deref-7.ensures.value, c.deref-8.ensures.value)
+    (new_number (goal.at.peak-new_peak-requires-clause-each c).In_ok-new (as_many_targets _ _ _ _ _
+    _ _ (measured (goal.at.peak-new_peak-requires-clause-each c).In_ok-old)))
 
 pub with_targets-requires : goal.with_targets-requires
-with_targets-requires c =
-    let are = measured (goal.at.with_targets-requires c).In_ok-old in
+with_targets-requires c = let are = measured (goal.at.with_targets-requires c).In_ok-old in
     new_number (goal.at.with_targets-requires c).In_ok-new (as_many_targets _ _ _ _ _ _ _ are)
     ∙ as_many_asked _ _ _ _ _ _ _ are
 
 pub returns : goal.returns
-returns c =
-    found_for c.args.plan.policy c.args.plan.hosted c.args.net.now c.args.journal.now
+returns c = found_for c.args.plan.policy c.args.plan.hosted c.args.net.now c.args.journal.now
     (record {
       plan = c.in_ok-plan.plan;
       old_peak = c.peak-old_peak.result;

@@ -10,8 +10,7 @@ use Rattle.difane_cli.proofs.WorkStatus.{after_work, by_failed, by_memory, of_fa
 use Rattle.difane_cli.proofs.proposing.propose.Goals as goal
 
 pub write_proposal-written-requires-clause-plan : goal.write_proposal-written-requires-clause-plan
-write_proposal-written-requires-clause-plan g c =
-    let plan = c.in-Ok.played.plan in
+write_proposal-written-requires-clause-plan g c = let plan = c.in-Ok.played.plan in
     subst (λ (net : Net). IsPlan plan.policy net plan.hosted) c.requires.net
     c.in-Ok.ensures.plan.parts
 
@@ -21,19 +20,16 @@ returns-in-Some-clause-outcome g c = λ command files own read.
     let full = c.in-Ok.played.full in
     let journal = c.in-Ok.played.journal in
     let play = subst (λ (events : List Event). IsPlay inputs.setting events journal full)
-    c.deref.ensures.value c.in-Ok.ensures.play in
-    record {
+    c.deref.ensures.value c.in-Ok.ensures.play in record {
       inputs = inputs;
       played = subst (λ (f : Option ℕ). IsAnswer (grammar.Replay command) files inputs journal f)
-          c.in-Some.is
-          (played c.answer_laws.ensures (grammar.Replay command) files inputs journal full own read
-          c.requires.sound play c.in-Ok.ensures.held);
+          c.in-Some.is (played c.answer_laws.ensures (grammar.Replay command) files inputs journal
+          full own read c.requires.sound play c.in-Ok.ensures.held);
       untouched = refl;
     }
 
 pub returns-clause-outcome : goal.returns-clause-outcome
-returns-clause-outcome g c = λ command files own read.
-    let inputs = inputs_stated c.args.inputs in
+returns-clause-outcome g c = λ command files own read. let inputs = inputs_stated c.args.inputs in
     let full = c.in-Ok.played.full in
     let journal = c.in-Ok.played.journal in
     let plan = c.in-Ok.played.plan in
@@ -43,19 +39,16 @@ returns-clause-outcome g c = λ command files own read.
     let takes_memory = g.K.Sink.takes_memory in
     let play = subst (λ (events : List Event). IsPlay inputs.setting events journal full)
     c.deref.ensures.value c.in-Ok.ensures.play in
-    let answer = subst (λ (f : Option ℕ).
-    IsAnswer (grammar.Replay command) files inputs journal f) c.in-None.is
-    (played c.answer_laws.ensures (grammar.Replay command) files inputs journal full own read
-    c.requires.sound play c.in-Ok.ensures.held) in
-    let after = subst (λ (net : Net).
-    IsAfterProposal plan.policy plan.hosted net journal takes_memory before now written)
-    (sym c.requires.net) c.write_proposal-written.ensures in
+    let answer = subst (λ (f : Option ℕ). IsAnswer (grammar.Replay command) files inputs journal f)
+    c.in-None.is (played c.answer_laws.ensures (grammar.Replay command) files inputs journal full
+    own read c.requires.sound play c.in-Ok.ensures.held) in
+    let after = subst (λ (net : Net). IsAfterProposal plan.policy plan.hosted net journal
+    takes_memory before now written) (sym c.requires.net) c.write_proposal-written.ensures in
     rw c.after.ensures (whole_told command files inputs journal plan takes_memory before now written
     answer c.in-Ok.ensures.plan after)
 
 pub returns-clause-no_memory : goal.returns-clause-no_memory
-returns-clause-no_memory g c = λ is.
-    out_of_room (c.write_proposal-written.ensures.some
+returns-clause-no_memory g c = λ is. out_of_room (c.write_proposal-written.ensures.some
     (by_memory c.write_proposal-written.result None (rw c.after.ensures at is)))
 
 pub returns-clause-ended : goal.returns-clause-ended

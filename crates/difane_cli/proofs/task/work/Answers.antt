@@ -12,9 +12,8 @@ returns-in-Placement-clause-outcome g c = λ command files own read.
     proposal_outcome command inputs files _ _ _ _ _ _ _ (rw c.in-Play.is at own) c.in-Placement.is
     (λ args same. c.propose.ensures.outcome args files
     (subst (λ (asked : Command). IsPlayOf asked inputs) same (rw c.in-Play.is at own))
-    (subst (λ (asked : Command).
-    ForSome (known_task files (Some asked)) (λ read. read ≡ Ok (Play inputs)))
-    same (rw c.in-Play.is at read)))
+    (subst (λ (asked : Command). ForSome (known_task files (Some asked))
+    (λ read. read ≡ Ok (Play inputs))) same (rw c.in-Play.is at read)))
 
 pub returns-in-Placement-clause-no_memory : goal.returns-in-Placement-clause-no_memory
 returns-in-Placement-clause-no_memory g c = λ command own is.
@@ -28,6 +27,5 @@ returns-in_default-clause-outcome g c = λ command files own read.
     (c.play.ensures.outcome command files (rw c.in-Play.is at own) (rw c.in-Play.is at read))
 
 pub returns-in_default-clause-meters : goal.returns-in_default-clause-meters
-returns-in_default-clause-meters g c = λ command own back.
-    absurd (keeps_meters command (inputs_stated c.in-Play.inputs) (rw c.in-Play.is at own)
-    c.in_default.not-Placement back)
+returns-in_default-clause-meters g c = λ command own back. absurd (keeps_meters command
+    (inputs_stated c.in-Play.inputs) (rw c.in-Play.is at own) c.in_default.not-Placement back)

@@ -14,9 +14,8 @@ use Rattle.difane_cli.proofs.top_call.run.Goals as goal
 command_is : (command : Command) (found : Option Command) (args owned : List (String Global))
     → found ≡ Some command → option_map command_named found ≡ command_of (map string_bytes args)
     → args ≡ owned → Some (command_named command) ≡ command_of (map string_bytes owned)
-command_is command found args owned is read same =
-    sym (ap (option_map command_named) is) ∙ read
-    ∙ ap (λ (all : List (String Global)). command_of (map string_bytes all)) same
+command_is command found args owned is read same = sym (ap (option_map command_named) is)
+    ∙ read ∙ ap (λ (all : List (String Global)). command_of (map string_bytes all)) same
 
 -- where work ran out of memory, a call that ends so did
 ran_out_so : (asked command : Option grammar.Command) (worked ended : List Item)
@@ -29,26 +28,20 @@ ran_out_so asked command worked ended takes_memory before now own same out =
 -- what work came to, a call that ends so comes to
 ended_so : {M : Type 0} (seen : M → Seen) (files : Option Files)
     (asked command : Option grammar.Command) (takes_memory : Bool) (taken : List Seen)
-    (before now : SinkState) (worked ended : Ended M) → asked ≡ command → ended.status ≡ worked.status
-    → ended.journal ≡ worked.journal → ended.meters ≡ worked.meters
-    → Outcome asked files takes_memory worked.status worked.journal taken
-    (map seen worked.meters.items) before now
-    → Outcome command files takes_memory ended.status ended.journal taken
-    (map seen ended.meters.items) before now
+    (before now : SinkState) (worked ended : Ended M)
+    → asked ≡ command → ended.status ≡ worked.status → ended.journal ≡ worked.journal
+    → ended.meters ≡ worked.meters → Outcome asked files takes_memory worked.status worked.journal
+    taken (map seen worked.meters.items) before now → Outcome command files takes_memory
+    ended.status ended.journal taken (map seen ended.meters.items) before now
 ended_so {M} seen files asked command takes_memory taken before now worked ended own is same stayed outcome =
     let meters = ended.meters in
-    subst (λ (c : Option grammar.Command).
-    Outcome c files takes_memory ended.status ended.journal taken (map seen meters.items)
-    before now) own
-    (subst (λ (s : Status).
-    Outcome asked files takes_memory s ended.journal taken (map seen meters.items)
-    before now) (sym is)
-    (subst (λ (items : List Item).
-    Outcome asked files takes_memory worked.status items taken (map seen meters.items)
-    before now) (sym same)
-    (subst (λ (given : List M).
-    Outcome asked files takes_memory worked.status worked.journal taken (map seen given)
-    before now) (sym (ap (λ (all : Vec M Global). all.items) stayed)) outcome)))
+    subst (λ (c : Option grammar.Command). Outcome c files takes_memory ended.status ended.journal
+    taken (map seen meters.items) before now) own
+    (subst (λ (s : Status). Outcome asked files takes_memory s ended.journal taken
+    (map seen meters.items) before now) (sym is) (subst (λ (items : List Item). Outcome asked files
+    takes_memory worked.status items taken (map seen meters.items) before now) (sym same)
+    (subst (λ (given : List M). Outcome asked files takes_memory worked.status worked.journal taken
+    (map seen given) before now) (sym (ap (λ (all : Vec M Global). all.items) stayed)) outcome)))
 
 pub returns-clause-outcome : goal.returns-clause-outcome
 returns-clause-outcome g c =
@@ -59,12 +52,10 @@ returns-clause-outcome g c =
     (command_is c.in-Ok-Some.command c.in-Ok-Some.field-0 _ _ found c.in-Ok-Some.ensures.value
     c.deref.ensures.value)
     c.end-in-Ok.ensures.status c.end-in-Ok.ensures.journal c.end-in-Ok.ensures.meters
-    (c.work-ended.ensures.outcome asked files c.in-Ok.ensures.asked
-    c.in-Ok.ensures.read)
+    (c.work-ended.ensures.outcome asked files c.in-Ok.ensures.asked c.in-Ok.ensures.read)
 
 pub returns-clause-no_memory : goal.returns-clause-no_memory
-returns-clause-no_memory g c = λ is.
-    let asked = command_named c.in-Ok-Some.command in
+returns-clause-no_memory g c = λ is. let asked = command_named c.in-Ok-Some.command in
     let found : c.in-Ok-Some.field-0 ≡ Some c.in-Ok-Some.command = search rules in
     ran_out_so (Some asked) _ _ _ _ _ _
     (command_is c.in-Ok-Some.command c.in-Ok-Some.field-0 _ _ found c.in-Ok-Some.ensures.value
